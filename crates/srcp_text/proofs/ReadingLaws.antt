@@ -1,10 +1,10 @@
 -- Laws of what a reader of lines knows.
-use Rattle.std.specs.Prelude.{◌≡◌, ℕ, ◌+◌, ◌-◌, ◌<◌, false, List, [], ◌∷◌, ◌++◌, length, take, drop, get_or, nat_lt, position, Option, Some, None}
+use Rattle.std.specs.Prelude.{◌≡◌, ℕ, ◌+◌, ◌-◌, ◌<◌, ◌≤◌, false, List, [], ◌∷◌, ◌++◌, length, take, drop, get_or, IfSome, nat_lt, position, Option, Some, None}
 use Rattle.std.specs.List.{list_any, position_or_len}
 use Rattle.std.proofs.Common.{refl, ap, sym, ◌∙◌, arith, inl, inr, suc, add-one, take-suc}
 use Rattle.std.proofs.lemmas.Bool.{cases_Bool, cases_lt, lt-ltb, le-ltb, eqb-true, ne_eqb, or_from}
 use Rattle.std.proofs.lemmas.Option.{none-some}
-use Rattle.std.proofs.lemmas.List.{append_assoc, append-nil, length-append, take_all}
+use Rattle.std.proofs.lemmas.List.{append_assoc, append-nil, length-append, length-drop, take_all}
 use Rattle.std.proofs.lemmas.List.Folds.{list_any-append}
 use Rattle.std.proofs.lemmas.List.Sums.{passes_at_first}
 use Rattle.srcp_text.specs.Marks.{is_lf, marks, mark_of, rest, without_cr}
@@ -113,6 +113,16 @@ stop_of-feed_of reading piece start = go (position is_lf (drop start piece))
     go : (o : Option ℕ) → stop_of (feed_at reading.begun start (drop start piece) o).0 ≡ place_after start o
     go None = refl
     go (Some len) = each (extended reading.begun (take len (drop start piece))) (start + len + 1)
+
+-- and stops further on in the piece
+pub within-next_stop : (piece : List ℕ) (start : ℕ) → IfSome (next_stop piece start) (λ stop. (start < stop) × (stop ≤ length piece))
+within-next_stop piece start = go (position is_lf (drop start piece)) refl
+  where
+    go : (o : Option ℕ) → position is_lf (drop start piece) ≡ o → IfSome (place_after start o) (λ stop. (start < stop) × (stop ≤ length piece))
+    go None e = tt
+    go (Some len) e =
+        let found = position_some is_lf (drop start piece) len e in
+        (omega arith, omega (arith, found.1, length-drop start piece))
 
 -- where it stops after an LF, that is the part of the line and its LF
 taken-fed_at : (piece : List ℕ) (start len : ℕ) (whole : Option (List ℕ)) → position is_lf (drop start piece) ≡ Some len → taken piece start (fed_at whole (start + len + 1)) ≡ take len (drop start piece) ++ 10 ∷ []

@@ -1,5 +1,5 @@
 -- What a feed of a piece from a place on finds.
-use Rattle.std.specs.Prelude.{ℕ, ◌+◌, List, [], ◌∷◌, take, drop, position, slice_range, Option, Some, None}
+use Rattle.std.specs.Prelude.{ℕ, Bool, true, false, ◌+◌, List, [], ◌∷◌, take, drop, position, slice_range, Option, Some, None}
 use Rattle.srcp_text.specs.Marks.{Mark, Line, TooLong, is_lf}
 use Rattle.srcp_text.specs.Reading.{Reading, extended, after_lf}
 use Rattle.srcp_text.specs.declared.reader.Fed.{Fed}
@@ -10,6 +10,12 @@ abbrev pub stop_of : Fed → Option ℕ
 stop_of (FoundLine stop) = Some stop
 stop_of (FoundTooLong stop) = Some stop
 stop_of More = None
+
+-- whether it found a line
+abbrev pub is_line : Fed → Bool
+is_line (FoundLine stop) = true
+is_line (FoundTooLong stop) = false
+is_line More = false
 
 -- the place after the LF that stands so far from start on
 abbrev pub place_after : ℕ → Option ℕ → Option ℕ

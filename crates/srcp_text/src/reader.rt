@@ -1,9 +1,9 @@
 //! The reader that finds the lines of bytes which come in pieces.
 
-ghost use Rattle.std.specs.Prelude.{◌≡◌, ◌≤◌, List, ℕ, [], ◌++◌, length, position};
+ghost use Rattle.std.specs.Prelude.{◌≡◌, ◌<◌, ◌≤◌, IsTrue, IfSome, List, ℕ, [], ◌++◌, length, position};
 ghost use Rattle.srcp_text.specs.Marks.{is_lf, marks, without_cr};
 ghost use Rattle.srcp_text.specs.Reading.{StandsAt, after_lf, extended, nothing_read};
-ghost use Rattle.srcp_text.specs.Feeding.{feed_of, fed_at, new_marks, next_stop, stop_of, taken};
+ghost use Rattle.srcp_text.specs.Feeding.{feed_of, fed_at, is_line, new_marks, next_stop, stop_of, taken};
 
 use arrayvec::ArrayVec;
 use std::marker::Model;
@@ -59,8 +59,7 @@ impl Model for LineReader {
 impl LineReader {
     /// A reader that was fed nothing.
     pub fn new() -> LineReader
-        ensures value { result ≡ nothing_read }
-        ensures stands { StandsAt [] result }
+        ensures { result ≡ nothing_read }
     {
         LineReader {
             bytes: ArrayVec::new(),
@@ -74,6 +73,9 @@ impl LineReader {
         requires { start ≤ length piece.now }
         // It stops after the first LF, where there is one.
         ensures stop { stop_of result ≡ next_stop piece.now start }
+        // So the next feed may go on there, and comes nearer to the end of the piece.
+        ensures within { IfSome (stop_of result) (λ stop. (start < stop) × (stop ≤ length piece.now)) }
+        ensures no_line { ¬ IsTrue (is_line result) → self.new.line ≡ [] }
         // What it took adds this mark to those of the bytes fed before, or none.
         ensures marks { (fed : List ℕ) → StandsAt fed self.old
             → marks (fed ++ taken piece.now start result) ≡ marks fed ++ new_marks result self.new.line }
