@@ -1,14 +1,14 @@
 -- Laws of the words of a text that is cut at its spaces from the front.
-use Rattle.std.specs.Prelude.{◌≡◌, ℕ, ◌+◌, ◌/◌, ◌%◌, ◌*◌, ◌^◌, ◌<◌, ◌≤◌, Bool, false, true, not, ◌||◌, List, [], ◌∷◌, ◌++◌, length, take, drop, position, ◌==◌, Some, None}
+use Rattle.std.specs.Prelude.{◌≡◌, ℕ, ◌+◌, ◌/◌, ◌%◌, ◌*◌, ◌^◌, ◌<◌, ◌≤◌, Bool, false, true, not, ◌||◌, List, [], ◌∷◌, ◌++◌, length, map, take, drop, position, ◌==◌, Some, None}
 use Rattle.std.specs.List.{list_any, position_or_len, before_first, after_first, join_with_byte, AllByRecursion}
 use Rattle.std.specs.Char.{is_ascii_digit}
 use Rattle.std.specs.Fmt.{decimal}
 use Rattle.std.proofs.Common.{refl, ap, sym, ◌∙◌, arith, inl, inr, suc}
-use Rattle.std.proofs.lemmas.Bool.{cases_Bool, cases_lt, lt-ltb, or_parts, or_from}
+use Rattle.std.proofs.lemmas.Bool.{cases_Bool, cases_lt, lt-ltb, or_parts, or_from, eqb-true, both_ways}
 use Rattle.std.proofs.lemmas.Bool.Decides.{nat_tests}
 use Rattle.std.proofs.lemmas.Option.{none-some}
 use Rattle.std.proofs.lemmas.Fmt.{digits_decimal}
-use Rattle.std.proofs.lemmas.List.{take_all, drop_all, append-nil}
+use Rattle.std.proofs.lemmas.List.{take_all, drop_all, append_assoc, length-append}
 use Rattle.std.proofs.Math.Seq.{take-append_seam, drop-append_seam, drop-append-add}
 use lib.Chars.{codes}
 use Rattle.srcp_text.specs.Stamp.{stamp, three_digits}
@@ -16,7 +16,9 @@ use Rattle.srcp_text.specs.Words.{is_blank, IsWord, number_of, plain_number_of}
 use Rattle.srcp_text.proofs.NumberLaws.{own, has_leading_zero-decimal, plain_number_of-decimal}
 use Rattle.srcp_text.proofs.ScanLaws.{position_some}
 use Rattle.srcp_text.proofs.StampLaws.{digits_free, stamp_free, three_digits_again}
+use Rattle.srcp_info.specs.Line.{bit_word, after_spaces}
 use Rattle.srcp_info.specs.Read.{is_space}
+use Rattle.srcp_info.proofs.LineLaws.{join-cons}
 
 -- ---- a text cut at the first byte that passes
 
@@ -108,3 +110,32 @@ after_first-stamp moment h =
 -- and they are read as such
 pub seconds_again : (moment : ℕ) → moment < 2 ^ 64 → plain_number_of 18446744073709551 (decimal (moment / 1000)) ≡ Some (moment / 1000)
 seconds_again moment h = plain_number_of-decimal 18446744073709551 (moment / 1000) (omega arith) (omega arith)
+
+-- ---- functions
+
+-- no functions have no text
+pub bits_none : (bits : List Bool) (rest : List ℕ) → rest ≡ join_with_byte 32 (map bit_word bits) → (length rest == 0) ≡ true → bits ≡ []
+bits_none [] rest is e = refl
+bits_none (b ∷ bs) rest is e =
+    let whole : length rest ≡ length (bit_word b ++ after_spaces (map bit_word bs)) = ap length (is ∙ join-cons (bit_word b) (map bit_word bs)) in
+    absurd (omega (arith, whole, length-append (bit_word b) (after_spaces (map bit_word bs)), length_bit b, eqb-true (length rest) 0 e))
+  where
+    length_bit : (b : Bool) → length (bit_word b) ≡ 1
+    length_bit true = refl
+    length_bit false = refl
+
+-- and where there is a text there is a first
+pub bits_some : (bits : List Bool) (rest : List ℕ) → rest ≡ join_with_byte 32 (map bit_word bits) → (length rest == 0) ≡ false → (b : Bool) × (bs : List Bool) × (bits ≡ b ∷ bs)
+bits_some [] rest is e = absurd (both_ways (length rest == 0) e (rw is refl))
+bits_some (b ∷ bs) rest is e = (b, bs, refl)
+
+-- one more of them is read
+pub bits_step : (bits seen seen' left : List Bool) (on : Bool) (rest more : List ℕ) → bits ≡ seen ++ left → rest ≡ join_with_byte 32 (map bit_word left) → (length rest == 0) ≡ false → seen' ≡ seen ++ on ∷ []
+    → ((b : Bool) (others : List (List ℕ)) → rest ≡ join_with_byte 32 (bit_word b ∷ others) → (on ≡ b) × (more ≡ join_with_byte 32 others))
+    → (left' : List Bool) × (bits ≡ seen' ++ left') × (more ≡ join_with_byte 32 (map bit_word left'))
+bits_step bits seen seen' left on rest more whole is some push next =
+    let first = bits_some left rest is some in
+    let b = first.0 in
+    let bs = first.1 in
+    let read = next b (map bit_word bs) (is ∙ ap (λ (ys : List Bool). join_with_byte 32 (map bit_word ys)) first.2) in
+    (bs, whole ∙ ap (λ (ys : List Bool). seen ++ ys) (first.2 ∙ ap (λ (y : Bool). y ∷ bs) (sym read.0)) ∙ sym (append_assoc seen (on ∷ []) bs) ∙ ap (λ (ys : List Bool). ys ++ bs) (sym push), read.1)

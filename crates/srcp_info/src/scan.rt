@@ -1,13 +1,15 @@
 //! The words of a line, one after another. Each is read for what it would say in a line of ours.
 
-ghost use Rattle.std.specs.Prelude.{◌≡◌, ℕ, ◌^◌, ◌<◌, ◌++◌, ◌∷◌, List, false, decimal, codes, position, ◌==◌};
+ghost use Rattle.std.specs.Prelude.{◌≡◌, ℕ, ◌^◌, ◌<◌, ◌≤◌, ◌++◌, ◌∷◌, List, Bool, false, length, map, decimal, codes, position, ◌==◌};
 ghost use Rattle.std.specs.List.{join_with_byte, list_any, before_first, after_first};
 ghost use Rattle.srcp_text.specs.Stamp.{stamp};
 ghost use Rattle.srcp_info.specs.declared.key.Group.{Group};
-ghost use Rattle.srcp_info.specs.Line.{group_words};
+ghost use Rattle.srcp_info.specs.declared.value.Letter.{Letter};
+ghost use Rattle.srcp_info.specs.Line.{group_words, letter_word, bit_word, switch_word};
 ghost use Rattle.srcp_info.specs.Read.{is_space};
 
 use crate::key::Group;
+use crate::value::{Bits, Letter};
 use srcp_text::{read_number, read_plain};
 
 /// Where a byte first stands.
@@ -92,6 +94,63 @@ fn next_lock_group(text: &[u8]) -> (Group, &[u8])
         b"GL" => (Group::LockGl, rest),
         _ => (Group::LockGa, rest),
     }
+}
+
+/// The decoder protocol that the first word names, and the text after it.
+pub(crate) fn next_letter(text: &[u8]) -> (Letter, &[u8])
+    ensures { (letter : Letter) (others : List (List ℕ))
+        → text.now ≡ join_with_byte 32 (letter_word letter ∷ others)
+        → (result.0 ≡ letter) × (result.1.now ≡ join_with_byte 32 others) }
+{
+    let (word, rest) = next_word(text);
+    match word {
+        b"N" => (Letter::N, rest),
+        b"M" => (Letter::M, rest),
+        b"S" => (Letter::S, rest),
+        _ => (Letter::P, rest),
+    }
+}
+
+/// Whether the first word is 1, and the text after it.
+pub(crate) fn next_bit(text: &[u8]) -> (bool, &[u8])
+    ensures { (on : Bool) (others : List (List ℕ))
+        → text.now ≡ join_with_byte 32 (bit_word on ∷ others)
+        → (result.0 ≡ on) × (result.1.now ≡ join_with_byte 32 others) }
+{
+    let (word, rest) = next_word(text);
+    match word {
+        b"1" => (true, rest),
+        _ => (false, rest),
+    }
+}
+
+/// Whether the first word is ON, and the text after it.
+pub(crate) fn next_switch(text: &[u8]) -> (bool, &[u8])
+    ensures { (on : Bool) (others : List (List ℕ))
+        → text.now ≡ join_with_byte 32 (switch_word on ∷ others)
+        → (result.0 ≡ on) × (result.1.now ≡ join_with_byte 32 others) }
+{
+    let (word, rest) = next_word(text);
+    match word {
+        b"ON" => (true, rest),
+        _ => (false, rest),
+    }
+}
+
+/// The functions that the words of a text are.
+pub(crate) fn functions_of(text: &[u8]) -> Bits
+    ensures { (functions : List Bool) → length functions ≤ 29
+        → text.now ≡ join_with_byte 32 (map bit_word functions)
+        → result ≡ functions }
+{
+    let mut functions = Bits::new();
+    let mut rest = text;
+    while !rest.is_empty() && functions.len() < Bits::CAPACITY {
+        let (on, more) = next_bit(rest);
+        functions.push(on);
+        rest = more;
+    }
+    functions
 }
 
 /// The moment that a stamp prints, in milliseconds.
