@@ -1,13 +1,15 @@
 //! The words of a line: what stands between spaces and tabs.
 
-ghost use Rattle.std.specs.Prelude.{◌≡◌, position};
+ghost use Rattle.std.specs.Prelude.{◌≡◌, ◌≤◌, length, position};
 ghost use Rattle.srcp_text.specs.Words.{is_blank, is_filled, words_of};
 
 use crate::iter::Words;
 
 /// The words of a line, from its first on.
 pub fn words(line: &[u8]) -> Words<'_>
-    ensures { result ≡ words_of line.now }
+    ensures words { result ≡ words_of line.now }
+    // So they can be counted.
+    ensures few { length result ≤ length line.now }
 {
     Words::of(line)
 }
