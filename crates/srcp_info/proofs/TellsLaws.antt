@@ -1,11 +1,12 @@
 -- Laws of what the words of a line tell.
-use Rattle.std.specs.Prelude.{◌≡◌, ℕ, ◌^◌, ◌<◌, ◌≤◌, ◌+◌, ◌-◌, Bool, List, [], ◌∷◌, ◌++◌, length, min, Option, Some, None, Result, Ok, Err}
+use Rattle.std.specs.Prelude.{◌≡◌, ℕ, ◌^◌, ◌<◌, ◌≤◌, ◌+◌, ◌-◌, Bool, List, [], ◌∷◌, ◌++◌, length, take, Option, Some, None, Result, Ok, Err}
 use Rattle.std.specs.List.{join_with_byte}
 use Rattle.std.specs.Option.{SomeIff, unwrap_or}
 use Rattle.std.specs.Result.{OkIff, result_unwrap_or}
 use Rattle.std.proofs.Common.{refl, ap, sym, ◌∙◌, arith, inl, inr}
 use Rattle.std.proofs.lemmas.Bool.{cases_Bool, eqb-true}
-use Rattle.std.proofs.lemmas.List.{nil_from_length, same_from_push}
+use Rattle.std.proofs.lemmas.List.{nil_from_length, same_from_push, length-append}
+use Rattle.std.proofs.Math.Seq.{take-append_seam}
 use lib.Chars.{codes}
 use Rattle.srcp_text.specs.Words.{is_empty}
 use Rattle.srcp_info.specs.declared.key.Group.{Group}
@@ -15,9 +16,9 @@ use Rattle.srcp_info.specs.declared.value.Value.TheVariants.{Session, Power, GlI
 use Rattle.srcp_info.specs.declared.scan.InfoKind.{InfoKind}
 use Rattle.srcp_info.specs.declared.scan.InfoKind.TheVariants.{State, Init, Term}
 use Rattle.srcp_info.specs.declared.change.Change.{Change}
-use Rattle.srcp_info.specs.Line.{change_words, value_code, value_words, switch_word}
+use Rattle.srcp_info.specs.Line.{line, change_words, value_code, value_words, switch_word}
 use Rattle.srcp_info.specs.Read.{kind_code, IsLineOf}
-use Rattle.srcp_info.specs.WellFormed.{IsAddress}
+use Rattle.srcp_info.specs.WellFormed.{IsWellFormed, IsAddress}
 
 -- what was taken where it fits, or another value, is it where it fits
 pub taken_fits : {E : Type 0} (r : Result ℕ E) (P : Type 0) (v d : ℕ) → OkIff r P v → P → result_unwrap_or r d ≡ v
@@ -83,3 +84,14 @@ power_text on text whole is =
           ([], rw t at is, sym none)
       | inr f ↦ (text ∷ [], rw f at is, refl)
     ]
+
+-- a line without its last byte is its words with spaces between them
+pub without_lf : (change : Change) (items rest : List ℕ) → items ≡ line change → rest ≡ take (length items - 1) items → rest ≡ join_with_byte 32 (change_words change)
+without_lf change items rest whole front =
+    let text = join_with_byte 32 (change_words change) in
+    let shorter : length (text ++ codes "\n") - 1 ≡ length text = omega (arith, length-append text (codes "\n")) in
+    front ∙ ap (λ (ys : List ℕ). take (length ys - 1) ys) whole ∙ ap (λ k. take k (text ++ codes "\n")) shorter ∙ take-append_seam text (codes "\n")
+
+-- where that is the text, the text is the line of the change
+pub is_line : (text rest : List ℕ) (change : Change) → IsWellFormed change → rest ≡ join_with_byte 32 (change_words change) → rest ≡ text → IsLineOf text change
+is_line text rest change ok words same = record { well_formed = ok; same = ap (λ (ys : List ℕ). ys ++ codes "\n") (sym words ∙ same) }

@@ -10,15 +10,18 @@ ghost use Rattle.srcp_info.specs.declared.change.Shown.{Shown};
 ghost use Rattle.srcp_info.specs.declared.change.Change.{Change};
 ghost use Rattle.srcp_info.specs.Line.{info_words, value_code, value_words};
 ghost use Rattle.srcp_info.specs.WellFormed.{IsWellFormedShown};
-ghost use Rattle.srcp_info.specs.Read.{kind_code, IsLineOf};
+ghost use Rattle.srcp_info.specs.Read.{kind_code, IsLineOf, Reads};
 
 use crate::change::{Change, Shown};
 use crate::key::{Device, Group, Key};
 use crate::scan::{
-    InfoKind, functions_of, kind_of, mode_named, moment_of, next_bit, next_group, next_letter, next_number,
-    next_switch, next_word,
+    InfoKind, functions_of, kind_of, mode_named, moment_of, next_bit, next_group, next_letter,
+    next_number, next_switch, next_word,
 };
 use crate::value::{Text, Value};
+use crate::well_formed::is_well_formed;
+use crate::write::write_change;
+use srcp_text::LineBuf;
 
 // Each of the next functions reads what follows the words of the group in the line of a row, and
 // answers its address, its port and its value. A text that no such line has gives any answer: what
@@ -162,7 +165,7 @@ fn next_head(line: &[u8]) -> (Head, &[u8])
         → moment < 2 ^ 64 → bus < 2 ^ 8
         → line.now ≡ join_with_byte 32 (info_words moment (kind_code kind) bus group more)
         → (result.0 ≡ record { moment = moment; kind = kind; bus = bus; group = group })
-            × (result.1.now ≡ join_with_byte 32 more) }
+        × (result.1.now ≡ join_with_byte 32 more) }
 {
     let (stamp, rest) = next_word(line);
     let (code, rest) = next_word(rest);
@@ -214,5 +217,24 @@ fn told_by(line: &[u8]) -> Change
                 value,
             })
         }
+    }
+}
+
+/// The change whose line this is, without its LF, or `None` where no well-formed change has that
+/// line. Takes no memory.
+pub fn read_change(line: &[u8]) -> Option<Change>
+    ensures { Reads line.now result }
+{
+    let change = told_by(line);
+    if !is_well_formed(change) {
+        return None;
+    }
+    let mut written = LineBuf::new();
+    write_change(&change, &mut written);
+    written.pop();
+    if written.as_slice() == line {
+        Some(change)
+    } else {
+        None
     }
 }

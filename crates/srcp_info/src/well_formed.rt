@@ -1,6 +1,8 @@
 //! Which rows and changes can be told.
 
 ghost use Rattle.std.specs.Prelude.{◌≡◌, ◌≤◌, ◌↔◌, IsTrue};
+ghost use Rattle.std.specs.List.{list_all, slice_split};
+ghost use Rattle.srcp_info.specs.Read.{is_space};
 ghost use Rattle.srcp_info.specs.WellFormed.{IsBetween, IsAddress, IsSpeed, IsValueAt, IsWellFormed, can_go, is_lock, is_text, is_text_byte, is_text_word};
 
 use crate::change::Change;
@@ -13,10 +15,29 @@ fn is_text_byte(byte: u8) -> bool
     byte > b' ' && byte != 127
 }
 
+fn are_text_bytes(bytes: &[u8]) -> bool
+    ensures { result ≡ list_all is_text_byte bytes.now }
+{
+    bytes.iter().all(|byte| is_text_byte(*byte))
+}
+
 fn is_text_word(word: &[u8]) -> bool
     ensures { result ≡ is_text_word word.now }
 {
-    !word.is_empty() && word.iter().all(|byte| is_text_byte(*byte))
+    !word.is_empty() && are_text_bytes(word)
+}
+
+fn is_space(byte: u8) -> bool
+    ensures { result ≡ is_space byte }
+{
+    byte == b' '
+}
+
+fn are_text_words(text: &[u8]) -> bool
+    ensures { result ≡ list_all is_text_word (slice_split is_space text.now) }
+{
+    text.split(|byte| is_space(*byte))
+        .all(|word| is_text_word(word))
 }
 
 /// Whether a power row can show the text: at most 80 bytes, with no control bytes and no DEL, and
@@ -24,8 +45,7 @@ fn is_text_word(word: &[u8]) -> bool
 pub fn is_text(text: &[u8]) -> bool
     ensures { result ≡ is_text text.now }
 {
-    text.len() <= 80
-        && (text.is_empty() || text.split(|byte| *byte == b' ').all(|word| is_text_word(word)))
+    text.len() <= 80 && (text.is_empty() || are_text_words(text))
 }
 
 fn is_between(low: u32, high: u32, number: u32) -> bool
@@ -68,11 +88,7 @@ fn can_go(group: Group) -> bool
 fn is_speed(mode: u32, v: u32, vmax: u32) -> bool
     ensures { IsTrue result ↔ IsSpeed mode v vmax }
 {
-    mode <= 2
-        && v <= 65535
-        && vmax <= 65535
-        && (v <= vmax || vmax == 0)
-        && (mode != 2 || v == 0)
+    mode <= 2 && v <= 65535 && vmax <= 65535 && (v <= vmax || vmax == 0) && (mode != 2 || v == 0)
 }
 
 fn is_value_at(group: Group, port: u8, value: &Value) -> bool
@@ -95,8 +111,13 @@ fn is_value_at(group: Group, port: u8, value: &Value) -> bool
                 && is_between(1, 1000, *steps)
                 && *functions <= 29
         }
-        Value::GlState { mode, v, vmax, .. } => {
-            group == Group::Gl && port == 1 && is_speed(*mode, *v, *vmax)
+        Value::GlState {
+            mode,
+            v,
+            vmax,
+            functions,
+        } => {
+            group == Group::Gl && port == 1 && is_speed(*mode, *v, *vmax) && functions.len() <= 29
         }
         Value::GaInit { .. } => group == Group::Ga && port == 0,
         Value::GaPort { .. } => group == Group::Ga && is_between(1, 8, u32::from(port)),
@@ -109,12 +130,12 @@ fn is_value_at(group: Group, port: u8, value: &Value) -> bool
 
 /// Whether the change can be told: its numbers are in the ranges of their group, and its value is
 /// one that the row at its key can have.
-pub(crate) fn is_well_formed(change: &Change) -> bool
-    ensures { IsTrue result ↔ IsWellFormed change.now }
+pub(crate) fn is_well_formed(change: Change) -> bool
+    ensures { IsTrue result ↔ IsWellFormed change }
 {
     match change {
         Change::Put(shown) => {
-            let key = &shown.key;
+            let key = shown.key;
             is_address(key.group, key.bus, key.address)
                 && is_value_at(key.group, key.port, &shown.value)
         }
