@@ -1,0 +1,110 @@
+-- Laws of the words of a line that is gone through from its front.
+use Rattle.std.specs.Prelude.{◌≡◌, ℕ, ◌+◌, ◌<◌, ◌≤◌, Bool, false, not, List, [], ◌∷◌, length, take, drop, get_or, position, unwrap_or, nat_lt, Some, None}
+use Rattle.std.specs.List.{list_any, filter, slice_split, position_or_len}
+use Rattle.std.proofs.Common.{refl, ap, sym, ◌∙◌, arith, inl, inr, suc, drop-cons, add-one, length-drop}
+use Rattle.std.proofs.lemmas.Bool.{cases_Bool, cases_lt, lt-ltb, le-ltb, ltb-true, not-true}
+use Rattle.std.proofs.lemmas.Option.{cond_some, none-some}
+use Rattle.std.proofs.lemmas.List.{take_all, drop_all, length-take-le}
+use Rattle.std.proofs.lemmas.List.Splits.{slice_split_first}
+use Rattle.std.proofs.lemmas.List.Sums.{passes_at_first, prefix_len-le-length}
+use Rattle.srcp_text.specs.Words.{is_blank, is_filled, is_empty, words_of}
+use Rattle.srcp_text.proofs.NumberLaws.{filled}
+use Rattle.srcp_text.proofs.WordLaws.{words_of_blank, words_of_word}
+
+-- the first place that passes is within the list
+pub position_or_len-le : (p : ℕ → Bool) (xs : List ℕ) → position_or_len p xs ≤ length xs
+position_or_len-le p xs = prefix_len-le-length (λ x. not (p x)) xs
+
+-- the first place that passes, or the length
+pub unwrap_or-position : (p : ℕ → Bool) (xs : List ℕ) → unwrap_or (position p xs) (length xs) ≡ position_or_len p xs
+unwrap_or-position p xs =
+    elim (cases_lt (position_or_len p xs) (length xs)) [
+      | inl inside ↦ rw (lt-ltb (position_or_len p xs) (length xs) inside) refl
+      | inr outside ↦ rw (le-ltb (position_or_len p xs) (length xs) outside) (omega (arith, position_or_len-le p xs))
+    ]
+
+-- where it is found
+pub position_some : (p : ℕ → Bool) (xs : List ℕ) (n : ℕ) → position p xs ≡ Some n → (position_or_len p xs ≡ n) × (n < length xs)
+position_some p xs n e =
+    let is = cond_some (nat_lt (position_or_len p xs) (length xs)) (position_or_len p xs) n e in
+    (is.1, omega (arith, is.1, ltb-true (position_or_len p xs) (length xs) is.0))
+
+-- blanks in front have no words
+pub words_of-drop_blanks : (xs : List ℕ) → words_of (drop (position_or_len is_filled xs) xs) ≡ words_of xs
+words_of-drop_blanks [] = refl
+words_of-drop_blanks (x ∷ xs) =
+    elim (cases_Bool (is_blank x)) [
+      | inl t ↦
+          let e : position_or_len is_filled (x ∷ xs) ≡ suc (position_or_len is_filled xs) = rw t (omega arith) in
+          ap (λ n. words_of (drop n (x ∷ xs))) e ∙ words_of-drop_blanks xs ∙ sym (words_of_blank x xs t)
+      | inr f ↦
+          let e : position_or_len is_filled (x ∷ xs) ≡ 0 = rw f refl in
+          ap (λ n. words_of (drop n (x ∷ xs))) e
+    ]
+
+-- what is left begins with no blank
+pub first_filled : (xs : List ℕ) → 0 < length (drop (position_or_len is_filled xs) xs) → 0 < position_or_len is_blank (drop (position_or_len is_filled xs) xs)
+first_filled xs some =
+    let n = position_or_len is_filled xs in
+    let inside : n < length xs = omega (arith, length-drop n xs, some) in
+    let filled = not-true (is_blank (get_or xs n 0)) (passes_at_first is_filled xs 0 inside) in
+    rw (drop-cons xs n 0 inside, filled) (omega arith)
+
+no_blank : (xs : List ℕ) → length xs ≤ position_or_len is_blank xs → list_any is_blank xs ≡ false
+no_blank [] h = refl
+no_blank (x ∷ xs) h =
+    elim (cases_Bool (is_blank x)) [
+      | inl t ↦ absurd (nothing (length xs) (rw t at h))
+      | inr f ↦ rw f (no_blank xs (omega (arith, rw f at h)))
+    ]
+  where
+    nothing : (n : ℕ) → suc n ≤ 0 → ⊥
+    nothing n h = omega arith
+
+-- the bytes before the first blank are the first word
+pub words_of-first : (xs : List ℕ) → 0 < position_or_len is_blank xs → words_of xs ≡ take (position_or_len is_blank xs) xs ∷ words_of (drop (position_or_len is_blank xs) xs)
+words_of-first xs some =
+    let n = position_or_len is_blank xs in
+    let within = position_or_len-le is_blank xs in
+    let long : length (take n xs) ≡ n = length-take-le n xs within in
+    elim (cases_lt n (length xs)) [
+      | inl inside ↦
+          let word : is_empty (take n xs) ≡ false = filled (take n xs) (omega (arith, long, some)) in
+          let blank = passes_at_first is_blank xs 0 inside in
+          let parts = slice_split_first is_blank xs 0 inside in
+          let front = filter_front (take n xs) (slice_split is_blank (drop (n + 1) xs)) word in
+          ap (filter (λ part. not (is_empty part))) parts ∙ front
+          ∙ ap (λ ws. take n xs ∷ ws) (sym (words_of_blank (get_or xs n 0) (drop (n + 1) xs) blank) ∙ ap words_of (sym (next n inside)))
+      | inr outside ↦ rw (take_all n xs outside, drop_all n xs outside) (words_of_word xs (filled xs (omega arith), no_blank xs outside))
+    ]
+  where
+    filter_front : (word : List ℕ) (ps : List (List ℕ)) → is_empty word ≡ false → filter (λ part. not (is_empty part)) (word ∷ ps) ≡ word ∷ filter (λ part. not (is_empty part)) ps
+    filter_front word ps e = rw e refl
+
+    next : (n : ℕ) → n < length xs → drop n xs ≡ get_or xs n 0 ∷ drop (n + 1) xs
+    next n inside = drop-cons xs n 0 inside ∙ ap (λ k. get_or xs n 0 ∷ drop k xs) (sym (add-one n))
+
+-- where no word begins there is none
+pub words_of-none : (xs : List ℕ) → position is_filled xs ≡ None → words_of xs ≡ []
+words_of-none xs e =
+    elim (cases_lt (position_or_len is_filled xs) (length xs)) [
+      | inl inside ↦ absurd (none-some (position_or_len is_filled xs) (sym (rw (lt-ltb (position_or_len is_filled xs) (length xs) inside) at e)))
+      | inr outside ↦ sym (words_of-drop_blanks xs) ∙ ap words_of (drop_all (position_or_len is_filled xs) xs outside)
+    ]
+
+-- and where one begins, it goes up to the next blank
+pub words_of-some : (xs : List ℕ) (n k : ℕ) → position is_filled xs ≡ Some n → unwrap_or (position is_blank (drop n xs)) (length (drop n xs)) ≡ k → words_of xs ≡ take k (drop n xs) ∷ words_of (drop k (drop n xs))
+words_of-some xs n k e at_k =
+    let found = position_some is_filled xs n e in
+    let begun = ap (λ m. drop m xs) found.0 in
+    let some : 0 < length (drop n xs) = omega (arith, length-drop n xs, found.1) in
+    let filled = first_filled xs (rw (found.0) some) in
+    let at = sym (unwrap_or-position is_blank (drop n xs)) ∙ at_k in
+    let first = words_of-first (drop n xs) (rw (found.0) at filled) in
+    sym (words_of-drop_blanks xs) ∙ ap words_of begun ∙ rw at at first
+
+-- the same of a front that is cut off
+pub words_of-cut : (xs begun word left : List ℕ) (n k : ℕ) → position is_filled xs ≡ Some n → begun ≡ drop n xs → k ≡ unwrap_or (position is_blank begun) (length begun) → word ≡ take k begun → left ≡ drop k begun → words_of xs ≡ word ∷ words_of left
+words_of-cut xs begun word left n k found from at front back =
+    words_of-some xs n k found (sym (ap (λ ys. unwrap_or (position is_blank ys) (length ys)) from) ∙ sym at)
+    ∙ ap (λ ys. take k ys ∷ words_of (drop k ys)) (sym from) ∙ ap (λ ys. ys ∷ words_of (drop k begun)) (sym front) ∙ ap (λ ys. word ∷ words_of ys) (sym back)

@@ -1,0 +1,47 @@
+//! The iterator over the words of a line.
+
+ghost use Rattle.std.specs.Prelude.{◌≡◌};
+ghost use Rattle.std.specs.Iterator.{YieldsFirstRef, item_count};
+ghost use Rattle.srcp_text.specs.Words.{words_of};
+
+use crate::word::{first_blank, first_filled};
+use std::marker::Model;
+
+/// The words of a line that are still to come. Contracts see it as the list of them.
+#[derive(Drop)]
+pub struct Words<'a> {
+    rest: &'a [u8],
+}
+
+impl<'a> Model for Words<'a> {
+    ghost use Rattle.std.specs.Prelude.{ℕ, List};
+    ghost use Rattle.srcp_text.specs.Words.{words_of};
+
+    ghost Value = { List (List ℕ) };
+
+    ghost view = { λ w. words_of w.rest.now };
+}
+
+impl<'a> Words<'a> {
+    pub(crate) fn of(line: &'a [u8]) -> Words<'a>
+        ensures { result ≡ words_of line.now }
+    {
+        Words { rest: line }
+    }
+}
+
+impl<'a> Iterator for Words<'a> {
+    type Item = &'a [u8];
+
+    ghost next_gives = { YieldsFirstRef (λ left. left) };
+
+    ghost remaining = { item_count (λ left. left) };
+
+    fn next(&mut self) -> Option<&'a [u8]> {
+        let begun = &self.rest[first_filled(self.rest)?..];
+        let end = first_blank(begun).unwrap_or(begun.len());
+        let (word, rest) = begun.split_at(end);
+        self.rest = rest;
+        Some(word)
+    }
+}

@@ -1,0 +1,40 @@
+//! Numbers that words write in decimal.
+
+ghost use Rattle.std.specs.Prelude.{◌≡◌};
+ghost use Rattle.srcp_text.specs.Words.{number_of, plain_number_of, has_leading_zero};
+
+/// The number that a word writes: one digit or more and nothing else, leading zeros allowed, and at
+/// most `max`. None for any other word.
+pub fn read_number(word: &[u8], max: u32) -> Option<u32>
+    ensures { result ≡ number_of max word.now }
+{
+    let number = number_within(word, u64::from(max))?;
+    Some(number as u32)
+}
+
+/// The same without leading zeros, so that each number has one word alone: that of `put_number`.
+pub fn read_plain(word: &[u8], max: u64) -> Option<u64>
+    ensures { result ≡ plain_number_of max word.now }
+{
+    if word.len() > 1 && word[0] == b'0' {
+        return None;
+    }
+    number_within(word, max)
+}
+
+fn number_within(word: &[u8], max: u64) -> Option<u64>
+    ensures { result ≡ number_of max word.now }
+{
+    if word.is_empty() {
+        return None;
+    }
+    let mut number: u64 = 0;
+    for byte in word {
+        if !byte.is_ascii_digit() {
+            return None;
+        }
+        let digit = u64::from(byte - b'0');
+        number = number.checked_mul(10)?.checked_add(digit)?;
+    }
+    if number <= max { Some(number) } else { None }
+}
