@@ -1,6 +1,6 @@
 //! One line of a script: a word and what follows it, parted by one space each.
 
-ghost use Rattle.std.specs.Prelude.{◌≡◌, ◌∷◌, [], MatchResult};
+ghost use Rattle.std.specs.Prelude.{◌≡◌, ◌≢◌, ◌==◌, ◌∷◌, [], length, position, MatchResult};
 ghost use Rattle.std.specs.List.{slice_split};
 ghost use Rattle.std.specs.Option.{option_copied};
 ghost use Rattle.srcp_text.specs.Words.{number_of};
@@ -31,8 +31,9 @@ pub(super) fn read_event(alloc: Global, line: &[u8]) -> Result<Event, Cause>
     }
 }
 
+#[tactic(auto, using(crate::proofs::Cuts::open_more))]
 fn open_line(rest: Option<&[u8]>) -> Result<Event, Cause>
-    ensures { result ≡ open_line (parts_behind (option_copied rest)) }
+    ensures { result ≡ open_line (parts_behind (option_copied rest.entry)) }
 {
     match rest {
         None => Ok(Event::Open),
@@ -40,8 +41,9 @@ fn open_line(rest: Option<&[u8]>) -> Result<Event, Cause>
     }
 }
 
+#[tactic(auto, using(crate::proofs::Cuts::bytes_text))]
 fn bytes_line(alloc: Global, rest: Option<&[u8]>) -> Result<Event, Cause>
-    ensures { Gives (λ event. event) Cause.Memory result (bytes_line (parts_behind (option_copied rest))) }
+    ensures { Gives (λ event. event) Cause.Memory result (bytes_line (parts_behind (option_copied rest.entry))) }
 {
     let (conn, rest) = next_part(rest)?;
     let conn = read_connection(conn)?;
@@ -54,7 +56,7 @@ fn bytes_line(alloc: Global, rest: Option<&[u8]>) -> Result<Event, Cause>
 }
 
 fn room_line(rest: Option<&[u8]>) -> Result<Event, Cause>
-    ensures { result ≡ room_line (parts_behind (option_copied rest)) }
+    ensures { result ≡ room_line (parts_behind (option_copied rest.entry)) }
 {
     let (conn, rest) = next_part(rest)?;
     let conn = read_connection(conn)?;
@@ -63,14 +65,14 @@ fn room_line(rest: Option<&[u8]>) -> Result<Event, Cause>
 }
 
 fn at_line(rest: Option<&[u8]>) -> Result<Event, Cause>
-    ensures { result ≡ at_line (parts_behind (option_copied rest)) }
+    ensures { result ≡ at_line (parts_behind (option_copied rest.entry)) }
 {
     let moment = read_moment(last_part(rest)?)?;
     Ok(Event::At(moment))
 }
 
 fn shut_line(rest: Option<&[u8]>) -> Result<Event, Cause>
-    ensures { result ≡ shut_line (parts_behind (option_copied rest)) }
+    ensures { result ≡ shut_line (parts_behind (option_copied rest.entry)) }
 {
     let conn = read_connection(last_part(rest)?)?;
     Ok(Event::Shut { conn })
@@ -79,8 +81,8 @@ fn shut_line(rest: Option<&[u8]>) -> Result<Event, Cause>
 /// The next part and what follows it; a part that is missing is a fault of its number.
 fn next_part(rest: Option<&[u8]>) -> Result<(&[u8], Option<&[u8]>), Cause>
     ensures { MatchResult result
-        (λ next. parts_behind (option_copied rest) ≡ next.0.now ∷ parts_behind (option_copied next.1))
-        (λ cause. (cause ≡ Cause.Number) × (parts_behind (option_copied rest) ≡ [])) }
+        (λ next. parts_behind (option_copied rest.entry) ≡ next.0.now ∷ parts_behind (option_copied next.1))
+        (λ cause. (cause ≡ Cause.Number) × (parts_behind (option_copied rest.entry) ≡ [])) }
 {
     match rest {
         Some(text) => Ok(cut_at_space(text)),
@@ -89,7 +91,12 @@ fn next_part(rest: Option<&[u8]>) -> Result<(&[u8], Option<&[u8]>), Cause>
 }
 
 /// The only part that is left.
-fn last_part(rest: Option<&[u8]>) -> Result<&[u8], Cause> {
+#[tactic(auto, using(crate::proofs::Cuts::some_part))]
+fn last_part(rest: Option<&[u8]>) -> Result<&[u8], Cause>
+    ensures { MatchResult result
+        (λ part. parts_behind (option_copied rest.entry) ≡ part.now ∷ [])
+        (λ cause. (cause ≡ Cause.Number) × (length (parts_behind (option_copied rest.entry)) ≢ 1)) }
+{
     match next_part(rest)? {
         (part, None) => Ok(part),
         (_, Some(_)) => Err(Cause::Number),
@@ -100,10 +107,16 @@ fn last_part(rest: Option<&[u8]>) -> Result<&[u8], Cause> {
 fn cut_at_space(text: &[u8]) -> (&[u8], Option<&[u8]>)
     ensures { slice_split (λ byte. byte == 32) text.now ≡ result.0.now ∷ parts_behind (option_copied result.1) }
 {
-    match text.iter().position(|byte| *byte == b' ') {
+    match find_space(text) {
         Some(space) => (&text[..space], Some(&text[space + 1..])),
         None => (text, None),
     }
+}
+
+fn find_space(text: &[u8]) -> Option<usize>
+    ensures { result ≡ position (λ byte. byte == 32) text.now }
+{
+    text.iter().position(|byte| *byte == b' ')
 }
 
 /// The number of a connection, 1 to 4294967295.
