@@ -5,7 +5,7 @@ use Rattle.std.specs.Char.{is_digit, digit_value}
 use Rattle.std.specs.List.{slice_split, onto_first}
 use Rattle.std.proofs.lemmas.Bool.{cases_Bool, eqb-true, ne_eqb, lt-ltb, ltb-true}
 use Rattle.std.proofs.lemmas.Slice.{between_to_end}
-use Rattle.srcp_server.specs.Script.{unescaped, plain_and, escapes, escape, joined, hex_byte}
+use Rattle.srcp_server.specs.Script.{unescaped, after, plain_and, escapes, escape, joined, hex_byte}
 
 -- two hexadecimal digits stand at the front of the text, and the byte that they write
 abbrev pub AreDigits : List ℕ → Type 0
@@ -20,10 +20,6 @@ is_backslash byte = eqb byte 92
 -- the parts of a text between its backslashes
 abbrev parts : List ℕ → List (List ℕ)
 parts text = slice_split is_backslash text
-
--- what is written, with this byte before it
-abbrev pub after : ℕ → Option (List ℕ) → Option (List ℕ)
-after byte more = option_map (λ bytes. byte ∷ bytes) more
 
 -- a byte at the front of the first part is at the front of what is written
 joined-front : (byte : ℕ) (plain : List ℕ) (more : Option (List ℕ)) → joined (Some (byte ∷ plain)) more ≡ after byte (joined (Some plain) more)
@@ -92,4 +88,3 @@ unescaped-cut_hex (high ∷ low ∷ text) short = absurd (omega arith)
 -- what is written in front of the rest
 abbrev pub behind : List ℕ → Option (List ℕ) → Option (List ℕ)
 behind bytes more = option_map (λ rest. bytes ++ rest) more
-

@@ -1,9 +1,9 @@
 //! The bytes that a text of a script writes.
 
-ghost use Rattle.std.specs.Prelude.{◌≡◌, ◌≢◌, ◌+◌, ◌*◌, ◌<◌, ◌∷◌, length, IfOk, IfErr, IfSome, MatchOption, Some, None, option_map};
+ghost use Rattle.std.specs.Prelude.{◌≡◌, ◌≢◌, ◌+◌, ◌*◌, ◌<◌, ◌∷◌, length, IfOk, IfErr, IfSome, MatchOption, Some, None};
 ghost use Rattle.std.specs.Char.{digit_value};
 ghost use Rattle.std.specs.Option.{SomeIff};
-ghost use Rattle.srcp_server.specs.Script.{unescaped};
+ghost use Rattle.srcp_server.specs.Script.{unescaped, after};
 
 use crate::script::Cause;
 use std::alloc::Global;
@@ -32,19 +32,23 @@ pub(super) fn unescape(alloc: Global, text: &[u8]) -> Result<Vec<u8>, Cause>
 /// The first byte that a text writes and what stands behind it; None for a wrong escape.
 fn first_byte(text: &[u8]) -> Option<(u8, &[u8])>
     requires { 0 < length text.now }
-    ensures first { MatchOption result (unescaped text.now ≡ None)
-        (λ first. unescaped text.now ≡ option_map (λ bytes. first.0 ∷ bytes) (unescaped first.1.now)) }
+    ensures first { MatchOption result (unescaped text.now ≡ None) (λ first.
+        unescaped text.now ≡ after first.0 (unescaped first.1.now)) }
     ensures shorter { IfSome result (λ first. length first.1.now < length text.now) }
 {
     let byte = text[0];
     let behind = &text[1..];
-    if byte == b'\\' { escaped_byte(behind) } else { Some((byte, behind)) }
+    if byte == b'\\' {
+        escaped_byte(behind)
+    } else {
+        Some((byte, behind))
+    }
 }
 
 /// The byte that a text behind a backslash writes, and what stands behind that.
 fn escaped_byte(text: &[u8]) -> Option<(u8, &[u8])>
-    ensures first { MatchOption result (unescaped (92 ∷ text.now) ≡ None)
-        (λ first. unescaped (92 ∷ text.now) ≡ option_map (λ bytes. first.0 ∷ bytes) (unescaped first.1.now)) }
+    ensures first { MatchOption result (unescaped (92 ∷ text.now) ≡ None) (λ first.
+        unescaped (92 ∷ text.now) ≡ after first.0 (unescaped first.1.now)) }
     ensures shorter { IfSome result (λ first. length first.1.now < length text.now) }
 {
     let [letter, behind @ ..] = text else {
@@ -62,8 +66,8 @@ fn escaped_byte(text: &[u8]) -> Option<(u8, &[u8])>
 
 /// The byte that two hexadecimal digits write, and what stands behind them.
 fn hex_byte(text: &[u8]) -> Option<(u8, &[u8])>
-    ensures first { MatchOption result (unescaped (92 ∷ 120 ∷ text.now) ≡ None)
-        (λ first. unescaped (92 ∷ 120 ∷ text.now) ≡ option_map (λ bytes. first.0 ∷ bytes) (unescaped first.1.now)) }
+    ensures first { MatchOption result (unescaped (92 ∷ 120 ∷ text.now) ≡ None) (λ first.
+        unescaped (92 ∷ 120 ∷ text.now) ≡ after first.0 (unescaped first.1.now)) }
     ensures shorter { IfSome result (λ first. length first.1.now < length text.now) }
 {
     if text.len() < 2 {

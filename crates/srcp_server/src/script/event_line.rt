@@ -1,13 +1,12 @@
 //! One line of a script: a word and what follows it, parted by one space each.
 
-ghost use Rattle.std.specs.Prelude.{◌≡◌, ◌≢◌, ◌==◌, ◌∷◌, [], length, position, MatchResult};
-ghost use Rattle.std.specs.List.{slice_split};
+ghost use Rattle.std.specs.Prelude.{◌≡◌, ◌≢◌, ◌∷◌, [], length, MatchResult};
 ghost use Rattle.std.specs.Option.{option_copied};
-ghost use Rattle.srcp_text.specs.Words.{number_of};
 ghost use Rattle.srcp_server.specs.Gives.{Gives};
 ghost use Rattle.srcp_server.specs.Script.{event_of, open_line, bytes_line, room_line, at_line, shut_line, connection, size, moment, parts_behind};
 
 use crate::script::Cause;
+use crate::script::cut::cut_at;
 use crate::script::escape::unescape;
 use srcp_core::{Event, Piece};
 use srcp_text::{read_number, read_plain};
@@ -20,7 +19,7 @@ use std::alloc::Global;
 pub(super) fn read_event(alloc: Global, line: &[u8]) -> Result<Event, Cause>
     ensures { Gives (λ event. event) Cause.Memory result (event_of line.now) }
 {
-    let (word, rest) = cut_at_space(line);
+    let (word, rest) = cut_at(b' ', line);
     match word {
         b"open" => open_line(rest),
         b"bytes" => bytes_line(alloc, rest),
@@ -33,7 +32,7 @@ pub(super) fn read_event(alloc: Global, line: &[u8]) -> Result<Event, Cause>
 
 #[tactic(auto, using(crate::proofs::Cuts::open_more))]
 fn open_line(rest: Option<&[u8]>) -> Result<Event, Cause>
-    ensures { result ≡ open_line (parts_behind (option_copied rest.entry)) }
+    ensures { result ≡ open_line (parts_behind 32 (option_copied rest.entry)) }
 {
     match rest {
         None => Ok(Event::Open),
@@ -43,7 +42,7 @@ fn open_line(rest: Option<&[u8]>) -> Result<Event, Cause>
 
 #[tactic(auto, using(crate::proofs::Cuts::bytes_text))]
 fn bytes_line(alloc: Global, rest: Option<&[u8]>) -> Result<Event, Cause>
-    ensures { Gives (λ event. event) Cause.Memory result (bytes_line (parts_behind (option_copied rest.entry))) }
+    ensures { Gives (λ event. event) Cause.Memory result (bytes_line (parts_behind 32 (option_copied rest.entry))) }
 {
     let (conn, rest) = next_part(rest)?;
     let conn = read_connection(conn)?;
@@ -56,7 +55,7 @@ fn bytes_line(alloc: Global, rest: Option<&[u8]>) -> Result<Event, Cause>
 }
 
 fn room_line(rest: Option<&[u8]>) -> Result<Event, Cause>
-    ensures { result ≡ room_line (parts_behind (option_copied rest.entry)) }
+    ensures { result ≡ room_line (parts_behind 32 (option_copied rest.entry)) }
 {
     let (conn, rest) = next_part(rest)?;
     let conn = read_connection(conn)?;
@@ -65,14 +64,14 @@ fn room_line(rest: Option<&[u8]>) -> Result<Event, Cause>
 }
 
 fn at_line(rest: Option<&[u8]>) -> Result<Event, Cause>
-    ensures { result ≡ at_line (parts_behind (option_copied rest.entry)) }
+    ensures { result ≡ at_line (parts_behind 32 (option_copied rest.entry)) }
 {
     let moment = read_moment(last_part(rest)?)?;
     Ok(Event::At(moment))
 }
 
 fn shut_line(rest: Option<&[u8]>) -> Result<Event, Cause>
-    ensures { result ≡ shut_line (parts_behind (option_copied rest.entry)) }
+    ensures { result ≡ shut_line (parts_behind 32 (option_copied rest.entry)) }
 {
     let conn = read_connection(last_part(rest)?)?;
     Ok(Event::Shut { conn })
@@ -81,11 +80,11 @@ fn shut_line(rest: Option<&[u8]>) -> Result<Event, Cause>
 /// The next part and what follows it; a part that is missing is a fault of its number.
 fn next_part(rest: Option<&[u8]>) -> Result<(&[u8], Option<&[u8]>), Cause>
     ensures { MatchResult result
-        (λ next. parts_behind (option_copied rest.entry) ≡ next.0.now ∷ parts_behind (option_copied next.1))
-        (λ cause. (cause ≡ Cause.Number) × (parts_behind (option_copied rest.entry) ≡ [])) }
+        (λ next. parts_behind 32 (option_copied rest.entry) ≡ next.0.now ∷ parts_behind 32 (option_copied next.1))
+        (λ cause. (cause ≡ Cause.Number) × (parts_behind 32 (option_copied rest.entry) ≡ [])) }
 {
     match rest {
-        Some(text) => Ok(cut_at_space(text)),
+        Some(text) => Ok(cut_at(b' ', text)),
         None => Err(Cause::Number),
     }
 }
@@ -94,29 +93,13 @@ fn next_part(rest: Option<&[u8]>) -> Result<(&[u8], Option<&[u8]>), Cause>
 #[tactic(auto, using(crate::proofs::Cuts::some_part))]
 fn last_part(rest: Option<&[u8]>) -> Result<&[u8], Cause>
     ensures { MatchResult result
-        (λ part. parts_behind (option_copied rest.entry) ≡ part.now ∷ [])
-        (λ cause. (cause ≡ Cause.Number) × (length (parts_behind (option_copied rest.entry)) ≢ 1)) }
+        (λ part. parts_behind 32 (option_copied rest.entry) ≡ part.now ∷ [])
+        (λ cause. (cause ≡ Cause.Number) × (length (parts_behind 32 (option_copied rest.entry)) ≢ 1)) }
 {
     match next_part(rest)? {
         (part, None) => Ok(part),
         (_, Some(_)) => Err(Cause::Number),
     }
-}
-
-/// What stands before the first space, and what stands behind it.
-fn cut_at_space(text: &[u8]) -> (&[u8], Option<&[u8]>)
-    ensures { slice_split (λ byte. byte == 32) text.now ≡ result.0.now ∷ parts_behind (option_copied result.1) }
-{
-    match find_space(text) {
-        Some(space) => (&text[..space], Some(&text[space + 1..])),
-        None => (text, None),
-    }
-}
-
-fn find_space(text: &[u8]) -> Option<usize>
-    ensures { result ≡ position (λ byte. byte == 32) text.now }
-{
-    text.iter().position(|byte| *byte == b' ')
 }
 
 /// The number of a connection, 1 to 4294967295.
@@ -144,7 +127,9 @@ fn read_moment(part: &[u8]) -> Result<u64, Cause>
     ensures { result ≡ moment part.now }
 {
     let mut digits = part;
-    while let [b'0', behind @ ..] = digits && !behind.is_empty() {
+    while let [b'0', behind @ ..] = digits
+        && !behind.is_empty()
+    {
         digits = behind;
     }
     read_plain(digits, u64::MAX).ok_or(Cause::Number)
