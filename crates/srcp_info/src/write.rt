@@ -1,0 +1,231 @@
+//! Changes and replies, written as lines.
+
+ghost use Rattle.std.specs.Prelude.{◌≡◌, ◌+◌, ◌≤◌, [], ◌∷◌, ◌++◌, length, map, decimal};
+ghost use Rattle.arrayvec.specs.ArrayVec.{array_vec_len};
+ghost use Rattle.std.specs.List.{join_with_byte};
+ghost use Rattle.srcp_text.specs.Stamp.{stamp as stamp_of};
+ghost use Rattle.srcp_info.specs.Line.{after_spaces, bit_word, switch_word, group_words, value_words, info_words, spaced, line, reply_line};
+ghost use Rattle.srcp_info.specs.WellFormed.{IsWellFormed, IsWellFormedShown, IsWellFormedReply, IsShort, IsValueAt};
+
+use crate::change::{Change, Reply, Shown};
+use crate::key::{Device, Group, Key};
+use crate::value::{Bits, Text, Value};
+use crate::words::{bit_word, code_text, letter_word, mode_word, switch_word, value_code};
+use srcp_text::{LineBuf, put_bytes, put_number, put_stamp};
+
+/// Appends a space and a word.
+fn put_word(word: &[u8], buffer: &mut LineBuf)
+    requires { array_vec_len buffer.old + 1 + length word.now ≤ 256 }
+    ensures { buffer.new.items ≡ buffer.old.items ++ 32 ∷ word.now }
+{
+    buffer.push(b' ');
+    put_bytes(word, buffer);
+}
+
+/// Appends a space and a number.
+fn put_count(count: u32, buffer: &mut LineBuf)
+    requires { array_vec_len buffer.old + 1 + length (decimal count) ≤ 256 }
+    ensures { buffer.new.items ≡ buffer.old.items ++ 32 ∷ decimal count }
+{
+    buffer.push(b' ');
+    put_number(u64::from(count), buffer);
+}
+
+/// Appends each number after a space.
+fn put_counts(counts: &[u32], buffer: &mut LineBuf)
+    requires { array_vec_len buffer.old + length (after_spaces (map decimal counts.now)) ≤ 256 }
+    ensures { buffer.new.items ≡ buffer.old.items ++ after_spaces (map decimal counts.now) }
+{
+    for count in counts {
+        put_count(*count, buffer);
+    }
+}
+
+/// Appends the words of a group.
+fn put_group(group: Group, buffer: &mut LineBuf)
+    requires { array_vec_len buffer.old + length (after_spaces (group_words group)) ≤ 256 }
+    ensures { buffer.new.items ≡ buffer.old.items ++ after_spaces (group_words group) }
+{
+    let words: &[u8] = match group {
+        Group::Session => b"SESSION",
+        Group::Power => b"POWER",
+        Group::Gl => b"GL",
+        Group::Ga => b"GA",
+        Group::Fb => b"FB",
+        Group::LockGl => b"LOCK GL",
+        Group::LockGa => b"LOCK GA",
+    };
+    put_word(words, buffer);
+}
+
+/// Appends what a POWER line says: ON or OFF, and the text where there is one.
+fn put_power(on: bool, text: &Text, buffer: &mut LineBuf)
+    requires { array_vec_len buffer.old + length (after_spaces (value_words 0 0 (Value.Power on text.now))) ≤ 256 }
+    ensures { buffer.new.items ≡ buffer.old.items ++ after_spaces (value_words 0 0 (Value.Power on text.now)) }
+{
+    put_word(switch_word(on), buffer);
+    if !text.is_empty() {
+        put_word(text.as_bytes(), buffer);
+    }
+}
+
+/// Appends each function as 1 or 0.
+fn put_functions(functions: &Bits, buffer: &mut LineBuf)
+    requires { array_vec_len buffer.old + length (after_spaces (map bit_word functions.now)) ≤ 256 }
+    ensures { buffer.new.items ≡ buffer.old.items ++ after_spaces (map bit_word functions.now) }
+{
+    for on in functions.as_slice() {
+        put_word(bit_word(*on), buffer);
+    }
+}
+
+/// Appends what the line of a row says after the words of its group.
+fn put_value(key: &Key, value: &Value, buffer: &mut LineBuf)
+    requires fits_key { IsValueAt key.now.group key.now.port value.now }
+    requires room { array_vec_len buffer.old + length (after_spaces (value_words key.now.address key.now.port value.now)) ≤ 256 }
+    ensures { buffer.new.items
+        ≡ buffer.old.items ++ after_spaces (value_words key.now.address key.now.port value.now) }
+{
+    let address = key.address;
+    match value {
+        Value::Session { mode } => {
+            put_count(address, buffer);
+            put_word(mode_word(*mode), buffer);
+        }
+        Value::Power { on, text } => put_power(*on, text, buffer),
+        Value::GlInit {
+            letter,
+            version,
+            steps,
+            functions,
+        } => {
+            put_count(address, buffer);
+            put_word(letter_word(*letter), buffer);
+            put_counts(&[*version, *steps, *functions], buffer);
+        }
+        Value::GlState {
+            mode,
+            v,
+            vmax,
+            functions,
+        } => {
+            put_counts(&[address, *mode, *v, *vmax], buffer);
+            put_functions(functions, buffer);
+        }
+        Value::GaInit { letter } => {
+            put_count(address, buffer);
+            put_word(letter_word(*letter), buffer);
+        }
+        Value::GaPort { on } => {
+            put_counts(&[address, u32::from(key.port - 1)], buffer);
+            put_word(bit_word(*on), buffer);
+        }
+        Value::Fb { on } => {
+            put_count(address, buffer);
+            put_word(bit_word(*on), buffer);
+        }
+        Value::Lock { seconds, session } => put_counts(&[address, *seconds, *session], buffer),
+    }
+}
+
+/// Appends what all lines of changes begin with, up to the words of the group.
+fn put_info(moment: u64, code: &[u8], bus: u8, group: Group, buffer: &mut LineBuf)
+    requires { array_vec_len buffer.old + length (join_with_byte 32 (info_words moment code.now bus group [])) ≤ 256 }
+    ensures { buffer.new.items ≡ buffer.old.items ++ join_with_byte 32 (info_words moment code.now bus group []) }
+{
+    put_stamp(moment, buffer);
+    put_word(code, buffer);
+    put_word(b"INFO", buffer);
+    put_count(u32::from(bus), buffer);
+    put_group(group, buffer);
+}
+
+/// Writes the line of a row.
+fn write_row(shown: &Shown, buffer: &mut LineBuf)
+    requires well_formed { IsWellFormedShown shown.now }
+    requires empty { buffer.old.items ≡ [] }
+    ensures line { buffer.new.items ≡ line (Change.Put shown.now) }
+    ensures most { array_vec_len buffer.new ≤ 126 }
+{
+    let key = &shown.key;
+    put_info(
+        shown.stamp,
+        value_code(&shown.value),
+        key.bus,
+        key.group,
+        buffer,
+    );
+    put_value(key, &shown.value, buffer);
+    put_bytes(b"\n", buffer);
+}
+
+/// Writes the line of a device that is gone.
+fn write_gone(stamp: u64, device: &Device, buffer: &mut LineBuf)
+    requires well_formed { IsWellFormed (Change.Gone stamp device.now) }
+    requires empty { buffer.old.items ≡ [] }
+    ensures line { buffer.new.items ≡ line (Change.Gone stamp device.now) }
+    ensures most { array_vec_len buffer.new ≤ 126 }
+{
+    put_info(stamp, b"102", device.bus, device.group, buffer);
+    put_count(device.address, buffer);
+    put_bytes(b"\n", buffer);
+}
+
+/// Writes the line that tells of a change, with its LF, into an empty buffer. It has at most 126
+/// bytes, and takes no memory.
+pub fn write_change(change: &Change, buffer: &mut LineBuf)
+    requires well_formed { IsWellFormed change.now }
+    requires empty { buffer.old.items ≡ [] }
+    ensures line { buffer.new.items ≡ line change.now }
+    ensures most { array_vec_len buffer.new ≤ 126 }
+{
+    match change {
+        Change::Put(shown) => write_row(shown, buffer),
+        Change::Gone { stamp, device } => write_gone(*stamp, device, buffer),
+    }
+}
+
+/// Writes a moment and a text as a line.
+
+fn write_text(stamp: u64, text: &[u8], buffer: &mut LineBuf)
+    requires short { length text.now ≤ 40 }
+    requires empty { buffer.old.items ≡ [] }
+    ensures line { buffer.new.items ≡ spaced (stamp_of stamp ∷ text.now ∷ []) }
+    ensures most { array_vec_len buffer.new ≤ 64 }
+{
+    put_stamp(stamp, buffer);
+    put_word(text, buffer);
+    put_bytes(b"\n", buffer);
+}
+
+/// Writes the reply to GO: the moment, and the id of the session that begins.
+fn write_go(stamp: u64, id: u32, buffer: &mut LineBuf)
+    requires { buffer.old.items ≡ [] }
+    ensures line { buffer.new.items ≡ reply_line stamp (Reply.Go id) }
+    ensures most { array_vec_len buffer.new ≤ 64 }
+{
+    put_stamp(stamp, buffer);
+    put_word(b"200 OK GO", buffer);
+    put_count(id, buffer);
+    put_bytes(b"\n", buffer);
+}
+
+/// Writes the line of a reply at a moment of `stamp` milliseconds, with its LF, into an empty
+/// buffer. A row that is shown keeps its own stamp. The line has at most 126 bytes, and at most 64
+/// where it shows no row. It takes no memory.
+pub fn write_reply(stamp: u64, reply: &Reply, buffer: &mut LineBuf)
+    requires well_formed { IsWellFormedReply reply.now }
+    requires empty { buffer.old.items ≡ [] }
+    ensures line { buffer.new.items ≡ reply_line stamp reply.now }
+    ensures most { array_vec_len buffer.new ≤ 126 }
+    ensures short { IsShort reply.now → array_vec_len buffer.new ≤ 64 }
+{
+    match reply {
+        Reply::Accepted => write_text(stamp, b"200 OK", buffer),
+        Reply::Protocol => write_text(stamp, b"201 OK PROTOCOL SRCP", buffer),
+        Reply::Mode => write_text(stamp, b"202 OK CONNECTIONMODE", buffer),
+        Reply::Go(id) => write_go(stamp, *id, buffer),
+        Reply::Shows(shown) => write_row(shown, buffer),
+        Reply::Refused(code) => write_text(stamp, code_text(*code), buffer),
+    }
+}
