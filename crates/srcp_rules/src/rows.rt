@@ -1,0 +1,54 @@
+ghost use Rattle.std.specs.Prelude.{◌≡◌, List, IsTrue, IfOk, OnOk, OnErr, option_copied};
+ghost use Rattle.srcp_info.specs.declared.key.Device.{Device};
+ghost use Rattle.srcp_info.specs.WellFormed.{can_go};
+ghost use Rattle.srcp_rules.specs.declared.layout.Bus.{Bus};
+ghost use Rattle.srcp_rules.specs.Rows.{AreNewRowsOf, put_rows};
+ghost use Rattle.srcp_rules.specs.State.{State, IsRowOf, has_row, opening, put_row, row_at, row_after, without};
+
+use crate::layout::Layout;
+use crate::obeyed::Memory;
+use srcp_info::{Cursor, Device, Key, Row};
+use std::alloc::Global;
+
+/// What keeps the rows of a registry, and the layout that they are of.
+pub trait Rows: Drop {
+    /// The buses of the layout.
+    ghost buses: { Self → List Bus };
+
+    /// The rows in key order.
+    ghost state: { Self → State };
+
+    /// The registry of the layout as it begins, at the moment 0: the power of each bus is off and
+    /// its feedback ports are 0. `Err` is want of memory.
+    fn empty(alloc: Global, layout: &Layout) -> Result<Self, Memory>
+        ensures layout { IfOk result (λ kept. buses kept ≡ layout.now) }
+        ensures rows { IfOk result (λ kept. state kept ≡ opening layout.now 0) };
+
+    /// The row at the key.
+    fn row(&self, key: &Key) -> Option<&Row>
+        ensures { option_copied result ≡ row_at key.now (state self.now) };
+
+    /// The row with the least key beyond the cursor; there is none beyond `Done`.
+    fn row_after(&self, cursor: Cursor) -> Option<&Row>
+        ensures { option_copied result ≡ row_after cursor (state self.now) };
+
+    /// Adds all the rows of one device that is not there, in key order. `Err` is want of memory.
+    fn add(&mut self, added: &[Row]) -> Result<(), Memory>
+        requires { (device : Device) × AreNewRowsOf (buses self.old) (state self.old) device added.now }
+        ensures layout { buses self.new ≡ buses self.old }
+        ensures ok { OnOk result (state self.new ≡ put_rows added.now (state self.old)) }
+        ensures err { OnErr result (state self.new ≡ state self.old) };
+
+    /// Sets a row that is there.
+    fn set(&mut self, row: Row)
+        requires there { IsTrue (has_row row.shown.key (state self.old)) }
+        requires fits { IsRowOf (buses self.old) row }
+        ensures layout { buses self.new ≡ buses self.old }
+        ensures rows { state self.new ≡ put_row row (state self.old) };
+
+    /// Takes out the rows of a device of a group that comes and goes; nothing where it has none.
+    fn drop_device(&mut self, device: Device)
+        requires { IsTrue (can_go device.group) }
+        ensures layout { buses self.new ≡ buses self.old }
+        ensures rows { state self.new ≡ without device (state self.old) };
+}
