@@ -32,8 +32,8 @@ pub rest-cut : (bytes : List ℕ) → 0 < length bytes → not (eqb (get_or byte
 rest-cut [] some = absurd (omega arith)
 rest-cut (byte ∷ bytes) some = rw (rest-last byte bytes, sub_one_length byte bytes) refl
   where
-  sub_one_length : (byte : ℕ) (bytes : List ℕ) → length (byte ∷ bytes) - 1 ≡ length bytes
-  sub_one_length byte bytes = omega arith
+    sub_one_length : (byte : ℕ) (bytes : List ℕ) → length (byte ∷ bytes) - 1 ≡ length bytes
+    sub_one_length byte bytes = omega arith
 
 -- the lines of the next connection, and of those behind it
 pub connections_next : (connections : List ConnRecord) (index : ℕ) (connection : ConnRecord) → index < length connections → connection ≡ get_or connections index connection → flat_map connection_lines (enumerate_from (index + 1) (drop index connections)) ≡ connection_lines (index + 1, connection) ++ flat_map connection_lines (enumerate_from (index + 1 + 1) (drop (index + 1) connections))

@@ -96,11 +96,7 @@ fn finish_word(finish: Finish) -> &'static str
     }
 }
 
-fn print_refusals(
-    alloc: Global,
-    refusals: &[Refusal],
-    text: &mut Vec<u8>,
-) -> Result<(), AllocError>
+fn print_refusals(alloc: Global, refusals: &[Refusal], text: &mut Vec<u8>) -> Result<(), AllocError>
     ensures { OnOk result (text.new.items ≡ text.old.items ++ flat_map refusal_line refusals.now) }
 {
     for refusal in refusals {

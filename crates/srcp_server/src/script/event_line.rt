@@ -5,8 +5,8 @@ ghost use Rattle.std.specs.Option.{option_copied};
 ghost use Rattle.srcp_server.specs.Gives.{Gives};
 ghost use Rattle.srcp_server.specs.Script.{event_of, open_line, bytes_line, room_line, at_line, shut_line, connection, size, moment, parts_behind};
 
+use crate::cut::cut_at;
 use crate::script::Cause;
-use crate::script::cut::cut_at;
 use crate::script::escape::unescape;
 use srcp_core::{Event, Piece};
 use srcp_text::{read_number, read_plain};

@@ -6,7 +6,7 @@ ghost use Rattle.std.specs.Option.{option_copied};
 ghost use Rattle.srcp_server.specs.Script.{parts_behind};
 
 /// What stands before the first such byte of a text, and what stands behind it, where there is one.
-pub(super) fn cut_at(byte: u8, text: &[u8]) -> (&[u8], Option<&[u8]>)
+pub(crate) fn cut_at(byte: u8, text: &[u8]) -> (&[u8], Option<&[u8]>)
     ensures parts { slice_split (λ b. b == byte) text.now
         ≡ result.0.now ∷ parts_behind byte (option_copied result.1) }
     ensures shorter { IfSome result.1 (λ behind. length behind.now < length text.now) }
