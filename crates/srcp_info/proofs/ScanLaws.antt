@@ -17,7 +17,9 @@ use Rattle.srcp_text.proofs.NumberLaws.{own, has_leading_zero-decimal, plain_num
 use Rattle.srcp_text.proofs.ScanLaws.{position_some}
 use Rattle.srcp_text.proofs.StampLaws.{digits_free, stamp_free, three_digits_again}
 use Rattle.srcp_info.specs.Line.{bit_word, after_spaces}
-use Rattle.srcp_info.specs.Read.{is_space}
+use Rattle.srcp_info.specs.declared.scan.InfoKind.{InfoKind}
+use Rattle.srcp_info.specs.declared.scan.InfoKind.TheVariants.{State, Init, Term}
+use Rattle.srcp_info.specs.Read.{is_space, kind_code}
 use Rattle.srcp_info.proofs.LineLaws.{join-cons}
 
 -- ---- a text cut at the first byte that passes
@@ -139,3 +141,9 @@ bits_step bits seen seen' left on rest more whole is some push next =
     let bs = first.1 in
     let read = next b (map bit_word bs) (is ∙ ap (λ (ys : List Bool). join_with_byte 32 (map bit_word ys)) first.2) in
     (bs, whole ∙ ap (λ (ys : List Bool). seen ++ ys) (first.2 ∙ ap (λ (y : Bool). y ∷ bs) (sym read.0)) ∙ sym (append_assoc seen (on ∷ []) bs) ∙ ap (λ (ys : List Bool). ys ++ bs) (sym push), read.1)
+
+-- nor has the number of a line a space
+pub kind_no_space : (kind : InfoKind) → list_any is_space (kind_code kind) ≡ false
+kind_no_space State = refl
+kind_no_space Init = refl
+kind_no_space Term = refl

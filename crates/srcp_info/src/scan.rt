@@ -5,12 +5,23 @@ ghost use Rattle.std.specs.List.{join_with_byte, list_any, before_first, after_f
 ghost use Rattle.srcp_text.specs.Stamp.{stamp};
 ghost use Rattle.srcp_info.specs.declared.key.Group.{Group};
 ghost use Rattle.srcp_info.specs.declared.value.Letter.{Letter};
-ghost use Rattle.srcp_info.specs.Line.{group_words, letter_word, bit_word, switch_word};
-ghost use Rattle.srcp_info.specs.Read.{is_space};
+ghost use Rattle.srcp_info.specs.declared.value.Mode.{Mode};
+ghost use Rattle.srcp_info.specs.declared.scan.InfoKind.{InfoKind};
+ghost use Rattle.srcp_info.specs.Line.{group_words, mode_word, letter_word, bit_word, switch_word};
+ghost use Rattle.srcp_info.specs.Read.{is_space, kind_code};
 
 use crate::key::Group;
-use crate::value::{Bits, Letter};
+use crate::value::{Bits, Letter, Mode};
 use srcp_text::{read_number, read_plain};
+
+/// What an information line is about: 100 tells what a device does, 101 what it is, and 102 that
+/// it is gone.
+#[derive(Clone, Copy, PartialEq, Eq)]
+pub(crate) enum InfoKind {
+    State,
+    Init,
+    Term,
+}
 
 /// Where a byte first stands.
 fn place_of(wanted: u8, text: &[u8]) -> Option<usize>
@@ -93,6 +104,27 @@ fn next_lock_group(text: &[u8]) -> (Group, &[u8])
     match word {
         b"GL" => (Group::LockGl, rest),
         _ => (Group::LockGa, rest),
+    }
+}
+
+/// What the number of a line says that it is about.
+pub(crate) fn kind_of(code: &[u8]) -> InfoKind
+    ensures { (kind : InfoKind) → code.now ≡ kind_code kind → result ≡ kind }
+{
+    match code {
+        b"102" => InfoKind::Term,
+        b"101" => InfoKind::Init,
+        _ => InfoKind::State,
+    }
+}
+
+/// The mode of a session that a text names.
+pub(crate) fn mode_named(text: &[u8]) -> Mode
+    ensures { (mode : Mode) → text.now ≡ mode_word mode → result ≡ mode }
+{
+    match text {
+        b"INFO" => Mode::Info,
+        _ => Mode::Command,
     }
 }
 

@@ -6,6 +6,6 @@ use Rattle.srcp_info.proofs.scan.next_word.Goals as goal
 
 pub returns : goal.returns
 returns c = λ word others free is. (
-    c.cut.ensures.before ∙ ap (before_first is_space) is ∙ before_first-join word others free,
-    c.cut.ensures.after ∙ ap (after_first is_space) is ∙ after_first-join word others free,
+  c.cut.ensures.before ∙ ap (before_first is_space) is ∙ before_first-join word others free,
+  c.cut.ensures.after ∙ ap (after_first is_space) is ∙ after_first-join word others free,
 )
