@@ -1,11 +1,12 @@
 //! The rows that a client holds who follows the lines.
 
 ghost use Rattle.std.specs.Prelude.{◌≡◌, ◌+◌, ◌<◌, ◌≤◌, true, false, not, List, [], ◌∷◌, length, slice_index_or, take, drop, Err, OnOk, OnErr};
-ghost use Rattle.std.specs.List.{filter};
+ghost use Rattle.std.specs.List.{filter, AllByRecursion};
 ghost use Rattle.srcp_info.specs.declared.change.Shown.{Shown};
 ghost use Rattle.srcp_info.specs.declared.change.Change.{Change};
 ghost use Rattle.srcp_info.specs.Key.{is_after, owns};
 ghost use Rattle.srcp_info.specs.Client.{IsRisingBy, put, changed};
+ghost use Rattle.srcp_info.specs.WellFormed.{IsWellFormedShown};
 ghost use Rattle.srcp_info.specs.Read.{IsLineOf};
 
 use crate::change::{Change, Shown};
@@ -33,13 +34,15 @@ pub struct Mirror {
 impl Model for Mirror {
     ghost use Rattle.std.specs.Prelude.{List};
     ghost use Rattle.srcp_info.specs.declared.change.Shown.{Shown};
+    ghost use Rattle.std.specs.List.{AllByRecursion};
     ghost use Rattle.srcp_info.specs.Client.{IsRisingBy};
+    ghost use Rattle.srcp_info.specs.WellFormed.{IsWellFormedShown};
 
     ghost Value = { List Shown };
 
     ghost view = { λ m. m.rows.items };
 
-    ghost invariant = { λ m. IsRisingBy (λ row. row.key) m.rows.items };
+    ghost invariant = { λ m. IsRisingBy (λ row. row.key) m.rows.items × AllByRecursion IsWellFormedShown m.rows.items };
 }
 
 impl Mirror {
@@ -78,6 +81,7 @@ impl Mirror {
     pub fn rows(&self) -> &[Shown]
         ensures rows { result.now ≡ self.now }
         ensures rising { IsRisingBy (λ row. row.key) result.now }
+        ensures well_formed { AllByRecursion IsWellFormedShown result.now }
     {
         &self.rows
     }
