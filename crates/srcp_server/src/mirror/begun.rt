@@ -37,6 +37,10 @@ impl BegunLine {
         ensures { (text : List ℕ) → IsBegun self.now text
             → MatchOption result (256 < length text) (λ line. line.now ≡ text) }
     {
-        if self.too_long { None } else { Some(&self.bytes) }
+        if self.too_long {
+            None
+        } else {
+            Some(&self.bytes)
+        }
     }
 }

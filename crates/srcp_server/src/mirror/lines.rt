@@ -57,16 +57,16 @@ impl MirroredLines {
             → (input : List ℕ) → HasTaken self.old input → RefusesLine (input ++ piece.now) (self.new.count + 1) }
         ensures count { self.new.count ≤ self.old.count + length piece.now }
     {
-        let mut rest = Some(piece);
-        while let Some(text) = rest {
-            let (line, behind) = cut_at(b'\n', text);
+        let mut rest = piece;
+        loop {
+            let (line, behind) = cut_at(b'\n', rest);
             self.begun.add(line);
-            if behind.is_some() {
-                self.end_line()?;
-            }
+            let Some(behind) = behind else {
+                return Ok(());
+            };
+            self.end_line()?;
             rest = behind;
         }
-        Ok(())
     }
 
     /// Applies the line that has begun, at its LF.
