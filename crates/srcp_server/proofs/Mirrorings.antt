@@ -15,7 +15,7 @@ use Rattle.srcp_info.specs.declared.change.Change.{Change}
 use Rattle.srcp_info.proofs.LineLaws.{length-line-le}
 use Rattle.srcp_server.specs.Mirroring.{HasTaken, IsBegun}
 use Rattle.srcp_server.specs.Output.{RefusesLine}
-use Rattle.srcp_server.specs.declared.mirror.lines.MirroredLines.{MirroredLines}
+use Rattle.srcp_server.specs.declared.stream.lines.MirroredLines.{MirroredLines}
 
 free-append : (xs ys : List ℕ) → list_any is_lf xs ≡ false → list_any is_lf ys ≡ false → list_any is_lf (xs ++ ys) ≡ false
 free-append xs ys e h = rw (list_any-append is_lf xs ys, e, h) refl

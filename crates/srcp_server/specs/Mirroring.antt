@@ -5,8 +5,8 @@ use Rattle.srcp_info.specs.Client.{client, HoldsLines}
 use Rattle.srcp_info.specs.declared.change.Change.{Change}
 use Rattle.srcp_info.specs.declared.change.Shown.{Shown}
 use Rattle.srcp_server.specs.Output.{RefusesLine}
-use Rattle.srcp_server.specs.declared.mirror.begun.BegunLine.{BegunLine}
-use Rattle.srcp_server.specs.declared.mirror.lines.MirroredLines.{MirroredLines}
+use Rattle.srcp_server.specs.declared.stream.begun.BegunLine.{BegunLine}
+use Rattle.srcp_server.specs.declared.stream.lines.MirroredLines.{MirroredLines}
 
 -- the line that has begun is this text, or it is known that the text is longer than any line of a change
 abbrev pub IsBegun : BegunLine → (text : List ℕ) → Type 0

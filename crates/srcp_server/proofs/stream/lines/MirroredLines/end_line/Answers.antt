@@ -1,7 +1,7 @@
 use Rattle.std.proofs.Common.{List, ℕ, subst, refl}
 use Rattle.srcp_info.specs.Read.{IsLineOf}
 use Rattle.srcp_server.proofs.Mirrorings.{taken_ended, taken_refused, none_long}
-use Rattle.srcp_server.proofs.mirror.lines.MirroredLines.end_line.Goals as goal
+use Rattle.srcp_server.proofs.stream.lines.MirroredLines.end_line.Goals as goal
 
 pub returns-in-None-clause-refused : goal.returns-in-None-clause-refused
 returns-in-None-clause-refused c = λ e input taken. taken_refused _ input taken (none_long taken.text (c.in-None.ensures taken.text taken.begun))

@@ -1,7 +1,7 @@
 use Rattle.std.proofs.Common.{◌≡◌, ℕ, ◌≤◌, List, length}
 use Rattle.std.specs.Io.KnownBytes.{Consumes}
 use Rattle.srcp_server.specs.Mirroring.{IsAt}
-use Rattle.srcp_server.proofs.mirror.read_lines.Given as goal
+use Rattle.srcp_server.proofs.stream.read_lines.Given as goal
 
 abbrev pub invariant-loop : goal.invariant-loop
 invariant-loop g l =

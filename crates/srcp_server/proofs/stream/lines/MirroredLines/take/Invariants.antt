@@ -1,6 +1,6 @@
 use Rattle.std.proofs.Common.{◌≡◌, ℕ, ◌+◌, ◌≤◌, List, ◌++◌, length}
 use Rattle.srcp_server.specs.Mirroring.{HasTaken}
-use Rattle.srcp_server.proofs.mirror.lines.MirroredLines.take.Given as goal
+use Rattle.srcp_server.proofs.stream.lines.MirroredLines.take.Given as goal
 
 abbrev pub invariant-loop-behind : goal.invariant-loop-behind
 invariant-loop-behind l =

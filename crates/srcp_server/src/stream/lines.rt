@@ -5,7 +5,7 @@ ghost use Rattle.srcp_server.specs.Mirroring.{HasTaken};
 ghost use Rattle.srcp_server.specs.Output.{RefusesLine};
 
 use crate::cut::cut_at;
-use crate::mirror::begun::BegunLine;
+use crate::stream::begun::BegunLine;
 use srcp_info::{Mirror, MirrorFault};
 use std::alloc::Global;
 

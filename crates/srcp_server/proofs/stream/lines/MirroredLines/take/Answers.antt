@@ -1,7 +1,7 @@
 use Rattle.std.proofs.Common.{◌≡◌, ◌∙◌, ◌+◌, ◌≤◌, List, [], ◌∷◌, ◌++◌, length, length-append, refl, ap, arith}
 use Rattle.std.proofs.lemmas.Result.{err_from_is_err_and}
 use Rattle.srcp_server.proofs.Mirrorings.{moved_on, taken_line, refused_line, taken_rest}
-use Rattle.srcp_server.proofs.mirror.lines.MirroredLines.take.Goals as goal
+use Rattle.srcp_server.proofs.stream.lines.MirroredLines.take.Goals as goal
 
 pub loop-behind-preserved : goal.loop-behind-preserved
 loop-behind-preserved c =

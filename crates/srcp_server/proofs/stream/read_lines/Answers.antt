@@ -1,6 +1,6 @@
 use Rattle.std.proofs.Common.{◌≡◌, ◌++◌, take, length, length-append, length-take-le, arith}
 use Rattle.std.proofs.KnownBytes.{Consumes-trans}
-use Rattle.srcp_server.proofs.mirror.read_lines.Goals as goal
+use Rattle.srcp_server.proofs.stream.read_lines.Goals as goal
 
 pub loop-preserved : goal.loop-preserved
 loop-preserved g c =
