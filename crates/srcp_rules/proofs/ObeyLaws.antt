@@ -2,19 +2,23 @@
 use Rattle.std.specs.Prelude.{◌≡◌, ℕ, ◌+◌, ◌≤◌, ◌<◌, Bool, true, false, not, cond, IsTrue, is_some, List, [], ◌∷◌, length, Option, Some, None, Result, Ok, Err}
 use Rattle.std.proofs.Common.{refl, sym, ap, subst, ◌∙◌, true≢false, arith}
 use Rattle.std.specs.List.{AllByRecursion}
+use Rattle.srcp_info.specs.declared.key.Device.{Device}
 use Rattle.srcp_info.specs.declared.change.Code.{Code}
+use Rattle.srcp_info.specs.declared.change.Code.TheVariants.{C414, C416, C418}
 use Rattle.srcp_info.specs.declared.value.Value.TheVariants as value
 use Rattle.srcp_info.specs.Key.{first_key}
 use Rattle.srcp_info.specs.WellFormed.{IsMoment}
 use Rattle.srcp_rules.specs.declared.layout.Bus.{Bus}
+use Rattle.srcp_rules.specs.Layout.{IsKeyOf}
+use Rattle.srcp_rules.specs.Command.{kept_v}
 use Rattle.srcp_rules.specs.declared.command.Lockable.{Lockable}
 use Rattle.srcp_rules.specs.declared.command.Lockable.TheVariants as lockable
 use Rattle.srcp_rules.specs.declared.command.Command.{Command}
 use Rattle.srcp_rules.specs.declared.command.Command.TheVariants.{SetPower, SetGl, InitGl, SetGa, InitGa, SetFb, SetLock}
-use Rattle.srcp_rules.specs.State.{State, Update, IsRowOf, lock_on}
-use Rattle.srcp_rules.specs.Effect.{Effect, done, checked, refused, accepted, unless_refused, row_put, lock_end}
+use Rattle.srcp_rules.specs.State.{State, Update, IsRowOf, IsWhole, has_row, row_at, is_there, key_at, device_in, lock_on, functions_of}
+use Rattle.srcp_rules.specs.Effect.{Effect, done, checked, refused, accepted, unless_refused, row_put, lock_end, port_end, gl_refusals, functions_after}
 use Rattle.srcp_rules.specs.Obeyed.{MayObey, first_refusal, refused_or_not}
-use Rattle.srcp_rules.proofs.EffectLaws.{NoneApplies, lock_value, lock_end_fits}
+use Rattle.srcp_rules.proofs.EffectLaws.{NoneApplies, lock_value, lock_end_fits, port_end_fits, is_not, found_few, as_many}
 use Rattle.srcp_rules.proofs.StepLaws.{IsRowOf-put}
 
 -- ---- refusals
@@ -64,3 +68,30 @@ module _ (buses : List Bus) (state : State) (session moment : ℕ) (now : IsMome
   lock_row g bus address seconds may =
       IsRowOf-put buses may.laid_out (first_key (lock_on g bus address)) moment (value.Lock seconds session) (lock_end moment seconds) may.of.0 now
       (lock_value buses may.laid_out state may.whole session moment may.begun now g seconds may.of.1) (lock_end_fits moment seconds session)
+
+  -- all rows of a device that is there are there
+  pub port_there : (device : Device) → IsWhole buses state → is_there device state ≡ true → (port : ℕ) → IsKeyOf buses (key_at device port) → has_row (key_at device port) state ≡ true
+  port_there device whole there port place = whole.complete (first_key device) there port place
+
+  -- the row of an accessory's port
+  pub ga_row : (bus address port : ℕ) (on : Bool) (time : Option ℕ) → MayObey buses state session (SetGa bus address port on time)
+      → IsRowOf buses (row_put moment (key_at (device_in lockable.Ga bus address) (1 + port)) (value.GaPort on) (port_end moment on time))
+  ga_row bus address port on time may =
+      IsRowOf-put buses may.laid_out (key_at (device_in lockable.Ga bus address) (1 + port)) moment (value.GaPort on) (port_end moment on time) may.of.0.0 now may.of.0.1 (port_end_fits moment on time)
+
+  -- a device that may be set is there
+  pub set_there : (device : Device) (others : List (Bool × Code)) → None ≡ first_refusal ((not (is_there device state), C416) ∷ others) → is_there device state ≡ true
+  set_there device others e = is_not (is_there device state) (none_applies ((not (is_there device state), C416) ∷ others) e).0
+
+  -- the row of a locomotive's state
+  pub gl_row : (bus address mode v vmax : ℕ) (functions : List Bool) → MayObey buses state session (SetGl bus address mode v vmax functions) → length functions ≤ length (functions_of bus address state)
+      → IsRowOf buses (row_put moment (key_at (device_in lockable.Gl bus address) 1) (value.GlState mode (kept_v mode v) vmax (functions_after functions (functions_of bus address state))) None)
+  gl_row bus address mode v vmax functions may short =
+      let device = device_in lockable.Gl bus address in
+      let before = functions_of bus address state in
+      let after = functions_after functions before in
+      let same : length after ≡ length before = as_many buses may.laid_out state may.whole session moment may.begun now functions before short in
+      let most : length before ≤ 29 = found_few buses may.laid_out state may.whole session moment may.begun now (key_at device 1) (row_at (key_at device 1) state) refl in
+      let few : length after ≤ 29 = omega (arith, most, same) in
+      let fits = may.of.1 in
+      IsRowOf-put buses may.laid_out (key_at device 1) moment (value.GlState mode (kept_v mode v) vmax after) None may.of.0 now (fits.0, fits.1, fits.2, few) tt

@@ -19,6 +19,8 @@ add-requires g c =
     let state = g.R.Rows.state c.args.rows.now in
     let lock = lock_on c.args.group c.args.bus c.args.address in
     let absent : is_there lock state ≡ false = ap (λ (device : Device). is_there device state) (sym c.lock_on-lock.ensures) ∙ sym c.is_there.ensures ∙ c.if-is_there.false in
-    let fits = lock_row buses state c.args.session c.args.moment c.ranges.moment.fits c.args.group c.args.bus c.args.address c.args.seconds c.requires in
-    (lock, rw (c.row_put-row.ensures, c.first_key-2.ensures, c.lock_on-lock.ensures, c.lock_end-due.ensures)
-        (single_added buses state c.requires.whole lock c.args.moment (value.Lock c.args.seconds c.args.session) (lock_end c.args.moment c.args.seconds) c.requires.of.0 (one_lock buses c.args.group c.args.bus c.args.address) absent fits))
+    let fits = lock_row buses state c.args.session c.args.moment c.ranges.moment.fits c.args.group c.args.bus c.args.address c.args.seconds c.requires in (
+      lock,
+      rw (c.row_put-row.ensures, c.first_key-2.ensures, c.lock_on-lock.ensures, c.lock_end-due.ensures)
+          (single_added buses state c.requires.whole lock c.args.moment (value.Lock c.args.seconds c.args.session) (lock_end c.args.moment c.args.seconds) c.requires.of.0 (one_lock buses c.args.group c.args.bus c.args.address) absent fits),
+    )
