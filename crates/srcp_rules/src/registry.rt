@@ -2,7 +2,7 @@ ghost use Rattle.std.specs.Prelude.{◌≡◌, [], ◌∷◌, IsTrue};
 ghost use Rattle.srcp_info.specs.WellFormed.{can_go};
 ghost use Rattle.srcp_rules.specs.Effect.{accepted, gone_at, put_at, row_put, shown_at};
 ghost use Rattle.srcp_rules.specs.Obeyed.{Took};
-ghost use Rattle.srcp_rules.specs.State.{IsRowOf, has_row, is_there, updated};
+ghost use Rattle.srcp_rules.specs.State.{IsRowOf, has_row, is_there, put_of, updated};
 
 use crate::obeyed::Obeyed;
 use crate::rows::Rows;
@@ -50,7 +50,7 @@ pub(crate) fn row_put(moment: u64, key: Key, value: Value, due: Option<u64>) -> 
 
 /// The change that a client is told of where the row is set.
 pub(crate) fn put_of(row: &Row) -> Change
-    ensures { result ≡ Change.Put row.now.shown }
+    ensures { result ≡ (put_of row.now).change }
 {
     Change::Put(row.shown)
 }
