@@ -163,7 +163,7 @@ fn remake<R: Rows>(
 }
 
 /// INIT of a locomotive or an accessory, which would have these rows.
-fn init_device<R: Rows>(
+pub(crate) fn init_device<R: Rows>(
     rows: &mut R,
     session: u32,
     moment: u64,
