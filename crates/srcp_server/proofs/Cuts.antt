@@ -1,7 +1,7 @@
 -- The parts of a text that is cut at its first space.
-use Rattle.std.proofs.Common.{◌≡◌, ℕ, ◌+◌, ◌-◌, ◌<◌, ◌≤◌, Bool, true, false, cond, eqb, ltb, List, [], ◌∷◌, length, take, drop, refl, sym, ap, ◌∙◌, arith, Option, Some, None, inl, inr}
-use Rattle.std.specs.List.{slice_split, onto_first, position, position_or_len}
-use Rattle.std.proofs.lemmas.Bool.{cases_Bool, cases_lt, lt-ltb, le-ltb}
+use Rattle.std.proofs.Common.{◌≡◌, ℕ, zero, suc, ◌++◌, subst, ◌+◌, ◌-◌, ◌<◌, ◌≤◌, Bool, true, false, cond, eqb, ltb, List, [], ◌∷◌, length, take, take_all, drop, refl, sym, ap, ◌∙◌, arith, Option, Some, None, inl, inr}
+use Rattle.std.specs.List.{slice_split, onto_first, list_any, position, position_or_len}
+use Rattle.std.proofs.lemmas.Bool.{cases_Bool, cases_lt, lt-ltb, le-ltb, eqb-true}
 use Rattle.std.proofs.lemmas.List.Splits.{slice_split_first, length-slice_split, join_with_byte-slice_split}
 use Rattle.std.proofs.lemmas.Slice.{between_to_end}
 use Rattle.std.specs.Prelude.{Ok, Err}
@@ -22,6 +22,58 @@ module _ (cut : ℕ) where
         | inl t ↦ absurd (let h : length (byte ∷ text) ≤ 0 = rw t at all in omega arith)
         | inr f ↦ let h : length text ≤ position_or_len is_cut text = (let k = rw f at all in omega arith) in rw (f, split_none text h) refl
       ]
+
+  -- no such byte stands before the first one
+  clear_to : (text : List ℕ) (place : ℕ) → place ≡ position_or_len is_cut text → list_any is_cut (take place text) ≡ false
+  clear_to [] place is = rw is refl
+  clear_to (byte ∷ text) zero is = refl
+  clear_to (byte ∷ text) (suc place) is =
+      elim (cases_Bool (eqb byte cut)) [
+        | inl t ↦ absurd (let h : suc place ≡ 0 = rw t at is in omega arith)
+        | inr f ↦ let h : suc place ≡ 1 + position_or_len is_cut text = rw f at is in rw (f, clear_to text place (omega arith)) refl
+      ]
+
+  pub clear_none : (text : List ℕ) → position is_cut text ≡ None → list_any is_cut text ≡ false
+  clear_none text none =
+      elim (cases_lt (position_or_len is_cut text) (length text)) [
+        | inl lt ↦ (let h = rw (lt-ltb (position_or_len is_cut text) (length text) lt) at none in cc)
+        | inr ge ↦ subst (λ (front : List ℕ). list_any is_cut front ≡ false) (take_all (position_or_len is_cut text) text ge) (clear_to text (position_or_len is_cut text) refl)
+      ]
+
+  place_of : (text : List ℕ) (place : ℕ) → position is_cut text ≡ Some place → (place ≡ position_or_len is_cut text) × (place < length text)
+  place_of text place some =
+      elim (cases_lt (position_or_len is_cut text) (length text)) [
+        | inl lt ↦
+            let h = rw (lt-ltb (position_or_len is_cut text) (length text) lt) at some in
+            let same : place ≡ position_or_len is_cut text = cc in
+            (same, omega arith)
+        | inr ge ↦ (let h = rw (le-ltb (position_or_len is_cut text) (length text) ge) at some in cc)
+      ]
+
+  pub clear_some : (text : List ℕ) (place : ℕ) → position is_cut text ≡ Some place → list_any is_cut (take place text) ≡ false
+  clear_some text place some = clear_to text place (place_of text place some).0
+
+  -- the first one stands behind them
+  whole_at : (text : List ℕ) (place : ℕ) → place ≡ position_or_len is_cut text → place < length text → text ≡ take place text ++ cut ∷ drop (place + 1) text
+  whole_at [] place is within = absurd (omega arith)
+  whole_at (byte ∷ text) zero is within =
+      elim (cases_Bool (eqb byte cut)) [
+        | inl t ↦ ap (λ b. b ∷ text) (eqb-true byte cut t)
+        | inr f ↦ absurd (let h : 0 ≡ 1 + position_or_len is_cut text = rw f at is in omega arith)
+      ]
+  whole_at (byte ∷ text) (suc place) is within =
+      elim (cases_Bool (eqb byte cut)) [
+        | inl t ↦ absurd (let h : suc place ≡ 0 = rw t at is in omega arith)
+        | inr f ↦
+            let h : suc place ≡ 1 + position_or_len is_cut text = rw f at is in
+            let next : suc place + 1 ≡ suc (place + 1) = omega arith in
+            rw next (ap (λ rest. byte ∷ rest) (whole_at text place (omega arith) (omega arith)))
+      ]
+
+  pub whole_some : (text : List ℕ) (place : ℕ) → position is_cut text ≡ Some place → text ≡ take place text ++ cut ∷ take (length text - (place + 1)) (drop (place + 1) text)
+  whole_some text place some =
+      let at = place_of text place some in
+      rw (between_to_end text (place + 1) (length text) (omega arith)) (whole_at text place at.0 at.1)
 
   pub cut_none : (text : List ℕ) → position is_cut text ≡ None → slice_split is_cut text ≡ text ∷ []
   cut_none text none =

@@ -1,6 +1,7 @@
 //! The standard input, read to its end.
 
-ghost use Rattle.std.specs.Prelude.{◌≡◌, ◌<◌, ◌≤◌, length, IfOk, IfErr, IfSome, IsErrOf};
+ghost use Rattle.std.specs.Prelude.{◌≡◌, ◌<◌, ◌≤◌, length, take, IfOk, IfErr, IfSome, IsErrOf};
+ghost use Rattle.std.specs.Io.KnownBytes.{Consumes, IsAtEnd};
 ghost use Rattle.srcp_server.specs.Output.{input_limit, IsInputFault};
 
 use crate::fault::ToolFault;
@@ -12,7 +13,7 @@ use std::vec::Vec;
 pub(crate) const INPUT_LIMIT: usize = 16_777_216;
 
 /// The bytes that are asked for at once.
-const PIECE: usize = 65_536;
+pub(crate) const PIECE: usize = 65_536;
 
 /// All that a reader gives.
 ///
@@ -29,7 +30,7 @@ pub(crate) fn read_input<R: Read>(alloc: Global, reader: &mut R) -> Result<Vec<u
     let mut input = Vec::new(alloc);
     let mut piece = [0; PIECE];
     for _ in 0..INPUT_LIMIT + 1 {
-        let count = reader.read(&mut piece).map_err(|_| ToolFault::Input)?;
+        let count = read_piece(reader, &mut piece)?;
         if count == 0 {
             return Ok(input);
         }
@@ -41,4 +42,20 @@ pub(crate) fn read_input<R: Read>(alloc: Global, reader: &mut R) -> Result<Vec<u
             .map_err(|_| ToolFault::Memory)?;
     }
     Err(ToolFault::TooLarge)
+}
+
+/// The next bytes that a reader gives, and how many those are: none at its end.
+///
+/// # Errors
+/// `Input` where the read fails.
+pub(crate) fn read_piece<R: Read>(reader: &mut R, piece: &mut [u8]) -> Result<usize, ToolFault>
+    ensures within { IfOk result (λ count. count ≤ length piece.new) }
+    ensures bytes { IfOk result (λ count. Consumes (R.remaining reader.old) (R.remaining reader.new) (take count piece.new)) }
+    ensures end { IfOk result (λ count. count ≡ 0 → 0 < length piece.old → IsAtEnd (R.remaining reader.new)) }
+    ensures input { IfErr result (λ fault. fault ≡ ToolFault.Input) }
+{
+    match reader.read(piece) {
+        Ok(count) => Ok(count),
+        Err(_) => Err(ToolFault::Input),
+    }
 }

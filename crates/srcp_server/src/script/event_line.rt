@@ -44,8 +44,8 @@ fn open_line(rest: Option<&[u8]>) -> Result<Event, Cause>
 fn bytes_line(alloc: Global, rest: Option<&[u8]>) -> Result<Event, Cause>
     ensures { Gives (λ event. event) Cause.Memory result (bytes_line (parts_behind 32 (option_copied rest.entry))) }
 {
-    let (conn, rest) = next_part(rest)?;
-    let conn = read_connection(conn)?;
+    let (number, rest) = next_part(rest)?;
+    let conn = read_connection(number)?;
     let text = rest.ok_or(Cause::Number)?;
     let bytes = unescape(alloc, text)?;
     Ok(Event::Bytes {
