@@ -20,29 +20,42 @@ def lines(addresses):
         yield b"%d.%03d 100 INFO 1 GL %d 1 %d 28\n" % (i // 10_000, i % 1000, i * 7919 % addresses + 1, i % 29)
 
 
+def peak_of(process):
+    """The most memory in KiB that a running process has held, 0 where it has just ended."""
+    try:
+        with open(f"/proc/{process.pid}/status") as status:
+            return next((int(line.split()[1]) for line in status if line.startswith("VmHWM:")), 0)
+    except OSError:
+        return 0
+
+
 def measured(program, path):
-    """Seconds and peak memory in KiB of one run over the file, its output dropped."""
-    with open(path, "rb") as source, open(os.devnull, "wb") as sink:
-        begun = time.monotonic()
-        running = subprocess.Popen([program, "mirror"], stdin=source, stdout=sink)
-        _, status, usage = os.wait4(running.pid, 0)
-        seconds = time.monotonic() - begun
-    if status != 0:
-        sys.exit(f"{program} mirror ended with {status}")
-    return seconds, usage.ru_maxrss
+    """Seconds and peak memory in KiB of a run over the file, its output dropped: the memory by a run of its own."""
+    seconds, peak = 0.0, 0
+    for watched in (False, True):
+        with open(path, "rb") as source, open(os.devnull, "wb") as sink:
+            begun = time.monotonic()
+            running = subprocess.Popen([program, "mirror"], stdin=source, stdout=sink)
+            while watched and running.poll() is None:
+                peak = max(peak, peak_of(running))
+                time.sleep(0.001)
+            if running.wait() != 0:
+                sys.exit(f"{program} mirror ended with {running.returncode}")
+            seconds = seconds if watched else time.monotonic() - begun
+    return seconds, peak
 
 
 def main():
     program = os.path.abspath(sys.argv[1])
     for addresses in (100, 10_000):
-        text = b"".join(lines(addresses))
-        assert len(text) <= LIMIT, len(text)
         with tempfile.NamedTemporaryFile() as file:
-            file.write(text)
+            file.writelines(lines(addresses))
             file.flush()
+            size = os.path.getsize(file.name)
+            assert size <= LIMIT, size
             seconds, peak = measured(program, file.name)
-        print(f"{LINES} lines, {len(text)} bytes, {addresses} rows: "
-              f"{seconds:.2f} s, {len(text) / seconds / 1e6:.1f} MB/s, peak {peak} KiB")
+        print(f"{LINES} lines, {size} bytes, {addresses} rows: "
+              f"{seconds:.2f} s, {size / seconds / 1e6:.1f} MB/s, peak {peak} KiB")
 
 
 if __name__ == "__main__":
