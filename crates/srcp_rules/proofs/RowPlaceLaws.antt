@@ -1,0 +1,125 @@
+-- Where a key is among rows by rising key, and what a write or an insert there gives.
+use Rattle.std.specs.Prelude.{◌≡◌, ℕ, zero, suc, ◌+◌, ◌<◌, ◌≤◌, Bool, true, false, not, cond, List, [], ◌∷◌, ◌++◌, length, take, drop, find, insert, slice_get, slice_set, slice_index_or, Option, Some, None, Result, Ok, Err, IfOk, IfErr}
+use Rattle.std.proofs.Common.{refl, sym, ap, subst, ◌∙◌, true≢false, arith}
+use Rattle.std.proofs.lemmas.List.{take-append-drop, set_split}
+use Rattle.std.proofs.lemmas.List.Folds.{find-append}
+use Rattle.std.specs.Option.{option_or}
+use Rattle.std.specs.List.{AllByRecursion}
+use Rattle.std.specs.List.Sorted.{IsSearchInRange, IsBinarySearchResult, IsNonDecreasingBy, IsPartitionedBy}
+use Rattle.std.specs.Ordering.{ordering_index, is_eq, is_gt, ordering_reverse}
+use Rattle.std.specs.declared.cmp.Ordering.{Ordering}
+use Rattle.std.specs.declared.cmp.Ordering.TheVariants.{Less, Equal, Greater}
+use Rattle.srcp_info.specs.declared.key.Key.{Key}
+use Rattle.srcp_info.specs.declared.change.Row.{Row}
+use Rattle.srcp_info.specs.declared.change.Cursor.{Cursor}
+use Rattle.srcp_info.specs.declared.change.Cursor.TheVariants as cursor
+use Rattle.srcp_info.specs.Key.{key_cmp, is_after, has_reached}
+use Rattle.srcp_info.proofs.KeyLaws.{key_tie}
+use Rattle.srcp_info.proofs.ClientLaws.{put_between, put_over, reached_below, after_from_less}
+use Rattle.srcp_rules.specs.State.{State, IsRising, row_at, row_after, put_row}
+use Rattle.srcp_rules.specs.Rows.{IsAt, IsGap}
+use Rattle.srcp_rules.proofs.KeyLaws.{same_key, key_cmp-total}
+use Rattle.srcp_rules.proofs.FindLaws.{each-weaken}
+use Rattle.srcp_rules.proofs.StateLaws.{row_key, row_at-first, row_at-later}
+use Rattle.srcp_rules.proofs.PlaceLaws.{front_each, back_each, each_at, Follows, partitioned, non_decreasing, find-parted}
+
+abbrev Below : Row → Row → Type 0
+Below a b = key_cmp a.shown.key b.shown.key ≡ Less
+
+follows : (state : State) → IsRising state → Follows Below state
+follows [] h = tt
+follows (row ∷ state) h = (h.0, follows state h.1)
+
+-- ---- searching
+
+greatest : (r : Ordering) → ordering_index r ≤ 2
+greatest Less = omega arith
+greatest Equal = omega arith
+greatest Greater = omega arith
+
+index_step : (key a b : Key) → key_cmp a b ≡ Less → (q : Ordering) → key_cmp b key ≡ q → ordering_index (key_cmp a key) ≤ ordering_index q
+index_step key a b less Less e = subst (λ r. ordering_index r ≤ ordering_index Less) (sym (key_cmp-total.trans a b key less e)) (omega arith)
+index_step key a b less Equal e = subst (λ r. ordering_index r ≤ ordering_index Equal) (sym (ap (key_cmp a) (sym (key_tie b key e)) ∙ less)) (omega arith)
+index_step key a b less Greater e = greatest (key_cmp a key)
+
+turned : (a b : Key) → key_cmp a b ≡ Greater → key_cmp b a ≡ Less
+turned a b e = key_cmp-total.antisymm b a ∙ ap ordering_reverse e
+
+module _ (state : State) (rising : IsRising state) (key : Key) where
+  compared : IsNonDecreasingBy (λ row. ordering_index (key_cmp row.shown.key key)) state
+  compared = non_decreasing Below (λ row. ordering_index (key_cmp row.shown.key key)) (λ a b less. index_step key a.shown.key b.shown.key less (key_cmp b.shown.key key) refl) state (follows state rising)
+
+  -- what a binary search by the key answers
+  pub searched : (r : Result ℕ ℕ) → IsSearchInRange r (length state) → IsBinarySearchResult (λ row. key_cmp row.shown.key key) state r → IfOk r (IsAt state key) × IfErr r (IsGap state key)
+  searched (Ok place) within equal = (record { within = within; here = λ d. key_tie (slice_index_or state place d).shown.key key (equal d) }, tt)
+  searched (Err place) within parted = (
+    tt,
+    record {
+      within = within;
+      below = front_each (λ row. key_cmp row.shown.key key ≡ Less) state place within (parted compared).0;
+      above = back_each (λ row. key_cmp key row.shown.key ≡ Less) state place (λ k d low high. turned (slice_index_or state k d).shown.key key ((parted compared).1 k d low high));
+    },
+  )
+
+-- ---- looking up
+
+-- the row at the place of a key is the key's
+pub row_at-here : (state : State) → IsRising state → (key : Key) (place : ℕ) → IsAt state key place → (d : Row) → row_at key state ≡ Some (slice_index_or state place d)
+row_at-here [] rising key place at d = let h = at.within in absurd (omega (arith, h))
+row_at-here (row ∷ state) rising key zero at d = subst (λ k. row_at k (row ∷ state) ≡ Some row) (at.here d) (row_at-first row state)
+row_at-here (row ∷ state) rising key (suc place) at d =
+    let within : suc place < length (row ∷ state) = at.within in
+    row_at-later row state rising key (slice_index_or state place d) (row_at-here state rising.1 key place (record { within = omega (arith, within); here = at.here }) d)
+
+none_tie : (t : Row → Bool) (rows : List Row) → AllByRecursion (λ row. t row ≡ false) rows → find t rows ≡ None
+none_tie t [] h = refl
+none_tie t (row ∷ rows) h = ap (λ b. cond b (Some row) (find t rows)) h.0 ∙ none_tie t rows h.1
+
+-- a key that belongs between two rows has none
+pub row_at-gap : (state : State) (key : Key) (place : ℕ) → IsGap state key place → row_at key state ≡ None
+row_at-gap state key place gap =
+    ap (row_at key) (sym (take-append-drop place state))
+    ∙ find-append (λ row. same_key row.shown.key key) (take place state) (drop place state)
+    ∙ (λ i. option_or (none_tie (λ row. same_key row.shown.key key) (take place state) (each-weaken {P = λ row. key_cmp row.shown.key key ≡ Less} (λ row h. ap is_eq h) (take place state) gap.below) i)
+    (none_tie (λ row. same_key row.shown.key key) (drop place state)
+    (each-weaken {P = λ row. key_cmp key row.shown.key ≡ Less} (λ row h. ap is_eq (key_cmp-total.antisymm row.shown.key key ∙ ap ordering_reverse h)) (drop place state) gap.above) i))
+
+-- ---- writing
+
+-- the row at a place, the rows before it and those after it
+around : (state : State) → Follows Below state → (i : ℕ) → i < length state → (d : Row)
+    → AllByRecursion (λ row. Below row (slice_index_or state i d)) (take i state) × AllByRecursion (Below (slice_index_or state i d)) (drop (suc i) state)
+    × (state ≡ take i state ++ slice_index_or state i d ∷ drop (suc i) state)
+around [] f i h d = absurd (omega (arith, h))
+around (row ∷ state) f zero h d = (tt, f.0, refl)
+around (row ∷ state) f (suc i) h d =
+    let rest = around state f.1 i (omega (arith, h)) d in ((each_at (Below row) state f.0 i d (omega (arith, h)), rest.0), rest.1, ap (λ rows. row ∷ rows) rest.2)
+
+-- a write at the place of a key
+pub set-put_row : (state : State) → IsRising state → (row : Row) (place : ℕ) → IsAt state row.shown.key place → slice_set state place row ≡ put_row row state
+set-put_row state rising row place at =
+    let parts = around state (follows state rising) place at.within row in
+    let old = slice_index_or state place row in
+    let same : old.shown.key ≡ row.shown.key = at.here row in
+    set_split state place row at.within
+    ∙ sym (put_over row_key row (take place state) old (drop (suc place) state) same
+    (each-weaken {P = λ other. Below other old} (λ other h. ap (key_cmp other.shown.key) (sym same) ∙ h) (take place state) parts.0)
+    (each-weaken {P = Below old} (λ other h. ap (λ k. key_cmp k other.shown.key) (sym same) ∙ h) (drop (suc place) state) parts.1))
+    ∙ ap (put_row row) (sym parts.2)
+
+-- an insert where a key belongs
+pub insert-put_row : (state : State) (row : Row) (place : ℕ) → IsGap state row.shown.key place → insert state place row ≡ put_row row state
+insert-put_row state row place gap = sym (put_between row_key row (take place state) (drop place state) gap.below gap.above) ∙ ap (put_row row) (take-append-drop place state)
+
+-- ---- the row after a cursor
+
+module _ (cursor : Cursor) where
+  abbrev pub passed : Row → Bool
+  passed row = has_reached cursor row.shown.key
+
+  not_after : (a b : Key) → key_cmp a b ≡ Less → is_after a b ≡ false
+  not_after a b e = ap is_gt e
+
+  pub passed_partitioned : (state : State) → IsRising state → IsPartitionedBy passed state
+  passed_partitioned state rising =
+      partitioned Below passed (λ a b less e. reached_below cursor a.shown.key b.shown.key (not_after a.shown.key b.shown.key less) e) state (follows state rising)

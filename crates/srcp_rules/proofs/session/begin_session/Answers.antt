@@ -1,0 +1,42 @@
+use Rattle.std.proofs.Common.{◌≡◌, ℕ, ◌<◌, ◌≤◌, List, [], ◌∷◌, None, sym, ap, subst, ◌∙◌, arith}
+use Rattle.srcp_info.specs.declared.key.Key.{Key}
+use Rattle.srcp_info.specs.declared.change.Row.{Row}
+use Rattle.srcp_info.specs.declared.value.Value.TheVariants as value
+use Rattle.srcp_info.specs.Key.{first_key}
+use Rattle.srcp_rules.specs.Layout.{IsKeyOf, row_count}
+use Rattle.srcp_rules.specs.State.{AddsNoRow, IsWhole, session_device}
+use Rattle.srcp_rules.specs.Effect.{row_put}
+use Rattle.srcp_rules.specs.Rows.{AreNewRowsOf}
+use Rattle.srcp_rules.proofs.AddingLaws.{session_added, session_rows}
+use Rattle.srcp_rules.proofs.AddsNoRowLaws.{began-adds_no_row}
+use Rattle.srcp_rules.proofs.DueLaws.{began_kept}
+use Rattle.srcp_rules.proofs.session.begin_session.Goals as goal
+
+pub add-requires : goal.add-requires
+add-requires g c =
+    let session = c.args.session in
+    let buses = g.R.Rows.buses c.args.rows.now in
+    let state = g.R.Rows.state c.args.rows.now in
+    let most : session ≤ 4294967295 = omega arith in
+    (session_device session, rw (c.row_put-row.ensures, c.first_key-key.ensures, c.session_device.ensures) (session_added buses state c.requires.laid_out c.requires.whole session c.args.moment c.args.mode c.requires.session most c.ranges.moment.fits c.requires.free))
+
+pub returns-clause-whole : goal.returns-clause-whole
+returns-clause-whole g c =
+    let session = c.args.session in
+    let buses = g.R.Rows.buses c.args.rows.now in
+    let state = g.R.Rows.state c.args.rows.now in
+    let most : session ≤ 4294967295 = omega arith in
+    let count = session_rows buses session c.requires.session most in
+    let some : 0 < row_count buses (session_device session) = omega (arith, count) in
+    rw (c.in_ok-add.ensures.layout, c.in_ok-add.ensures.ok, c.row_put-row.ensures, c.first_key-key.ensures, c.session_device.ensures)
+    (began_kept buses c.requires.laid_out c.args.moment c.ranges.moment.fits session c.args.mode state some c.requires.whole)
+
+pub returns-clause-adds_no_row : goal.returns-clause-adds_no_row
+returns-clause-adds_no_row g c =
+    let session = c.args.session in
+    let buses = g.R.Rows.buses c.args.rows.now in
+    let state = g.R.Rows.state c.args.rows.now in
+    let most : session ≤ 4294967295 = omega arith in
+    let count = session_rows buses session c.requires.session most in
+    let some : 0 < row_count buses (session_device session) = omega (arith, count) in
+    rw (c.put_of-change.ensures, c.row_put-row.ensures, c.first_key-key.ensures, c.session_device.ensures) (began-adds_no_row buses state session c.args.moment c.args.mode c.requires.whole some)

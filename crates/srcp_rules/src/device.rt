@@ -1,0 +1,80 @@
+ghost use Rattle.std.specs.Prelude.{◌≡◌};
+ghost use Rattle.srcp_rules.specs.State.{device_in, fb_device, key_at, lock_on, power_device, session_device};
+
+use crate::command::Lockable;
+use srcp_info::{Device, Group, Key};
+
+/// The device of a session's row.
+pub(crate) fn session_device(session: u32) -> Device
+    ensures { result ≡ session_device session }
+{
+    Device {
+        bus: 0,
+        group: Group::Session,
+        address: session,
+    }
+}
+
+/// The power of a bus.
+pub(crate) fn power_device(bus: u8) -> Device
+    ensures { result ≡ power_device bus }
+{
+    Device {
+        bus,
+        group: Group::Power,
+        address: 0,
+    }
+}
+
+/// A feedback port.
+pub(crate) fn fb_device(bus: u8, port: u32) -> Device
+    ensures { result ≡ fb_device bus port }
+{
+    Device {
+        bus,
+        group: Group::Fb,
+        address: port,
+    }
+}
+
+/// A locomotive or an accessory.
+pub(crate) fn device_in(group: Lockable, bus: u8, address: u32) -> Device
+    ensures { result ≡ device_in group bus address }
+{
+    let group = match group {
+        Lockable::Gl => Group::Gl,
+        Lockable::Ga => Group::Ga,
+    };
+    Device {
+        bus,
+        group,
+        address,
+    }
+}
+
+/// The lock of a locomotive or an accessory, which is a device of its own.
+pub(crate) fn lock_on(group: Lockable, bus: u8, address: u32) -> Device
+    ensures { result ≡ lock_on group bus address }
+{
+    let group = match group {
+        Lockable::Gl => Group::LockGl,
+        Lockable::Ga => Group::LockGa,
+    };
+    Device {
+        bus,
+        group,
+        address,
+    }
+}
+
+/// The key of a device's row.
+pub(crate) fn key_at(device: Device, port: u8) -> Key
+    ensures { result ≡ key_at device port }
+{
+    Key {
+        bus: device.bus,
+        group: device.group,
+        address: device.address,
+        port,
+    }
+}

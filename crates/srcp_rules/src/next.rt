@@ -1,0 +1,112 @@
+ghost use Rattle.std.specs.Prelude.{◌≡◌, ◌≤◌, IfSome, option_copied, option_map, slice_get};
+ghost use Rattle.srcp_info.specs.WellFormed.{IsWellFormed};
+ghost use Rattle.srcp_rules.specs.Due.{due_after, due_change, freed, is_sought, sought_after};
+ghost use Rattle.srcp_rules.specs.Layout.{IsLayout};
+ghost use Rattle.srcp_rules.specs.State.{AddsNoRow, IsRising, IsRowOf, IsWhole, MayBeDue, row_at, updated, updated_if};
+
+use crate::device::session_device;
+use crate::registry::{is_there, put, remove};
+use crate::rows::Rows;
+use srcp_info::{Change, Cursor, Row, Value};
+
+/// Carries out the first of the changes that the moment brings beyond the cursor, in key order: a
+/// lock that has run out ends, and a port that has been on for its time becomes 0.
+pub fn due_next<R: Rows>(rows: &mut R, moment: u64, cursor: Cursor) -> Option<Change>
+    requires laid_out { IsLayout (R.buses rows.old) }
+    requires whole { IsWhole (R.buses rows.old) (R.state rows.old) }
+    ensures change { result ≡ option_map (λ update. update.change) (due_after (R.state rows.old) moment cursor) }
+    ensures rows { R.state rows.new ≡ updated_if (due_after (R.state rows.old) moment cursor) (R.state rows.old) }
+    ensures layout { R.buses rows.new ≡ R.buses rows.old }
+    ensures whole { IsWhole (R.buses rows.new) (R.state rows.new) }
+    ensures well_formed { IfSome result IsWellFormed }
+    ensures adds_no_row { IfSome result (AddsNoRow (R.state rows.old)) }
+{
+    let row = match first_after(rows, cursor, Sought::Due(moment)) {
+        Some(row) => *row,
+        None => return None,
+    };
+    Some(carry_out(rows, moment, &row))
+}
+
+/// Carries out what a row brings once its due moment has come.
+fn carry_out<R: Rows>(rows: &mut R, moment: u64, row: &Row) -> Change
+    requires laid_out { IsLayout (R.buses rows.old) }
+    requires there { row_at row.now.shown.key (R.state rows.old) ≡ Some row.now }
+    requires fits { IsRowOf (R.buses rows.old) row.now }
+    requires may { MayBeDue row.now.shown.value }
+    ensures change { result ≡ (due_change moment row.now.shown.key row.now.shown.value).change }
+    ensures rows { R.state rows.new ≡ updated (due_change moment row.now.shown.key row.now.shown.value) (R.state rows.old) }
+    ensures layout { R.buses rows.new ≡ R.buses rows.old }
+{
+    let key = row.shown.key;
+    match row.shown.value {
+        Value::Lock { .. } => remove(rows, moment, key.device()),
+        _ => put(rows, moment, key, Value::GaPort { on: false }, None),
+    }
+}
+
+/// Carries out the first of the changes that the end of a session brings: its locks are taken out
+/// in key order, and its own row last.
+pub fn free_next<R: Rows>(rows: &mut R, session: u32, moment: u64) -> Option<Change>
+    requires laid_out { IsLayout (R.buses rows.old) }
+    requires whole { IsWhole (R.buses rows.old) (R.state rows.old) }
+    ensures change { result ≡ option_map (λ update. update.change) (slice_get (freed (R.state rows.old) session moment) 0) }
+    ensures rows { R.state rows.new ≡ updated_if (slice_get (freed (R.state rows.old) session moment) 0) (R.state rows.old) }
+    ensures layout { R.buses rows.new ≡ R.buses rows.old }
+    ensures whole { IsWhole (R.buses rows.new) (R.state rows.new) }
+    ensures well_formed { IfSome result IsWellFormed }
+{
+    if let Some(row) = first_after(rows, Cursor::Start, Sought::HeldBy(session)) {
+        let lock = row.shown.key.device();
+        return Some(remove(rows, moment, lock));
+    }
+    let own = session_device(session);
+    if !is_there(rows, own) {
+        return None;
+    }
+    Some(remove(rows, moment, own))
+}
+
+/// Which rows are sought.
+#[derive(Clone, Copy)]
+enum Sought {
+    /// Those whose due moment is not after this one.
+    Due(u64),
+    /// The locks of this session.
+    HeldBy(u32),
+}
+
+impl Sought {
+    fn is_met_by(&self, row: &Row) -> bool
+        ensures { result ≡ is_sought self.now row.now }
+    {
+        match self {
+            Sought::Due(moment) => match row.due {
+                Some(due) => due <= *moment,
+                None => false,
+            },
+            Sought::HeldBy(session) => match row.shown.value {
+                Value::Lock {
+                    session: holder,
+                    ..
+                } => holder == *session,
+                _ => false,
+            },
+        }
+    }
+}
+
+/// The first row beyond the cursor that is sought.
+fn first_after<R: Rows>(rows: &R, cursor: Cursor, sought: Sought) -> Option<&Row>
+    requires { IsRising (R.state rows.now) }
+    ensures { option_copied result ≡ sought_after sought cursor (R.state rows.now) }
+{
+    let mut at = cursor;
+    while let Some(row) = rows.row_after(at) {
+        if sought.is_met_by(row) {
+            return Some(row);
+        }
+        at = Cursor::After(row.shown.key);
+    }
+    None
+}

@@ -1,0 +1,67 @@
+ghost use Rattle.std.specs.Prelude.{◌≡◌, IsTrue};
+ghost use Rattle.srcp_info.specs.WellFormed.{can_go};
+ghost use Rattle.srcp_rules.specs.Effect.{gone_at, put_at, row_put};
+ghost use Rattle.srcp_rules.specs.State.{IsRowOf, has_row, is_there, updated};
+
+use crate::rows::Rows;
+use srcp_info::{Change, Device, Key, Row, Shown, Value};
+
+/// Whether the device is there.
+pub(crate) fn is_there<R: Rows>(rows: &R, device: Device) -> bool
+    ensures { result ≡ is_there device (R.state rows.now) }
+{
+    rows.row(&device.first_key()).is_some()
+}
+
+/// Sets a row that is there, with its due moment or none, and gives the change.
+pub(crate) fn put<R: Rows>(
+    rows: &mut R,
+    moment: u64,
+    key: Key,
+    value: Value,
+    due: Option<u64>,
+) -> Change
+    requires there { IsTrue (has_row key (R.state rows.old)) }
+    requires fits { IsRowOf (R.buses rows.old) (row_put moment key value due) }
+    ensures change { result ≡ (put_at moment key value due).change }
+    ensures layout { R.buses rows.new ≡ R.buses rows.old }
+    ensures rows { R.state rows.new ≡ updated (put_at moment key value due) (R.state rows.old) }
+{
+    let row = row_put(moment, key, value, due);
+    let change = put_of(&row);
+    rows.set(row);
+    change
+}
+
+/// The row with the value, as a Put at the moment makes it.
+pub(crate) fn row_put(moment: u64, key: Key, value: Value, due: Option<u64>) -> Row
+    ensures { result ≡ row_put moment key value due }
+{
+    let shown = Shown {
+        key,
+        stamp: moment,
+        value,
+    };
+    Row { shown, due }
+}
+
+/// The change that a client is told of where the row is set.
+pub(crate) fn put_of(row: &Row) -> Change
+    ensures { result ≡ Change.Put row.now.shown }
+{
+    Change::Put(row.shown)
+}
+
+/// Takes out the rows of a device, and gives the change.
+pub(crate) fn remove<R: Rows>(rows: &mut R, moment: u64, device: Device) -> Change
+    requires { IsTrue (can_go device.group) }
+    ensures change { result ≡ (gone_at moment device).change }
+    ensures layout { R.buses rows.new ≡ R.buses rows.old }
+    ensures rows { R.state rows.new ≡ updated (gone_at moment device) (R.state rows.old) }
+{
+    rows.drop_device(device);
+    Change::Gone {
+        stamp: moment,
+        device,
+    }
+}
