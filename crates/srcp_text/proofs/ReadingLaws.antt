@@ -1,13 +1,13 @@
 -- Laws of what a reader of lines knows.
-use Rattle.std.specs.Prelude.{◌≡◌, ℕ, ◌+◌, ◌-◌, ◌<◌, ◌≤◌, false, List, [], ◌∷◌, ◌++◌, length, take, drop, get_or, IfSome, nat_lt, position, Option, Some, None}
+use Rattle.std.specs.Prelude.{◌≡◌, ℕ, ◌+◌, ◌-◌, ◌<◌, ◌≤◌, false, List, [], ◌∷◌, ◌++◌, length, take, drop, get_or, IfSome, nat_lt, position, slice_range, Option, Some, None}
 use Rattle.std.specs.List.{list_any, position_or_len}
-use Rattle.std.proofs.Common.{refl, ap, sym, ◌∙◌, arith, inl, inr, suc, add-one, take-suc}
+use Rattle.std.proofs.Common.{refl, ap, subst, sym, ◌∙◌, arith, inl, inr, suc, add-one, take-suc, take-add}
 use Rattle.std.proofs.lemmas.Bool.{cases_Bool, cases_lt, lt-ltb, le-ltb, eqb-true, ne_eqb, or_from}
 use Rattle.std.proofs.lemmas.Option.{none-some}
-use Rattle.std.proofs.lemmas.List.{append_assoc, append-nil, length-append, length-drop, take_all}
+use Rattle.std.proofs.lemmas.List.{append_assoc, append-nil, length-append, length-drop, take_all, take-append-drop, drop-append-le}
 use Rattle.std.proofs.lemmas.List.Folds.{list_any-append}
 use Rattle.std.proofs.lemmas.List.Sums.{passes_at_first}
-use Rattle.srcp_text.specs.Marks.{is_lf, marks, mark_of, rest, without_cr}
+use Rattle.srcp_text.specs.Marks.{Mark, is_lf, marks, mark_of, rest, without_cr}
 use Rattle.srcp_text.specs.Reading.{Reading, known, extended, after_lf, StandsAt}
 use Rattle.srcp_text.specs.Feeding.{new_marks, fed_at, feed_at, feed_of, taken, stop_of, place_after, next_stop}
 use Rattle.srcp_text.specs.declared.reader.Fed.{Fed}
@@ -78,28 +78,32 @@ lf_found xs len e =
       sym (ap (λ n. take (n + 1) xs) found.0) ∙ ap (λ k. take k xs) (add-one (position_or_len is_lf xs)) ∙ take-suc xs (position_or_len is_lf xs) 0 inside ∙ ap (λ x. take (position_or_len is_lf xs) xs ++ x ∷ []) lf ∙ ap (λ n. take n xs ++ 10 ∷ []) found.0,
     )
 
+-- a line that goes on has none either
+begun_none : (fed more : List ℕ) → list_any is_lf more ≡ false → list_any is_lf (rest fed ++ more) ≡ false
+begun_none fed more none = list_any-append is_lf (rest fed) more ∙ or_from (list_any is_lf (rest fed)) (list_any is_lf more) (rest_within fed) none
+
 -- bytes without LF end no line
 pub marks-more : (fed more : List ℕ) → list_any is_lf more ≡ false → marks (fed ++ more) ≡ marks fed
 marks-more fed more none =
-    let all = list_any-append is_lf (rest fed) more ∙ or_from (list_any is_lf (rest fed)) (list_any is_lf more) (rest_within fed) none in
+    let all = begun_none fed more none in
     marks-append fed more ∙ ap (λ ms. marks fed ++ ms) (marks_none (rest fed ++ more) all) ∙ append-nil (marks fed)
 
 -- and the line goes on
 pub rest-more : (fed more : List ℕ) → list_any is_lf more ≡ false → rest (fed ++ more) ≡ rest fed ++ more
 rest-more fed more none =
-    let all = list_any-append is_lf (rest fed) more ∙ or_from (list_any is_lf (rest fed)) (list_any is_lf more) (rest_within fed) none in
+    let all = begun_none fed more none in
     rest-append fed more ∙ rest_none (rest fed ++ more) all
 
 -- bytes that end in their only LF end the begun line
 pub marks-ended : (fed more : List ℕ) → list_any is_lf more ≡ false → marks (fed ++ (more ++ 10 ∷ [])) ≡ marks fed ++ mark_of (rest fed ++ more) ∷ []
 marks-ended fed more none =
-    let all = list_any-append is_lf (rest fed) more ∙ or_from (list_any is_lf (rest fed)) (list_any is_lf more) (rest_within fed) none in
+    let all = begun_none fed more none in
     marks-append fed (more ++ 10 ∷ []) ∙ ap (λ ms. marks fed ++ ms) (ap marks (sym (append_assoc (rest fed) more (10 ∷ []))) ∙ marks_line (rest fed ++ more) [] all)
 
 -- and no line has begun then
 pub rest-ended : (fed more : List ℕ) → list_any is_lf more ≡ false → rest (fed ++ (more ++ 10 ∷ [])) ≡ []
 rest-ended fed more none =
-    let all = list_any-append is_lf (rest fed) more ∙ or_from (list_any is_lf (rest fed)) (list_any is_lf more) (rest_within fed) none in
+    let all = begun_none fed more none in
     rest-append fed (more ++ 10 ∷ []) ∙ ap rest (sym (append_assoc (rest fed) more (10 ∷ []))) ∙ rest_line (rest fed ++ more) [] all
 
 -- a feed takes the bytes up to the first LF
@@ -179,3 +183,39 @@ pub feed_of-line : (old mid new : Reading) (piece left : List ℕ) (start len : 
 feed_of-line old mid new piece left start len result from found whole answer after =
     (λ i. (answer i, after i)) ∙ ap (λ b. (fed_at b (start + len + 1), after_lf b)) whole ∙ ap (feed_at old.begun start left) found
     ∙ ap (λ ys. feed_at old.begun start ys (position is_lf ys)) from
+
+-- what was fed before a piece, with the piece up to a place and from there to a stop
+up_to_stop : (fed piece : List ℕ) (start stop : ℕ) → start ≤ stop → (fed ++ take start piece) ++ slice_range piece start stop ≡ fed ++ take stop piece
+up_to_stop fed piece start stop le =
+    let n : start + (stop - start) ≡ stop = omega arith in
+    append_assoc fed (take start piece) (slice_range piece start stop) ∙ ap (λ ys. fed ++ ys) (sym (take-add start (stop - start) piece) ∙ ap (λ k. take k piece) n)
+
+-- and from there to its end
+up_to_end : (fed piece : List ℕ) (start : ℕ) → (fed ++ take start piece) ++ drop start piece ≡ fed ++ piece
+up_to_end fed piece start = append_assoc fed (take start piece) (drop start piece) ∙ ap (λ ys. fed ++ ys) (take-append-drop start piece)
+
+-- a step of a loop that feeds a piece: the reader stood at the piece up to a place, and now stands at the piece up to the stop
+pub fed_to_stop : (fed piece : List ℕ) (start stop : ℕ) (ms : List Mark) (old new : Reading) → start ≤ stop
+    → ((fed : List ℕ) → StandsAt fed old → marks (fed ++ slice_range piece start stop) ≡ marks fed ++ ms)
+    → ((fed : List ℕ) → StandsAt fed old → StandsAt (fed ++ slice_range piece start stop) new)
+    → StandsAt (fed ++ take start piece) old
+    → (marks (fed ++ take stop piece) ≡ marks (fed ++ take start piece) ++ ms) × StandsAt (fed ++ take stop piece) new
+fed_to_stop fed piece start stop ms old new le adds moves stands =
+    let bytes = up_to_stop fed piece start stop le in
+    (sym (ap marks bytes) ∙ adds (fed ++ take start piece) stands, subst (λ (all : List ℕ). StandsAt all new) bytes (moves (fed ++ take start piece) stands))
+
+-- and its end
+pub fed_to_end : (fed piece : List ℕ) (start : ℕ) (ms : List Mark) (old new : Reading)
+    → ((fed : List ℕ) → StandsAt fed old → marks (fed ++ drop start piece) ≡ marks fed ++ ms)
+    → ((fed : List ℕ) → StandsAt fed old → StandsAt (fed ++ drop start piece) new)
+    → StandsAt (fed ++ take start piece) old
+    → (marks (fed ++ piece) ≡ marks (fed ++ take start piece) ++ ms) × StandsAt (fed ++ piece) new
+fed_to_end fed piece start ms old new adds moves stands =
+    let bytes = up_to_end fed piece start in
+    (sym (ap marks bytes) ∙ adds (fed ++ take start piece) stands, subst (λ (all : List ℕ). StandsAt all new) bytes (moves (fed ++ take start piece) stands))
+
+-- the marks past those of what was fed before, with more at their end
+pub later_marks : (fed first : List ℕ) (all ms : List Mark) → all ≡ marks (fed ++ first) ++ ms → drop (length (marks fed)) all ≡ drop (length (marks fed)) (marks (fed ++ first)) ++ ms
+later_marks fed first all ms e =
+    let within : length (marks fed) ≤ length (marks (fed ++ first)) = rw (marks-append fed first, length-append (marks fed) (marks (rest fed ++ first))) (omega arith) in
+    ap (drop (length (marks fed))) e ∙ drop-append-le (length (marks fed)) (marks (fed ++ first)) ms within

@@ -11,8 +11,7 @@ use std::marker::Model;
 /// What a feed found.
 #[derive(Clone, Copy, Debug, PartialEq, Eq)]
 pub enum Fed {
-    /// A line of at most 1,000 bytes, of which a CR just before the LF is one. `LineReader::line`
-    /// lends it.
+    /// A line of at most 1,000 bytes, the CR counted. `LineReader::line` lends it.
     Line {
         /// The place in the piece after its LF: the next feed goes on there.
         stop: usize,
@@ -36,11 +35,11 @@ enum State {
     Found,
 }
 
-/// Finds the lines of bytes that come in pieces, in whatever pieces they come. A line ends in LF,
-/// and one CR just before the LF is dropped. The limit of 1,000 bytes, with the CR and without the
-/// LF, is the protocol's. The bytes of a begun line stand in the value itself, so nothing takes
-/// memory.
-#[derive(Drop)]
+/// Finds the lines of bytes that come in pieces, in whatever pieces they come. The line form is that
+/// of SRCP 0.8: a line ends in LF, and one CR just before the LF is dropped. That at most 1,000 bytes
+/// may stand before the LF, the CR counted, is our own choice. The bytes of a begun line stand in the
+/// value itself, so nothing takes memory.
+#[derive(Debug, Drop)]
 pub struct LineReader {
     bytes: ArrayVec<u8, 1000>,
     state: State,
@@ -67,18 +66,20 @@ impl LineReader {
         }
     }
 
-    /// Goes on to the end of the line in `piece`, from `start` on. After a line or a line too long
-    /// the next feed begins a new line.
+    /// Takes the bytes of `piece` from the place `start` up to the first LF, or all of them where
+    /// there is none. After a line, or one too long, the next feed begins a new line.
     pub fn feed(&mut self, piece: &[u8], start: usize) -> Fed
         requires { start ≤ length piece.now }
         // It stops after the first LF, where there is one.
         ensures stop { stop_of result ≡ next_stop piece.now start }
         // So the next feed may go on there, and comes nearer to the end of the piece.
-        ensures within { IfSome (stop_of result) (λ stop. (start < stop) × (stop ≤ length piece.now)) }
+        ensures within { IfSome (stop_of result)
+            (λ stop. (start < stop) × (stop ≤ length piece.now)) }
         ensures no_line { ¬ IsTrue (is_line result) → self.new.line ≡ [] }
         // What it took adds this mark to those of the bytes fed before, or none.
         ensures marks { (fed : List ℕ) → StandsAt fed self.old
-            → marks (fed ++ taken piece.now start result) ≡ marks fed ++ new_marks result self.new.line }
+            → marks (fed ++ taken piece.now start result)
+            ≡ marks fed ++ new_marks result self.new.line }
         // And it stands at the bytes that have then been fed.
         ensures stands { (fed : List ℕ) → StandsAt fed self.old
             → StandsAt (fed ++ taken piece.now start result) self.new }

@@ -5,7 +5,8 @@ ghost use Rattle.srcp_text.specs.Words.{is_blank, is_filled, words_of};
 
 use crate::iter::Words;
 
-/// The words of a line, from its first on.
+/// The words of a line, from its first on. They are cut at runs of space and tab, also at both ends
+/// of the line, and every other byte belongs to a word (our own choice).
 pub fn words(line: &[u8]) -> Words<'_>
     ensures words { result ≡ words_of line.now }
     // So they can be counted.
