@@ -42,8 +42,21 @@ session_added buses state layout whole session moment mode low high now absent =
     let count = session_rows buses session low high in
     let some : 0 < row_count buses (session_device session) = omega (arith, count) in
     record {
-      keys = ap (λ n. map (key_at (session_device session)) (range_with_len 0 n)) (sym count);
-      few = omega arith;
-      each = (IsRowOf-put buses layout (first_key (session_device session)) moment (value.Session mode) None some now (refl, refl) tt, tt);
+      all = record {
+        keys = ap (λ n. map (key_at (session_device session)) (range_with_len 0 n)) (sym count);
+        few = omega arith;
+        each = (IsRowOf-put buses layout (first_key (session_device session)) moment (value.Session mode) None some now (refl, refl) tt, tt);
+      };
       free = none_there buses state whole (session_device session) absent some;
+    }
+
+-- ---- devices with one row
+
+pub single_added : (buses : List Bus) (state : State) → IsWhole buses state → (device : Device) (moment : ℕ) (shows : Value) (due : Option ℕ) → 0 < row_count buses device → row_count buses device ≤ 1
+    → is_there device state ≡ false → IsRowOf buses (row_put moment (first_key device) shows due) → AreNewRowsOf buses state device (row_put moment (first_key device) shows due ∷ [])
+single_added buses state whole device moment shows due some one absent fits =
+    let count : row_count buses device ≡ 1 = omega (arith, some, one) in
+    record {
+      all = record { keys = ap (λ n. map (key_at device) (range_with_len 0 n)) (sym count); few = omega arith; each = (fits, tt) };
+      free = none_there buses state whole device absent some;
     }

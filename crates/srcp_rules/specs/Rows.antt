@@ -19,11 +19,15 @@ pub record Kept : Type 0 where
 abbrev pub put_rows : List Row → State → State
 put_rows rows state = fold (λ before row. put_row row before) state rows
 
--- these are all the rows of the device, in key order, and none of them is there yet
-pub record AreNewRowsOf (buses : List Bus) (state : State) (device : Device) (rows : List Row) : Type 0 where
+-- these are all the rows of the device, in key order
+pub record AreRowsOf (buses : List Bus) (device : Device) (rows : List Row) : Type 0 where
   pub keys : map (λ row. row.shown.key) rows ≡ map (key_at device) (range_with_len 0 (row_count buses device))
   pub few : length rows ≤ 9
   pub each : AllByRecursion (IsRowOf buses) rows
+
+-- these are all the rows of the device, and none of them is there yet
+pub record AreNewRowsOf (buses : List Bus) (state : State) (device : Device) (rows : List Row) : Type 0 where
+  pub all : AreRowsOf buses device rows
   pub free : (port : ℕ) → has_row (key_at device port) state ≡ false
 
 -- ---- places

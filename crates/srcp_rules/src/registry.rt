@@ -1,10 +1,13 @@
-ghost use Rattle.std.specs.Prelude.{◌≡◌, IsTrue};
+ghost use Rattle.std.specs.Prelude.{◌≡◌, [], ◌∷◌, IsTrue};
 ghost use Rattle.srcp_info.specs.WellFormed.{can_go};
-ghost use Rattle.srcp_rules.specs.Effect.{gone_at, put_at, row_put};
-ghost use Rattle.srcp_rules.specs.State.{IsRowOf, has_row, is_there, updated};
+ghost use Rattle.srcp_rules.specs.Effect.{accepted, gone_at, put_at, row_put, shown_at};
+ghost use Rattle.srcp_rules.specs.Obeyed.{Took};
+ghost use Rattle.srcp_rules.specs.State.{IsRowOf, has_row, is_there, put_of, updated};
 
+use crate::obeyed::Obeyed;
 use crate::rows::Rows;
-use srcp_info::{Change, Device, Key, Row, Shown, Value};
+use arrayvec::ArrayVec;
+use srcp_info::{Change, Code, Device, Key, Reply, Row, Shown, Value};
 
 /// Whether the device is there.
 pub(crate) fn is_there<R: Rows>(rows: &R, device: Device) -> bool
@@ -47,9 +50,37 @@ pub(crate) fn row_put(moment: u64, key: Key, value: Value, due: Option<u64>) -> 
 
 /// The change that a client is told of where the row is set.
 pub(crate) fn put_of(row: &Row) -> Change
-    ensures { result ≡ Change.Put row.now.shown }
+    ensures { result ≡ (put_of row.now).change }
 {
     Change::Put(row.shown)
+}
+
+/// Sets a row that is there, as a command that is accepted.
+pub(crate) fn set_one<R: Rows>(
+    rows: &mut R,
+    moment: u64,
+    key: Key,
+    value: Value,
+    due: Option<u64>,
+) -> Obeyed
+    requires there { IsTrue (has_row key (R.state rows.old)) }
+    requires fits { IsRowOf (R.buses rows.old) (row_put moment key value due) }
+    ensures took { Took (accepted (put_at moment key value due ∷ [])) (R.state rows.old) (R.state rows.new) result }
+    ensures layout { R.buses rows.new ≡ R.buses rows.old }
+{
+    let mut changes = ArrayVec::new();
+    changes.push(put(rows, moment, key, value, due));
+    Obeyed::accepted(changes)
+}
+
+/// Answers the row at the key as it is, or 416 where there is none.
+pub(crate) fn show<R: Rows>(rows: &R, key: &Key) -> Obeyed
+    ensures { Took (shown_at key.now (R.state rows.now)) (R.state rows.now) (R.state rows.now) result }
+{
+    match rows.row(key) {
+        Some(row) => Obeyed::replied(Reply::Shows(row.shown), false),
+        None => Obeyed::refused(Code::C416),
+    }
 }
 
 /// Takes out the rows of a device, and gives the change.

@@ -1,0 +1,97 @@
+-- What is refused and what is accepted of a command, and the rows that it sets.
+use Rattle.std.specs.Prelude.{◌≡◌, ℕ, ◌+◌, ◌≤◌, ◌<◌, Bool, true, false, not, cond, IsTrue, is_some, List, [], ◌∷◌, length, Option, Some, None, Result, Ok, Err}
+use Rattle.std.proofs.Common.{refl, sym, ap, subst, ◌∙◌, true≢false, arith}
+use Rattle.std.specs.List.{AllByRecursion}
+use Rattle.srcp_info.specs.declared.key.Device.{Device}
+use Rattle.srcp_info.specs.declared.change.Code.{Code}
+use Rattle.srcp_info.specs.declared.change.Code.TheVariants.{C414, C416, C418}
+use Rattle.srcp_info.specs.declared.value.Value.TheVariants as value
+use Rattle.srcp_info.specs.Key.{first_key}
+use Rattle.srcp_info.specs.WellFormed.{IsMoment}
+use Rattle.srcp_rules.specs.declared.layout.Bus.{Bus}
+use Rattle.srcp_rules.specs.Layout.{IsKeyOf}
+use Rattle.srcp_rules.specs.Command.{kept_v}
+use Rattle.srcp_rules.specs.declared.command.Lockable.{Lockable}
+use Rattle.srcp_rules.specs.declared.command.Lockable.TheVariants as lockable
+use Rattle.srcp_rules.specs.declared.command.Command.{Command}
+use Rattle.srcp_rules.specs.declared.command.Command.TheVariants.{SetPower, SetGl, InitGl, SetGa, InitGa, SetFb, SetLock}
+use Rattle.srcp_rules.specs.State.{State, Update, IsRowOf, IsWhole, has_row, row_at, is_there, key_at, device_in, lock_on, functions_of}
+use Rattle.srcp_rules.specs.Effect.{Effect, done, checked, refused, accepted, unless_refused, row_put, lock_end, port_end, gl_refusals, functions_after}
+use Rattle.srcp_rules.specs.Obeyed.{MayObey, first_refusal, refused_or_not}
+use Rattle.srcp_rules.proofs.EffectLaws.{NoneApplies, lock_value, lock_end_fits, port_end_fits, is_not, found_few, as_many}
+use Rattle.srcp_rules.proofs.StepLaws.{IsRowOf-put}
+
+-- ---- refusals
+
+pub refused_done : (refusals : List (Bool × Code)) (updates : List Update) (code : Code) → Some code ≡ first_refusal refusals → refused code ≡ done (unless_refused refusals updates)
+refused_done [] updates code e = let bad : Some code ≡ None = e in absurd (let f : ⊥ = cc in f)
+refused_done (refusal ∷ others) updates code e = by refusal.0 (refused_done others updates code) e
+  where
+    by : (b : Bool) → (Some code ≡ first_refusal others → refused code ≡ done (unless_refused others updates)) → Some code ≡ cond b (Some refusal.1) (first_refusal others)
+        → refused code ≡ done (cond b (Err refusal.1) (unless_refused others updates))
+    by true later e = let same : code ≡ refusal.1 = cc in ap refused same
+    by false later e = later e
+
+pub accepted_done : (refusals : List (Bool × Code)) (updates : List Update) → None ≡ first_refusal refusals → accepted updates ≡ done (unless_refused refusals updates)
+accepted_done [] updates e = refl
+accepted_done (refusal ∷ others) updates e = by refusal.0 (accepted_done others updates) e
+  where
+    by : (b : Bool) → (None ≡ first_refusal others → accepted updates ≡ done (unless_refused others updates)) → None ≡ cond b (Some refusal.1) (first_refusal others)
+        → accepted updates ≡ done (cond b (Err refusal.1) (unless_refused others updates))
+    by true later e = cc
+    by false later e = later e
+
+pub none_applies : (refusals : List (Bool × Code)) → None ≡ first_refusal refusals → NoneApplies refusals
+none_applies [] e = tt
+none_applies (refusal ∷ others) e = by refusal.0 refl (none_applies others) e
+  where
+    by : (b : Bool) → refusal.0 ≡ b → (None ≡ first_refusal others → NoneApplies others) → None ≡ cond b (Some refusal.1) (first_refusal others) → (refusal.0 ≡ false) × NoneApplies others
+    by true t later e = absurd (let f : ⊥ = cc in f)
+    by false t later e = (t, later e)
+
+-- CHECK is refused as SET is, and changes nothing
+pub checked_is : (refusals : List (Bool × Code)) (updates : List Update) → refused_or_not (first_refusal refusals) ≡ checked (unless_refused refusals updates)
+checked_is [] updates = refl
+checked_is (refusal ∷ others) updates = by refusal.0 (checked_is others updates)
+  where
+    by : (b : Bool) → refused_or_not (first_refusal others) ≡ checked (unless_refused others updates)
+        → refused_or_not (cond b (Some refusal.1) (first_refusal others)) ≡ checked (cond b (Err refusal.1) (unless_refused others updates))
+    by true later = refl
+    by false later = later
+
+-- ---- rows that are set
+
+module _ (buses : List Bus) (state : State) (session moment : ℕ) (now : IsMoment moment) where
+  -- the row of a lock
+  pub lock_row : (g : Lockable) (bus address seconds : ℕ) → MayObey buses state session (SetLock bus g address seconds)
+      → IsRowOf buses (row_put moment (first_key (lock_on g bus address)) (value.Lock seconds session) (lock_end moment seconds))
+  lock_row g bus address seconds may =
+      IsRowOf-put buses may.laid_out (first_key (lock_on g bus address)) moment (value.Lock seconds session) (lock_end moment seconds) may.of.0 now
+      (lock_value buses may.laid_out state may.whole session moment may.begun now g seconds may.of.1) (lock_end_fits moment seconds session)
+
+  -- all rows of a device that is there are there
+  pub port_there : (device : Device) → IsWhole buses state → is_there device state ≡ true → (port : ℕ) → IsKeyOf buses (key_at device port) → has_row (key_at device port) state ≡ true
+  port_there device whole there port place = whole.complete (first_key device) there port place
+
+  -- the row of an accessory's port
+  pub ga_row : (bus address port : ℕ) (on : Bool) (time : Option ℕ) → MayObey buses state session (SetGa bus address port on time)
+      → IsRowOf buses (row_put moment (key_at (device_in lockable.Ga bus address) (1 + port)) (value.GaPort on) (port_end moment on time))
+  ga_row bus address port on time may =
+      IsRowOf-put buses may.laid_out (key_at (device_in lockable.Ga bus address) (1 + port)) moment (value.GaPort on) (port_end moment on time) may.of.0.0 now may.of.0.1 (port_end_fits moment on time)
+
+  -- a device that may be set is there
+  pub set_there : (device : Device) (others : List (Bool × Code)) → None ≡ first_refusal ((not (is_there device state), C416) ∷ others) → is_there device state ≡ true
+  set_there device others e = is_not (is_there device state) (none_applies ((not (is_there device state), C416) ∷ others) e).0
+
+  -- the row of a locomotive's state
+  pub gl_row : (bus address mode v vmax : ℕ) (functions : List Bool) → MayObey buses state session (SetGl bus address mode v vmax functions) → length functions ≤ length (functions_of bus address state)
+      → IsRowOf buses (row_put moment (key_at (device_in lockable.Gl bus address) 1) (value.GlState mode (kept_v mode v) vmax (functions_after functions (functions_of bus address state))) None)
+  gl_row bus address mode v vmax functions may short =
+      let device = device_in lockable.Gl bus address in
+      let before = functions_of bus address state in
+      let after = functions_after functions before in
+      let same : length after ≡ length before = as_many buses may.laid_out state may.whole session moment may.begun now functions before short in
+      let most : length before ≤ 29 = found_few buses may.laid_out state may.whole session moment may.begun now (key_at device 1) (row_at (key_at device 1) state) refl in
+      let few : length after ≤ 29 = omega (arith, most, same) in
+      let fits = may.of.1 in
+      IsRowOf-put buses may.laid_out (key_at device 1) moment (value.GlState mode (kept_v mode v) vmax after) None may.of.0 now (fits.0, fits.1, fits.2, few) tt

@@ -1,0 +1,20 @@
+use Rattle.std.proofs.Common.{[], ◌∷◌, sym, ap, ◌∙◌, ◌+◌}
+use Rattle.srcp_rules.specs.declared.command.Lockable.TheVariants as lockable
+use Rattle.srcp_info.specs.declared.change.Code.TheVariants.{C414}
+use Rattle.srcp_rules.specs.Effect.{is_locked}
+use Rattle.srcp_rules.specs.State.{device_in}
+use Rattle.srcp_rules.proofs.ObeyLaws.{ga_row, port_there, set_there}
+use Rattle.srcp_rules.proofs.drive.set_ga.Goals as goal
+
+pub set_one-requires-clause-there : goal.set_one-requires-clause-there
+set_one-requires-clause-there g c =
+    let buses = g.R.Rows.buses c.args.rows.now in
+    let state = g.R.Rows.state c.args.rows.now in
+    let device = device_in lockable.Ga c.args.bus c.args.address in
+    let there = set_there buses state c.args.session c.args.moment c.ranges.moment.fits device ((is_locked state c.args.session lockable.Ga c.args.bus c.args.address, C414) ∷ []) c.in_default.ensures in
+    rw (c.key_at-key.ensures, c.device_in.ensures) (port_there buses state c.args.session c.args.moment c.ranges.moment.fits device c.requires.whole there (1 + c.args.port) c.requires.of.0.0)
+
+pub set_one-requires-clause-fits : goal.set_one-requires-clause-fits
+set_one-requires-clause-fits g c =
+    rw (c.key_at-key.ensures, c.device_in.ensures, c.port_end-due.ensures)
+    (ga_row (g.R.Rows.buses c.args.rows.now) (g.R.Rows.state c.args.rows.now) c.args.session c.args.moment c.ranges.moment.fits c.args.bus c.args.address c.args.port c.args.on c.args.time c.requires)

@@ -1,0 +1,41 @@
+use Rattle.std.proofs.Common.{◌≡◌, ℕ, ◌+◌, ◌≤◌, List, map, not, take, sym, ap, subst, ◌∙◌}
+use Rattle.srcp_info.specs.declared.key.Device.{Device}
+use Rattle.srcp_info.specs.declared.change.Row.{Row}
+use Rattle.srcp_info.specs.declared.value.Letter.{Letter}
+use Rattle.srcp_info.specs.declared.value.Value.TheVariants as value
+use Rattle.srcp_info.specs.WellFormed.{IsMoment}
+use Rattle.srcp_rules.specs.declared.layout.Bus.{Bus}
+use Rattle.srcp_rules.specs.declared.command.Lockable.TheVariants as lockable
+use Rattle.srcp_rules.specs.State.{State, Update, device_in, is_there, put_of}
+use Rattle.srcp_rules.specs.Effect.{done, init_device}
+use Rattle.srcp_rules.specs.Obeyed.{TookUnless}
+use Rattle.srcp_rules.specs.Rows.{AreRowsOf}
+use Rattle.srcp_rules.proofs.FreshLaws.{ga_fresh, ga_taken, ga_rows, ga_puts}
+use Rattle.srcp_rules.proofs.fresh.init_ga.Goals as goal
+
+module _ (buses : List Bus) (state : State) (session moment : ℕ) (now : IsMoment moment) where
+  -- the rows that are handed on are those of an accessory with so many ports
+  handed : (most : List Row) (device made : Device) (letter : Letter) (ports n : ℕ) → ports ≤ 8 → most ≡ ga_fresh buses state session moment now device letter 8 → device ≡ made → n ≡ ports
+      → take (1 + n) most ≡ ga_fresh buses state session moment now made letter ports
+  handed most device made letter ports n few e same count =
+      ap (take (1 + n)) (e ∙ ap (λ d. ga_fresh buses state session moment now d letter 8) same) ∙ ga_taken buses state session moment now made letter ports (1 + n) few (ap (λ k. 1 + k) count)
+
+pub init_device-requires-clause-fresh : goal.init_device-requires-clause-fresh
+init_device-requires-clause-fresh g c =
+    let buses = g.R.Rows.buses c.args.rows.now in
+    let state = g.R.Rows.state c.args.rows.now in
+    let device = device_in lockable.Ga c.args.bus c.args.address in
+    let rows =
+    handed buses state c.args.session c.args.moment c.ranges.moment.fits c.most_rows-most.result c.device_in.result device c.args.letter c.args.ports c.from.result c.requires.of.1 c.most_rows-most.ensures c.device_in.ensures c.from.ensures in
+    subst (λ (rows : List Row). AreRowsOf buses device rows) (sym rows) (ga_rows buses state c.args.session c.args.moment c.ranges.moment.fits c.args.bus c.args.address c.args.letter c.args.ports c.requires)
+
+pub returns-clause-obeyed : goal.returns-clause-obeyed
+returns-clause-obeyed g c =
+    let buses = g.R.Rows.buses c.args.rows.now in
+    let state = g.R.Rows.state c.args.rows.now in
+    let device = device_in lockable.Ga c.args.bus c.args.address in
+    let rows =
+    handed buses state c.args.session c.args.moment c.ranges.moment.fits c.most_rows-most.result c.device_in.result device c.args.letter c.args.ports c.from.result c.requires.of.1 c.most_rows-most.ensures c.device_in.ensures c.from.ensures in
+    subst
+    (λ (updates : List Update). TookUnless (not (is_there device state)) (done (init_device state c.args.session c.args.moment lockable.Ga c.args.bus c.args.address (value.GaInit c.args.letter) updates)) state (g.R.Rows.state c.init_device.new.rows) c.init_device.result)
+    (ap (map put_of) rows ∙ ga_puts buses state c.args.session c.args.moment c.ranges.moment.fits c.args.bus c.args.address c.args.letter c.args.ports) c.init_device.ensures.took

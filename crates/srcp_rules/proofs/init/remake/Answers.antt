@@ -1,0 +1,24 @@
+use Rattle.std.proofs.Common.{sym, ap, ◌∙◌}
+use Rattle.srcp_rules.specs.State.{device_in}
+use Rattle.srcp_rules.proofs.PutRowsLaws.{each_there}
+use Rattle.srcp_rules.proofs.InitLaws.{unlocked, unlocked_whole, unlocked_there, changes_remade, rows_remade}
+use Rattle.srcp_rules.proofs.init.remake.Goals as goal
+
+pub set_all-requires : goal.set_all-requires
+set_all-requires g c =
+    let buses = g.R.Rows.buses c.args.rows.now in
+    let state = g.R.Rows.state c.args.rows.now in
+    let there = unlocked_there buses state c.requires.whole c.args.moment c.args.group c.args.bus c.args.address c.requires.there in
+    rw (c.remove_there-changes.ensures.layout, c.remove_there-changes.ensures.rows, c.lock_on.ensures)
+    (each_there buses (device_in c.args.group c.args.bus c.args.address) c.args.fresh.now c.requires.fresh (unlocked buses state c.requires.whole c.args.moment c.args.group c.args.bus c.args.address)
+    (unlocked_whole buses state c.requires.whole c.args.moment c.args.group c.args.bus c.args.address) there)
+
+pub returns-clause-changes : goal.returns-clause-changes
+returns-clause-changes g c =
+    rw (c.push_puts.ensures, c.push.ensures.items, c.remove_there-changes.ensures.changes, c.lock_on.ensures, c.device_in.ensures)
+    (changes_remade (g.R.Rows.buses c.args.rows.now) (g.R.Rows.state c.args.rows.now) c.requires.whole c.args.moment c.args.group c.args.bus c.args.address c.args.fresh.now c.requires.there)
+
+pub returns-clause-rows : goal.returns-clause-rows
+returns-clause-rows g c =
+    rw (c.set_all.ensures.rows, c.remove_there-changes.ensures.rows, c.lock_on.ensures)
+    (rows_remade (g.R.Rows.buses c.args.rows.now) (g.R.Rows.state c.args.rows.now) c.requires.whole c.args.moment c.args.group c.args.bus c.args.address c.args.fresh.now c.requires.there c.requires.fresh)

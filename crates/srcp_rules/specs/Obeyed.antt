@@ -1,0 +1,55 @@
+-- What became of a command, against what the command does.
+use Rattle.std.specs.Prelude.{◌≡◌, ℕ, Bool, false, IsTrue, ◌⊎◌, List, [], ◌∷◌, map, Option, Some, None, if◌then◌else◌}
+use Rattle.srcp_info.specs.declared.change.Code.{Code}
+use Rattle.srcp_info.specs.declared.change.Code.TheVariants.{C500}
+use Rattle.srcp_info.specs.declared.change.Reply.TheVariants.{Refused}
+use Rattle.srcp_rules.specs.declared.obeyed.Obeyed.{Obeyed}
+use Rattle.srcp_rules.specs.declared.command.Command.{Command}
+use Rattle.srcp_rules.specs.declared.layout.Bus.{Bus}
+use Rattle.srcp_rules.specs.Layout.{IsLayout}
+use Rattle.srcp_rules.specs.Command.{IsCommandOf}
+use Rattle.srcp_rules.specs.State.{State, IsWhole, is_there, session_device, updated_all}
+use Rattle.srcp_rules.specs.Effect.{Effect, effect, adds_rows, refused, accepted}
+
+-- it tells the reply and the changes of the effect, and whether the session ends
+pub record IsTold (did : Effect) (obeyed : Obeyed) : Type 0 where
+  pub reply : obeyed.reply ≡ did.reply
+  pub changes : obeyed.changes.items ≡ map (λ update. update.change) did.updates
+  pub ends : obeyed.ends ≡ did.ends
+
+-- the effect took place: it is told, and the rows are updated by its changes
+pub record Took (did : Effect) (before after : State) (obeyed : Obeyed) : Type 0 where
+  pub told : IsTold did obeyed
+  pub rows : after ≡ updated_all did.updates before
+
+-- memory was refused, and nothing has changed
+pub record WantsMemory (before after : State) (obeyed : Obeyed) : Type 0 where
+  pub told : IsTold (refused C500) obeyed
+  pub rows : after ≡ before
+
+-- the effect took place, or, where rows are added, memory was refused
+abbrev pub TookUnless : (adds : Bool) → Effect → (before after : State) → Obeyed → Type 0
+TookUnless adds did before after obeyed = Took did before after obeyed ⊎ (IsTrue adds × WantsMemory before after obeyed)
+
+-- the command did what it does, or it adds rows and memory was refused
+abbrev pub IsObeyed : (before after : State) → (session moment : ℕ) → Command → Obeyed → Type 0
+IsObeyed before after session moment command obeyed = TookUnless (adds_rows before command) (effect before session moment command) before after obeyed
+
+-- what a command may be obeyed under: the registry is whole, the session has begun, the command is one of the layout
+pub record MayObey (buses : List Bus) (state : State) (session : ℕ) (command : Command) : Type 0 where
+  pub laid_out : IsLayout buses
+  pub whole : IsWhole buses state
+  pub begun : IsTrue (is_there (session_device session) state)
+  pub of : IsCommandOf buses command
+
+-- ---- refusals
+
+-- a refusal, or else the acceptance of nothing
+abbrev pub refused_or_not : Option Code → Effect
+refused_or_not (Some code) = refused code
+refused_or_not None = accepted []
+
+-- the first refusal that applies
+abbrev pub first_refusal : List (Bool × Code) → Option Code
+first_refusal [] = None
+first_refusal (refusal ∷ others) = if refusal.0 then Some refusal.1 else first_refusal others

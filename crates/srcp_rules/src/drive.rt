@@ -1,0 +1,133 @@
+ghost use Rattle.std.specs.Prelude.{◌≡◌, ◌≤◌, length};
+ghost use Rattle.srcp_rules.specs.Command.{kept_v};
+ghost use Rattle.srcp_rules.specs.Effect.{done, functions_after, gl_refusals, port_end, set_ga, set_gl};
+ghost use Rattle.srcp_rules.specs.Obeyed.{MayObey, Took, first_refusal};
+ghost use Rattle.srcp_rules.specs.State.{functions_of};
+
+use crate::command::{Command, Lockable};
+use crate::device::{device_in, key_at};
+use crate::lock::{is_locked, moment_after, refusal};
+use crate::obeyed::Obeyed;
+use crate::registry::{is_there, set_one};
+use crate::rows::Rows;
+use srcp_info::{Bits, Code, Value};
+
+/// The functions of a locomotive's state.
+fn functions_of<R: Rows>(rows: &R, bus: u8, address: u32) -> Bits
+    ensures { result ≡ functions_of bus address (R.state rows.now) }
+{
+    let locomotive = device_in(Lockable::Gl, bus, address);
+    match rows.row(&key_at(locomotive, 1)) {
+        Some(row) => match row.shown.value {
+            Value::GlState { functions, .. } => functions,
+            _ => Bits::new(),
+        },
+        None => Bits::new(),
+    }
+}
+
+/// The functions given, and the others as they were before.
+fn functions_after(given: &Bits, before: &Bits) -> Bits
+    requires { length given.now ≤ length before.now }
+    ensures { result ≡ functions_after given.now before.now }
+{
+    let mut after = *given;
+    for place in given.len()..before.len() {
+        after.push(before.as_slice()[place]);
+    }
+    after
+}
+
+/// Why the session may not drive the locomotive: it is not there, has fewer functions than are
+/// given, or another session has its lock.
+pub(crate) fn gl_refusal<R: Rows>(
+    rows: &R,
+    session: u32,
+    bus: u8,
+    address: u32,
+    functions: &Bits,
+) -> Option<Code>
+    ensures { result ≡ first_refusal (gl_refusals (R.state rows.now) session bus address functions.now) }
+{
+    if !is_there(rows, device_in(Lockable::Gl, bus, address)) {
+        return Some(Code::C416);
+    }
+    if functions_of(rows, bus, address).len() < functions.len() {
+        return Some(Code::C418);
+    }
+    if is_locked(rows, session, Lockable::Gl, bus, address) {
+        return Some(Code::C414);
+    }
+    None
+}
+
+/// V as it is kept: in mode 2, the emergency stop, it is 0.
+fn kept_v(mode: u32, v: u32) -> u32
+    ensures { result ≡ kept_v mode v }
+{
+    if mode == 2 { 0 } else { v }
+}
+
+/// SET of a locomotive.
+pub(crate) fn set_gl<R: Rows>(
+    rows: &mut R,
+    session: u32,
+    moment: u64,
+    bus: u8,
+    address: u32,
+    mode: u32,
+    v: u32,
+    vmax: u32,
+    functions: &Bits,
+) -> Obeyed
+    requires { MayObey (R.buses rows.old) (R.state rows.old) session (Command.SetGl bus address mode v vmax functions.now) }
+    ensures took { Took (done (set_gl (R.state rows.old) session moment bus address mode v vmax functions.now)) (R.state rows.old) (R.state rows.new) result }
+    ensures layout { R.buses rows.new ≡ R.buses rows.old }
+{
+    if let Some(code) = gl_refusal(rows, session, bus, address, functions) {
+        return Obeyed::refused(code);
+    }
+    let driven = Value::GlState {
+        mode,
+        v: kept_v(mode, v),
+        vmax,
+        functions: functions_after(functions, &functions_of(rows, bus, address)),
+    };
+    let key = key_at(device_in(Lockable::Gl, bus, address), 1);
+    set_one(rows, moment, key, driven, None)
+}
+
+/// When a port that is set for a time goes back: none where it is set to 0, for no time or for ever.
+fn port_end(moment: u64, on: bool, time: Option<u32>) -> Option<u64>
+    ensures { result ≡ port_end moment on time }
+{
+    match time {
+        Some(milliseconds) if on && milliseconds > 0 => {
+            Some(moment_after(moment, u64::from(milliseconds)))
+        }
+        _ => None,
+    }
+}
+
+/// SET of an accessory's port.
+pub(crate) fn set_ga<R: Rows>(
+    rows: &mut R,
+    session: u32,
+    moment: u64,
+    bus: u8,
+    address: u32,
+    port: u8,
+    on: bool,
+    time: Option<u32>,
+) -> Obeyed
+    requires { MayObey (R.buses rows.old) (R.state rows.old) session (Command.SetGa bus address port on time) }
+    ensures took { Took (done (set_ga (R.state rows.old) session moment bus address port on time)) (R.state rows.old) (R.state rows.new) result }
+    ensures layout { R.buses rows.new ≡ R.buses rows.old }
+{
+    if let Some(code) = refusal(rows, session, Lockable::Ga, bus, address) {
+        return Obeyed::refused(code);
+    }
+    let key = key_at(device_in(Lockable::Ga, bus, address), 1 + port);
+    let due = port_end(moment, on, time);
+    set_one(rows, moment, key, Value::GaPort { on }, due)
+}

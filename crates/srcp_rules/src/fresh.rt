@@ -1,0 +1,112 @@
+ghost use Rattle.std.specs.Prelude.{◌≡◌, ◌∷◌, false, map, None};
+ghost use Rattle.std.specs.List.{range_with_len};
+ghost use Rattle.srcp_info.specs.declared.value.Value.TheVariants as value;
+ghost use Rattle.srcp_rules.specs.Effect.{row_put};
+ghost use Rattle.srcp_rules.specs.Obeyed.{IsObeyed, MayObey};
+ghost use Rattle.srcp_rules.specs.State.{key_at};
+
+use crate::command::{Command, Lockable};
+use crate::device::{device_in, key_at};
+use crate::init::init_device;
+use crate::obeyed::Obeyed;
+use crate::registry::row_put;
+use crate::rows::Rows;
+use srcp_info::{Bits, Device, Letter, Row, Value};
+
+/// INIT of a locomotive: it goes forward at rest, with all functions off.
+pub(crate) fn init_gl<R: Rows>(
+    rows: &mut R,
+    session: u32,
+    moment: u64,
+    bus: u8,
+    address: u32,
+    letter: Letter,
+    version: u32,
+    steps: u32,
+    functions: u32,
+) -> Obeyed
+    requires { MayObey (R.buses rows.old) (R.state rows.old) session (Command.InitGl bus address letter version steps functions) }
+    ensures obeyed { IsObeyed (R.state rows.old) (R.state rows.new) session moment (Command.InitGl bus address letter version steps functions) result }
+    ensures layout { R.buses rows.new ≡ R.buses rows.old }
+{
+    let device = device_in(Lockable::Gl, bus, address);
+    let init = Value::GlInit {
+        letter,
+        version,
+        steps,
+        functions,
+    };
+    let resting = Value::GlState {
+        mode: 1,
+        v: 0,
+        vmax: 0,
+        functions: Bits::all_false(functions as usize),
+    };
+    let fresh = [
+        row_put(moment, key_at(device, 0), init, None),
+        row_put(moment, key_at(device, 1), resting, None),
+    ];
+    let init = fresh[0].shown.value;
+    init_device(
+        rows,
+        session,
+        moment,
+        Lockable::Gl,
+        bus,
+        address,
+        &init,
+        &fresh,
+    )
+}
+
+/// The fresh row of an accessory's port.
+fn clear_port(moment: u64, device: Device, port: u8) -> Row
+    ensures { result ≡ row_put moment (key_at device port) (value.GaPort false) None }
+{
+    row_put(moment, key_at(device, port), Value::GaPort { on: false }, None)
+}
+
+/// The fresh rows of an accessory with eight ports, the most that one has.
+fn most_rows(moment: u64, device: Device, letter: Letter) -> [Row; 9]
+    ensures { result ≡ row_put moment (key_at device 0) (value.GaInit letter) None ∷ map (λ port. row_put moment (key_at device port) (value.GaPort false) None) (range_with_len 1 8) }
+{
+    [
+        row_put(moment, key_at(device, 0), Value::GaInit { letter }, None),
+        clear_port(moment, device, 1),
+        clear_port(moment, device, 2),
+        clear_port(moment, device, 3),
+        clear_port(moment, device, 4),
+        clear_port(moment, device, 5),
+        clear_port(moment, device, 6),
+        clear_port(moment, device, 7),
+        clear_port(moment, device, 8),
+    ]
+}
+
+/// INIT of an accessory: all its ports are 0.
+pub(crate) fn init_ga<R: Rows>(
+    rows: &mut R,
+    session: u32,
+    moment: u64,
+    bus: u8,
+    address: u32,
+    letter: Letter,
+    ports: u8,
+) -> Obeyed
+    requires { MayObey (R.buses rows.old) (R.state rows.old) session (Command.InitGa bus address letter ports) }
+    ensures obeyed { IsObeyed (R.state rows.old) (R.state rows.new) session moment (Command.InitGa bus address letter ports) result }
+    ensures layout { R.buses rows.new ≡ R.buses rows.old }
+{
+    let most = most_rows(moment, device_in(Lockable::Ga, bus, address), letter);
+    let init = Value::GaInit { letter };
+    init_device(
+        rows,
+        session,
+        moment,
+        Lockable::Ga,
+        bus,
+        address,
+        &init,
+        &most[..1 + usize::from(ports)],
+    )
+}

@@ -1,0 +1,197 @@
+ghost use Rattle.std.specs.Prelude.{◌≡◌, ◌+◌, ◌++◌, ◌<◌, ◌≤◌, IsTrue, length, map, not, true};
+ghost use Rattle.std.specs.List.{AllByRecursion};
+ghost use Rattle.arrayvec.specs.ArrayVec.{array_vec_len};
+ghost use Rattle.srcp_info.specs.WellFormed.{can_go};
+ghost use Rattle.srcp_rules.specs.Layout.{row_count};
+ghost use Rattle.srcp_rules.specs.Effect.{done, has_init, init_device, is_same_init, removal, removals, term_device};
+ghost use Rattle.srcp_rules.specs.Obeyed.{Took, TookUnless};
+ghost use Rattle.srcp_rules.specs.Rows.{AreRowsOf, put_rows};
+ghost use Rattle.srcp_rules.specs.State.{IsRowOf, IsWhole, device_in, has_row, is_there, put_of, updated_all};
+
+use crate::command::Lockable;
+use crate::device::{device_in, lock_on};
+use crate::lock::{is_locked, refusal};
+use crate::obeyed::Obeyed;
+use crate::registry::{is_there, put_of, remove};
+use crate::rows::Rows;
+use arrayvec::ArrayVec;
+use srcp_info::{Change, Code, Device, Row, Value};
+
+/// Takes out the device, if it is there.
+fn remove_there<R: Rows>(rows: &mut R, moment: u64, device: Device) -> ArrayVec<Change, 16>
+    requires { IsTrue (can_go device.group) }
+    ensures changes { result.items ≡ map (λ update. update.change) (removal (R.state rows.old) moment device) }
+    ensures rows { R.state rows.new ≡ updated_all (removal (R.state rows.old) moment device) (R.state rows.old) }
+    ensures layout { R.buses rows.new ≡ R.buses rows.old }
+{
+    let mut changes = ArrayVec::new();
+    if is_there(rows, device) {
+        changes.push(remove(rows, moment, device));
+    }
+    changes
+}
+
+/// Takes out the device's lock and then the device, as far as they are there.
+fn remove_device<R: Rows>(
+    rows: &mut R,
+    moment: u64,
+    group: Lockable,
+    bus: u8,
+    address: u32,
+) -> ArrayVec<Change, 16>
+    ensures changes { result.items ≡ map (λ update. update.change) (removals (R.state rows.old) moment group bus address) }
+    ensures rows { R.state rows.new ≡ updated_all (removals (R.state rows.old) moment group bus address) (R.state rows.old) }
+    ensures layout { R.buses rows.new ≡ R.buses rows.old }
+{
+    let device = device_in(group, bus, address);
+    let has_device = is_there(rows, device);
+    let mut changes = remove_there(rows, moment, lock_on(group, bus, address));
+    if has_device {
+        changes.push(remove(rows, moment, device));
+    }
+    changes
+}
+
+/// TERM of a locomotive or an accessory.
+pub(crate) fn term_device<R: Rows>(
+    rows: &mut R,
+    session: u32,
+    moment: u64,
+    group: Lockable,
+    bus: u8,
+    address: u32,
+) -> Obeyed
+    ensures took { Took (done (term_device (R.state rows.old) session moment group bus address)) (R.state rows.old) (R.state rows.new) result }
+    ensures layout { R.buses rows.new ≡ R.buses rows.old }
+{
+    if let Some(code) = refusal(rows, session, group, bus, address) {
+        return Obeyed::refused(code);
+    }
+    Obeyed::accepted(remove_device(rows, moment, group, bus, address))
+}
+
+/// Whether two first rows have the same parameters.
+fn is_same_init(one: &Value, other: &Value) -> bool
+    ensures { result ≡ is_same_init one.now other.now }
+{
+    match (one, other) {
+        (
+            Value::GlInit {
+                letter,
+                version,
+                steps,
+                functions,
+            },
+            Value::GlInit {
+                letter: other_letter,
+                version: other_version,
+                steps: other_steps,
+                functions: other_functions,
+            },
+        ) => {
+            letter == other_letter
+                && version == other_version
+                && steps == other_steps
+                && functions == other_functions
+        }
+        (
+            Value::GaInit { letter },
+            Value::GaInit {
+                letter: other_letter,
+            },
+        ) => letter == other_letter,
+        _ => false,
+    }
+}
+
+/// Whether the device is there with these parameters.
+fn has_init<R: Rows>(rows: &R, group: Lockable, bus: u8, address: u32, init: &Value) -> bool
+    ensures { result ≡ has_init (R.state rows.now) group bus address init.now }
+{
+    match rows.row(&device_in(group, bus, address).first_key()) {
+        Some(row) => is_same_init(&row.shown.value, init),
+        None => false,
+    }
+}
+
+/// Sets rows that are there.
+fn set_all<R: Rows>(rows: &mut R, fresh: &[Row])
+    requires { AllByRecursion (λ row. IsRowOf (R.buses rows.old) row × IsTrue (has_row row.shown.key (R.state rows.old))) fresh.now }
+    ensures rows { R.state rows.new ≡ put_rows fresh.now (R.state rows.old) }
+    ensures layout { R.buses rows.new ≡ R.buses rows.old }
+{
+    for row in fresh {
+        rows.set(*row);
+    }
+}
+
+/// Appends the changes that tell of the rows.
+fn push_puts(changes: &mut ArrayVec<Change, 16>, fresh: &[Row])
+    requires { array_vec_len changes.old + length fresh.now ≤ 16 }
+    ensures { changes.new.items ≡ changes.old.items ++ map (λ row. (put_of row).change) fresh.now }
+{
+    for row in fresh {
+        changes.push(put_of(row));
+    }
+}
+
+/// Makes a device that is there afresh: its lock is taken out, and its rows take their first values.
+/// This takes no memory, since each of the rows is there.
+fn remake<R: Rows>(
+    rows: &mut R,
+    moment: u64,
+    group: Lockable,
+    bus: u8,
+    address: u32,
+    fresh: &[Row],
+) -> ArrayVec<Change, 16>
+    requires whole { IsWhole (R.buses rows.old) (R.state rows.old) }
+    requires there { is_there (device_in group bus address) (R.state rows.old) ≡ true }
+    requires fresh { AreRowsOf (R.buses rows.old) (device_in group bus address) fresh.now }
+    ensures changes { result.items ≡ map (λ update. update.change) (removals (R.state rows.old) moment group bus address ++ map put_of fresh.now) }
+    ensures rows { R.state rows.new ≡ updated_all (removals (R.state rows.old) moment group bus address ++ map put_of fresh.now) (R.state rows.old) }
+    ensures layout { R.buses rows.new ≡ R.buses rows.old }
+{
+    let mut changes = remove_there(rows, moment, lock_on(group, bus, address));
+    changes.push(Change::Gone {
+        stamp: moment,
+        device: device_in(group, bus, address),
+    });
+    push_puts(&mut changes, fresh);
+    set_all(rows, fresh);
+    changes
+}
+
+/// INIT of a locomotive or an accessory, which would have these rows.
+pub(crate) fn init_device<R: Rows>(
+    rows: &mut R,
+    session: u32,
+    moment: u64,
+    group: Lockable,
+    bus: u8,
+    address: u32,
+    init: &Value,
+    fresh: &[Row],
+) -> Obeyed
+    requires whole { IsWhole (R.buses rows.old) (R.state rows.old) }
+    requires some { 0 < row_count (R.buses rows.old) (device_in group bus address) }
+    requires fresh { AreRowsOf (R.buses rows.old) (device_in group bus address) fresh.now }
+    ensures took { TookUnless (not (is_there (device_in group bus address) (R.state rows.old))) (done (init_device (R.state rows.old) session moment group bus address init.now (map put_of fresh.now))) (R.state rows.old) (R.state rows.new) result }
+    ensures layout { R.buses rows.new ≡ R.buses rows.old }
+{
+    if is_locked(rows, session, group, bus, address) {
+        return Obeyed::refused(Code::C414);
+    }
+    if has_init(rows, group, bus, address, init) {
+        return Obeyed::accepted(ArrayVec::new());
+    }
+    if is_there(rows, device_in(group, bus, address)) {
+        return Obeyed::accepted(remake(rows, moment, group, bus, address, fresh));
+    }
+    let mut changes = ArrayVec::new();
+    push_puts(&mut changes, fresh);
+    if rows.add(fresh).is_err() {
+        return Obeyed::refused(Code::C500);
+    }
+    Obeyed::accepted(changes)
+}

@@ -1,0 +1,135 @@
+ghost use Rattle.std.specs.Prelude.{◌≡◌};
+ghost use Rattle.srcp_rules.specs.Effect.{is_locked, lock_end, lock_refusals, moment_after, refusals, term_lock, done};
+ghost use Rattle.srcp_rules.specs.Obeyed.{IsObeyed, IsTold, MayObey, Took, first_refusal, refused_or_not};
+
+use crate::command::{Command, Lockable};
+use crate::device::{device_in, lock_on};
+use crate::obeyed::Obeyed;
+use crate::registry::{is_there, put_of, remove, row_put, set_one};
+use crate::rows::Rows;
+use arrayvec::ArrayVec;
+use srcp_info::{Code, Value};
+
+/// Whether the device has a lock, and another session has it.
+pub(crate) fn is_locked<R: Rows>(
+    rows: &R,
+    session: u32,
+    group: Lockable,
+    bus: u8,
+    address: u32,
+) -> bool
+    ensures { result ≡ is_locked (R.state rows.now) session group bus address }
+{
+    match rows.row(&lock_on(group, bus, address).first_key()) {
+        Some(row) => match row.shown.value {
+            Value::Lock {
+                session: holder,
+                ..
+            } => holder != session,
+            _ => false,
+        },
+        None => false,
+    }
+}
+
+/// Why the session may not change the device: it is not there, or another session has its lock.
+pub(crate) fn refusal<R: Rows>(
+    rows: &R,
+    session: u32,
+    group: Lockable,
+    bus: u8,
+    address: u32,
+) -> Option<Code>
+    ensures { result ≡ first_refusal (refusals (R.state rows.now) session group bus address) }
+{
+    if !is_there(rows, device_in(group, bus, address)) {
+        return Some(Code::C416);
+    }
+    if is_locked(rows, session, group, bus, address) {
+        return Some(Code::C414);
+    }
+    None
+}
+
+/// The refusal, or else the acceptance that CHECK gives.
+pub(crate) fn checked(refusal: Option<Code>) -> Obeyed
+    ensures { IsTold (refused_or_not refusal) result }
+{
+    match refusal {
+        Some(code) => Obeyed::refused(code),
+        None => Obeyed::accepted(ArrayVec::new()),
+    }
+}
+
+/// The moment so many milliseconds later, or the greatest moment.
+pub(crate) fn moment_after(moment: u64, milliseconds: u64) -> u64
+    ensures { result ≡ moment_after moment milliseconds }
+{
+    moment.saturating_add(milliseconds)
+}
+
+/// When a lock of so many seconds ends; one of 0 seconds does not end by itself.
+fn lock_end(moment: u64, seconds: u32) -> Option<u64>
+    ensures { result ≡ lock_end moment seconds }
+{
+    if seconds == 0 {
+        return None;
+    }
+    Some(moment_after(moment, 1000 * u64::from(seconds)))
+}
+
+/// SET of a lock. A device that has none takes memory for it.
+pub(crate) fn set_lock<R: Rows>(
+    rows: &mut R,
+    session: u32,
+    moment: u64,
+    group: Lockable,
+    bus: u8,
+    address: u32,
+    seconds: u32,
+) -> Obeyed
+    requires { MayObey (R.buses rows.old) (R.state rows.old) session (Command.SetLock bus group address seconds) }
+    ensures obeyed { IsObeyed (R.state rows.old) (R.state rows.new) session moment (Command.SetLock bus group address seconds) result }
+    ensures layout { R.buses rows.new ≡ R.buses rows.old }
+{
+    if let Some(code) = refusal(rows, session, group, bus, address) {
+        return Obeyed::refused(code);
+    }
+    let lock = lock_on(group, bus, address);
+    let value = Value::Lock { seconds, session };
+    let due = lock_end(moment, seconds);
+    if is_there(rows, lock) {
+        return set_one(rows, moment, lock.first_key(), value, due);
+    }
+    let row = row_put(moment, lock.first_key(), value, due);
+    let mut changes = ArrayVec::new();
+    changes.push(put_of(&row));
+    if rows.add(&[row]).is_err() {
+        return Obeyed::refused(Code::C500);
+    }
+    Obeyed::accepted(changes)
+}
+
+/// TERM of a lock.
+pub(crate) fn term_lock<R: Rows>(
+    rows: &mut R,
+    session: u32,
+    moment: u64,
+    group: Lockable,
+    bus: u8,
+    address: u32,
+) -> Obeyed
+    ensures took { Took (done (term_lock (R.state rows.old) session moment group bus address)) (R.state rows.old) (R.state rows.new) result }
+    ensures layout { R.buses rows.new ≡ R.buses rows.old }
+{
+    let lock = lock_on(group, bus, address);
+    if !is_there(rows, lock) {
+        return Obeyed::refused(Code::C416);
+    }
+    if is_locked(rows, session, group, bus, address) {
+        return Obeyed::refused(Code::C414);
+    }
+    let mut changes = ArrayVec::new();
+    changes.push(remove(rows, moment, lock));
+    Obeyed::accepted(changes)
+}
