@@ -1,21 +1,20 @@
 -- Laws of the words of a text that is cut at its spaces from the front.
-use Rattle.std.specs.Prelude.{◌≡◌, ℕ, ◌+◌, ◌/◌, ◌%◌, ◌*◌, ◌^◌, ◌<◌, ◌≤◌, Bool, false, true, not, ◌||◌, List, [], ◌∷◌, ◌++◌, length, map, take, drop, position, ◌==◌, Some, None}
-use Rattle.std.specs.List.{list_any, position_or_len, before_first, after_first, join_with_byte, AllByRecursion}
+use Rattle.std.specs.Prelude.{◌≡◌, ℕ, ◌+◌, ◌/◌, ◌%◌, ◌^◌, ◌<◌, ◌≤◌, Bool, false, true, List, [], ◌∷◌, ◌++◌, length, map, take, drop, position, ◌==◌, Some, None}
+use Rattle.std.specs.List.{list_any, position_or_len, before_first, after_first, join_with_byte}
 use Rattle.std.specs.Char.{is_ascii_digit}
 use Rattle.std.specs.Fmt.{decimal}
-use Rattle.std.proofs.Common.{refl, ap, sym, ◌∙◌, arith, inl, inr, suc}
-use Rattle.std.proofs.lemmas.Bool.{cases_Bool, cases_lt, lt-ltb, or_parts, or_from, eqb-true, both_ways}
+use Rattle.std.proofs.Common.{refl, ap, sym, ◌∙◌, arith, inl, inr}
+use Rattle.std.proofs.lemmas.Bool.{cases_lt, lt-ltb, or_parts, eqb-true, both_ways}
 use Rattle.std.proofs.lemmas.Bool.Decides.{nat_tests}
 use Rattle.std.proofs.lemmas.Option.{none-some}
 use Rattle.std.proofs.lemmas.Fmt.{digits_decimal}
 use Rattle.std.proofs.lemmas.List.{take_all, drop_all, append_assoc, length-append}
-use Rattle.std.proofs.Math.Seq.{take-append_seam, drop-append_seam, drop-append-add}
-use lib.Chars.{codes}
+use Rattle.std.proofs.Math.Seq.{take-append_seam, drop-append-add}
 use Rattle.srcp_text.specs.Stamp.{stamp, three_digits}
-use Rattle.srcp_text.specs.Words.{is_blank, IsWord, number_of, plain_number_of}
+use Rattle.srcp_text.specs.Words.{number_of, plain_number_of}
 use Rattle.srcp_text.proofs.NumberLaws.{own, has_leading_zero-decimal, plain_number_of-decimal}
 use Rattle.srcp_text.proofs.ScanLaws.{position_some}
-use Rattle.srcp_text.proofs.StampLaws.{digits_free, stamp_free, three_digits_again}
+use Rattle.srcp_text.proofs.StampLaws.{digits_free, stamp_free}
 use Rattle.srcp_info.specs.Line.{bit_word, after_spaces}
 use Rattle.srcp_info.specs.declared.scan.InfoKind.{InfoKind}
 use Rattle.srcp_info.specs.declared.scan.InfoKind.TheVariants.{State, Init, Term}

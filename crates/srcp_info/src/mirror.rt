@@ -42,7 +42,8 @@ impl Model for Mirror {
 
     ghost view = { λ m. m.rows.items };
 
-    ghost invariant = { λ m. IsRisingBy (λ row. row.key) m.rows.items × AllByRecursion IsWellFormedShown m.rows.items };
+    ghost invariant = { λ m.
+        IsRisingBy (λ row. row.key) m.rows.items × AllByRecursion IsWellFormedShown m.rows.items };
 }
 
 impl Mirror {
@@ -59,10 +60,13 @@ impl Mirror {
     /// taken out. `NotInfo` where it is not the line of a well-formed change, and `Memory` where
     /// its row is one more and memory for it is refused. Both leave the mirror as it was.
     pub fn apply(&mut self, line: &[u8]) -> Result<(), MirrorFault>
-        ensures ok { OnOk result ((change : Change) × IsLineOf line.now change × (self.new ≡ changed change self.old)) }
-        ensures not_info { result ≡ Err MirrorFault.NotInfo → (change : Change) → IsLineOf line.now change → ⊥ }
-        ensures memory { result ≡ Err MirrorFault.Memory
-            → (shown : Shown) × IsLineOf line.now (Change.Put shown) × (length (put shown self.old) ≡ length self.old + 1) }
+        ensures ok { OnOk result ((change : Change)
+            × IsLineOf line.now change × (self.new ≡ changed change self.old)) }
+        ensures not_info { result ≡ Err MirrorFault.NotInfo
+            → (change : Change) → IsLineOf line.now change → ⊥ }
+        ensures memory { result ≡ Err MirrorFault.Memory → (shown : Shown)
+            × IsLineOf line.now (Change.Put shown)
+            × (length (put shown self.old) ≡ length self.old + 1) }
         ensures err { OnErr result (self.new ≡ self.old) }
     {
         match read_change(line) {
@@ -92,15 +96,18 @@ fn place_of(rows: &[Shown], key: &Key) -> usize
     requires { IsRisingBy (λ row. row.key) rows.now }
     ensures bound { result ≤ length rows.now }
     ensures below { take result rows.now ≡ filter (λ row. is_after key.now row.key) rows.now }
-    ensures above { drop result rows.now ≡ filter (λ row. not (is_after key.now row.key)) rows.now }
+    ensures above { drop result rows.now
+        ≡ filter (λ row. not (is_after key.now row.key)) rows.now }
 {
     rows.partition_point(|row| key.is_after(&row.key))
 }
 
 /// Whether the row at a place has this key.
 fn has_key_at(rows: &[Shown], at: usize, key: &Key) -> bool
-    ensures yes { result ≡ true → (at < length rows.now) × ((row : Shown) → (slice_index_or rows.now at row).key ≡ key.now) }
-    ensures no { result ≡ false → (row : Shown) (rest : List Shown) → drop at rows.now ≡ row ∷ rest → row.key ≡ key.now → ⊥ }
+    ensures yes { result ≡ true → (at < length rows.now)
+        × ((row : Shown) → (slice_index_or rows.now at row).key ≡ key.now) }
+    ensures no { result ≡ false → (row : Shown) (rest : List Shown)
+        → drop at rows.now ≡ row ∷ rest → row.key ≡ key.now → ⊥ }
 {
     match rows.get(at) {
         Some(row) => row.key == *key,

@@ -50,7 +50,8 @@ fn read_power(text: &[u8]) -> (u32, u8, Value)
 fn read_gl_init(text: &[u8]) -> (u32, u8, Value)
     ensures { (address : ℕ) (letter : Letter) (version steps functions : ℕ)
         → address < 2 ^ 32 → version < 2 ^ 32 → steps < 2 ^ 32 → functions < 2 ^ 32
-        → text.now ≡ join_with_byte 32 (value_words address 0 (Value.GlInit letter version steps functions))
+        → text.now ≡ join_with_byte 32
+        (value_words address 0 (Value.GlInit letter version steps functions))
         → result ≡ (address, 0, Value.GlInit letter version steps functions) }
 {
     let (address, rest) = next_number(text);
@@ -69,8 +70,10 @@ fn read_gl_init(text: &[u8]) -> (u32, u8, Value)
 
 fn read_gl_state(text: &[u8]) -> (u32, u8, Value)
     ensures { (address mode v vmax : ℕ) (functions : List Bool)
-        → address < 2 ^ 32 → mode < 2 ^ 32 → v < 2 ^ 32 → vmax < 2 ^ 32 → length functions ≤ 29
-        → text.now ≡ join_with_byte 32 (value_words address 1 (Value.GlState mode v vmax functions))
+        → address < 2 ^ 32 → mode < 2 ^ 32 → v < 2 ^ 32 → vmax < 2 ^ 32
+        → length functions ≤ 29
+        → text.now ≡ join_with_byte 32
+        (value_words address 1 (Value.GlState mode v vmax functions))
         → result ≡ (address, 1, Value.GlState mode v vmax functions) }
 {
     let (address, rest) = next_number(text);
@@ -134,7 +137,8 @@ fn read_lock(text: &[u8]) -> (u32, u8, Value)
 fn read_value(kind: InfoKind, group: Group, text: &[u8]) -> (u32, u8, Value)
     ensures { (shown : Shown) → IsWellFormedShown shown
         → shown.key.group ≡ group → value_code shown.value ≡ kind_code kind
-        → text.now ≡ join_with_byte 32 (value_words shown.key.address shown.key.port shown.value)
+        → text.now ≡ join_with_byte 32
+        (value_words shown.key.address shown.key.port shown.value)
         → result ≡ (shown.key.address, shown.key.port, shown.value) }
 {
     let is_init = kind == InfoKind::Init;

@@ -1,4 +1,4 @@
-use Rattle.std.proofs.Common.{rules, ℕ, ◌≡◌, ◌+◌, ◌<◌, ◌∙◌, ap, sym, subst, arith, List, ◌∷◌, length, length-append, take, drop, get_or}
+use Rattle.std.proofs.Common.{rules, ℕ, ◌≡◌, ◌<◌, ◌∙◌, sym, subst, List, ◌∷◌, length, take, drop, get_or}
 use Rattle.std.specs.Prelude.{not}
 use Rattle.std.specs.List.{filter, insert}
 use Rattle.srcp_info.specs.Client.{IsRisingBy, put}

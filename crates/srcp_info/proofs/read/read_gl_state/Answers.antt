@@ -1,4 +1,4 @@
-use Rattle.std.proofs.Common.{[], ◌∷◌, map}
+use Rattle.std.proofs.Common.{◌∷◌, map}
 use Rattle.std.specs.Fmt.{decimal}
 use Rattle.srcp_info.specs.Line.{bit_word}
 use Rattle.srcp_info.proofs.read.read_gl_state.Goals as goal

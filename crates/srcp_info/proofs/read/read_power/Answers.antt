@@ -1,5 +1,4 @@
-use Rattle.std.proofs.Common.{◌≤◌, length, subst, ap, sym, ◌∙◌, []}
-use Rattle.std.proofs.Common.{List, ℕ}
+use Rattle.std.proofs.Common.{◌≤◌, length, ◌∙◌}
 use Rattle.srcp_info.proofs.TellsLaws.{power_text, some_fits}
 use Rattle.srcp_info.proofs.read.read_power.Goals as goal
 

@@ -1,7 +1,7 @@
 use Rattle.std.proofs.Common.{◌≡◌, ◌∙◌, ap, sym, inl, inr, [], ◌∷◌, List, ℕ}
 use Rattle.std.specs.List.{join_with_byte}
 use Rattle.std.specs.Fmt.{decimal}
-use Rattle.srcp_info.specs.declared.scan.InfoKind.TheVariants.{State, Init, Term}
+use Rattle.srcp_info.specs.declared.scan.InfoKind.TheVariants.{Term}
 use Rattle.srcp_info.specs.declared.change.Change.{Change}
 use Rattle.srcp_info.specs.declared.change.Change.TheVariants.{Put, Gone}
 use Rattle.srcp_info.specs.Line.{info_words, value_words}

@@ -1,4 +1,4 @@
-use Rattle.std.proofs.Common.{◌≡◌, ◌+◌, ◌-◌, ◌≤◌, ◌++◌, Bool, List, length, map}
+use Rattle.std.proofs.Common.{◌≡◌, ◌-◌, ◌≤◌, ◌++◌, Bool, List, length, map}
 use Rattle.std.specs.List.{join_with_byte}
 use Rattle.srcp_info.specs.Line.{bit_word}
 use Rattle.srcp_info.proofs.scan.functions_of.Given as goal

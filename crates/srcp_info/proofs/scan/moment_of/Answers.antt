@@ -1,5 +1,5 @@
-use Rattle.std.proofs.Common.{ℕ, ◌≡◌, ◌∙◌, ◌/◌, ◌%◌, ap, arith}
-use Rattle.std.specs.Prelude.{◌==◌, Some}
+use Rattle.std.proofs.Common.{ℕ, ◌∙◌, ◌%◌, ap, arith}
+use Rattle.std.specs.Prelude.{◌==◌}
 use Rattle.std.specs.List.{before_first, after_first}
 use Rattle.std.specs.Option.{unwrap_or}
 use Rattle.srcp_text.specs.Words.{number_of, plain_number_of}
