@@ -1,5 +1,6 @@
 -- What is seen of a core: the registry, and a place for each connection.
 use Rattle.std.specs.Prelude.{◌≡◌, ℕ, ◌<◌, ◌≤◌, Bool, true, false, List, Option, Some, None, IsTrue, is_some, count_by, slice_index_or}
+use Rattle.srcp_info.specs.WellFormed.{IsMoment}
 use Rattle.srcp_info.specs.declared.value.Mode.{Mode}
 use Rattle.srcp_text.specs.Reading.{Reading}
 use Rattle.srcp_rules.specs.declared.layout.Bus.{Bus}
@@ -53,6 +54,14 @@ pub record AreSessions (last_id : ℕ) (rows : State) (places : List (Option Pla
 -- what holds of every core
 pub record IsSound (held : Held) : Type 0 where
   pub layout : IsLayout held.buses
+  pub moment : IsMoment held.moment
   pub few : open_count held ≤ 64
   pub whole : IsWhole held.buses held.rows
   pub sessions : AreSessions held.last_id held.rows held.places
+
+-- the connection at the place has that session, which goes on
+pub record IsSessionAt (session key : ℕ) (held : Held) : Type 0 where
+  pub place : Place
+  pub here : at held key ≡ Some place
+  pub own : place.session ≡ session
+  pub live : IsLive place

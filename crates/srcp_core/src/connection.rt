@@ -1,8 +1,12 @@
 //! What is kept of one connection.
-ghost use Rattle.std.specs.Prelude.{◌≡◌, ◌≤◌, ◌<◌, ◌+◌, [], ◌∷◌, ◌++◌, length, drop, Bool, true, false, ◌||◌, IfOk, Some, None, vec_capacity, if◌then◌else◌};
+ghost use Rattle.std.specs.Prelude.{◌≡◌, ◌≤◌, ◌<◌, ◌+◌, [], ◌∷◌, ◌++◌, length, drop, Bool, List, true, false, ◌||◌, IfOk, Some, None, vec_capacity, if◌then◌else◌};
 ghost use Rattle.srcp_core.specs.Course.{welcome};
 ghost use Rattle.srcp_rules.specs.State.{shown_rows};
-ghost use Rattle.srcp_core.specs.Machine.{fresh_place, with_unsent, without_sent, told_place, filled, item_from};
+ghost use Rattle.std.specs.List.{AllByRecursion};
+ghost use Rattle.srcp_info.specs.WellFormed.{IsWellFormed, IsWellFormedShown};
+ghost use Rattle.srcp_text.specs.Marks.{Line, TooLong};
+ghost use Rattle.srcp_core.specs.Connection.{line_of};
+ghost use Rattle.srcp_core.specs.Machine.{fresh_place, with_unsent, without_sent, entered_place, feed_for, told_place, filled, item_from, IsTellable, asked_of, heard};
 
 use srcp_feed::{InfoFeed, Next, Told};
 use srcp_info::{Change, Mode, write_change};
@@ -34,13 +38,16 @@ pub struct Connection {
 
 impl Model for Connection {
     ghost use Rattle.std.specs.Prelude.{◌≡◌, ◌≤◌, length, drop, vec_capacity};
+    ghost use Rattle.std.specs.List.{AllByRecursion};
+    ghost use Rattle.srcp_info.specs.WellFormed.{IsWellFormed};
     ghost use Rattle.srcp_core.specs.Held.{Place};
+    ghost use Rattle.srcp_core.specs.Machine.{queue_of};
 
     ghost Value = { Place };
 
     ghost view = { λ c. record { reader = c.reader; mode = c.mode; session = c.session; info = c.info; ended = c.ended; overran = c.overran; unsent = drop c.start c.reply.items; feed = c.feed } };
 
-    ghost invariant = { λ c. (c.start ≤ length c.reply.items) × (length c.reply.items ≤ 16640) × (16640 ≤ vec_capacity c.reply) };
+    ghost invariant = { λ c. (c.start ≤ length c.reply.items) × (length c.reply.items ≤ 16640) × (16640 ≤ vec_capacity c.reply) × AllByRecursion IsWellFormed (queue_of c.feed) };
 }
 
 impl Connection {
@@ -75,6 +82,13 @@ impl Connection {
         ensures { result ≡ self.now.overran }
     {
         self.overran
+    }
+
+    /// Whether its session ended by its own command.
+    pub(crate) fn ended(&self) -> bool
+        ensures { result ≡ self.now.ended }
+    {
+        self.ended
     }
 
     /// Its session's id, 0 before it begins.
@@ -113,6 +127,7 @@ impl Connection {
     /// Tells an information session a change. Where it would have to wait and can not, the session is over: what
     /// waits, the listing and the unsent bytes are given up.
     pub(crate) fn tell(&mut self, change: &Change)
+        requires { IsWellFormed change.now }
         ensures { self.new ≡ told_place change.now self.old }
     {
         let Some(feed) = &mut self.feed else {
@@ -125,6 +140,75 @@ impl Connection {
             self.start = 0;
         }
     }
+
+    /// The mode of its session to come.
+    pub(crate) fn mode(&self) -> Mode
+        ensures { result ≡ self.now.mode }
+    {
+        self.mode
+    }
+
+    /// Chooses the mode of its session to come.
+    pub(crate) fn choose(&mut self, mode: Mode)
+        ensures { self.new ≡ record self.old { mode = mode } }
+    {
+        self.mode = mode;
+    }
+
+    /// Its session begins under the id, with a feed where it is an information session.
+    pub(crate) fn enter(&mut self, id: u32, mode: Mode, feed: Option<InfoFeed>)
+        requires { feed ≡ feed_for mode }
+        ensures { self.new ≡ entered_place id mode self.old }
+    {
+        self.session = id;
+        self.info = mode == Mode::Info;
+        self.feed = feed;
+    }
+
+    /// Its session ended by its own command.
+    pub(crate) fn end(&mut self)
+        ensures { self.new ≡ record self.old { ended = true } }
+    {
+        self.ended = true;
+    }
+
+    /// Puts in the next line of an information session, where nothing is unsent, and answers what that is.
+    pub(crate) fn fill<R: Rows>(&mut self, rows: &R) -> Option<Next>
+        requires { AllByRecursion IsWellFormedShown (shown_rows (R.state rows.now)) }
+        ensures place { self.new ≡ filled (shown_rows (R.state rows.now)) self.old }
+        ensures item { result ≡ item_from (shown_rows (R.state rows.now)) self.old.unsent self.old.feed }
+    {
+        if self.start < self.reply.len() {
+            return None;
+        }
+        let Some(feed) = &mut self.feed else {
+            return None;
+        };
+        let next = feed.next(rows);
+        self.reply.clear();
+        self.start = 0;
+        put_next(&next, &mut self.reply);
+        Some(next)
+    }
+}
+
+/// Puts the line of what is given into an empty buffer.
+fn put_next(next: &Next, buffer: &mut Vec<u8>)
+    requires well_formed { IsTellable next.now }
+    requires empty { buffer.old.items ≡ [] }
+    requires room { 16640 ≤ vec_capacity buffer.old }
+    ensures line { buffer.new.items ≡ line_of next.now }
+    ensures most { length buffer.new.items ≤ 126 }
+    ensures capacity { vec_capacity buffer.old ≤ vec_capacity buffer.new }
+{
+    let change = match next {
+        Next::Told(change) => *change,
+        Next::Listed(row) => Change::Put(*row),
+        Next::Settled => return,
+    };
+    let mut line = LineBuf::new();
+    write_change(&change, &mut line);
+    buffer.extend_from_slice(line.as_slice()).unwrap();
 }
 
 /// The bytes from there on stand at the buffer's front.
