@@ -38,5 +38,9 @@ fn task_asked<R: Env + Alloc>(rt: &R) -> Option<Task> {
         "mirror" => Task::Mirror,
         _ => return None,
     };
-    if words.next().is_some() { None } else { Some(task) }
+    if words.next().is_some() {
+        None
+    } else {
+        Some(task)
+    }
 }
