@@ -9,6 +9,7 @@ mod answer;
 mod calls;
 mod outgoing;
 mod place;
+mod receive;
 mod walk;
 
 use crate::connection::Connection;

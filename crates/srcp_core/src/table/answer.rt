@@ -10,12 +10,12 @@ ghost use Rattle.srcp_rules.specs.State.{session_device, is_there};
 ghost use Rattle.srcp_core.specs.Held.{Place, at, IsSessionAt};
 ghost use Rattle.srcp_core.specs.Machine.{feed_for, changed_at, unsent_at, one_denied, replied, denied_line, begun, goes, greeted, carried, freed_of, commanded, longest};
 
-use super::walk::{free_all, tell_all};
+use super::walk::{free_all, tell_all, tell_each};
 use super::{Core, place};
 use crate::greeting::Greeting;
 use srcp_feed::InfoFeed;
 use srcp_info::{Code, Mode, Reply, write_reply};
-use srcp_rules::{Memory, Rows, begin_session};
+use srcp_rules::{Command, Memory, Obeyed, Rows, begin_session, obey};
 use srcp_text::LineBuf;
 use std::alloc::Global;
 
@@ -119,6 +119,25 @@ impl<'a, R: Rows> Core<'a, R> {
         true
     }
 
+    /// Carries out a command, and tells every connection its changes. `None` where a growth was refused, and then
+    /// nothing changes.
+    fn carry_out(&mut self, session: u32, command: &Command) -> Option<Obeyed>
+        requires row { is_there (session_device session) self.old.rows ≡ true }
+        requires command { IsCommandOf self.old.buses command.now }
+        ensures refused { IfNone result (self.new ≡ self.old) }
+        ensures carried { OnSome result (self.new ≡ carried (effect self.old.rows session self.old.moment command.now).updates self.old) }
+        ensures reply { IfSome result (λ obeyed. obeyed.reply ≡ (effect self.old.rows session self.old.moment command.now).reply) }
+        ensures ends { IfSome result (λ obeyed. obeyed.ends ≡ (effect self.old.rows session self.old.moment command.now).ends) }
+        ensures well_formed { IfSome result (λ obeyed. IsWellFormedReply obeyed.reply) }
+    {
+        let obeyed = obey(&mut self.rows, session, self.moment, command);
+        if is_denied(&obeyed.reply) {
+            return None;
+        }
+        tell_each(&mut self.connections, obeyed.changes.as_slice());
+        Some(obeyed)
+    }
+
     /// A session ends by its own command.
     fn end(&mut self, conn: usize, session: u32)
         requires { IsSessionAt session conn self.old }
@@ -127,6 +146,33 @@ impl<'a, R: Rows> Core<'a, R> {
         place::end(&mut self.connections, conn);
         free_all(&mut self.rows, &mut self.connections, session, self.moment);
     }
+
+    /// Answers a command. False where a growth was refused.
+    pub(crate) fn obey(&mut self, conn: usize, session: u32, command: &Command) -> bool
+        requires session { IsSessionAt session conn self.old }
+        requires row { is_there (session_device session) self.old.rows ≡ true }
+        requires command { IsCommandOf self.old.buses command.now }
+        requires room { length (unsent_at conn self.old) + 126 ≤ 16640 }
+        ensures { self.new ≡ commanded result conn session (Ok command.now) self.old }
+    {
+        let Some(obeyed) = self.carry_out(session, command) else {
+            self.deny(conn);
+            return false;
+        };
+        self.reply(conn, &obeyed.reply);
+        if obeyed.ends {
+            self.end(conn, session);
+        }
+        true
+    }
+}
+
+/// Whether the reply says that memory was refused.
+fn is_denied(reply: &Reply) -> bool
+    ensures denied { result ≡ true → reply.now ≡ Refused C500 }
+    ensures given { result ≡ false → reply.now ≢ Refused C500 }
+{
+    matches!(reply, Reply::Refused(Code::C500))
 }
 
 /// What a session of the mode begins with.

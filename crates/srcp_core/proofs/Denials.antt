@@ -1,0 +1,78 @@
+-- What a refusal leaves, and what it says of a command that was obeyed.
+use Rattle.std.proofs.Common.{◌≡◌, ◌≢◌, ℕ, Bool, true, false, cond, List, [], ◌∷◌, refl, ap, sym, ◌∙◌, subst, inl, inr}
+use Rattle.std.specs.Prelude.{Option, Some, None, Result, Ok, Err, if◌then◌else◌, ◌==◌}
+use Rattle.srcp_info.specs.declared.change.Code.{Code}
+use Rattle.srcp_info.specs.declared.change.Code.TheVariants.{C415, C500}
+use Rattle.srcp_info.specs.declared.change.Reply.{Reply}
+use Rattle.srcp_info.specs.declared.change.Reply.TheVariants.{Accepted, Refused}
+use Rattle.srcp_info.specs.declared.change.Row.{Row}
+use Rattle.srcp_rules.specs.declared.command.Command.{Command}
+use Rattle.srcp_rules.specs.declared.command.Command.TheVariants.{GetSession, TermSession, GetPower, SetPower, CheckPower, InitPower, GetGl, SetGl, CheckGl, InitGl, TermGl, GetGa, SetGa, CheckGa, InitGa, TermGa, GetFb, SetFb, CheckFb, InitFb, GetLock, SetLock, CheckLock, TermLock}
+use Rattle.srcp_rules.specs.declared.obeyed.Obeyed.{Obeyed}
+use Rattle.srcp_rules.specs.Effect.{Effect, effect, refused, accepted, showing, done, checked, term_session}
+use Rattle.srcp_rules.specs.Obeyed.{IsObeyed, Took}
+use Rattle.srcp_rules.specs.State.{State, Update, updated_all}
+
+-- a refusal changes nothing
+abbrev ChangesNothing : (code : Code) → Effect → Type 0
+ChangesNothing code did = did.reply ≡ Refused code → did.updates ≡ []
+
+accepts : (code : Code) (updates : List Update) → ChangesNothing code (accepted updates)
+accepts code updates e = cc
+
+shows : (code : Code) (row : Option Row) → ChangesNothing code (showing row)
+shows code None e = refl
+shows code (Some row) e = refl
+
+does : (code : Code) (result : Result (List Update) Code) → ChangesNothing code (done result)
+does code (Ok updates) e = cc
+does code (Err other) e = refl
+
+checks : (code : Code) (result : Result (List Update) Code) → ChangesNothing code (checked result)
+checks code (Ok updates) e = refl
+checks code (Err other) e = refl
+
+ends : (code : Code) (session : ℕ) (named : Option ℕ) → ChangesNothing code (term_session session named)
+ends code session None e = refl
+ends code session (Some id) e = by (id == session)
+  where
+    by : (t : Bool) → (cond t (record { reply = Accepted; updates = []; ends = true }) (refused C415)).updates ≡ []
+    by true = refl
+    by false = refl
+
+pub refused_changes : (code : Code) (state : State) (session moment : ℕ) (command : Command) → ChangesNothing code (effect state session moment command)
+refused_changes code state session moment (GetSession id) = shows code _
+refused_changes code state session moment (TermSession id) = ends code session id
+refused_changes code state session moment (GetPower bus) = shows code _
+refused_changes code state session moment (SetPower bus on text) = accepts code _
+refused_changes code state session moment (CheckPower bus on text) = accepts code _
+refused_changes code state session moment (InitPower bus) = accepts code _
+refused_changes code state session moment (GetGl bus address) = shows code _
+refused_changes code state session moment (SetGl bus address mode v vmax functions) = does code _
+refused_changes code state session moment (CheckGl bus address mode v vmax functions) = checks code _
+refused_changes code state session moment (InitGl bus address letter version steps functions) = does code _
+refused_changes code state session moment (TermGl bus address) = does code _
+refused_changes code state session moment (GetGa bus address port) = shows code _
+refused_changes code state session moment (SetGa bus address port on time) = does code _
+refused_changes code state session moment (CheckGa bus address port on time) = checks code _
+refused_changes code state session moment (InitGa bus address letter ports) = does code _
+refused_changes code state session moment (TermGa bus address) = does code _
+refused_changes code state session moment (GetFb bus port) = shows code _
+refused_changes code state session moment (SetFb bus port on) = accepts code _
+refused_changes code state session moment (CheckFb bus port on) = accepts code _
+refused_changes code state session moment (InitFb bus) = accepts code _
+refused_changes code state session moment (GetLock bus group address) = shows code _
+refused_changes code state session moment (SetLock bus group address seconds) = does code _
+refused_changes code state session moment (CheckLock bus group address seconds) = checks code _
+refused_changes code state session moment (TermLock bus group address) = does code _
+
+module _ (state after : State) (session moment : ℕ) (command : Command) (obeyed : Obeyed) where
+  -- where 500 was answered, the registry is as it was
+  pub denied_same : IsObeyed state after session moment command obeyed → obeyed.reply ≡ Refused C500 → after ≡ state
+  denied_same (inl took) e = took.rows ∙ ap (λ us. updated_all us state) (refused_changes C500 state session moment command (sym took.told.reply ∙ e))
+  denied_same (inr wants) e = wants.1.rows
+
+  -- and else the command took effect
+  pub given_took : IsObeyed state after session moment command obeyed → obeyed.reply ≢ Refused C500 → Took (effect state session moment command) state after obeyed
+  given_took (inl took) n = took
+  given_took (inr wants) n = absurd (n wants.1.told.reply)
