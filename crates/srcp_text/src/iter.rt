@@ -8,7 +8,7 @@ use crate::word::{first_blank, first_filled};
 use std::marker::Model;
 
 /// The words of a line that are still to come. Contracts see it as the list of them.
-#[derive(Drop)]
+#[derive(Debug, Drop)]
 pub struct Words<'a> {
     rest: &'a [u8],
 }

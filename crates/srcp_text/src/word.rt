@@ -1,13 +1,16 @@
 //! The words of a line: what stands between spaces and tabs.
 
-ghost use Rattle.std.specs.Prelude.{◌≡◌, position};
+ghost use Rattle.std.specs.Prelude.{◌≡◌, ◌≤◌, length, position};
 ghost use Rattle.srcp_text.specs.Words.{is_blank, is_filled, words_of};
 
 use crate::iter::Words;
 
-/// The words of a line, from its first on.
+/// The words of a line, from its first on. They are cut at runs of space and tab, also at both ends
+/// of the line, and every other byte belongs to a word (our own choice).
 pub fn words(line: &[u8]) -> Words<'_>
-    ensures { result ≡ words_of line.now }
+    ensures words { result ≡ words_of line.now }
+    // So they can be counted.
+    ensures few { length result ≤ length line.now }
 {
     Words::of(line)
 }

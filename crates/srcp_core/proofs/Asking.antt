@@ -1,0 +1,40 @@
+-- What a line asks for, and of whom.
+use Rattle.std.proofs.Common.{◌≡◌, ℕ, List, ◌<◌, Bool, true, false, cond, refl, sym, ◌∙◌, subst, arith}
+use Rattle.std.proofs.lemmas.Bool.Decides.{nat_tests}
+use Rattle.std.specs.Prelude.{◌||◌, ◌==◌, if◌then◌else◌, Result, Ok, Err, IfOk}
+use Rattle.srcp_info.specs.declared.change.Code.{Code}
+use Rattle.srcp_rules.specs.Command.{IsCommandOf}
+use Rattle.srcp_rules.specs.Layout.{IsLayout}
+use Rattle.srcp_rules.specs.declared.command.Command.{Command}
+use Rattle.srcp_rules.specs.declared.layout.Bus.{Bus}
+use Rattle.srcp_rules.proofs.GrammarLaws.{reads_fits}
+use Rattle.srcp_text.specs.Marks.{Mark, Line, TooLong}
+use Rattle.srcp_core.specs.Course.{command_of}
+use Rattle.srcp_core.specs.Handshake.{greets}
+use Rattle.srcp_core.specs.Held.{Place, IsLive}
+use Rattle.srcp_core.specs.Machine.{asked_of}
+use Rattle.srcp_core.specs.declared.asked.Asked.{Asked}
+use Rattle.srcp_core.specs.declared.asked.Asked.TheVariants.{Dropped, Greets, Commands}
+
+fits : (buses : List Bus) → IsLayout buses → (mark : Mark) → IfOk (command_of buses mark) (IsCommandOf buses)
+fits buses layout TooLong = tt
+fits buses layout (Line text) = reads_fits buses layout text
+
+-- a command is asked for by a session that goes on, and is one of the layout
+pub record IsAskedBy (buses : List Bus) (p : Place) (command : Result Command Code) : Type 0 where
+  pub live : IsLive p
+  pub of : IfOk command (IsCommandOf buses)
+
+pub asked_by : (buses : List Bus) → IsLayout buses → (p : Place) (mark : Mark) (command : Result Command Code) → Commands command ≡ asked_of buses p mark → IsAskedBy buses p command
+asked_by buses layout p mark command e = by p.info p.ended refl (p.session == 0) refl e
+  where
+    low : (p.session == 0) ≡ false → 0 < p.session
+    low t = grind (arith, nat_tests)
+
+    by : (i n : Bool) → p.ended ≡ n → (z : Bool) → (p.session == 0) ≡ z → Commands command ≡ (if i || n then Dropped else (if z then Greets (greets mark) else Commands (command_of buses mark))) → IsAskedBy buses p command
+    by true n h z q e = cc
+    by false true h z q e = cc
+    by false false h true q e = cc
+    by false false h false q e =
+        let same : command ≡ command_of buses mark = cc in
+        record { live = record { began = low q; not_ended = h }; of = subst (λ r. IfOk r (IsCommandOf buses)) (sym same) (fits buses layout mark) }

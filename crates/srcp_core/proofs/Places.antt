@@ -1,0 +1,41 @@
+-- Laws of one place.
+use Rattle.std.proofs.Common.{◌≡◌, ℕ, ◌<◌, Bool, true, false, cond, not, List, [], ◌∷◌, length, refl, arith}
+use Rattle.std.specs.List.{AllByRecursion, filter}
+use Rattle.std.specs.Prelude.{Option, Some, None}
+use Rattle.srcp_info.specs.Key.{has_reached}
+use Rattle.srcp_info.specs.WellFormed.{IsWellFormed, IsWellFormedShown}
+use Rattle.srcp_info.specs.declared.change.Change.{Change}
+use Rattle.srcp_info.specs.declared.change.Cursor.{Cursor}
+use Rattle.srcp_info.specs.declared.change.Shown.{Shown}
+use Rattle.srcp_feed.specs.Cursor.{beyond}
+use Rattle.srcp_feed.specs.Feed.{Feed, next_of}
+use Rattle.srcp_core.specs.Held.{Place}
+use Rattle.srcp_core.specs.Machine.{filled, filled_from, item_from, IsTellable}
+
+-- nothing is put in where something is unsent
+pub filled_still : (rows : List Shown) (p : Place) → 0 < length p.unsent → filled rows p ≡ p
+filled_still rows p h = from p.unsent h
+  where
+    from : (bytes : List ℕ) → 0 < length bytes → filled_from rows p bytes p.feed ≡ p
+    from [] h = absurd (omega arith)
+    from (byte ∷ bytes) h = refl
+
+pub item_still : (rows : List Shown) (bytes : List ℕ) (feed : Option Feed) → 0 < length bytes → item_from rows bytes feed ≡ None
+item_still rows [] feed h = absurd (omega arith)
+item_still rows (byte ∷ bytes) feed h = refl
+
+listed_tellable : (cursor : Cursor) (rows : List Shown) → AllByRecursion IsWellFormedShown rows → IsTellable (next_of rows (record { cursor = cursor; queue = [] }))
+listed_tellable cursor [] r = tt
+listed_tellable cursor (row ∷ rows) r = by (not (has_reached cursor row.key)) refl (listed_tellable cursor rows r.1)
+  where
+    by : (t : Bool) → not (has_reached cursor row.key) ≡ t → IsTellable (next_of rows (record { cursor = cursor; queue = [] })) → IsTellable (next_of (row ∷ rows) (record { cursor = cursor; queue = [] }))
+    by true e ih = rw e r.0
+    by false e ih = rw e ih
+
+-- what is given next can be told
+pub next_tellable : (rows : List Shown) (feed : Feed) → AllByRecursion IsWellFormed feed.queue → AllByRecursion IsWellFormedShown rows → IsTellable (next_of rows feed)
+next_tellable rows feed q r = from feed.cursor feed.queue q
+  where
+    from : (cursor : Cursor) (queue : List Change) → AllByRecursion IsWellFormed queue → IsTellable (next_of rows (record { cursor = cursor; queue = queue }))
+    from cursor (change ∷ queue) q = q.0
+    from cursor [] q = listed_tellable cursor rows r

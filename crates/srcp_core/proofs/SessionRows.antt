@@ -1,0 +1,55 @@
+-- The rows of sessions in a registry.
+use Rattle.std.proofs.Common.{◌≡◌, ℕ, Bool, true, false, cond, List, [], ◌∷◌, ◌++◌, map, refl, ap, sym, ◌∙◌, subst, true≢false}
+use Rattle.std.specs.List.{AllByRecursion, range_with_len, find, flat_map}
+use Rattle.std.specs.Prelude.{Option, Some, None, is_some}
+use Rattle.std.specs.Ordering.{eq_by_cmp}
+use Rattle.srcp_info.specs.Key.{key_cmp, first_key}
+use Rattle.srcp_info.specs.declared.change.Row.{Row}
+use Rattle.srcp_info.specs.declared.key.Key.{Key}
+use Rattle.srcp_info.specs.declared.value.Value.TheVariants as value
+use Rattle.srcp_rules.specs.declared.layout.Bus.{Bus}
+use Rattle.srcp_rules.specs.State.{State, row_at, is_there, session_device, power_device, fb_device, first_row, opening, opening_on}
+use Rattle.srcp_rules.proofs.StateLaws.{row_at_key}
+use Rattle.srcp_rules.proofs.StepLaws.{is_session}
+
+all_append : (P : Row → Type 0) (xs ys : State) → AllByRecursion P xs → AllByRecursion P ys → AllByRecursion P (xs ++ ys)
+all_append P [] ys a b = b
+all_append P (x ∷ xs) ys a b = (a.0, all_append P xs ys a.1 b)
+
+all_made : (P : Row → Type 0) (f : ℕ → Row) → ((n : ℕ) → P (f n)) → (ns : List ℕ) → AllByRecursion P (map f ns)
+all_made P f h [] = tt
+all_made P f h (n ∷ ns) = (h n, all_made P f h ns)
+
+-- a row that is found is one of the rows
+pub row_at-all : (P : Row → Type 0) (key : Key) (state : State) → AllByRecursion P state → (row : Row) → row_at key state ≡ Some row → P row
+row_at-all P key [] a row e = cc
+row_at-all P key (first ∷ state) a row e = by (eq_by_cmp key_cmp first.shown.key key) e (row_at-all P key state a.1 row)
+  where
+    by : (t : Bool) → cond t (Some first) (row_at key state) ≡ Some row → (row_at key state ≡ Some row → P row) → P row
+    by true e ih = let same : first ≡ row = cc in subst P same a.0
+    by false e ih = ih e
+
+-- not the row of a session
+abbrev IsOther : Row → Type 0
+IsOther row = is_session row.shown.key.group ≡ false
+
+other_on : (bus : Bus) → AllByRecursion IsOther (opening_on 0 bus)
+other_on bus =
+    all_append IsOther (cond bus.power (first_row 0 (power_device bus.number) (value.Power false []) ∷ []) []) (map (λ port. first_row 0 (fb_device bus.number port) (value.Fb false)) (range_with_len 1 bus.fb_ports))
+    (elim bus.power as (λ t. AllByRecursion IsOther (cond t (first_row 0 (power_device bus.number) (value.Power false []) ∷ []) [])) [ true ↦ (refl, tt) | false ↦ tt ])
+    (all_made IsOther (λ port. first_row 0 (fb_device bus.number port) (value.Fb false)) (λ n. refl) (range_with_len 1 bus.fb_ports))
+
+other_opening : (buses : List Bus) → AllByRecursion IsOther (opening buses 0)
+other_opening [] = tt
+other_opening (bus ∷ buses) = all_append IsOther (opening_on 0 bus) (opening buses 0) (other_on bus) (other_opening buses)
+
+-- at the beginning no session has a row
+pub no_session-opening : (buses : List Bus) (id : ℕ) → is_there (session_device id) (opening buses 0) ≡ false
+no_session-opening buses id = by (row_at (first_key (session_device id)) (opening buses 0)) refl
+  where
+    by : (o : Option Row) → row_at (first_key (session_device id)) (opening buses 0) ≡ o → is_some (row_at (first_key (session_device id)) (opening buses 0)) ≡ false
+    by None e = ap is_some e
+    by (Some row) e =
+        let other = row_at-all IsOther (first_key (session_device id)) (opening buses 0) (other_opening buses) row e in
+        let same = ap (λ (k : Key). is_session k.group) (row_at_key (first_key (session_device id)) (opening buses 0) row e) in
+        absurd (true≢false (sym same ∙ other))

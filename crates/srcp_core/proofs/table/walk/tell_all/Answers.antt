@@ -1,0 +1,28 @@
+use Rattle.std.proofs.Common.{ap, sym, ◌∙◌, arith, Some, slice_set, count_by, is_some}
+use Rattle.std.specs.Option.{option_copied_mut}
+use Rattle.slab.specs.Slab.{Slab}
+use Rattle.srcp_core.specs.Held.{Place}
+use Rattle.srcp_core.proofs.Telling.{told_upto_all, told_step_some, told_step_none}
+use Rattle.srcp_core.proofs.table.walk.tell_all.Goals as goal
+use Rattle.srcp_core.proofs.table.walk.tell_all.Goals.{in-Some, in_default}
+
+pub loop-key-preserved : goal.loop-key-preserved
+loop-key-preserved c = record {
+  far = c.loop-key.invariant.far;
+  slots = elim c.match-get_mut.branch [
+    | in-Some w ↦
+        ap (λ (s : Slab Place). s.slots) w.connections-is
+        ∙ ap (λ (p : Place). slice_set c.loop-key.connections.slots c.loop-key.key (Some p)) w.tell.ensures
+        ∙ told_step_some c.args.change.now c.loop-key.key c.args.connections.now.slots c.loop-key.connections.slots w.in-Some.connection.now c.loop-key.invariant.slots (sym c.get_mut.ensures.value ∙ ap option_copied_mut w.in-Some.is)
+    | in_default w ↦
+        ap (λ (s : Slab Place). s.slots) w.connections-is
+        ∙ told_step_none c.args.change.now c.loop-key.key c.args.connections.now.slots c.loop-key.connections.slots c.loop-key.invariant.slots (sym c.get_mut.ensures.value ∙ ap option_copied_mut w.in_default.is)
+  ];
+  capacity = elim c.match-get_mut.branch [
+    | in-Some w ↦ ap (λ (s : Slab Place). s.capacity) w.connections-is ∙ c.loop-key.invariant.capacity
+    | in_default w ↦ ap (λ (s : Slab Place). s.capacity) w.connections-is ∙ c.loop-key.invariant.capacity
+  ];
+}
+
+pub returns-clause-slots : goal.returns-clause-slots
+returns-clause-slots c = c.loop-key.invariant.slots ∙ told_upto_all c.args.change.now c.loop-key.key c.args.connections.now.slots (omega (arith, c.loop-key.invariant.far))

@@ -1,0 +1,67 @@
+-- What is seen of a core: the registry, and a place for each connection.
+use Rattle.std.specs.Prelude.{◌≡◌, ℕ, ◌<◌, ◌≤◌, Bool, true, false, List, Option, Some, None, IsTrue, is_some, count_by, slice_index_or}
+use Rattle.srcp_info.specs.WellFormed.{IsMoment}
+use Rattle.srcp_info.specs.declared.value.Mode.{Mode}
+use Rattle.srcp_text.specs.Reading.{Reading}
+use Rattle.srcp_rules.specs.declared.layout.Bus.{Bus}
+use Rattle.srcp_rules.specs.Layout.{IsLayout}
+use Rattle.srcp_rules.specs.State.{State, IsWhole, session_device, is_there}
+use Rattle.srcp_feed.specs.Feed.{Feed}
+
+-- what is held of a connection
+pub record Place : Type 0 where
+  pub reader : Reading  -- what is known of the line that has begun
+  pub mode : Mode  -- the mode that it chose last
+  pub session : ℕ  -- its session's id, 0 before it begins
+  pub info : Bool  -- whether that is an information session
+  pub ended : Bool  -- whether the session ended by its own command
+  pub overran : Bool  -- whether more changes came upon it than may wait
+  pub unsent : List ℕ  -- the bytes that are to be sent
+  pub feed : Option Feed  -- what an information session is to be given
+
+-- what is held of them all
+pub record Held : Type 0 where
+  pub buses : List Bus
+  pub rows : State
+  pub moment : ℕ  -- the moment taken last
+  pub last_id : ℕ  -- the session id that was given last
+  pub places : List (Option Place)
+  pub denied : ℕ  -- how many growths were refused
+
+-- the connection at a place
+abbrev pub place_at : List (Option Place) → ℕ → Option Place
+place_at places key = slice_index_or places key None
+
+abbrev pub at : Held → ℕ → Option Place
+at held key = place_at held.places key
+
+-- how many connections are open
+abbrev pub open_count : Held → ℕ
+open_count held = count_by is_some held.places
+
+-- the session of a place began and did not end
+pub record IsLive (place : Place) : Type 0 where
+  pub began : 0 < place.session
+  pub not_ended : place.ended ≡ false
+
+-- the sessions of the places: each has an id of its own, and its row until it ends; a later id has none
+pub record AreSessions (last_id : ℕ) (rows : State) (places : List (Option Place)) : Type 0 where
+  pub ids : (key : ℕ) (place : Place) → place_at places key ≡ Some place → place.session ≤ last_id
+  pub apart : (m n : ℕ) (p q : Place) → place_at places m ≡ Some p → place_at places n ≡ Some q → 0 < p.session → p.session ≡ q.session → m ≡ n
+  pub there : (key : ℕ) (place : Place) → place_at places key ≡ Some place → IsLive place → is_there (session_device place.session) rows ≡ true
+  pub later : (id : ℕ) → last_id < id → is_there (session_device id) rows ≡ false
+
+-- what holds of every core
+pub record IsSound (held : Held) : Type 0 where
+  pub layout : IsLayout held.buses
+  pub moment : IsMoment held.moment
+  pub few : open_count held ≤ 64
+  pub whole : IsWhole held.buses held.rows
+  pub sessions : AreSessions held.last_id held.rows held.places
+
+-- the connection at the place has that session, which goes on
+pub record IsSessionAt (session key : ℕ) (held : Held) : Type 0 where
+  pub place : Place
+  pub here : at held key ≡ Some place
+  pub own : place.session ≡ session
+  pub live : IsLive place

@@ -1,0 +1,11 @@
+-- What a core ends as, once bytes of it are no longer lent.
+use mir.Syntax.{named}
+use Rattle.std.specs.Prelude.{◌≡◌, []}
+use Rattle.std.specs.Borrow.{Fml, RattleType, MutBor}
+use Rattle.std.specs.Io.BufRead.{Rests}
+use Rattle.srcp_rules.specs.declared.rows.Rows.{Ghosts}
+use Rattle.srcp_core.specs.Held.{Held}
+use Rattle.srcp_core.specs.contracts.table.Core.{the_row}
+
+abbrev pub EndsAs : (R : RattleType) → Ghosts R.Denot → MutBor Held → Held → Fml
+EndsAs R g core held = Rests (the_row (record { mir = named 1; lft = [] }) R g) core (λ new. new ≡ held)

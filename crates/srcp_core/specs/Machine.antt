@@ -1,0 +1,273 @@
+-- What each call makes of what is held.
+use Rattle.std.specs.Prelude.{⊤, ◌≡◌, ◌≢◌, ℕ, zero, suc, ◌+◌, ◌<◌, ◌≤◌, min, max, Bool, true, false, not, ◌&&◌, ◌||◌, ◌==◌, if◌then◌else◌, List, [], ◌∷◌, ◌++◌, map, drop, length, fold, nat_lt, slice_set, Option, Some, None, is_some, Result, Ok, Err}
+use Rattle.std.specs.Option.{option_map, option_map_or}
+use Rattle.srcp_info.specs.Line.{line, reply_line}
+use Rattle.srcp_info.specs.WellFormed.{IsWellFormed}
+use Rattle.srcp_info.specs.declared.change.Change.{Change}
+use Rattle.srcp_info.specs.declared.change.Change.TheVariants.{Put}
+use Rattle.srcp_info.specs.declared.change.Code.{Code}
+use Rattle.srcp_info.specs.declared.change.Code.TheVariants.{C418, C500}
+use Rattle.srcp_info.specs.declared.change.Reply.{Reply}
+use Rattle.srcp_info.specs.declared.change.Reply.TheVariants.{Protocol, Mode as ModeReply, Go, Refused, Shows}
+use Rattle.srcp_info.specs.declared.change.Shown.{Shown}
+use Rattle.srcp_info.specs.declared.value.Mode.{Mode}
+use Rattle.srcp_info.specs.declared.value.Mode.TheVariants.{Command as CommandMode, Info}
+use Rattle.srcp_rules.specs.declared.layout.Bus.{Bus}
+use Rattle.srcp_rules.specs.declared.command.Command.{Command}
+use Rattle.srcp_rules.specs.Due.{due, freed, began}
+use Rattle.srcp_rules.specs.Effect.{Effect, effect}
+use Rattle.srcp_rules.specs.State.{State, Update, updated_all, shown_rows}
+use Rattle.srcp_text.specs.Marks.{Mark, Line, TooLong}
+use Rattle.srcp_text.specs.Reading.{Reading, nothing_read}
+use Rattle.srcp_text.specs.Feeding.{feed_of}
+use Rattle.srcp_text.specs.declared.reader.Fed.{Fed}
+use Rattle.srcp_text.specs.declared.reader.Fed.TheVariants.{Line as FoundLine, TooLong as FoundTooLong, More}
+use Rattle.srcp_feed.specs.Cursor.{concerns}
+use Rattle.srcp_feed.specs.Feed.{Feed, beginning, is_full, told, next_of, after_next}
+use Rattle.srcp_feed.specs.declared.Next.{Next}
+use Rattle.srcp_feed.specs.declared.Next.TheVariants.{Told, Listed, Settled}
+use Rattle.srcp_core.specs.Connection.{is_nil, line_of}
+use Rattle.srcp_core.specs.Course.{welcome, is_info, command_of}
+use Rattle.srcp_core.specs.Handshake.{Greeting, Speaks, Chooses, Goes, Refuses, greets}
+use Rattle.srcp_core.specs.Held.{Place, Held, place_at, at, open_count}
+use Rattle.srcp_core.specs.declared.asked.Asked.{Asked}
+use Rattle.srcp_core.specs.declared.asked.Asked.TheVariants.{Dropped, Greets, Commands}
+use Rattle.srcp_core.specs.declared.record.CoreFault.{CoreFault}
+use Rattle.srcp_core.specs.declared.record.CoreFault.TheVariants.{Memory as MemoryFault, NoSuch, Busy, PieceTooLong, Closing}
+
+-- ---- one place
+
+-- a connection that was just opened
+abbrev pub fresh_place : Place
+fresh_place = record { reader = nothing_read; mode = CommandMode; session = 0; info = false; ended = false; overran = false; unsent = welcome; feed = None }
+
+-- more bytes are to be sent
+abbrev pub with_unsent : List ℕ → Place → Place
+with_unsent bytes p = record p { unsent = p.unsent ++ bytes }
+
+-- so many bytes were sent
+abbrev pub without_sent : ℕ → Place → Place
+without_sent count p = record p { unsent = drop count p.unsent }
+
+-- what a session of the mode begins with
+abbrev pub feed_for : Mode → Option Feed
+feed_for CommandMode = None
+feed_for Info = Some beginning
+
+-- the session begins under the id
+abbrev pub entered_place : ℕ → Mode → Place → Place
+entered_place id mode p = record p { session = id; info = is_info mode; feed = feed_for mode }
+
+-- a change is told: what waits, the listing and the unsent bytes are given up where it would have to wait and can not
+abbrev pub told_feed : Change → Place → Option Feed → Place
+told_feed change p None = p
+told_feed change p (Some feed) = if concerns feed.cursor change && is_full feed then record p { overran = true; unsent = []; feed = None } else record p { feed = Some (told change feed) }
+
+abbrev pub told_place : Change → Place → Place
+told_place change p = told_feed change p p.feed
+
+-- the next line is put in, where nothing is unsent
+abbrev pub filled_from : List Shown → Place → List ℕ → Option Feed → Place
+filled_from rows p (byte ∷ bytes) feed = p
+filled_from rows p [] None = p
+filled_from rows p [] (Some feed) = record p { unsent = line_of (next_of rows feed); feed = Some (after_next rows feed) }
+
+abbrev pub filled : List Shown → Place → Place
+filled rows p = filled_from rows p p.unsent p.feed
+
+-- what was put in, if anything was asked for
+abbrev pub item_from : List Shown → List ℕ → Option Feed → Option Next
+item_from rows (byte ∷ bytes) feed = None
+item_from rows [] None = None
+item_from rows [] (Some feed) = Some (next_of rows feed)
+
+-- the changes that wait
+abbrev pub queue_of : Option Feed → List Change
+queue_of None = []
+queue_of (Some feed) = feed.queue
+
+-- what is given can be told
+abbrev pub IsTellable : Next → Type 0
+IsTellable (Told change) = IsWellFormed change
+IsTellable (Listed row) = IsWellFormed (Put row)
+IsTellable Settled = ⊤
+
+-- ---- lines
+
+-- what a line asks for, by how its connection stands; what comes to an information session or after the end is dropped
+abbrev pub asked_of : List Bus → Place → Mark → Asked
+asked_of buses p mark = if p.info || p.ended then Dropped else (if p.session == 0 then Greets (greets mark) else Commands (command_of buses mark))
+
+-- what the reader found: the place after the line and what it asks for, or nothing
+abbrev pub heard_from : List Bus → Place → Fed × Reading → Option (ℕ × Asked) × Place
+heard_from buses p (More, reading) = (None, record p { reader = reading })
+heard_from buses p (FoundLine stop, reading) = (Some (stop, asked_of buses p (Line reading.line)), record p { reader = reading })
+heard_from buses p (FoundTooLong stop, reading) = (Some (stop, asked_of buses p TooLong), record p { reader = reading })
+
+abbrev pub heard : List Bus → List ℕ → ℕ → Place → Option (ℕ × Asked) × Place
+heard buses piece start p = heard_from buses p (feed_of p.reader piece start)
+
+-- ---- all places
+
+-- the connection at the place is changed, where there is one
+abbrev pub changed_in : ℕ → (Place → Place) → List (Option Place) → Option Place → List (Option Place)
+changed_in key change places None = places
+changed_in key change places (Some p) = slice_set places key (Some (change p))
+
+abbrev pub changed_places : ℕ → (Place → Place) → List (Option Place) → List (Option Place)
+changed_places key change places = changed_in key change places (place_at places key)
+
+abbrev pub changed_at : ℕ → (Place → Place) → Held → Held
+changed_at key change held = record held { places = changed_places key change held.places }
+
+-- every connection is told the change
+abbrev pub told_all : Change → List (Option Place) → List (Option Place)
+told_all change places = map (option_map (told_place change)) places
+
+-- those before that place are told it
+abbrev pub told_upto : Change → ℕ → List (Option Place) → List (Option Place)
+told_upto change zero places = places
+told_upto change (suc key) [] = []
+told_upto change (suc key) (place ∷ places) = option_map (told_place change) place ∷ told_upto change key places
+
+-- and is told each change in turn
+abbrev pub told_each : List Change → List (Option Place) → List (Option Place)
+told_each changes places = fold (λ told change. told_all change told) places changes
+
+-- updates are made of the registry, and every connection is told them
+abbrev pub carried : List Update → Held → Held
+carried updates held = record held { rows = updated_all updates held.rows; places = told_each (map (λ update. update.change) updates) held.places }
+
+-- the bytes to be sent of a place
+abbrev pub unsent_of : Option Place → List ℕ
+unsent_of None = []
+unsent_of (Some place) = place.unsent
+
+abbrev pub unsent_at : ℕ → Held → List ℕ
+unsent_at key held = unsent_of (at held key)
+
+-- ---- answers
+
+-- one more growth was refused; the count stays at its greatest value
+abbrev pub one_denied : Held → Held
+one_denied held = record held { denied = min (held.denied + 1) 18446744073709551615 }
+
+-- the reply is put at the end of what is to be sent
+abbrev pub replied : ℕ → Reply → Held → Held
+replied key reply held = changed_at key (with_unsent (reply_line held.moment reply)) held
+
+-- memory was refused to a line
+abbrev pub denied_line : ℕ → Held → Held
+denied_line key held = replied key (Refused C500) (one_denied held)
+
+-- a session begins under the id: its row is told to all, and then it is one of them
+abbrev pub begun : ℕ → ℕ → Mode → Held → Held
+begun key id mode held = changed_at key (entered_place id mode) (carried (began id held.moment mode ∷ []) (record held { last_id = id }))
+
+-- GO, by whether memory was given to it
+abbrev pub goes : Bool → ℕ → Mode → Held → Held
+goes granted key mode held =
+    if nat_lt held.last_id 4294967295
+    then (if granted then replied key (Go (held.last_id + 1)) (begun key (held.last_id + 1) mode held) else denied_line key held)
+    else replied key (Refused C500) held
+
+abbrev pub greeted : Bool → ℕ → Mode → Greeting → Held → Held
+greeted granted key mode Speaks held = replied key Protocol held
+greeted granted key mode (Chooses chosen) held = replied key ModeReply (changed_at key (λ p. record p { mode = chosen }) held)
+greeted granted key mode Goes held = goes granted key mode held
+greeted granted key mode (Refuses code) held = replied key (Refused code) held
+
+-- the session ends: its locks are taken out, and then its own row
+abbrev pub freed_of : ℕ → Held → Held
+freed_of session held = carried (freed held.rows session held.moment) held
+
+abbrev pub finished : Bool → ℕ → ℕ → Held → Held
+finished ends key session held = if ends then freed_of session (changed_at key (λ p. record p { ended = true }) held) else held
+
+abbrev pub obeyed : ℕ → ℕ → Effect → Held → Held
+obeyed key session result held = finished result.ends key session (replied key result.reply (carried result.updates held))
+
+-- a command, by whether memory was given to it
+abbrev pub commanded : Bool → ℕ → ℕ → Result Command Code → Held → Held
+commanded granted key session (Err code) held = replied key (Refused code) held
+commanded granted key session (Ok command) held = if granted then obeyed key session (effect held.rows session held.moment command) held else denied_line key held
+
+abbrev pub answered_from : Bool → ℕ → Asked → Held → Option Place → Held
+answered_from granted key asked held None = held
+answered_from granted key Dropped held (Some p) = held
+answered_from granted key (Greets greeting) held (Some p) = greeted granted key p.mode greeting held
+answered_from granted key (Commands command) held (Some p) = commanded granted key p.session command held
+
+-- a line is answered
+abbrev pub answered : Bool → ℕ → Asked → Held → Held
+answered granted key asked held = answered_from granted key asked held (at held key)
+
+-- how many bytes a reply has at most
+abbrev pub longest : Reply → ℕ
+longest (Shows shown) = 126
+longest other = 64
+
+abbrev pub longest_answer : Asked → ℕ
+longest_answer (Commands (Ok command)) = 126
+longest_answer other = 64
+
+-- ---- calls
+
+-- there was a place free, and the connection has it
+pub record IsAdmitted (key : ℕ) (old new : Held) : Type 0 where
+  pub room : open_count old < 64
+  pub was_free : at old key ≡ None
+  pub fresh : at new key ≡ Some fresh_place
+  pub others : (other : ℕ) → other ≢ key → at new other ≡ at old other
+  pub count : open_count new ≡ open_count old + 1
+  pub rest : new ≡ record old { places = new.places }
+
+-- no connection was opened: where memory was refused, that is counted
+abbrev pub refused_connect : CoreFault → Held → Held
+refused_connect MemoryFault held = one_denied held
+refused_connect fault held = held
+
+-- why bytes are refused, the first cause
+abbrev pub bytes_fault_from : List ℕ → Option Place → Option CoreFault
+bytes_fault_from piece None = Some NoSuch
+bytes_fault_from piece (Some p) =
+    if p.ended || p.overran then Some Closing
+    else (if not (is_nil p.unsent) then Some Busy
+    else (if nat_lt 256 (length piece) then Some PieceTooLong else None))
+
+abbrev pub bytes_fault : ℕ → List ℕ → Held → Option CoreFault
+bytes_fault key piece held = bytes_fault_from piece (at held key)
+
+-- it overran, or it ended and all replies are taken
+abbrev pub is_closing_from : Option Place → Bool
+is_closing_from None = false
+is_closing_from (Some p) = p.overran || (p.ended && is_nil p.unsent)
+
+abbrev pub is_closing : ℕ → Held → Bool
+is_closing key held = is_closing_from (at held key)
+
+-- the next line is put in at that place
+abbrev pub let_out : ℕ → Held → Held
+let_out key held = changed_at key (filled (shown_rows held.rows)) held
+
+abbrev pub item_of : List Shown → Option Place → Option Next
+item_of rows None = None
+item_of rows (Some p) = item_from rows p.unsent p.feed
+
+abbrev pub item_at : ℕ → Held → Option Next
+item_at key held = item_of (shown_rows held.rows) (at held key)
+
+-- the place is free, and the session of its connection ends where it has one that did not end
+abbrev pub freed_place : ℕ → Held → Held
+freed_place key held = record held { places = slice_set held.places key None }
+
+abbrev pub hung_up_from : ℕ → Held → Option Place → Held
+hung_up_from key held None = held
+hung_up_from key held (Some p) = if (p.session == 0) || p.ended then freed_place key held else freed_of p.session (freed_place key held)
+
+abbrev pub hung_up : ℕ → Held → Held
+hung_up key held = hung_up_from key held (at held key)
+
+-- the moment is taken, never an earlier one, and what is due is carried out
+abbrev pub advanced : ℕ → Held → Held
+advanced moment held = let now = max held.moment moment in carried (due held.rows now) (record held { moment = now })

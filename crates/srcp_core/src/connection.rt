@@ -1,0 +1,226 @@
+//! What is kept of one connection.
+ghost use Rattle.std.specs.Prelude.{◌≡◌, ◌≤◌, ◌<◌, ◌+◌, [], ◌∷◌, ◌++◌, length, drop, Bool, List, true, false, ◌||◌, IfOk, Some, None, vec_capacity, if◌then◌else◌};
+ghost use Rattle.srcp_core.specs.Course.{welcome};
+ghost use Rattle.srcp_rules.specs.State.{shown_rows};
+ghost use Rattle.std.specs.List.{AllByRecursion};
+ghost use Rattle.srcp_info.specs.WellFormed.{IsWellFormed, IsWellFormedShown};
+ghost use Rattle.srcp_text.specs.Marks.{Line, TooLong};
+ghost use Rattle.srcp_core.specs.Connection.{line_of};
+ghost use Rattle.srcp_core.specs.Machine.{fresh_place, with_unsent, without_sent, entered_place, feed_for, told_place, filled, item_from, IsTellable, asked_of, heard};
+
+use srcp_feed::{InfoFeed, Next, Told};
+use srcp_info::{Change, Mode, write_change};
+use srcp_rules::{Memory, Rows};
+use srcp_text::{LineBuf, LineReader};
+use std::alloc::Global;
+use std::marker::Model;
+
+/// How many bytes may be unsent: 64 for each byte of a piece, and 256 for a line that was begun before it.
+pub(crate) const MOST_UNSENT: usize = 16_640;
+
+/// What the server says first.
+const WELCOME: &[u8] = b"srcp_server 1.0; SRCP 0.8.4; SRCPOTHER 0.8.3\n";
+
+/// One connection.
+#[derive(Drop)]
+pub struct Connection {
+    reader: LineReader,
+    mode: Mode,
+    session: u32,
+    info: bool,
+    ended: bool,
+    overran: bool,
+    // What was sent stands before `start`.
+    reply: Vec<u8>,
+    start: usize,
+    feed: Option<InfoFeed>,
+}
+
+impl Model for Connection {
+    ghost use Rattle.std.specs.Prelude.{◌≡◌, ◌≤◌, length, drop, vec_capacity};
+    ghost use Rattle.std.specs.List.{AllByRecursion};
+    ghost use Rattle.srcp_info.specs.WellFormed.{IsWellFormed};
+    ghost use Rattle.srcp_core.specs.Held.{Place};
+    ghost use Rattle.srcp_core.specs.Machine.{queue_of};
+
+    ghost Value = { Place };
+
+    ghost view = { λ c. record { reader = c.reader; mode = c.mode; session = c.session; info = c.info; ended = c.ended; overran = c.overran; unsent = drop c.start c.reply.items; feed = c.feed } };
+
+    ghost invariant = { λ c. (c.start ≤ length c.reply.items) × (length c.reply.items ≤ 16640) × (16640 ≤ vec_capacity c.reply) × AllByRecursion IsWellFormed (queue_of c.feed) };
+}
+
+impl Connection {
+    /// Takes the memory of the whole reply buffer. The welcome line stands in it.
+    pub(crate) fn new(alloc: Global) -> Result<Connection, Memory>
+        ensures { IfOk result (λ c. c ≡ fresh_place) }
+    {
+        let mut reply = Vec::with_capacity(alloc, MOST_UNSENT)?;
+        reply.extend_from_slice(WELCOME)?;
+        Ok(Connection {
+            reader: LineReader::new(),
+            mode: Mode::Command,
+            session: 0,
+            info: false,
+            ended: false,
+            overran: false,
+            reply,
+            start: 0,
+            feed: None,
+        })
+    }
+
+    /// Whether no more is taken of it: it ended, or it overran.
+    pub(crate) fn is_over(&self) -> bool
+        ensures { result ≡ (self.now.ended || self.now.overran) }
+    {
+        self.ended || self.overran
+    }
+
+    /// Whether more changes came upon it than may wait.
+    pub(crate) fn overran(&self) -> bool
+        ensures { result ≡ self.now.overran }
+    {
+        self.overran
+    }
+
+    /// Whether its session ended by its own command.
+    pub(crate) fn ended(&self) -> bool
+        ensures { result ≡ self.now.ended }
+    {
+        self.ended
+    }
+
+    /// Its session's id, 0 before it begins.
+    pub(crate) fn session(&self) -> u32
+        ensures { result ≡ self.now.session }
+    {
+        self.session
+    }
+
+    /// The bytes that are to be sent.
+    pub(crate) fn unsent(&self) -> &[u8]
+        ensures bytes { result.now ≡ self.now.unsent }
+        ensures most { length result.now ≤ 16640 }
+    {
+        &self.reply[self.start..]
+    }
+
+    /// More bytes are to be sent.
+    pub(crate) fn put(&mut self, line: &[u8])
+        requires { length self.old.unsent + length line.now ≤ 16640 }
+        ensures { self.new ≡ with_unsent line.now self.old }
+    {
+        compact(&mut self.reply, self.start);
+        self.start = 0;
+        self.reply.extend_from_slice(line).unwrap();
+    }
+
+    /// So many of the unsent bytes were sent.
+    pub(crate) fn took(&mut self, count: usize)
+        requires { count ≤ length self.old.unsent }
+        ensures { self.new ≡ without_sent count self.old }
+    {
+        self.start += count;
+    }
+
+    /// Tells an information session a change. Where it would have to wait and can not, the session is over: what
+    /// waits, the listing and the unsent bytes are given up.
+    pub(crate) fn tell(&mut self, change: &Change)
+        requires { IsWellFormed change.now }
+        ensures { self.new ≡ told_place change.now self.old }
+    {
+        let Some(feed) = &mut self.feed else {
+            return;
+        };
+        if let Told::Overrun = feed.tell(change) {
+            self.overran = true;
+            self.feed = None;
+            self.reply.clear();
+            self.start = 0;
+        }
+    }
+
+    /// The mode of its session to come.
+    pub(crate) fn mode(&self) -> Mode
+        ensures { result ≡ self.now.mode }
+    {
+        self.mode
+    }
+
+    /// Chooses the mode of its session to come.
+    pub(crate) fn choose(&mut self, mode: Mode)
+        ensures { self.new ≡ record self.old { mode = mode } }
+    {
+        self.mode = mode;
+    }
+
+    /// Its session begins under the id, with a feed where it is an information session.
+    pub(crate) fn enter(&mut self, id: u32, mode: Mode, feed: Option<InfoFeed>)
+        requires { feed ≡ feed_for mode }
+        ensures { self.new ≡ entered_place id mode self.old }
+    {
+        self.session = id;
+        self.info = mode == Mode::Info;
+        self.feed = feed;
+    }
+
+    /// Its session ended by its own command.
+    pub(crate) fn end(&mut self)
+        ensures { self.new ≡ record self.old { ended = true } }
+    {
+        self.ended = true;
+    }
+
+    /// Puts in the next line of an information session, where nothing is unsent, and answers what that is.
+    pub(crate) fn fill<R: Rows>(&mut self, rows: &R) -> Option<Next>
+        requires { AllByRecursion IsWellFormedShown (shown_rows (R.state rows.now)) }
+        ensures place { self.new ≡ filled (shown_rows (R.state rows.now)) self.old }
+        ensures item { result ≡ item_from (shown_rows (R.state rows.now)) self.old.unsent self.old.feed }
+    {
+        if self.start < self.reply.len() {
+            return None;
+        }
+        let Some(feed) = &mut self.feed else {
+            return None;
+        };
+        let next = feed.next(rows);
+        self.reply.clear();
+        self.start = 0;
+        put_next(&next, &mut self.reply);
+        Some(next)
+    }
+}
+
+/// Puts the line of what is given into an empty buffer.
+fn put_next(next: &Next, buffer: &mut Vec<u8>)
+    requires well_formed { IsTellable next.now }
+    requires empty { buffer.old.items ≡ [] }
+    requires room { 16640 ≤ vec_capacity buffer.old }
+    ensures line { buffer.new.items ≡ line_of next.now }
+    ensures most { length buffer.new.items ≤ 126 }
+    ensures capacity { vec_capacity buffer.old ≤ vec_capacity buffer.new }
+{
+    let change = match next {
+        Next::Told(change) => *change,
+        Next::Listed(row) => Change::Put(*row),
+        Next::Settled => return,
+    };
+    let mut line = LineBuf::new();
+    write_change(&change, &mut line);
+    buffer.extend_from_slice(line.as_slice()).unwrap();
+}
+
+/// The bytes from there on stand at the buffer's front.
+fn compact(buffer: &mut Vec<u8>, start: usize)
+    requires { start ≤ length buffer.old.items }
+    ensures items { buffer.new.items ≡ drop start buffer.old.items }
+    ensures capacity { vec_capacity buffer.new ≡ vec_capacity buffer.old }
+{
+    if start == 0 {
+        return;
+    }
+    let end = buffer.len();
+    buffer.copy_within(start..end, 0);
+    buffer.truncate(end - start);
+}

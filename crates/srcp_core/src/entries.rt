@@ -1,0 +1,45 @@
+ghost use Rattle.std.specs.Prelude.{◌≡◌, ◌∷◌, ◌++◌, [], OnOk, OnErr};
+
+use std::alloc::{AllocError, Global};
+use std::marker::Model;
+use std::vec::Vec;
+
+/// A list that a run gives, in order.
+#[derive(Drop)]
+pub struct Entries<T: Drop> {
+    entries: Vec<T>,
+}
+
+impl<T: Drop> Model for Entries<T> {
+    ghost use Rattle.std.specs.Prelude.{List};
+
+    ghost Value = { List T };
+
+    ghost view = { λ e. e.entries.items };
+}
+
+impl<T: Drop> Entries<T> {
+    /// No entry. Takes no memory.
+    pub(crate) fn new(alloc: Global) -> Entries<T>
+        ensures { result ≡ [] }
+    {
+        Entries {
+            entries: Vec::new(alloc),
+        }
+    }
+
+    /// One more entry at the end. Where memory is refused, the list is as before and the entry is dropped.
+    pub(crate) fn push(&mut self, entry: T) -> Result<(), AllocError>
+        ensures ok { OnOk result (self.new ≡ self.old ++ entry ∷ []) }
+        ensures err { OnErr result (self.new ≡ self.old) }
+    {
+        Ok(self.entries.push(entry)?)
+    }
+
+    /// The entries.
+    pub fn as_slice(&self) -> &[T]
+        ensures { result.now ≡ self.now }
+    {
+        &self.entries
+    }
+}

@@ -1,0 +1,109 @@
+//! What a line before the session asks for.
+ghost use Rattle.std.specs.Prelude.{◌≡◌, codes};
+ghost use Rattle.std.specs.Char.{is_ascii_digit};
+ghost use Rattle.std.specs.List.{list_all};
+ghost use Rattle.srcp_text.specs.Marks.{Line};
+ghost use Rattle.srcp_text.specs.Words.{is_keyword};
+ghost use Rattle.srcp_core.specs.Handshake.{is_version, greets_protocol, greets_mode, greets};
+
+use crate::greeting::Greeting;
+use srcp_info::{Code, Mode};
+use srcp_text::{Words, words};
+
+/// What the line asks for, or the refusal that answers it.
+pub(crate) fn greet(line: &[u8]) -> Greeting
+    ensures { result ≡ greets (Line line.now) }
+{
+    let mut words = words(line);
+    let Some(word) = words.next() else {
+        return Greeting::Refuses(Code::C410);
+    };
+    let Some(what) = words.next() else {
+        return if is_keyword(b"GO", word) {
+            Greeting::Goes
+        } else {
+            Greeting::Refuses(Code::C410)
+        };
+    };
+    if !is_keyword(b"SET", word) {
+        return Greeting::Refuses(Code::C410);
+    }
+    if is_keyword(b"PROTOCOL", what) {
+        return greet_protocol(words);
+    }
+    if is_keyword(b"CONNECTIONMODE", what) {
+        return greet_mode(words);
+    }
+    Greeting::Refuses(Code::C410)
+}
+
+/// The words after `SET PROTOCOL`.
+fn greet_protocol(mut words: Words<'_>) -> Greeting
+    ensures { result ≡ greets_protocol words.entry }
+{
+    let Some(name) = words.next() else {
+        return Greeting::Refuses(Code::C402);
+    };
+    let Some(version) = words.next() else {
+        return Greeting::Refuses(Code::C402);
+    };
+    if words.next().is_some() {
+        return Greeting::Refuses(Code::C410);
+    }
+    if is_keyword(b"SRCP", name) && is_version(version) {
+        Greeting::Speaks
+    } else {
+        Greeting::Refuses(Code::C400)
+    }
+}
+
+/// The words after `SET CONNECTIONMODE`.
+fn greet_mode(mut words: Words<'_>) -> Greeting
+    ensures { result ≡ greets_mode words.entry }
+{
+    let Some(name) = words.next() else {
+        return Greeting::Refuses(Code::C402);
+    };
+    let Some(mode) = words.next() else {
+        return Greeting::Refuses(Code::C402);
+    };
+    if words.next().is_some() {
+        return Greeting::Refuses(Code::C410);
+    }
+    if !is_keyword(b"SRCP", name) {
+        return Greeting::Refuses(Code::C401);
+    }
+    if is_keyword(b"COMMAND", mode) {
+        return Greeting::Chooses(Mode::Command);
+    }
+    if is_keyword(b"INFO", mode) {
+        return Greeting::Chooses(Mode::Info);
+    }
+    Greeting::Refuses(Code::C401)
+}
+
+/// Whether the word is `0.8`, or `0.8.` and digits.
+fn is_version(word: &[u8]) -> bool
+    ensures { result ≡ is_version word.now }
+{
+    if word == b"0.8".as_slice() {
+        return true;
+    }
+    if word.len() < 5 || &word[..4] != b"0.8.".as_slice() {
+        return false;
+    }
+    are_digits(&word[4..])
+}
+
+fn are_digits(text: &[u8]) -> bool
+    ensures { result ≡ list_all is_ascii_digit text.now }
+{
+    text.iter().all(|byte| byte.is_ascii_digit())
+}
+
+/// Whether the word is the keyword, in capital or small letters.
+fn is_keyword(keyword: &[u8], word: &[u8]) -> bool
+    ensures { result ≡ is_keyword keyword.now word.now }
+{
+    keyword.eq_ignore_ascii_case(word)
+}

@@ -1,0 +1,123 @@
+//! The core: the registry, and the connections with their sessions.
+ghost use Rattle.std.specs.Prelude.{◌≡◌, ◌≢◌, ◌+◌, ◌≤◌, ◌<◌, ◌↔◌, ◌||◌, Bool, true, false, Some, None, IfOk, OnErr, IsErr, IsErrOf, IfSome, MatchResult, IfErr, is_some, is_none, length, List, [], Option, count_by};
+ghost use Rattle.srcp_core.specs.Connection.{is_nil};
+ghost use Rattle.srcp_core.specs.Held.{at, open_count};
+ghost use Rattle.srcp_core.specs.Machine.{IsAdmitted, refused_connect, is_closing, one_denied, unsent_at, bytes_fault};
+ghost use Rattle.srcp_rules.specs.State.{opening};
+
+mod answer;
+mod calls;
+mod outgoing;
+mod place;
+mod walk;
+
+use crate::connection::Connection;
+use crate::record::CoreFault;
+use slab::Slab;
+use srcp_rules::{Layout, Memory, Rows};
+use std::alloc::Global;
+use std::marker::Model;
+
+/// How many connections may be open at once.
+const MOST_CONNECTIONS: usize = 64;
+
+/// The registry of a layout, and the connections to it with their sessions.
+#[derive(Drop)]
+pub struct Core<'a, R: Rows> {
+    alloc: Global,
+    layout: &'a Layout,
+    rows: R,
+    moment: u64,
+    last_id: u32,
+    connections: Slab<Connection>,
+    denied: u64,
+}
+
+impl<'a, R: Rows> Model for Core<'a, R> {
+    ghost use Rattle.std.specs.Prelude.{◌≡◌, ◌≤◌};
+    ghost use Rattle.srcp_core.specs.Held.{Held, IsSound};
+
+    ghost Value = { Held };
+
+    ghost view = { λ c. record { buses = c.layout.now; rows = R.state c.rows; moment = c.moment; last_id = c.last_id; places = c.connections.slots; denied = c.denied } };
+
+    ghost invariant = { λ c. IsSound (record { buses = c.layout.now; rows = R.state c.rows; moment = c.moment; last_id = c.last_id; places = c.connections.slots; denied = c.denied }) × (R.buses c.rows ≡ c.layout.now) × (64 ≤ c.connections.capacity) };
+}
+
+impl<'a, R: Rows> Core<'a, R> {
+    /// The registry of the layout as it begins, at a moment in milliseconds, and no connection. `last_id` is the
+    /// session id that was used last, 0 where none was. It takes the memory of the registry and of 64 places;
+    /// `Memory` where that is refused.
+    pub fn new(
+        alloc: Global,
+        layout: &'a Layout,
+        moment: u64,
+        last_id: u32,
+    ) -> Result<Core<'a, R>, Memory>
+        ensures { IfOk result (λ core. core ≡ record { buses = layout.now; rows = opening layout.now 0; moment = moment; last_id = last_id; places = []; denied = 0 }) }
+    {
+        // Asks for a layout's limits.
+        let _ = layout.buses();
+        let rows = R::empty(alloc, layout)?;
+        let connections = Slab::with_capacity(alloc, MOST_CONNECTIONS)?;
+        Ok(Core {
+            alloc,
+            layout,
+            rows,
+            moment,
+            last_id,
+            connections,
+            denied: 0,
+        })
+    }
+
+    /// How many growths were refused since `new`. The count stays at the greatest u64.
+    pub fn denied(&self) -> u64
+        ensures { result ≡ self.now.denied }
+    {
+        self.denied
+    }
+
+    /// Opens a connection, and answers the key of its place. The memory of its reply buffer is taken whole, before
+    /// anything changes; the welcome line stands in it. `Full` where 64 connections are open; `Memory` where the
+    /// growth was refused, which is counted. Either leaves all else as it is.
+    pub fn connect(&mut self) -> Result<usize, CoreFault>
+        ensures full { IsErrOf result CoreFault.Full ↔ (open_count self.old ≡ 64) }
+        ensures admitted { IfOk result (λ key. IsAdmitted key self.old self.new) }
+        ensures refused { IfErr result (λ fault. self.new ≡ refused_connect fault self.old) }
+    {
+        if self.connections.len() >= MOST_CONNECTIONS {
+            return Err(CoreFault::Full);
+        }
+        match Connection::new(self.alloc) {
+            Ok(connection) => Ok(self.connections.insert_reserved(connection)),
+            Err(Memory) => {
+                self.denied = self.denied.saturating_add(1);
+                Err(CoreFault::Memory)
+            }
+        }
+    }
+
+    /// Whether `receive` would take a piece of at most 256 bytes.
+    pub fn ready(&self, conn: usize) -> bool
+        ensures { result ≡ is_none (bytes_fault conn [] self.now) }
+    {
+        match self.connections.get(conn) {
+            Some(connection) => !connection.is_over() && connection.unsent().is_empty(),
+            None => false,
+        }
+    }
+
+    /// Whether the connection is to be closed: it overran, or its session ended by its own command and all replies
+    /// are taken. False where there is no such connection.
+    pub fn closing(&self, conn: usize) -> bool
+        ensures { result ≡ is_closing conn self.now }
+    {
+        match self.connections.get(conn) {
+            Some(connection) => {
+                connection.overran() || connection.ended() && connection.unsent().is_empty()
+            }
+            None => false,
+        }
+    }
+}

@@ -1,0 +1,140 @@
+//! How the lines of a connection are answered.
+ghost use Rattle.std.specs.Prelude.{◌≡◌, ◌≢◌, ℕ, ◌+◌, ◌≤◌, ◌∷◌, [], true, false, length, Ok, OnOk, OnErr, OnSome, IfNone, IfSome, IfOk};
+ghost use Rattle.srcp_info.specs.WellFormed.{IsWellFormedReply};
+ghost use Rattle.srcp_info.specs.declared.change.Code.TheVariants.{C500};
+ghost use Rattle.srcp_info.specs.declared.change.Reply.TheVariants.{Refused};
+ghost use Rattle.srcp_rules.specs.Command.{IsCommandOf};
+ghost use Rattle.srcp_rules.specs.Due.{began};
+ghost use Rattle.srcp_rules.specs.Effect.{effect};
+ghost use Rattle.srcp_rules.specs.State.{session_device, is_there};
+ghost use Rattle.srcp_core.specs.Held.{Place, at, IsSessionAt};
+ghost use Rattle.srcp_core.specs.Machine.{feed_for, changed_at, unsent_at, one_denied, replied, denied_line, begun, goes, greeted, carried, freed_of, commanded, longest};
+
+use super::walk::{free_all, tell_all};
+use super::{Core, place};
+use crate::greeting::Greeting;
+use srcp_feed::InfoFeed;
+use srcp_info::{Code, Mode, Reply, write_reply};
+use srcp_rules::{Memory, Rows, begin_session};
+use srcp_text::LineBuf;
+use std::alloc::Global;
+
+/// The greatest session id.
+const LAST_ID: u32 = 4_294_967_295;
+
+impl<'a, R: Rows> Core<'a, R> {
+    /// One more growth was refused.
+    fn count_denied(&mut self)
+        ensures { self.new ≡ one_denied self.old }
+    {
+        self.denied = self.denied.saturating_add(1);
+    }
+
+    /// Puts a reply at the end of what is to be sent.
+    fn reply(&mut self, conn: usize, reply: &Reply)
+        requires well_formed { IsWellFormedReply reply.now }
+        requires room { length (unsent_at conn self.old) + longest reply.now ≤ 16640 }
+        ensures { self.new ≡ replied conn reply.now self.old }
+    {
+        let mut line = LineBuf::new();
+        write_reply(self.moment, reply, &mut line);
+        place::put(&mut self.connections, conn, line.as_slice());
+    }
+
+    /// Memory was refused to a line.
+    fn deny(&mut self, conn: usize)
+        requires { length (unsent_at conn self.old) + 64 ≤ 16640 }
+        ensures { self.new ≡ denied_line conn self.old }
+    {
+        self.count_denied();
+        self.reply(conn, &Reply::Refused(Code::C500));
+    }
+
+    /// Answers a line that is refused.
+    pub(super) fn refuse(&mut self, conn: usize, code: Code)
+        requires { length (unsent_at conn self.old) + 64 ≤ 16640 }
+        ensures { self.new ≡ replied conn (Refused code) self.old }
+    {
+        self.reply(conn, &Reply::Refused(code));
+    }
+
+    /// Chooses the mode of the session to come.
+    fn choose(&mut self, conn: usize, mode: Mode)
+        ensures { self.new ≡ changed_at conn (λ p. record p { mode = mode }) self.old }
+    {
+        place::choose(&mut self.connections, conn, mode);
+    }
+
+    /// Begins a session under the next id. The memory is taken first, that of the feed and then that of the
+    /// session's row; where it is refused nothing changes.
+    fn begin(&mut self, conn: usize, id: u32, mode: Mode) -> Result<(), Memory>
+        requires { id ≡ self.old.last_id + 1 }
+        ensures ok { OnOk result (self.new ≡ begun conn id mode self.old) }
+        ensures err { OnErr result (self.new ≡ self.old) }
+    {
+        let feed = feed_for(self.alloc, mode, &self.rows)?;
+        let change = begin_session(&mut self.rows, id, self.moment, mode)?;
+        self.last_id = id;
+        tell_all(&mut self.connections, &change);
+        place::enter(&mut self.connections, conn, id, mode, feed);
+        Ok(())
+    }
+
+    /// Answers `GO`. False where a growth was refused.
+    fn go(&mut self, conn: usize, mode: Mode) -> bool
+        requires { length (unsent_at conn self.old) + 64 ≤ 16640 }
+        ensures { self.new ≡ goes result conn mode self.old }
+    {
+        if self.last_id >= LAST_ID {
+            self.reply(conn, &Reply::Refused(Code::C500));
+            return true;
+        }
+        let id = self.last_id + 1;
+        match self.begin(conn, id, mode) {
+            Ok(()) => {
+                self.reply(conn, &Reply::Go(id));
+                true
+            }
+            Err(Memory) => {
+                self.deny(conn);
+                false
+            }
+        }
+    }
+
+    /// Answers a line before the session. False where a growth was refused.
+    pub(crate) fn greet(&mut self, conn: usize, mode: Mode, greeting: Greeting) -> bool
+        requires { length (unsent_at conn self.old) + 64 ≤ 16640 }
+        ensures { self.new ≡ greeted result conn mode greeting self.old }
+    {
+        match greeting {
+            Greeting::Speaks => self.reply(conn, &Reply::Protocol),
+            Greeting::Chooses(chosen) => {
+                self.choose(conn, chosen);
+                self.reply(conn, &Reply::Mode);
+            }
+            Greeting::Goes => return self.go(conn, mode),
+            Greeting::Refuses(code) => self.reply(conn, &Reply::Refused(code)),
+        }
+        true
+    }
+
+    /// A session ends by its own command.
+    fn end(&mut self, conn: usize, session: u32)
+        requires { IsSessionAt session conn self.old }
+        ensures { self.new ≡ freed_of session (changed_at conn (λ p. record p { ended = true }) self.old) }
+    {
+        place::end(&mut self.connections, conn);
+        free_all(&mut self.rows, &mut self.connections, session, self.moment);
+    }
+}
+
+/// What a session of the mode begins with.
+fn feed_for<R: Rows>(alloc: Global, mode: Mode, rows: &R) -> Result<Option<InfoFeed>, Memory>
+    ensures { IfOk result (λ feed. feed ≡ feed_for mode) }
+{
+    match mode {
+        Mode::Command => Ok(None),
+        Mode::Info => Ok(Some(InfoFeed::begin(alloc, rows)?)),
+    }
+}

@@ -1,0 +1,39 @@
+//! Moments, and the end of a connection.
+ghost use Rattle.std.specs.Prelude.{◌≡◌, ℕ, ◌+◌, ◌*◌, ◌≤◌, ◌<◌, [], true, false, length, Some, None, Ok, IfOk, IsErr, ◌↔◌, IsSome, IfSome, MatchResult, OnErr, OnOk, Option};
+ghost use Rattle.srcp_rules.specs.Command.{IsCommandOf};
+ghost use Rattle.srcp_rules.specs.State.{is_there, session_device};
+ghost use Rattle.srcp_text.specs.Marks.{Mark};
+ghost use Rattle.srcp_core.specs.Held.{Place, IsSessionAt, at};
+ghost use Rattle.srcp_core.specs.Machine.{asked_of, answered, commanded, longest_answer, unsent_at, bytes_fault, hung_up, advanced, changed_at, without_sent};
+
+use super::Core;
+use super::walk::{carry_out_due, free_all};
+use crate::record::CoreFault;
+use srcp_rules::Rows;
+
+impl<'a, R: Rows> Core<'a, R> {
+    /// Takes the moment, in milliseconds, where it is not before the one taken last, and carries out every row that
+    /// is due then, in key order.
+    pub fn advance(&mut self, moment: u64)
+        ensures { self.new ≡ advanced moment self.old }
+    {
+        self.moment = self.moment.max(moment);
+        carry_out_due(&mut self.rows, &mut self.connections, self.moment);
+    }
+
+    /// Takes a connection out; then its session ends, where it has one that did not end: its locks are taken out in
+    /// key order, and its own row. `NoSuch` where there is no such connection.
+    pub fn hangup(&mut self, conn: usize) -> Result<(), CoreFault>
+        ensures absent { MatchResult result (λ _. IsSome (at self.old conn)) (λ fault. (fault ≡ CoreFault.NoSuch) × (at self.old conn ≡ None)) }
+        ensures core { self.new ≡ hung_up conn self.old }
+    {
+        let Some(connection) = self.connections.try_remove(conn) else {
+            return Err(CoreFault::NoSuch);
+        };
+        let session = connection.session();
+        if session != 0 && !connection.ended() {
+            free_all(&mut self.rows, &mut self.connections, session, self.moment);
+        }
+        Ok(())
+    }
+}

@@ -1,0 +1,58 @@
+//! Bytes that go out.
+ghost use Rattle.std.specs.Prelude.{◌≡◌, ◌≤◌, length, Some, None, IsErr, IsSome, IfOk, IfErr, ◌↔◌};
+ghost use Rattle.srcp_core.specs.Held.{at};
+ghost use Rattle.srcp_core.specs.Machine.{changed_at, without_sent, unsent_at, let_out, item_at};
+
+use super::{Core, place};
+use crate::record::CoreFault;
+use srcp_feed::Next;
+use srcp_rules::Rows;
+
+impl<'a, R: Rows> Core<'a, R> {
+    ghost use Rattle.std.specs.Borrow.{sem};
+    ghost use Rattle.srcp_core.specs.Lending.{EndsAs};
+
+    /// Lends the bytes that are to be sent of a connection, from its own buffer and with no copy. Where an
+    /// information session's buffer is empty, its next line is put in first. `NoSuch` where there is no such
+    /// connection.
+    pub fn outgoing(&mut self, conn: usize) -> Result<&[u8], CoreFault>
+        ensures* ends { sem 𝓛 (EndsAs R.row R.Rows self.entry (let_out conn self.old)) }
+        ensures absent { IsErr result ↔ (at self.old conn ≡ None) }
+        ensures bytes { IfOk result (λ bytes. bytes.now ≡ unsent_at conn (let_out conn self.old)) }
+    {
+        self.fill(conn)?;
+        self.unsent(conn)
+    }
+
+    /// Puts in the next line of an information session, where nothing is unsent, and answers what that is.
+    pub(crate) fn fill(&mut self, conn: usize) -> Result<Option<Next>, CoreFault>
+        ensures absent { IsErr result ↔ (at self.old conn ≡ None) }
+        ensures core { self.new ≡ let_out conn self.old }
+        ensures item { IfOk result (λ item. item ≡ item_at conn self.old) }
+    {
+        let Some(connection) = self.connections.get_mut(conn) else {
+            return Err(CoreFault::NoSuch);
+        };
+        Ok(connection.fill(&self.rows))
+    }
+
+    /// The bytes that are to be sent of a connection.
+    pub(crate) fn unsent(&self, conn: usize) -> Result<&[u8], CoreFault>
+        ensures absent { IsErr result ↔ (at self.now conn ≡ None) }
+        ensures bytes { IfOk result (λ bytes. bytes.now ≡ unsent_at conn self.now) }
+    {
+        match self.connections.get(conn) {
+            Some(connection) => Ok(connection.unsent()),
+            None => Err(CoreFault::NoSuch),
+        }
+    }
+
+    /// So many of the bytes that are to be sent of a connection were sent.
+    pub fn sent(&mut self, conn: usize, count: usize)
+        requires open { IsSome (at self.old conn) }
+        requires unsent { count ≤ length (unsent_at conn self.old) }
+        ensures { self.new ≡ changed_at conn (without_sent count) self.old }
+    {
+        place::took(&mut self.connections, conn, count);
+    }
+}

@@ -1,0 +1,68 @@
+//! Changes of the connection at one place, where there is one.
+ghost use Rattle.std.specs.Prelude.{◌≡◌, ◌+◌, ◌≤◌, true, length};
+ghost use Rattle.srcp_core.specs.Held.{place_at};
+ghost use Rattle.srcp_core.specs.Machine.{changed_places, entered_place, feed_for, unsent_of, with_unsent, without_sent};
+
+use crate::connection::Connection;
+use slab::Slab;
+use srcp_feed::InfoFeed;
+use srcp_info::Mode;
+
+/// More bytes are to be sent.
+pub(super) fn put(connections: &mut Slab<Connection>, conn: usize, line: &[u8])
+    requires { length (unsent_of (place_at connections.old.slots conn)) + length line.now ≤ 16640 }
+    ensures slots { connections.new.slots ≡ changed_places conn (with_unsent line.now) connections.old.slots }
+    ensures capacity { connections.new.capacity ≡ connections.old.capacity }
+{
+    if let Some(connection) = connections.get_mut(conn) {
+        connection.put(line);
+    }
+}
+
+/// The mode of the session to come is chosen.
+pub(super) fn choose(connections: &mut Slab<Connection>, conn: usize, mode: Mode)
+    ensures slots { connections.new.slots ≡ changed_places conn (λ p. record p { mode = mode }) connections.old.slots }
+    ensures capacity { connections.new.capacity ≡ connections.old.capacity }
+{
+    if let Some(connection) = connections.get_mut(conn) {
+        connection.choose(mode);
+    }
+}
+
+/// A session of the mode begins under the id.
+pub(super) fn enter(
+    connections: &mut Slab<Connection>,
+    conn: usize,
+    id: u32,
+    mode: Mode,
+    feed: Option<InfoFeed>,
+)
+    requires { feed ≡ feed_for mode }
+    ensures slots { connections.new.slots ≡ changed_places conn (entered_place id mode) connections.old.slots }
+    ensures capacity { connections.new.capacity ≡ connections.old.capacity }
+{
+    if let Some(connection) = connections.get_mut(conn) {
+        connection.enter(id, mode, feed);
+    }
+}
+
+/// The session ended by its own command.
+pub(super) fn end(connections: &mut Slab<Connection>, conn: usize)
+    ensures slots { connections.new.slots ≡ changed_places conn (λ p. record p { ended = true }) connections.old.slots }
+    ensures capacity { connections.new.capacity ≡ connections.old.capacity }
+{
+    if let Some(connection) = connections.get_mut(conn) {
+        connection.end();
+    }
+}
+
+/// So many bytes were sent.
+pub(super) fn took(connections: &mut Slab<Connection>, conn: usize, count: usize)
+    requires { count ≤ length (unsent_of (place_at connections.old.slots conn)) }
+    ensures slots { connections.new.slots ≡ changed_places conn (without_sent count) connections.old.slots }
+    ensures capacity { connections.new.capacity ≡ connections.old.capacity }
+{
+    if let Some(connection) = connections.get_mut(conn) {
+        connection.took(count);
+    }
+}

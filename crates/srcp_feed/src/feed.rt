@@ -1,0 +1,119 @@
+ghost use Rattle.std.specs.Prelude.{◌≡◌, ◌≢◌, ◌≤◌, List, ◌++◌, length, IfOk};
+ghost use Rattle.srcp_info.specs.Client.{changed, IsRisingBy};
+ghost use Rattle.srcp_info.specs.declared.change.Change.{Change};
+ghost use Rattle.srcp_info.specs.declared.change.Shown.{Shown};
+ghost use Rattle.srcp_rules.specs.State.{shown_rows};
+ghost use Rattle.srcp_feed.specs.Cursor.{said};
+ghost use Rattle.srcp_feed.specs.Feed.{beginning, told, told_answer, next_of, after_next, HoldsPassed};
+
+use crate::{Next, Told};
+use circular_buffer::HeapCircularBuffer;
+use srcp_info::{Change, Cursor};
+use srcp_rules::{Memory, Rows};
+use std::alloc::Global;
+use std::marker::Model;
+
+/// How many changes may wait for one session.
+const MOST_WAITING: usize = 256;
+
+/// What one information session is given: the changes that wait, then the next rows of its listing.
+/// It holds how far the listing has come and the changes that wait, and no row.
+#[derive(Drop)]
+pub struct InfoFeed {
+    cursor: Cursor,
+    ring: HeapCircularBuffer<Change>,
+}
+
+impl Model for InfoFeed {
+    ghost use Rattle.std.specs.Prelude.{◌≡◌, ◌≤◌, length};
+    ghost use Rattle.srcp_feed.specs.Feed.{Feed};
+
+    ghost Value = { Feed };
+
+    ghost view = { λ f. record { cursor = f.cursor; queue = f.ring.items } };
+
+    ghost invariant = { λ f. (f.ring.capacity ≡ 256) × (length f.ring.items ≤ 256) };
+}
+
+impl InfoFeed {
+    /// A listing at its beginning, for which nothing waits. It takes the memory of a ring of 256 changes,
+    /// and no other call takes any. `Memory` where that is refused.
+    pub fn begin<R: Rows>(alloc: Global, _rows: &R) -> Result<InfoFeed, Memory>
+        ensures { IfOk result (λ feed. feed ≡ beginning) }
+    {
+        let ring = HeapCircularBuffer::with_capacity(alloc, MOST_WAITING)?;
+        Ok(InfoFeed {
+            cursor: Cursor::Start,
+            ring,
+        })
+    }
+
+    /// Tells the session a change of the registry. A change of a row that the listing has passed waits; any
+    /// other is met by the listing. `Overrun` where 256 changes wait already and this one would wait too,
+    /// which leaves the feed as it is.
+    pub fn tell(&mut self, change: &Change) -> Told
+        ensures answer { result ≡ told_answer change.now self.old }
+        ensures feed { self.new ≡ told change.now self.old }
+        ensures holds { (given : List Change) (rows : List Shown) → result ≢ Told.Overrun → HoldsPassed given self.old rows → HoldsPassed given self.new (changed change.now rows) }
+    {
+        self.enqueue(change)
+    }
+
+    /// What the session is given next: the first change that waits, else the least row above the cursor, else
+    /// `Settled`, from which on the listing is done and every change waits.
+    pub fn next<R: Rows>(&mut self, rows: &R) -> Next
+        ensures answer { result ≡ next_of (shown_rows (R.state rows.now)) self.old }
+        ensures feed { self.new ≡ after_next (shown_rows (R.state rows.now)) self.old }
+        ensures holds { (given : List Change) → IsRisingBy (λ row. row.key) (shown_rows (R.state rows.now)) → HoldsPassed given self.old (shown_rows (R.state rows.now)) → HoldsPassed (given ++ said result) self.new (shown_rows (R.state rows.now)) }
+    {
+        self.give(rows)
+    }
+
+    fn enqueue(&mut self, change: &Change) -> Told
+        ensures answer { result ≡ told_answer change.now self.old }
+        ensures feed { self.new ≡ told change.now self.old }
+    {
+        if !self.cursor.has_reached(&change.key()) {
+            return Told::Skipped;
+        }
+        if self.ring.is_full() {
+            return Told::Overrun;
+        }
+        self.ring.extend_from_slice(&[*change]);
+        Told::Queued
+    }
+
+    fn give<R: Rows>(&mut self, rows: &R) -> Next
+        ensures answer { result ≡ next_of (shown_rows (R.state rows.now)) self.old }
+        ensures feed { self.new ≡ after_next (shown_rows (R.state rows.now)) self.old }
+    {
+        if let Some(change) = self.ring.pop_front() {
+            return Next::Told(change);
+        }
+        match rows.row_after(self.cursor) {
+            Some(row) => {
+                self.cursor = Cursor::After(row.shown.key);
+                Next::Listed(row.shown)
+            }
+            None => {
+                self.cursor = Cursor::Done;
+                Next::Settled
+            }
+        }
+    }
+
+    /// How far the listing has come.
+    pub fn cursor(&self) -> Cursor
+        ensures { result ≡ self.now.cursor }
+    {
+        self.cursor
+    }
+
+    /// How many changes wait, at most 256.
+    pub fn waiting(&self) -> usize
+        ensures value { result ≡ length self.now.queue }
+        ensures most { result ≤ 256 }
+    {
+        self.ring.len()
+    }
+}

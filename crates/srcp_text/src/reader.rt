@@ -1,0 +1,159 @@
+//! The reader that finds the lines of bytes which come in pieces.
+
+ghost use Rattle.std.specs.Prelude.{◌≡◌, ◌<◌, ◌≤◌, IsTrue, IfSome, List, ℕ, [], ◌++◌, length, position};
+ghost use Rattle.srcp_text.specs.Marks.{is_lf, marks, without_cr};
+ghost use Rattle.srcp_text.specs.Reading.{StandsAt, after_lf, extended, nothing_read};
+ghost use Rattle.srcp_text.specs.Feeding.{feed_of, fed_at, is_line, new_marks, next_stop, stop_of, taken};
+
+use arrayvec::ArrayVec;
+use std::marker::Model;
+
+/// What a feed found.
+#[derive(Clone, Copy, Debug, PartialEq, Eq)]
+pub enum Fed {
+    /// A line of at most 1,000 bytes, the CR counted. `LineReader::line` lends it.
+    Line {
+        /// The place in the piece after its LF: the next feed goes on there.
+        stop: usize,
+    },
+    /// A line of more than 1,000 bytes, which are not kept.
+    TooLong {
+        /// The place in the piece after its LF: the next feed goes on there.
+        stop: usize,
+    },
+    /// No LF: what is left of the piece belongs to a line that a later piece ends.
+    More,
+}
+
+#[derive(Clone, Copy, Debug, PartialEq, Eq)]
+enum State {
+    // The bytes are those of the begun line.
+    Begun,
+    // The begun line has more than 1,000 bytes.
+    TooLong,
+    // The bytes are those of the line that the last feed found, and no line has begun.
+    Found,
+}
+
+/// Finds the lines of bytes that come in pieces, in whatever pieces they come. The line form is that
+/// of SRCP 0.8: a line ends in LF, and one CR just before the LF is dropped. That at most 1,000 bytes
+/// may stand before the LF, the CR counted, is our own choice. The bytes of a begun line stand in the
+/// value itself, so nothing takes memory.
+#[derive(Debug, Drop)]
+pub struct LineReader {
+    bytes: ArrayVec<u8, 1000>,
+    state: State,
+}
+
+impl Model for LineReader {
+    ghost use Rattle.srcp_text.specs.Reading.{Reading};
+
+    ghost Value = { Reading };
+
+    ghost use Rattle.srcp_text.specs.Reader.{reading_of};
+
+    ghost view = { λ reader. reading_of reader.state reader.bytes.items };
+}
+
+impl LineReader {
+    /// A reader that was fed nothing.
+    pub fn new() -> LineReader
+        ensures { result ≡ nothing_read }
+    {
+        LineReader {
+            bytes: ArrayVec::new(),
+            state: State::Begun,
+        }
+    }
+
+    /// Takes the bytes of `piece` from the place `start` up to the first LF, or all of them where
+    /// there is none. After a line, or one too long, the next feed begins a new line.
+    pub fn feed(&mut self, piece: &[u8], start: usize) -> Fed
+        requires { start ≤ length piece.now }
+        // It stops after the first LF, where there is one.
+        ensures stop { stop_of result ≡ next_stop piece.now start }
+        // So the next feed may go on there, and comes nearer to the end of the piece.
+        ensures within { IfSome (stop_of result)
+            (λ stop. (start < stop) × (stop ≤ length piece.now)) }
+        ensures no_line { ¬ IsTrue (is_line result) → self.new.line ≡ [] }
+        // What it took adds this mark to those of the bytes fed before, or none.
+        ensures marks { (fed : List ℕ) → StandsAt fed self.old
+            → marks (fed ++ taken piece.now start result)
+            ≡ marks fed ++ new_marks result self.new.line }
+        // And it stands at the bytes that have then been fed.
+        ensures stands { (fed : List ℕ) → StandsAt fed self.old
+            → StandsAt (fed ++ taken piece.now start result) self.new }
+        // The same as one equation.
+        ensures value { (result, self.new) ≡ feed_of self.old piece.now start }
+    {
+        let left = &piece[start..];
+        let Some(len) = first_lf(left) else {
+            self.append(left);
+            return Fed::More;
+        };
+        self.append(&left[..len]);
+        self.end(start + len + 1)
+    }
+
+    /// The line that the last feed found, without its LF and a CR just before it. It is empty where
+    /// the last feed found none.
+    pub fn line(&self) -> &[u8]
+        ensures { result.now ≡ self.now.line }
+    {
+        match self.state {
+            State::Found => without_cr(self.bytes.as_slice()),
+            _ => &[],
+        }
+    }
+
+    // Takes more bytes of the begun line.
+    fn append(&mut self, more: &[u8])
+        ensures { self.new ≡ record { begun = extended self.old.begun more.now; line = [] } }
+    {
+        match self.state {
+            State::TooLong => return,
+            State::Found => {
+                self.bytes.clear();
+                self.state = State::Begun;
+            }
+            State::Begun => {}
+        }
+        if self.bytes.try_extend_from_slice(more).is_err() {
+            self.state = State::TooLong;
+        }
+    }
+
+    // Ends the begun line, `stop` being the place after its LF.
+    fn end(&mut self, stop: usize) -> Fed
+        requires { self.old.line ≡ [] }
+        ensures found { result ≡ fed_at self.old.begun stop }
+        ensures after { self.new ≡ after_lf self.old.begun }
+    {
+        match self.state {
+            State::TooLong => {
+                self.bytes.clear();
+                self.state = State::Begun;
+                Fed::TooLong { stop }
+            }
+            _ => {
+                self.state = State::Found;
+                Fed::Line { stop }
+            }
+        }
+    }
+}
+
+fn first_lf(bytes: &[u8]) -> Option<usize>
+    ensures { result ≡ position is_lf bytes.now }
+{
+    bytes.iter().position(|byte| *byte == b'\n')
+}
+
+fn without_cr(text: &[u8]) -> &[u8]
+    ensures { result.now ≡ without_cr text.now }
+{
+    match text.split_last() {
+        Some((last, front)) => { if *last == b'\r' { front } else { text } }
+        None => text,
+    }
+}

@@ -1,0 +1,118 @@
+#!/usr/bin/env python3
+"""run_cases.py PROGRAM: runs the built program over every case of cases/ and over the failures of its streams.
+
+A case is a folder: `args` (one word a line), `stdin`, `config.toml` where it needs one, `status`, and what is
+expected: `stdout` and `stderr` to the byte, or in `expect.json` what single connections are sent, the word that each
+ends with, and the refused events. The last line counts the cases; the status is 0 only where all of them pass.
+"""
+import json
+import os
+import re
+import subprocess
+import sys
+from pathlib import Path
+
+CASES = Path(__file__).resolve().parent / "cases"
+INPUT_LIMIT = 16_777_216
+SECONDS = 300
+
+
+def parse_record(out):
+    """The output of replay: {number: {"sent", "word"}} and the refused events."""
+    connections, at = {}, 0
+    header = re.compile(rb"connection (\d+) (\d+) (\w+)\n")
+    while match := header.match(out, at):
+        sent = out[match.end():match.end() + int(match[2])]
+        connections[match[1].decode()] = {"sent": sent.decode("latin-1"), "word": match[3].decode()}
+        at = match.end() + len(sent) + (1 if sent and not sent.endswith(b"\n") else 0)
+    before_rows = re.split(rb"^rows \d+\n", out[at:], maxsplit=1, flags=re.M)[0]
+    refused = [line.removeprefix(b"refused ").decode() for line in before_rows.splitlines()]
+    return connections, refused
+
+
+def difference(name, got, want):
+    """The first place at which two texts differ, or None."""
+    if got == want:
+        return None
+    at = next((i for i, (a, b) in enumerate(zip(got, want)) if a != b), min(len(got), len(want)))
+    return f"{name} differs at {at}: got {got[max(0, at - 40):at + 60]!r}, want {want[max(0, at - 40):at + 60]!r}"
+
+
+def unexpected_record(out, want):
+    """What of a record differs from the connections and refused events that are expected, or None."""
+    connections, refused = parse_record(out)
+    for number, part in want["connections"].items():
+        if number not in connections:
+            return f"connection {number} is missing"
+        for field, value in part.items():
+            if fault := difference(f"connection {number} {field}", connections[number][field], value):
+                return fault
+    return difference("refused", refused, want["refused"])
+
+
+def run_case(folder, program):
+    """Why the case fails, or None."""
+    def content(name):
+        path = folder / name
+        return path.read_bytes() if path.exists() else None
+
+    done = subprocess.run([program, *content("args").decode().splitlines()], input=content("stdin"),
+                          capture_output=True, cwd=folder, timeout=SECONDS)
+    if done.returncode != int(content("status")):
+        return f"status {done.returncode}, want {content('status').decode().strip()}; stderr {done.stderr[:200]!r}"
+    for name, got in (("stdout", done.stdout), ("stderr", done.stderr)):
+        want = content(name)
+        if want is not None and (fault := difference(name, got, want)):
+            return fault
+    expected = content("expect.json")
+    return unexpected_record(done.stdout, json.loads(expected)) if expected else None
+
+
+def ended(done, status, text, out=b""):
+    """Why a run did not end with this status, this fault text and this output, or None."""
+    want = (status, b"srcp_server: " + text + b"\n" if text else b"", out)
+    got = (done.returncode, done.stderr, done.stdout if done.stdout is not None else out)
+    return None if got == want else f"got {got!r}, want {want!r}"[:400]
+
+
+def input_past_its_limit(program):
+    done = subprocess.run([program, "replay"], input=b"\n" * (INPUT_LIMIT + 1), capture_output=True, timeout=SECONDS)
+    return ended(done, 2, b"input too large")
+
+
+def input_at_its_limit(program):
+    done = subprocess.run([program, "replay"], input=b"\n" * INPUT_LIMIT, capture_output=True, timeout=SECONDS)
+    return ended(done, 0, b"", b"rows 1\n0.000 100 INFO 1 POWER OFF\n")
+
+
+def input_that_cannot_be_read(program):
+    folder = os.open("/", os.O_RDONLY)
+    try:
+        done = subprocess.run([program, "replay"], stdin=folder, capture_output=True, timeout=SECONDS)
+    finally:
+        os.close(folder)
+    return ended(done, 1, b"cannot read the input")
+
+
+def output_that_cannot_be_written(program):
+    with open("/dev/full", "wb") as full:
+        done = subprocess.run([program, "replay"], input=b"open\n", stdout=full, stderr=subprocess.PIPE, timeout=SECONDS)
+    return ended(done, 1, b"cannot write")
+
+
+STREAM_CASES = (input_past_its_limit, input_at_its_limit, input_that_cannot_be_read, output_that_cannot_be_written)
+
+
+def main():
+    program = str(Path(sys.argv[1]).resolve())
+    results = [(folder.name, run_case(folder, program)) for folder in sorted(CASES.iterdir()) if folder.is_dir()]
+    results += [(case.__name__.replace("_", "-"), case(program)) for case in STREAM_CASES]
+    failed = [(name, fault) for name, fault in results if fault]
+    for name, fault in failed:
+        print(f"FAIL {name}: {fault}")
+    print(f"cases: {len(results) - len(failed)} passed, {len(failed)} failed")
+    return 1 if failed else 0
+
+
+if __name__ == "__main__":
+    sys.exit(main())

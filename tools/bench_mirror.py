@@ -1,0 +1,62 @@
+#!/usr/bin/env python3
+"""bench_mirror.py PROGRAM: how fast `PROGRAM mirror` folds half a million lines, and how much memory it takes.
+
+The input is fixed: information lines of locomotives, just under the input's limit, once over few rows and once over
+many, so that the difference in memory is that of the rows. Prints seconds, megabytes a second and the peak memory.
+"""
+import os
+import subprocess
+import sys
+import tempfile
+import time
+
+LINES = 500_000
+LIMIT = 16_777_216
+
+
+def lines(addresses):
+    """Half a million states of locomotives, as a long evening would send them."""
+    for i in range(LINES):
+        yield b"%d.%03d 100 INFO 1 GL %d 1 %d 28\n" % (i // 10_000, i % 1000, i * 7919 % addresses + 1, i % 29)
+
+
+def peak_of(process):
+    """The most memory in KiB that a running process has held, 0 where it has just ended."""
+    try:
+        with open(f"/proc/{process.pid}/status") as status:
+            return next((int(line.split()[1]) for line in status if line.startswith("VmHWM:")), 0)
+    except OSError:
+        return 0
+
+
+def measured(program, path):
+    """Seconds and peak memory in KiB of a run over the file, its output dropped: the memory by a run of its own."""
+    seconds, peak = 0.0, 0
+    for watched in (False, True):
+        with open(path, "rb") as source, open(os.devnull, "wb") as sink:
+            begun = time.monotonic()
+            running = subprocess.Popen([program, "mirror"], stdin=source, stdout=sink)
+            while watched and running.poll() is None:
+                peak = max(peak, peak_of(running))
+                time.sleep(0.001)
+            if running.wait() != 0:
+                sys.exit(f"{program} mirror ended with {running.returncode}")
+            seconds = seconds if watched else time.monotonic() - begun
+    return seconds, peak
+
+
+def main():
+    program = os.path.abspath(sys.argv[1])
+    for addresses in (100, 10_000):
+        with tempfile.NamedTemporaryFile() as file:
+            file.writelines(lines(addresses))
+            file.flush()
+            size = os.path.getsize(file.name)
+            assert size <= LIMIT, size
+            seconds, peak = measured(program, file.name)
+        print(f"{LINES} lines, {size} bytes, {addresses} rows: "
+              f"{seconds:.2f} s, {size / seconds / 1e6:.1f} MB/s, peak {peak} KiB")
+
+
+if __name__ == "__main__":
+    main()
