@@ -39,8 +39,11 @@ module _ (buses : List Bus) (state : State) (session moment : ℕ) (now : IsMome
         few = omega arith;
         each = (
           IsRowOf-put buses may.laid_out (key_at device 0) moment (value.GlInit letter version steps functions) None some now fits tt,
-          (IsRowOf-put buses may.laid_out (key_at device 1) moment (value.GlState 1 0 0 (replicate functions false)) None (omega (arith, count)) now
-              (refl, refl, (omega arith, omega arith, omega arith, refl, λ e. absurd (omega (arith, e))), omega (arith, most, long)) tt, tt),
+          (
+            IsRowOf-put buses may.laid_out (key_at device 1) moment (value.GlState 1 0 0 (replicate functions false)) None (omega (arith, count)) now
+                (refl, refl, (omega arith, omega arith, omega arith, refl, λ e. absurd (omega (arith, e))), omega (arith, most, long)) tt,
+            tt,
+          ),
         );
       }
 

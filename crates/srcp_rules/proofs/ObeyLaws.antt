@@ -15,7 +15,7 @@ use Rattle.srcp_rules.specs.declared.command.Lockable.{Lockable}
 use Rattle.srcp_rules.specs.declared.command.Lockable.TheVariants as lockable
 use Rattle.srcp_rules.specs.declared.command.Command.{Command}
 use Rattle.srcp_rules.specs.declared.command.Command.TheVariants.{SetPower, SetGl, InitGl, SetGa, InitGa, SetFb, SetLock}
-use Rattle.srcp_rules.specs.State.{State, Update, IsRowOf, IsWhole, has_row, row_at, is_there, key_at, device_in, lock_on, functions_of}
+use Rattle.srcp_rules.specs.State.{State, Update, IsRowOf, IsWhole, has_row, row_at, is_there, key_at, power_device, fb_device, device_in, lock_on, functions_of}
 use Rattle.srcp_rules.specs.Effect.{Effect, done, checked, refused, accepted, unless_refused, row_put, lock_end, port_end, gl_refusals, functions_after}
 use Rattle.srcp_rules.specs.Obeyed.{MayObey, first_refusal, refused_or_not}
 use Rattle.srcp_rules.proofs.EffectLaws.{NoneApplies, lock_value, lock_end_fits, port_end_fits, is_not, found_few, as_many}
@@ -95,3 +95,9 @@ module _ (buses : List Bus) (state : State) (session moment : ℕ) (now : IsMome
       let few : length after ≤ 29 = omega (arith, most, same) in
       let fits = may.of.1 in
       IsRowOf-put buses may.laid_out (key_at device 1) moment (value.GlState mode (kept_v mode v) vmax after) None may.of.0 now (fits.0, fits.1, fits.2, few) tt
+
+  pub power_row : (bus : ℕ) (on : Bool) (text : List ℕ) → MayObey buses state session (SetPower bus on text) → IsRowOf buses (row_put moment (first_key (power_device bus)) (value.Power on text) None)
+  power_row bus on text may = IsRowOf-put buses may.laid_out (first_key (power_device bus)) moment (value.Power on text) None may.of.0 now may.of.1 tt
+
+  pub fb_row : (bus port : ℕ) (on : Bool) → MayObey buses state session (SetFb bus port on) → IsRowOf buses (row_put moment (first_key (fb_device bus port)) (value.Fb on) None)
+  fb_row bus port on may = IsRowOf-put buses may.laid_out (first_key (fb_device bus port)) moment (value.Fb on) None may.of now (refl, refl) tt

@@ -154,8 +154,8 @@ module _ (buses : List Bus) (device : Device) (rows : List Row) (all : AreRowsOf
       let within : key.port < row_count buses device = subst (λ d. key.port < row_count buses d) same place in
       let at : key_at device key.port ≡ key = λ i. record { bus = (sym same i).bus; group = (sym same i).group; address = (sym same i).address; port = key.port } in
       absurd (apart
-          (any-keys key rows ∙ ap (list_any (λ k. same_key k key)) all.keys
-          ∙ subst (λ k. list_any (λ q. same_key q k) (map (key_at device) (range_with_len 0 (row_count buses device))) ≡ true) at (range_any device key.port 0 (row_count buses device) (omega arith) (omega (arith, within)))))
+      (any-keys key rows ∙ ap (list_any (λ k. same_key k key)) all.keys
+      ∙ subst (λ k. list_any (λ q. same_key q k) (map (key_at device) (range_with_len 0 (row_count buses device))) ≡ true) at (range_any device key.port 0 (row_count buses device) (omega arith) (omega (arith, within)))))
 
   look : (key : Key) (t : Bool) → puts_at key rows ≡ t → row_at key (put_rows rows (without device state)) ≡ row_at key (put_rows rows state)
   look key true e = put_alike key rows (without device state) state e

@@ -63,7 +63,12 @@ pub(crate) fn init_gl<R: Rows>(
 fn clear_port(moment: u64, device: Device, port: u8) -> Row
     ensures { result ≡ row_put moment (key_at device port) (value.GaPort false) None }
 {
-    row_put(moment, key_at(device, port), Value::GaPort { on: false }, None)
+    row_put(
+        moment,
+        key_at(device, port),
+        Value::GaPort { on: false },
+        None,
+    )
 }
 
 /// The fresh rows of an accessory with eight ports, the most that one has.

@@ -1,0 +1,184 @@
+ghost use Rattle.std.specs.Prelude.{◌≡◌, ◌≤◌, [], ◌∷◌, IsTrue, None, length};
+ghost use Rattle.std.specs.List.{AllByRecursion};
+ghost use Rattle.srcp_info.specs.Key.{first_key};
+ghost use Rattle.srcp_info.specs.WellFormed.{IsWellFormed, IsWellFormedReply};
+ghost use Rattle.srcp_info.specs.declared.value.Value.TheVariants as value;
+ghost use Rattle.srcp_rules.specs.Command.{IsCommandOf};
+ghost use Rattle.srcp_rules.specs.Effect.{accepted, done, put_at, term_session};
+ghost use Rattle.srcp_rules.specs.Layout.{IsLayout};
+ghost use Rattle.srcp_rules.specs.Obeyed.{IsObeyed, IsTold, MayObey, Took};
+ghost use Rattle.srcp_rules.specs.State.{IsWhole, fb_device, is_there, power_device, session_device};
+
+use crate::command::{Command, Lockable};
+use crate::device::{device_in, fb_device, key_at, lock_on, power_device, session_device};
+use crate::drive::{gl_refusal, set_ga, set_gl};
+use crate::fresh::{init_ga, init_gl};
+use crate::init::term_device;
+use crate::lock::{checked, refusal, set_lock, term_lock};
+use crate::obeyed::Obeyed;
+use crate::registry::{set_one, show};
+use crate::rows::Rows;
+use arrayvec::ArrayVec;
+use srcp_info::{Code, Reply, Text, Value};
+
+/// TERM of a session, which ends itself alone.
+fn end_session(session: u32, named: Option<u32>) -> Obeyed
+    ensures { IsTold (term_session session named) result }
+{
+    match named {
+        Some(id) if id != session => Obeyed::refused(Code::C415),
+        _ => Obeyed::replied(Reply::Accepted, true),
+    }
+}
+
+/// SET of the power of a bus.
+fn set_power<R: Rows>(
+    rows: &mut R,
+    session: u32,
+    moment: u64,
+    bus: u8,
+    on: bool,
+    text: Text,
+) -> Obeyed
+    requires { MayObey (R.buses rows.old) (R.state rows.old) session (Command.SetPower bus on text) }
+    ensures took { Took (accepted (put_at moment (first_key (power_device bus)) (value.Power on text) None ∷ [])) (R.state rows.old) (R.state rows.new) result }
+    ensures layout { R.buses rows.new ≡ R.buses rows.old }
+{
+    let key = power_device(bus).first_key();
+    set_one(rows, moment, key, Value::Power { on, text }, None)
+}
+
+/// SET of a feedback port.
+fn set_fb<R: Rows>(rows: &mut R, session: u32, moment: u64, bus: u8, port: u32, on: bool) -> Obeyed
+    requires { MayObey (R.buses rows.old) (R.state rows.old) session (Command.SetFb bus port on) }
+    ensures took { Took (accepted (put_at moment (first_key (fb_device bus port)) (value.Fb on) None ∷ [])) (R.state rows.old) (R.state rows.new) result }
+    ensures layout { R.buses rows.new ≡ R.buses rows.old }
+{
+    let key = fb_device(bus, port).first_key();
+    set_one(rows, moment, key, Value::Fb { on }, None)
+}
+
+/// What a command that changes nothing answers.
+fn accepted() -> Obeyed
+    ensures { IsTold (accepted []) result }
+{
+    Obeyed::accepted(ArrayVec::new())
+}
+
+/// Answers the command.
+fn answer<R: Rows>(rows: &mut R, session: u32, moment: u64, command: &Command) -> Obeyed
+    requires { MayObey (R.buses rows.old) (R.state rows.old) session command.now }
+    ensures obeyed { IsObeyed (R.state rows.old) (R.state rows.new) session moment command.now result }
+    ensures layout { R.buses rows.new ≡ R.buses rows.old }
+{
+    match *command {
+        Command::GetSession { session: id } => show(rows, &session_device(id).first_key()),
+        Command::TermSession { session: named } => end_session(session, named),
+        Command::GetPower { bus } => show(rows, &power_device(bus).first_key()),
+        Command::SetPower { bus, on, text } => set_power(rows, session, moment, bus, on, text),
+        Command::CheckPower { .. } => accepted(),
+        Command::InitPower { .. } => accepted(),
+        Command::GetGl { bus, address } => {
+            show(rows, &key_at(device_in(Lockable::Gl, bus, address), 1))
+        }
+        Command::SetGl {
+            bus,
+            address,
+            mode,
+            v,
+            vmax,
+            functions,
+        } => set_gl(
+            rows, session, moment, bus, address, mode, v, vmax, &functions,
+        ),
+        Command::CheckGl {
+            bus,
+            address,
+            functions,
+            ..
+        } => checked(gl_refusal(rows, session, bus, address, &functions)),
+        Command::InitGl {
+            bus,
+            address,
+            letter,
+            version,
+            steps,
+            functions,
+        } => init_gl(
+            rows, session, moment, bus, address, letter, version, steps, functions,
+        ),
+        Command::TermGl { bus, address } => {
+            term_device(rows, session, moment, Lockable::Gl, bus, address)
+        }
+        Command::GetGa { bus, address, port } => {
+            show(
+                rows,
+                &key_at(device_in(Lockable::Ga, bus, address), 1 + port),
+            )
+        }
+        Command::SetGa {
+            bus,
+            address,
+            port,
+            on,
+            time,
+        } => set_ga(rows, session, moment, bus, address, port, on, time),
+        Command::CheckGa { bus, address, .. } => {
+            checked(refusal(rows, session, Lockable::Ga, bus, address))
+        }
+        Command::InitGa {
+            bus,
+            address,
+            letter,
+            ports,
+        } => init_ga(rows, session, moment, bus, address, letter, ports),
+        Command::TermGa { bus, address } => {
+            term_device(rows, session, moment, Lockable::Ga, bus, address)
+        }
+        Command::GetFb { bus, port } => show(rows, &fb_device(bus, port).first_key()),
+        Command::SetFb { bus, port, on } => set_fb(rows, session, moment, bus, port, on),
+        Command::CheckFb { .. } => accepted(),
+        Command::InitFb { .. } => accepted(),
+        Command::GetLock {
+            bus,
+            group,
+            address,
+        } => show(rows, &lock_on(group, bus, address).first_key()),
+        Command::SetLock {
+            bus,
+            group,
+            address,
+            seconds,
+        } => set_lock(rows, session, moment, group, bus, address, seconds),
+        Command::CheckLock {
+            bus,
+            group,
+            address,
+            ..
+        } => checked(refusal(rows, session, group, bus, address)),
+        Command::TermLock {
+            bus,
+            group,
+            address,
+        } => term_lock(rows, session, moment, group, bus, address),
+    }
+}
+
+/// Does what a command of a session does, and says what came of it: the reply, the changes in
+/// order, and whether the session ends. Where the command adds rows (INIT of a device that is not
+/// there, SET of a lock where there is none) and memory is refused for them, the reply is 500 and
+/// nothing has changed; nothing else takes memory.
+pub fn obey<R: Rows>(rows: &mut R, session: u32, moment: u64, command: &Command) -> Obeyed
+    requires laid_out { IsLayout (R.buses rows.old) }
+    requires whole { IsWhole (R.buses rows.old) (R.state rows.old) }
+    requires begun { IsTrue (is_there (session_device session) (R.state rows.old)) }
+    requires command { IsCommandOf (R.buses rows.old) command.now }
+    ensures obeyed { IsObeyed (R.state rows.old) (R.state rows.new) session moment command.now result }
+    ensures layout { R.buses rows.new ≡ R.buses rows.old }
+    ensures whole { IsWhole (R.buses rows.new) (R.state rows.new) }
+    ensures reply { IsWellFormedReply result.reply }
+    ensures changes { AllByRecursion IsWellFormed result.changes.items }
+    ensures few { length result.changes.items ≤ 11 }
+{
+    answer(rows, session, moment, command)
+}
