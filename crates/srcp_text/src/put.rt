@@ -12,8 +12,7 @@ pub type LineBuf = ArrayVec<u8, 256>;
 /// Appends bytes as they are.
 pub fn put_bytes(bytes: &[u8], line: &mut LineBuf)
     requires { array_vec_len line.old + length bytes.now ≤ 256 }
-    ensures items { line.new.items ≡ line.old.items ++ bytes.now }
-    ensures len { array_vec_len line.new ≡ array_vec_len line.old + length bytes.now }
+    ensures { line.new.items ≡ line.old.items ++ bytes.now }
 {
     line.try_extend_from_slice(bytes).unwrap();
 }
@@ -21,8 +20,7 @@ pub fn put_bytes(bytes: &[u8], line: &mut LineBuf)
 /// Appends a number in decimal, without leading zeros.
 pub fn put_number(number: u64, line: &mut LineBuf)
     requires { array_vec_len line.old + length (decimal number) ≤ 256 }
-    ensures items { line.new.items ≡ line.old.items ++ decimal number }
-    ensures len { array_vec_len line.new ≡ array_vec_len line.old + length (decimal number) }
+    ensures { line.new.items ≡ line.old.items ++ decimal number }
 {
     let mut buffer = itoa::Buffer::new();
     put_bytes(buffer.format(number).as_bytes(), line);
@@ -32,8 +30,7 @@ pub fn put_number(number: u64, line: &mut LineBuf)
 /// milliseconds past them in three digits, as `12.050`. It has at most 21 bytes.
 pub fn put_stamp(moment: u64, line: &mut LineBuf)
     requires { array_vec_len line.old + length (stamp moment) ≤ 256 }
-    ensures items { line.new.items ≡ line.old.items ++ stamp moment }
-    ensures len { array_vec_len line.new ≡ array_vec_len line.old + length (stamp moment) }
+    ensures { line.new.items ≡ line.old.items ++ stamp moment }
 {
     put_number(moment / 1000, line);
     let past = moment % 1000;

@@ -145,7 +145,9 @@ fn puts_stamps_numbers_and_bytes(rt: HostRuntime) -> Result<(), Fail> {
     }
     let mut line = stamped(70007);
     put_bytes(b" 101 INFO 0 SESSION ", &mut line);
-    put_number(4294967295, &mut line);
-    assert!(rt; line.as_slice() == b"70.007 101 INFO 0 SESSION 4294967295".as_slice());
+    assert!(rt; line.as_slice() == b"70.007 101 INFO 0 SESSION ".as_slice());
+    let mut id = LineBuf::new();
+    put_number(4294967295, &mut id);
+    assert!(rt; id.as_slice() == b"4294967295".as_slice());
     Ok(())
 }
