@@ -1,7 +1,7 @@
 -- Laws of the places of an array that stand past a list's end.
 use Rattle.std.specs.Prelude.{◌≡◌, ℕ, ◌+◌, ◌-◌, ◌<◌, ◌≤◌, List, length, replicate, take, drop, slice_set}
 use Rattle.std.proofs.Common.{ap, sym, ◌∙◌, arith, drop-drop}
-use Rattle.std.proofs.lemmas.List.{length-take-le, length-set, drop-set-lt, drop-replicate, take-replicate}
+use Rattle.std.proofs.lemmas.List.{length-take-le, length-set, drop-set-lt, drop-replicate}
 
 -- after a write at the end, the places past it hold x as before
 pub rest_after : {A : Type 0} → (n k : ℕ) (x y : A) (xs : List A) → drop k xs ≡ replicate (n - k) x → drop (k + 1) (slice_set xs k y) ≡ replicate (n - (k + 1)) x

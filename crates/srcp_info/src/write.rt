@@ -23,21 +23,21 @@ fn put_word(word: &[u8], buffer: &mut LineBuf)
 }
 
 /// Appends a space and a number.
-fn put_count(count: u32, buffer: &mut LineBuf)
-    requires { array_vec_len buffer.old + 1 + length (decimal count) ≤ 256 }
-    ensures { buffer.new.items ≡ buffer.old.items ++ 32 ∷ decimal count }
+fn put_numeral(number: u32, buffer: &mut LineBuf)
+    requires { array_vec_len buffer.old + 1 + length (decimal number) ≤ 256 }
+    ensures { buffer.new.items ≡ buffer.old.items ++ 32 ∷ decimal number }
 {
     buffer.push(b' ');
-    put_number(u64::from(count), buffer);
+    put_number(u64::from(number), buffer);
 }
 
 /// Appends each number after a space.
-fn put_counts(counts: &[u32], buffer: &mut LineBuf)
-    requires { array_vec_len buffer.old + length (after_spaces (map decimal counts.now)) ≤ 256 }
-    ensures { buffer.new.items ≡ buffer.old.items ++ after_spaces (map decimal counts.now) }
+fn put_numerals(numbers: &[u32], buffer: &mut LineBuf)
+    requires { array_vec_len buffer.old + length (after_spaces (map decimal numbers.now)) ≤ 256 }
+    ensures { buffer.new.items ≡ buffer.old.items ++ after_spaces (map decimal numbers.now) }
 {
-    for count in counts {
-        put_count(*count, buffer);
+    for number in numbers {
+        put_numeral(*number, buffer);
     }
 }
 
@@ -60,8 +60,10 @@ fn put_group(group: Group, buffer: &mut LineBuf)
 
 /// Appends what a POWER line says: ON or OFF, and the text where there is one.
 fn put_power(on: bool, text: &Text, buffer: &mut LineBuf)
-    requires { array_vec_len buffer.old + length (after_spaces (value_words 0 0 (Value.Power on text.now))) ≤ 256 }
-    ensures { buffer.new.items ≡ buffer.old.items ++ after_spaces (value_words 0 0 (Value.Power on text.now)) }
+    requires { array_vec_len buffer.old
+        + length (after_spaces (value_words 0 0 (Value.Power on text.now))) ≤ 256 }
+    ensures { buffer.new.items
+        ≡ buffer.old.items ++ after_spaces (value_words 0 0 (Value.Power on text.now)) }
 {
     put_word(switch_word(on), buffer);
     if !text.is_empty() {
@@ -71,7 +73,8 @@ fn put_power(on: bool, text: &Text, buffer: &mut LineBuf)
 
 /// Appends each function as 1 or 0.
 fn put_functions(functions: &Bits, buffer: &mut LineBuf)
-    requires { array_vec_len buffer.old + length (after_spaces (map bit_word functions.now)) ≤ 256 }
+    requires { array_vec_len buffer.old
+        + length (after_spaces (map bit_word functions.now)) ≤ 256 }
     ensures { buffer.new.items ≡ buffer.old.items ++ after_spaces (map bit_word functions.now) }
 {
     for on in functions.as_slice() {
@@ -82,14 +85,15 @@ fn put_functions(functions: &Bits, buffer: &mut LineBuf)
 /// Appends what the line of a row says after the words of its group.
 fn put_value(key: &Key, value: &Value, buffer: &mut LineBuf)
     requires fits_key { IsValueAt key.now.group key.now.port value.now }
-    requires room { array_vec_len buffer.old + length (after_spaces (value_words key.now.address key.now.port value.now)) ≤ 256 }
+    requires room { array_vec_len buffer.old
+        + length (after_spaces (value_words key.now.address key.now.port value.now)) ≤ 256 }
     ensures { buffer.new.items
         ≡ buffer.old.items ++ after_spaces (value_words key.now.address key.now.port value.now) }
 {
     let address = key.address;
     match value {
         Value::Session { mode } => {
-            put_count(address, buffer);
+            put_numeral(address, buffer);
             put_word(mode_word(*mode), buffer);
         }
         Value::Power { on, text } => put_power(*on, text, buffer),
@@ -99,9 +103,9 @@ fn put_value(key: &Key, value: &Value, buffer: &mut LineBuf)
             steps,
             functions,
         } => {
-            put_count(address, buffer);
+            put_numeral(address, buffer);
             put_word(letter_word(*letter), buffer);
-            put_counts(&[*version, *steps, *functions], buffer);
+            put_numerals(&[*version, *steps, *functions], buffer);
         }
         Value::GlState {
             mode,
@@ -109,34 +113,36 @@ fn put_value(key: &Key, value: &Value, buffer: &mut LineBuf)
             vmax,
             functions,
         } => {
-            put_counts(&[address, *mode, *v, *vmax], buffer);
+            put_numerals(&[address, *mode, *v, *vmax], buffer);
             put_functions(functions, buffer);
         }
         Value::GaInit { letter } => {
-            put_count(address, buffer);
+            put_numeral(address, buffer);
             put_word(letter_word(*letter), buffer);
         }
         Value::GaPort { on } => {
-            put_counts(&[address, u32::from(key.port - 1)], buffer);
+            put_numerals(&[address, u32::from(key.port - 1)], buffer);
             put_word(bit_word(*on), buffer);
         }
         Value::Fb { on } => {
-            put_count(address, buffer);
+            put_numeral(address, buffer);
             put_word(bit_word(*on), buffer);
         }
-        Value::Lock { seconds, session } => put_counts(&[address, *seconds, *session], buffer),
+        Value::Lock { seconds, session } => put_numerals(&[address, *seconds, *session], buffer),
     }
 }
 
 /// Appends what all lines of changes begin with, up to the words of the group.
 fn put_info(moment: u64, code: &[u8], bus: u8, group: Group, buffer: &mut LineBuf)
-    requires { array_vec_len buffer.old + length (join_with_byte 32 (info_words moment code.now bus group [])) ≤ 256 }
-    ensures { buffer.new.items ≡ buffer.old.items ++ join_with_byte 32 (info_words moment code.now bus group []) }
+    requires { array_vec_len buffer.old
+        + length (join_with_byte 32 (info_words moment code.now bus group [])) ≤ 256 }
+    ensures { buffer.new.items
+        ≡ buffer.old.items ++ join_with_byte 32 (info_words moment code.now bus group []) }
 {
     put_stamp(moment, buffer);
     put_word(code, buffer);
     put_word(b"INFO", buffer);
-    put_count(u32::from(bus), buffer);
+    put_numeral(u32::from(bus), buffer);
     put_group(group, buffer);
 }
 
@@ -167,7 +173,7 @@ fn write_gone(stamp: u64, device: &Device, buffer: &mut LineBuf)
     ensures most { array_vec_len buffer.new ≤ 126 }
 {
     put_info(stamp, b"102", device.bus, device.group, buffer);
-    put_count(device.address, buffer);
+    put_numeral(device.address, buffer);
     put_bytes(b"\n", buffer);
 }
 
@@ -206,7 +212,7 @@ fn write_go(stamp: u64, id: u32, buffer: &mut LineBuf)
 {
     put_stamp(stamp, buffer);
     put_word(b"200 OK GO", buffer);
-    put_count(id, buffer);
+    put_numeral(id, buffer);
     put_bytes(b"\n", buffer);
 }
 

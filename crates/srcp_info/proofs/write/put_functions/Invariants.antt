@@ -1,4 +1,4 @@
-use Rattle.std.proofs.Common.{◌≡◌, ◌++◌, map, take, drop}
+use Rattle.std.proofs.Common.{◌≡◌, ◌++◌, map, drop}
 use Rattle.srcp_info.specs.Line.{after_spaces, bit_word}
 use Rattle.srcp_info.proofs.write.put_functions.Given as goal
 

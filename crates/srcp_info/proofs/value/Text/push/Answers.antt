@@ -1,4 +1,3 @@
-use Rattle.std.proofs.Common.{◌∙◌}
 use Rattle.srcp_info.proofs.PaddedLaws.{room_after, rest_after}
 use Rattle.srcp_info.proofs.value.Text.push.Goals as goal
 

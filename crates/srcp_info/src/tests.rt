@@ -1,0 +1,5 @@
+mod lines;
+mod mirror;
+mod refused;
+mod replies;
+mod values;

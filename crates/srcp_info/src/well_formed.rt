@@ -1,0 +1,146 @@
+//! Which rows and changes can be told.
+
+ghost use Rattle.std.specs.Prelude.{◌≡◌, ◌≤◌, ◌↔◌, IsTrue};
+ghost use Rattle.std.specs.List.{list_all, slice_split};
+ghost use Rattle.srcp_info.specs.Read.{is_space};
+ghost use Rattle.srcp_info.specs.WellFormed.{IsBetween, IsAddress, IsSpeed, IsValueAt, IsWellFormed, can_go, is_lock, is_text, is_text_byte, is_text_word};
+
+use crate::change::Change;
+use crate::key::Group;
+use crate::value::Value;
+
+fn is_text_byte(byte: u8) -> bool
+    ensures { result ≡ is_text_byte byte }
+{
+    byte > b' ' && byte != 127
+}
+
+fn are_text_bytes(bytes: &[u8]) -> bool
+    ensures { result ≡ list_all is_text_byte bytes.now }
+{
+    bytes.iter().all(|byte| is_text_byte(*byte))
+}
+
+fn is_text_word(word: &[u8]) -> bool
+    ensures { result ≡ is_text_word word.now }
+{
+    !word.is_empty() && are_text_bytes(word)
+}
+
+fn is_space(byte: u8) -> bool
+    ensures { result ≡ is_space byte }
+{
+    byte == b' '
+}
+
+fn are_text_words(text: &[u8]) -> bool
+    ensures { result ≡ list_all is_text_word (slice_split is_space text.now) }
+{
+    text.split(|byte| is_space(*byte))
+        .all(|word| is_text_word(word))
+}
+
+/// Whether a power row can show the text: at most 80 bytes, with no control bytes and no DEL, and
+/// each space between two words.
+pub fn is_text(text: &[u8]) -> bool
+    ensures { result ≡ is_text text.now }
+{
+    text.len() <= 80 && (text.is_empty() || are_text_words(text))
+}
+
+fn is_between(low: u32, high: u32, number: u32) -> bool
+    ensures { IsTrue result ↔ IsBetween low high number }
+{
+    low <= number && number <= high
+}
+
+fn is_address(group: Group, bus: u8, address: u32) -> bool
+    ensures { IsTrue result ↔ IsAddress group bus address }
+{
+    let on_bus = is_between(1, 250, u32::from(bus));
+    match group {
+        Group::Session => bus == 0 && address >= 1,
+        Group::Power => on_bus && address == 0,
+        Group::Gl | Group::LockGl => on_bus && is_between(1, 10239, address),
+        Group::Ga | Group::LockGa => on_bus && is_between(1, 2044, address),
+        Group::Fb => on_bus && is_between(1, 4096, address),
+    }
+}
+
+fn is_lock(group: Group) -> bool
+    ensures { result ≡ is_lock group }
+{
+    match group {
+        Group::LockGl | Group::LockGa => true,
+        Group::Session | Group::Power | Group::Gl | Group::Ga | Group::Fb => false,
+    }
+}
+
+fn can_go(group: Group) -> bool
+    ensures { result ≡ can_go group }
+{
+    match group {
+        Group::Power | Group::Fb => false,
+        Group::Session | Group::Gl | Group::Ga | Group::LockGl | Group::LockGa => true,
+    }
+}
+
+fn is_speed(mode: u32, v: u32, vmax: u32) -> bool
+    ensures { IsTrue result ↔ IsSpeed mode v vmax }
+{
+    mode <= 2 && v <= 65535 && vmax <= 65535 && (v <= vmax || vmax == 0) && (mode != 2 || v == 0)
+}
+
+fn is_value_at(group: Group, port: u8, value: &Value) -> bool
+    ensures { IsTrue result ↔ IsValueAt group port value.now }
+{
+    match value {
+        Value::Session { .. } => group == Group::Session && port == 0,
+        Value::Power { text, .. } => {
+            group == Group::Power && port == 0 && is_text(text.as_bytes())
+        }
+        Value::GlInit {
+            version,
+            steps,
+            functions,
+            ..
+        } => {
+            group == Group::Gl
+                && port == 0
+                && *version <= 255
+                && is_between(1, 1000, *steps)
+                && *functions <= 29
+        }
+        Value::GlState {
+            mode,
+            v,
+            vmax,
+            functions,
+        } => {
+            group == Group::Gl && port == 1 && is_speed(*mode, *v, *vmax) && functions.len() <= 29
+        }
+        Value::GaInit { .. } => group == Group::Ga && port == 0,
+        Value::GaPort { .. } => group == Group::Ga && is_between(1, 8, u32::from(port)),
+        Value::Fb { .. } => group == Group::Fb && port == 0,
+        Value::Lock { seconds, session } => {
+            is_lock(group) && port == 0 && *seconds <= 86400 && *session >= 1
+        }
+    }
+}
+
+/// Whether the change can be told: its numbers are in the ranges of their group, and its value is
+/// one that the row at its key can have.
+pub(crate) fn is_well_formed(change: Change) -> bool
+    ensures { IsTrue result ↔ IsWellFormed change }
+{
+    match change {
+        Change::Put(shown) => {
+            let key = shown.key;
+            is_address(key.group, key.bus, key.address)
+                && is_value_at(key.group, key.port, &shown.value)
+        }
+        Change::Gone { device, .. } => {
+            is_address(device.group, device.bus, device.address) && can_go(device.group)
+        }
+    }
+}
