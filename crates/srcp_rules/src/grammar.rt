@@ -1,12 +1,15 @@
-ghost use Rattle.std.specs.Prelude.{◌≡◌, ℕ, ◌≤◌, Ok, Err, MatchResult};
+ghost use Rattle.std.specs.Prelude.{◌≡◌, ℕ, Bool, List, Option, Ok, Err, MatchResult};
+ghost use Rattle.srcp_rules.specs.declared.command.Lockable.{Lockable};
 ghost use Rattle.srcp_rules.specs.declared.command.Command.{Command};
-ghost use Rattle.srcp_rules.specs.Grammar.{addressed, ga_port, get_ga, get_session, term_session, set_fb};
+ghost use Rattle.srcp_rules.specs.Layout.{address_max};
+ghost use Rattle.srcp_rules.specs.Grammar.{addressed, ga_port, get_ga, get_session, init_ga, init_gl, named_lock, set_fb, set_ga, set_lock, set_power, term_session};
 
-use crate::command::Command;
+use crate::command::{Command, Lockable};
 use crate::counted::{next_word, no_more};
 use crate::layout::Bus;
-use crate::read::{bit_of, number_in};
-use srcp_info::Code;
+use crate::power_text::text_of;
+use crate::read::{bit_of, is_keyword, letter_of, lockable_on, number_in, switch_of, time_of};
+use srcp_info::{Code, Letter, Text};
 use srcp_text::Words;
 
 /// An address and nothing else.
@@ -42,7 +45,6 @@ fn term_session(mut words: Words<'_>) -> Result<Command, Code>
 
 /// An accessory's port, from 0 on.
 fn ga_port(bus: &Bus, word: &[u8]) -> Result<u8, Code>
-    requires { bus.now.ga_ports ≤ 8 }
     ensures { result ≡ ga_port bus.now word.now }
 {
     let port = number_in(0, u32::from(bus.ga_ports.saturating_sub(1)), word)?;
@@ -50,7 +52,6 @@ fn ga_port(bus: &Bus, word: &[u8]) -> Result<u8, Code>
 }
 
 fn get_ga(bus: &Bus, mut words: Words<'_>) -> Result<Command, Code>
-    requires { bus.now.ga_ports ≤ 8 }
     ensures { result ≡ get_ga bus.now words.entry }
 {
     let first = next_word(&mut words)?;
@@ -63,4 +64,129 @@ fn get_ga(bus: &Bus, mut words: Words<'_>) -> Result<Command, Code>
         address,
         port,
     })
+}
+
+/// What a port is set to.
+struct Switch {
+    address: u32,
+    port: u8,
+    on: bool,
+    time: Option<u32>,
+}
+
+/// Address, port, value and time.
+fn switched(bus: &Bus, mut words: Words<'_>) -> Result<Switch, Code>
+    ensures { (make : ℕ → ℕ → Bool → Option ℕ → Command) → MatchResult result (λ s. set_ga bus.now make words.entry ≡ Ok (make s.address s.port s.on s.time)) (λ code. set_ga bus.now make words.entry ≡ Err code) }
+{
+    let first = next_word(&mut words)?;
+    let second = next_word(&mut words)?;
+    let third = next_word(&mut words)?;
+    let fourth = next_word(&mut words)?;
+    no_more(words)?;
+    Ok(Switch {
+        address: number_in(1, bus.ga_max, first)?,
+        port: ga_port(bus, second)?,
+        on: bit_of(third)?,
+        time: time_of(fourth)?,
+    })
+}
+
+/// Address and letter, then any words.
+fn init_ga(bus: &Bus, mut words: Words<'_>) -> Result<Command, Code>
+    ensures { result ≡ init_ga bus.now words.entry }
+{
+    let first = next_word(&mut words)?;
+    let second = next_word(&mut words)?;
+    Ok(Command::InitGa {
+        bus: bus.number,
+        address: number_in(1, bus.ga_max, first)?,
+        letter: letter_of(second)?,
+        ports: bus.ga_ports,
+    })
+}
+
+/// Port and value.
+fn sensor(bus: &Bus, mut words: Words<'_>) -> Result<(u32, bool), Code>
+    ensures { (make : ℕ → Bool → Command) → MatchResult result (λ s. set_fb bus.now make words.entry ≡ Ok (make s.0 s.1)) (λ code. set_fb bus.now make words.entry ≡ Err code) }
+{
+    let first = next_word(&mut words)?;
+    let second = next_word(&mut words)?;
+    no_more(words)?;
+    let port = number_in(1, bus.fb_ports, first)?;
+    Ok((port, bit_of(second)?))
+}
+
+/// The greatest address of the bus's locomotives or accessories.
+fn address_max(bus: &Bus, group: Lockable) -> u32
+    ensures { result ≡ address_max bus.now group }
+{
+    match group {
+        Lockable::Gl => bus.gl_max,
+        Lockable::Ga => bus.ga_max,
+    }
+}
+
+/// Group and address.
+fn lock(bus: &Bus, mut words: Words<'_>) -> Result<(Lockable, u32), Code>
+    ensures { (make : Lockable → ℕ → Command) → MatchResult result (λ l. named_lock bus.now make words.entry ≡ Ok (make l.0 l.1)) (λ code. named_lock bus.now make words.entry ≡ Err code) }
+{
+    let first = next_word(&mut words)?;
+    let second = next_word(&mut words)?;
+    no_more(words)?;
+    let group = lockable_on(bus, first)?;
+    Ok((group, number_in(1, address_max(bus, group), second)?))
+}
+
+/// Group, address and seconds.
+fn timed_lock(bus: &Bus, mut words: Words<'_>) -> Result<(Lockable, u32, u32), Code>
+    ensures { (make : Lockable → ℕ → ℕ → Command) → MatchResult result (λ l. set_lock bus.now make words.entry ≡ Ok (make l.0 l.1 l.2)) (λ code. set_lock bus.now make words.entry ≡ Err code) }
+{
+    let first = next_word(&mut words)?;
+    let second = next_word(&mut words)?;
+    let third = next_word(&mut words)?;
+    no_more(words)?;
+    let group = lockable_on(bus, first)?;
+    let address = number_in(1, address_max(bus, group), second)?;
+    Ok((group, address, number_in(0, 86400, third)?))
+}
+
+/// Address, letter, version, steps and number of functions, of which P alone stands for P 1 28 5.
+fn init_gl(bus: &Bus, mut words: Words<'_>) -> Result<Command, Code>
+    ensures { result ≡ init_gl bus.now words.entry }
+{
+    let first = next_word(&mut words)?;
+    let second = next_word(&mut words)?;
+    let Some(third) = words.next() else {
+        if !is_keyword(b"P", second) {
+            return Err(Code::C419);
+        }
+        return Ok(Command::InitGl {
+            bus: bus.number,
+            address: number_in(1, bus.gl_max, first)?,
+            letter: Letter::P,
+            version: 1,
+            steps: 28,
+            functions: 5,
+        });
+    };
+    let fourth = next_word(&mut words)?;
+    let fifth = next_word(&mut words)?;
+    no_more(words)?;
+    Ok(Command::InitGl {
+        bus: bus.number,
+        address: number_in(1, bus.gl_max, first)?,
+        letter: letter_of(second)?,
+        version: number_in(0, 255, third)?,
+        steps: number_in(1, 1000, fourth)?,
+        functions: number_in(0, 29, fifth)?,
+    })
+}
+
+/// ON or OFF, then the words of the text.
+fn powered(mut words: Words<'_>) -> Result<(bool, Text), Code>
+    ensures { (make : Bool → List ℕ → Command) → MatchResult result (λ p. set_power make words.entry ≡ Ok (make p.0 p.1)) (λ code. set_power make words.entry ≡ Err code) }
+{
+    let first = next_word(&mut words)?;
+    let on = switch_of(first)?;
+    Ok((on, text_of(words)?))
 }

@@ -12,7 +12,7 @@ use srcp_info::{Code, Letter};
 use srcp_text::read_number;
 
 /// Whether the word is the keyword, in capital or small letters.
-fn is_keyword(keyword: &[u8], word: &[u8]) -> bool
+pub(crate) fn is_keyword(keyword: &[u8], word: &[u8]) -> bool
     ensures { result ≡ is_keyword keyword.now word.now }
 {
     keyword.eq_ignore_ascii_case(word)
