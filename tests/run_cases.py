@@ -75,20 +75,26 @@ def ended(done, status, text, out=b""):
     return None if got == want else f"got {got!r}, want {want!r}"[:400]
 
 
+def run_mirror(program, **streams):
+    return subprocess.run([program, "mirror"], stderr=subprocess.PIPE, timeout=SECONDS, **streams)
+
+
 def input_past_its_limit(program):
-    done = subprocess.run([program, "replay"], input=b"\n" * (INPUT_LIMIT + 1), capture_output=True, timeout=SECONDS)
+    done = run_mirror(program, input=b"\n" * (INPUT_LIMIT + 1), stdout=subprocess.PIPE)
     return ended(done, 2, b"input too large")
 
 
 def input_at_its_limit(program):
-    done = subprocess.run([program, "replay"], input=b"\n" * INPUT_LIMIT, capture_output=True, timeout=SECONDS)
-    return ended(done, 0, b"", b"rows 1\n0.000 100 INFO 1 POWER OFF\n")
+    line = b"0.000 100 INFO 1 POWER OFF\n"
+    lines = line * (INPUT_LIMIT // len(line))
+    done = run_mirror(program, input=lines + b"0" * (INPUT_LIMIT - len(lines)), stdout=subprocess.PIPE)
+    return ended(done, 0, b"", line)
 
 
 def input_that_cannot_be_read(program):
     folder = os.open("/", os.O_RDONLY)
     try:
-        done = subprocess.run([program, "replay"], stdin=folder, capture_output=True, timeout=SECONDS)
+        done = run_mirror(program, stdin=folder, stdout=subprocess.PIPE)
     finally:
         os.close(folder)
     return ended(done, 1, b"cannot read the input")
@@ -96,11 +102,17 @@ def input_that_cannot_be_read(program):
 
 def output_that_cannot_be_written(program):
     with open("/dev/full", "wb") as full:
-        done = subprocess.run([program, "replay"], input=b"open\n", stdout=full, stderr=subprocess.PIPE, timeout=SECONDS)
+        done = run_mirror(program, input=b"0.000 100 INFO 1 POWER OFF\n", stdout=full)
     return ended(done, 1, b"cannot write")
 
 
-STREAM_CASES = (input_past_its_limit, input_at_its_limit, input_that_cannot_be_read, output_that_cannot_be_written)
+def words_that_are_unknown(program):
+    done = subprocess.run([program, "mirror", "mirror"], capture_output=True, timeout=SECONDS)
+    return ended(done, 2, b"usage")
+
+
+STREAM_CASES = (input_past_its_limit, input_at_its_limit, input_that_cannot_be_read, output_that_cannot_be_written,
+                words_that_are_unknown)
 
 
 def main():
