@@ -1,7 +1,7 @@
 -- What the answer to a line leaves of its connection: the line that has begun, and how many bytes are unsent.
 use Rattle.std.proofs.Common.{◌≡◌, ℕ, ◌+◌, ◌<◌, ◌≤◌, ◌^◌, Bool, true, false, cond, List, [], ◌∷◌, ◌++◌, map, length, length-append, refl, ap, sym, ◌∙◌, subst, arith}
 use Rattle.std.specs.Option.{option_map}
-use Rattle.std.specs.Prelude.{◌&&◌, nat_lt, if◌then◌else◌, Option, Some, None, Result, Ok, Err}
+use Rattle.std.specs.Prelude.{not, ◌||◌, ◌&&◌, nat_lt, if◌then◌else◌, Option, Some, None, Result, Ok, Err}
 use Rattle.std.proofs.lemmas.Bool.Decides.{nat_tests}
 use Rattle.srcp_info.specs.Line.{reply_line}
 use Rattle.srcp_info.specs.WellFormed.{IsMoment, IsWellFormedReply}
@@ -14,7 +14,7 @@ use Rattle.srcp_info.specs.declared.value.Mode.{Mode}
 use Rattle.srcp_info.proofs.LineLaws.{length-reply_line-le, length-reply_line-most}
 use Rattle.srcp_rules.specs.declared.command.Command.{Command}
 use Rattle.srcp_rules.specs.Due.{began, freed}
-use Rattle.srcp_rules.specs.Effect.{Effect, effect}
+use Rattle.srcp_rules.specs.Effect.{Effect, effect, adds_rows}
 use Rattle.srcp_rules.specs.State.{is_there, session_device}
 use Rattle.srcp_rules.proofs.ToldLaws.{reply_told}
 use Rattle.srcp_text.specs.Marks.{Mark}
@@ -152,11 +152,14 @@ answered_gains granted key asked held p mark there is s = by asked is granted (a
     by Dropped is granted (Some q) e = most 0 64 (at held key) (at held key) (omega arith) (nothing (at held key))
     by (Greets greeting) is granted (Some q) e = greeted_gains granted key q.mode greeting held s.moment
     by (Commands (Err code)) is granted (Some q) e = replied_gains key (Refused code) held s.moment tt
-    by (Commands (Ok command)) is false (Some q) e = most 64 126 (at held key) (at (denied_line key held) key) (omega arith) (denied_gains key held s.moment)
-    by (Commands (Ok command)) is true (Some q) e =
-        let same : q ≡ p = cc in
-        let a = asked_by held.buses s.layout p mark (Ok command) is in
-        let own : p.session ≡ q.session = sym (ap (λ (r : Place). r.session) same) in
-        let row : is_there (session_device q.session) held.rows ≡ true = subst (λ n. is_there (session_device n) held.rows ≡ true) own (s.sessions.there key p there a.live) in
-        obeyed_gains key q.session (effect held.rows q.session held.moment command) held s.moment
-        (reply_told held.buses s.layout held.rows s.whole q.session held.moment row s.moment command)
+    by (Commands (Ok command)) is granted (Some q) e = given (granted || not (adds_rows held.rows command))
+      where
+        given : (t : Bool) → Gains 126 (at held key) (at (cond t (obeyed key q.session (effect held.rows q.session held.moment command) held) (denied_line key held)) key)
+        given false = most 64 126 (at held key) (at (denied_line key held) key) (omega arith) (denied_gains key held s.moment)
+        given true =
+            let same : q ≡ p = cc in
+            let a = asked_by held.buses s.layout p mark (Ok command) is in
+            let own : p.session ≡ q.session = sym (ap (λ (r : Place). r.session) same) in
+            let row : is_there (session_device q.session) held.rows ≡ true = subst (λ n. is_there (session_device n) held.rows ≡ true) own (s.sessions.there key p there a.live) in
+            obeyed_gains key q.session (effect held.rows q.session held.moment command) held s.moment
+            (reply_told held.buses s.layout held.rows s.whole q.session held.moment row s.moment command)

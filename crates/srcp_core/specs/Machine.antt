@@ -15,7 +15,7 @@ use Rattle.srcp_info.specs.declared.value.Mode.TheVariants.{Command as CommandMo
 use Rattle.srcp_rules.specs.declared.layout.Bus.{Bus}
 use Rattle.srcp_rules.specs.declared.command.Command.{Command}
 use Rattle.srcp_rules.specs.Due.{due, freed, began}
-use Rattle.srcp_rules.specs.Effect.{Effect, effect}
+use Rattle.srcp_rules.specs.Effect.{Effect, effect, adds_rows}
 use Rattle.srcp_rules.specs.State.{State, Update, updated_all, shown_rows}
 use Rattle.srcp_text.specs.Marks.{Mark, Line, TooLong}
 use Rattle.srcp_text.specs.Reading.{Reading, nothing_read}
@@ -187,10 +187,11 @@ finished ends key session held = if ends then freed_of session (changed_at key (
 abbrev pub obeyed : ℕ → ℕ → Effect → Held → Held
 obeyed key session result held = finished result.ends key session (replied key result.reply (carried result.updates held))
 
--- a command, by whether memory was given to it
+-- a command, by whether memory was given to it, which only one that adds rows asks for
 abbrev pub commanded : Bool → ℕ → ℕ → Result Command Code → Held → Held
 commanded granted key session (Err code) held = replied key (Refused code) held
-commanded granted key session (Ok command) held = if granted then obeyed key session (effect held.rows session held.moment command) held else denied_line key held
+commanded granted key session (Ok command) held =
+    if granted || not (adds_rows held.rows command) then obeyed key session (effect held.rows session held.moment command) held else denied_line key held
 
 abbrev pub answered_from : Bool → ℕ → Asked → Held → Option Place → Held
 answered_from granted key asked held None = held
