@@ -2,14 +2,14 @@
 use Rattle.std.proofs.Common.{◌≡◌, ◌≢◌, ℕ, Bool, true, false, cond, List, [], ◌∷◌, refl, ap, sym, ◌∙◌, subst, inl, inr}
 use Rattle.std.specs.Prelude.{Option, Some, None, Result, Ok, Err, if◌then◌else◌, ◌==◌}
 use Rattle.srcp_info.specs.declared.change.Code.{Code}
-use Rattle.srcp_info.specs.declared.change.Code.TheVariants.{C415, C500}
+use Rattle.srcp_info.specs.declared.change.Code.TheVariants.{C414, C415, C416, C418, C500}
 use Rattle.srcp_info.specs.declared.change.Reply.{Reply}
 use Rattle.srcp_info.specs.declared.change.Reply.TheVariants.{Accepted, Refused}
 use Rattle.srcp_info.specs.declared.change.Row.{Row}
 use Rattle.srcp_rules.specs.declared.command.Command.{Command}
 use Rattle.srcp_rules.specs.declared.command.Command.TheVariants.{GetSession, TermSession, GetPower, SetPower, CheckPower, InitPower, GetGl, SetGl, CheckGl, InitGl, TermGl, GetGa, SetGa, CheckGa, InitGa, TermGa, GetFb, SetFb, CheckFb, InitFb, GetLock, SetLock, CheckLock, TermLock}
 use Rattle.srcp_rules.specs.declared.obeyed.Obeyed.{Obeyed}
-use Rattle.srcp_rules.specs.Effect.{Effect, effect, refused, accepted, showing, done, checked, term_session}
+use Rattle.srcp_rules.specs.Effect.{Effect, effect, refused, accepted, showing, done, checked, term_session, adds_rows, set_gl, set_ga, set_lock}
 use Rattle.srcp_rules.specs.Obeyed.{IsObeyed, Took}
 use Rattle.srcp_rules.specs.State.{State, Update, updated_all}
 
@@ -65,6 +65,80 @@ refused_changes code state session moment (GetLock bus group address) = shows co
 refused_changes code state session moment (SetLock bus group address seconds) = does code _
 refused_changes code state session moment (CheckLock bus group address seconds) = checks code _
 refused_changes code state session moment (TermLock bus group address) = does code _
+
+-- ---- no command is refused with 500
+
+record IsFine (result : Result (List Update) Code) : Type 0 where
+  never : result ≢ Err C500
+
+fine : (updates : List Update) → IsFine (Ok updates)
+fine updates = record { never = λ e. cc }
+
+refuses : (b : Bool) (code : Code) (result : Result (List Update) Code) → code ≢ C500 → IsFine result → IsFine (cond b (Err code) result)
+refuses true code result other f = record { never = λ e. let same : code ≡ C500 = cc in other same }
+refuses false code result other f = f
+
+c414 : C414 ≢ C500
+c414 e = cc
+
+c416 : C416 ≢ C500
+c416 e = cc
+
+c418 : C418 ≢ C500
+c418 e = cc
+
+never_done : (result : Result (List Update) Code) → IsFine result → (done result).reply ≢ Refused C500
+never_done (Ok updates) f e = cc
+never_done (Err code) f e = let same : code ≡ C500 = cc in f.never (ap (λ (c : Code). let r : Result (List Update) Code = Err c in r) same)
+
+never_checked : (result : Result (List Update) Code) → IsFine result → (checked result).reply ≢ Refused C500
+never_checked (Ok updates) f e = cc
+never_checked (Err code) f e = let same : code ≡ C500 = cc in f.never (ap (λ (c : Code). let r : Result (List Update) Code = Err c in r) same)
+
+never_shown : (row : Option Row) → (showing row).reply ≢ Refused C500
+never_shown None e = cc
+never_shown (Some row) e = cc
+
+never_ends : (session : ℕ) (named : Option ℕ) → (term_session session named).reply ≢ Refused C500
+never_ends session None e = cc
+never_ends session (Some id) e = by (id == session) e
+  where
+    by : (t : Bool) → (cond t (record { reply = Accepted; updates = []; ends = true }) (refused C415)).reply ≢ Refused C500
+    by true e = cc
+    by false e = cc
+
+pub never_denied : (state : State) (session moment : ℕ) (command : Command) → (effect state session moment command).reply ≢ Refused C500
+never_denied state session moment (GetSession id) = never_shown _
+never_denied state session moment (TermSession id) = never_ends session id
+never_denied state session moment (GetPower bus) = never_shown _
+never_denied state session moment (SetPower bus on text) = λ e. cc
+never_denied state session moment (CheckPower bus on text) = λ e. cc
+never_denied state session moment (InitPower bus) = λ e. cc
+never_denied state session moment (GetGl bus address) = never_shown _
+never_denied state session moment (SetGl bus address mode v vmax functions) = never_done _ (refuses _ C416 _ c416 (refuses _ C418 _ c418 (refuses _ C414 _ c414 (fine _))))
+never_denied state session moment (CheckGl bus address mode v vmax functions) =
+    never_checked (set_gl state session moment bus address mode v vmax functions) (refuses _ C416 _ c416 (refuses _ C418 _ c418 (refuses _ C414 _ c414 (fine _))))
+never_denied state session moment (InitGl bus address letter version steps functions) = never_done _ (refuses _ C414 _ c414 (fine _))
+never_denied state session moment (TermGl bus address) = never_done _ (refuses _ C416 _ c416 (refuses _ C414 _ c414 (fine _)))
+never_denied state session moment (GetGa bus address port) = never_shown _
+never_denied state session moment (SetGa bus address port on time) = never_done _ (refuses _ C416 _ c416 (refuses _ C414 _ c414 (fine _)))
+never_denied state session moment (CheckGa bus address port on time) = never_checked (set_ga state session moment bus address port on time) (refuses _ C416 _ c416 (refuses _ C414 _ c414 (fine _)))
+never_denied state session moment (InitGa bus address letter ports) = never_done _ (refuses _ C414 _ c414 (fine _))
+never_denied state session moment (TermGa bus address) = never_done _ (refuses _ C416 _ c416 (refuses _ C414 _ c414 (fine _)))
+never_denied state session moment (GetFb bus port) = never_shown _
+never_denied state session moment (SetFb bus port on) = λ e. cc
+never_denied state session moment (CheckFb bus port on) = λ e. cc
+never_denied state session moment (InitFb bus) = λ e. cc
+never_denied state session moment (GetLock bus group address) = never_shown _
+never_denied state session moment (SetLock bus group address seconds) = never_done _ (refuses _ C416 _ c416 (refuses _ C414 _ c414 (fine _)))
+never_denied state session moment (CheckLock bus group address seconds) = never_checked (set_lock state session moment group bus address seconds) (refuses _ C416 _ c416 (refuses _ C414 _ c414 (fine _)))
+never_denied state session moment (TermLock bus group address) = never_done _ (refuses _ C416 _ c416 (refuses _ C414 _ c414 (fine _)))
+
+module _ (state after : State) (session moment : ℕ) (command : Command) (obeyed : Obeyed) where
+  -- where 500 was answered, rows were to be added
+  pub denied_adds : IsObeyed state after session moment command obeyed → obeyed.reply ≡ Refused C500 → adds_rows state command ≡ true
+  denied_adds (inl took) e = absurd (never_denied state session moment command (sym took.told.reply ∙ e))
+  denied_adds (inr wants) e = wants.0
 
 module _ (state after : State) (session moment : ℕ) (command : Command) (obeyed : Obeyed) where
   -- where 500 was answered, the registry is as it was

@@ -15,7 +15,7 @@ use Rattle.srcp_info.specs.declared.value.Mode.TheVariants.{Command as CommandMo
 use Rattle.srcp_rules.specs.declared.layout.Bus.{Bus}
 use Rattle.srcp_rules.specs.declared.command.Command.{Command}
 use Rattle.srcp_rules.specs.Due.{due, freed, began}
-use Rattle.srcp_rules.specs.Effect.{Effect, effect}
+use Rattle.srcp_rules.specs.Effect.{Effect, effect, adds_rows}
 use Rattle.srcp_rules.specs.State.{State, Update, updated_all, shown_rows}
 use Rattle.srcp_text.specs.Marks.{Mark, Line, TooLong}
 use Rattle.srcp_text.specs.Reading.{Reading, nothing_read}
@@ -187,10 +187,11 @@ finished ends key session held = if ends then freed_of session (changed_at key (
 abbrev pub obeyed : ℕ → ℕ → Effect → Held → Held
 obeyed key session result held = finished result.ends key session (replied key result.reply (carried result.updates held))
 
--- a command, by whether memory was given to it
+-- a command, by whether memory was given to it, which only one that adds rows asks for
 abbrev pub commanded : Bool → ℕ → ℕ → Result Command Code → Held → Held
 commanded granted key session (Err code) held = replied key (Refused code) held
-commanded granted key session (Ok command) held = if granted then obeyed key session (effect held.rows session held.moment command) held else denied_line key held
+commanded granted key session (Ok command) held =
+    if granted || not (adds_rows held.rows command) then obeyed key session (effect held.rows session held.moment command) held else denied_line key held
 
 abbrev pub answered_from : Bool → ℕ → Asked → Held → Option Place → Held
 answered_from granted key asked held None = held
@@ -237,6 +238,29 @@ bytes_fault_from piece (Some p) =
 
 abbrev pub bytes_fault : ℕ → List ℕ → Held → Option CoreFault
 bytes_fault key piece held = bytes_fault_from piece (at held key)
+
+-- a piece is read on from there: the place after the next line with what that asks for, or nothing where none ends
+abbrev pub heard_in : ℕ → List ℕ → ℕ → Held → Option Place → Option (ℕ × Asked) × Held
+heard_in key piece start held None = (None, held)
+heard_in key piece start held (Some p) =
+    ((heard held.buses piece start p).0, record held { places = slice_set held.places key (Some (heard held.buses piece start p).1) })
+
+abbrev pub heard_at : ℕ → List ℕ → ℕ → Held → Option (ℕ × Asked) × Held
+heard_at key piece start held = heard_in key piece start held (at held key)
+
+-- the next line is answered, by whether memory was given to it, and the place after it is where to go on; nothing where none ends
+abbrev pub line_taken : ℕ → Bool → ℕ × Held → Option (ℕ × Asked) × Held → ℕ × Held
+line_taken key granted before (None, held) = before
+line_taken key granted before (Some (stop, asked), held) = (stop, answered granted key asked held)
+
+-- lines of the piece are answered in turn, each by whether memory was given to it
+abbrev pub lines_taken : ℕ → List ℕ → List Bool → Held → ℕ × Held
+lines_taken key piece grants held = fold (λ before granted. line_taken key granted before (heard_at key piece before.0 before.1)) (0, held) grants
+
+-- each line that ends in the piece is answered in turn, by whether memory was given to it, and then the front of a line is left
+pub record IsReceived (key : ℕ) (piece : List ℕ) (old new : Held) : Type 0 where
+  pub grants : List Bool
+  pub rest : (None, new) ≡ heard_at key piece (lines_taken key piece grants old).0 (lines_taken key piece grants old).1
 
 -- it overran, or it ended and all replies are taken
 abbrev pub is_closing_from : Option Place → Bool
