@@ -1,6 +1,7 @@
 //! What is kept of one connection.
 ghost use Rattle.std.specs.Prelude.{◌≡◌, ◌≤◌, ◌<◌, ◌+◌, [], ◌∷◌, ◌++◌, length, drop, Bool, List, true, false, ◌||◌, IfOk, Some, None, vec_capacity, if◌then◌else◌};
 ghost use Rattle.srcp_core.specs.Course.{welcome};
+ghost use Rattle.srcp_rules.specs.Grammar.{reads};
 ghost use Rattle.srcp_rules.specs.State.{shown_rows};
 ghost use Rattle.std.specs.List.{AllByRecursion};
 ghost use Rattle.srcp_info.specs.WellFormed.{IsWellFormed, IsWellFormedShown};
@@ -8,10 +9,13 @@ ghost use Rattle.srcp_text.specs.Marks.{Line, TooLong};
 ghost use Rattle.srcp_core.specs.Connection.{line_of};
 ghost use Rattle.srcp_core.specs.Machine.{fresh_place, with_unsent, without_sent, entered_place, feed_for, told_place, filled, item_from, IsTellable, asked_of, heard};
 
+use crate::asked::Asked;
+use crate::greeting::Greeting;
+use crate::handshake::greet;
 use srcp_feed::{InfoFeed, Next, Told};
-use srcp_info::{Change, Mode, write_change};
-use srcp_rules::{Memory, Rows};
-use srcp_text::{LineBuf, LineReader};
+use srcp_info::{Change, Code, Mode, write_change};
+use srcp_rules::{Layout, Memory, Rows};
+use srcp_text::{Fed, LineBuf, LineReader};
 use std::alloc::Global;
 use std::marker::Model;
 
@@ -141,6 +145,52 @@ impl Connection {
         }
     }
 
+    /// What the next line of a piece asks for, from `start` on, and the place after it.
+    pub(crate) fn hear(
+        &mut self,
+        piece: &[u8],
+        start: usize,
+        layout: &Layout,
+    ) -> Option<(usize, Asked)>
+        requires { start ≤ length piece.now }
+        ensures { (result, self.new) ≡ heard layout.now piece.now start self.old }
+    {
+        match self.reader.feed(piece, start) {
+            Fed::More => None,
+            Fed::Line { stop } => Some((stop, self.asked(layout))),
+            Fed::TooLong { stop } => Some((stop, self.asked_too_long())),
+        }
+    }
+
+    /// What the line that was found asks for.
+    fn asked(&self, layout: &Layout) -> Asked
+        ensures { result ≡ asked_of layout.now self.now (Line self.now.reader.line) }
+    {
+        if self.info || self.ended {
+            return Asked::Dropped;
+        }
+        let line = self.reader.line();
+        if self.session == 0 {
+            Asked::Greets(greet(line))
+        } else {
+            Asked::Commands(parse_command(line, layout))
+        }
+    }
+
+    /// What a line of more than 1,000 bytes is answered as.
+    fn asked_too_long(&self) -> Asked
+        ensures { result ≡ asked_of [] self.now TooLong }
+    {
+        if self.info || self.ended {
+            return Asked::Dropped;
+        }
+        if self.session == 0 {
+            Asked::Greets(Greeting::Refuses(Code::C418))
+        } else {
+            Asked::Commands(Err(Code::C418))
+        }
+    }
+
     /// The mode of its session to come.
     pub(crate) fn mode(&self) -> Mode
         ensures { result ≡ self.now.mode }
@@ -223,4 +273,10 @@ fn compact(buffer: &mut Vec<u8>, start: usize)
     let end = buffer.len();
     buffer.copy_within(start..end, 0);
     buffer.truncate(end - start);
+}
+
+fn parse_command(line: &[u8], layout: &Layout) -> Result<srcp_rules::Command, Code>
+    ensures { result ≡ reads layout.now line.now }
+{
+    Err(Code::C410)
 }

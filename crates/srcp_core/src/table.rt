@@ -22,6 +22,9 @@ use std::marker::Model;
 /// How many connections may be open at once.
 const MOST_CONNECTIONS: usize = 64;
 
+/// How many bytes a piece may have.
+const MOST_IN_PIECE: usize = 256;
+
 /// The registry of a layout, and the connections to it with their sessions.
 #[derive(Drop)]
 pub struct Core<'a, R: Rows> {

@@ -1,17 +1,77 @@
-//! What lines ask for is answered.
-ghost use Rattle.std.specs.Prelude.{◌≡◌, ◌+◌, ◌≤◌, true, length, Some, IfOk};
+//! Bytes that come in, and what their lines ask for.
+ghost use Rattle.std.specs.Prelude.{◌≡◌, ◌+◌, ◌≤◌, [], true, length, Some, None, IfOk, OnOk, OnErr, MatchResult};
 ghost use Rattle.srcp_rules.specs.Command.{IsCommandOf};
 ghost use Rattle.srcp_rules.specs.State.{is_there, session_device};
 ghost use Rattle.srcp_text.specs.Marks.{Mark};
-ghost use Rattle.srcp_core.specs.Held.{Place, IsSessionAt, at};
-ghost use Rattle.srcp_core.specs.Machine.{asked_of, answered, commanded, longest_answer, unsent_at};
+ghost use Rattle.srcp_core.specs.Held.{Place, IsSessionAt, IsSound, at};
+ghost use Rattle.srcp_core.specs.Machine.{asked_of, answered, commanded, longest_answer, unsent_at, bytes_fault, heard_at, IsReceived};
 
-use super::Core;
+use super::{Core, MOST_IN_PIECE};
 use crate::asked::Asked;
+use crate::record::CoreFault;
 use srcp_info::Code;
 use srcp_rules::{Command, Rows};
 
 impl<'a, R: Rows> Core<'a, R> {
+    /// Takes bytes that came in on a connection, of any line's front, middle or end, and answers each line that ends
+    /// in them. Refused, and nothing changes: `NoSuch` where there is no such connection, `Closing` where it ended or
+    /// overran, `Busy` while bytes of it are unsent, `PieceTooLong` for more than 256 bytes; the first that applies.
+    pub fn receive(&mut self, conn: usize, piece: &[u8]) -> Result<(), CoreFault>
+        ensures fault { MatchResult result (λ _. bytes_fault conn piece.now self.old ≡ None) (λ fault. bytes_fault conn piece.now self.old ≡ Some fault) }
+        ensures refused { OnErr result (self.new ≡ self.old) }
+        ensures received { OnOk result (IsReceived conn piece.now self.old self.new) }
+    {
+        if let Some(fault) = self.bytes_fault(conn, piece) {
+            return Err(fault);
+        }
+        self.take_lines(conn, piece);
+        Ok(())
+    }
+
+    /// Why bytes are refused, the first cause.
+    fn bytes_fault(&self, conn: usize, piece: &[u8]) -> Option<CoreFault>
+        ensures { result ≡ bytes_fault conn piece.now self.now }
+    {
+        let Some(connection) = self.connections.get(conn) else {
+            return Some(CoreFault::NoSuch);
+        };
+        if connection.is_over() {
+            return Some(CoreFault::Closing);
+        }
+        if !connection.unsent().is_empty() {
+            return Some(CoreFault::Busy);
+        }
+        if piece.len() > MOST_IN_PIECE {
+            return Some(CoreFault::PieceTooLong);
+        }
+        None
+    }
+
+    /// Answers each line that ends in the piece.
+    fn take_lines(&mut self, conn: usize, piece: &[u8])
+        requires idle { unsent_at conn self.old ≡ [] }
+        requires few { length piece.now ≤ 256 }
+        ensures { IsReceived conn piece.now self.old self.new }
+    {
+        let mut start = 0;
+        while let Some((stop, asked)) = self.hear(conn, piece, start) {
+            self.answer(conn, asked);
+            start = stop;
+        }
+    }
+
+    /// Reads the piece on from `start`: what its next line asks for, and the place after it.
+    fn hear(&mut self, conn: usize, piece: &[u8], start: usize) -> Option<(usize, Asked)>
+        requires { start ≤ length piece.now }
+        ensures heard { (result, self.new) ≡ heard_at conn piece.now start self.old }
+        ensures sound { IsSound self.new }
+    {
+        let Some(connection) = self.connections.get_mut(conn) else {
+            return None;
+        };
+        connection.hear(piece, start, self.layout)
+    }
+
     /// Answers what a line asks for. False where a growth was refused.
     pub(crate) fn answer(&mut self, conn: usize, asked: Asked) -> bool
         requires asked { (p : Place) → at self.old conn ≡ Some p → (mark : Mark) × (asked ≡ asked_of self.old.buses p mark) }

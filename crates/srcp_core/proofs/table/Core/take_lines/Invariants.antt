@@ -1,0 +1,11 @@
+use Rattle.std.proofs.Common.{◌≡◌, ◌≤◌, ◌<◌, ◌+◌, ◌*◌, ◌-◌, Bool, List, [], length, Some}
+use Rattle.srcp_core.specs.Held.{Held}
+use Rattle.srcp_core.specs.Machine.{lines_taken, unsent_at}
+use Rattle.srcp_core.proofs.Hearing.{IsTaken}
+use Rattle.srcp_core.proofs.table.Core.take_lines.Given as goal
+
+abbrev pub invariant-loop-stop : goal.invariant-loop-stop
+invariant-loop-stop g l = IsTaken l.conn l.piece l.fn.self l.start l.self
+
+abbrev pub decreases-loop-stop : goal.decreases-loop-stop
+decreases-loop-stop g l = length l.piece - l.start
