@@ -14,11 +14,12 @@ use Rattle.std.proofs.lemmas.List.Sums.{fold-append}
 use Rattle.srcp_core.specs.Course.{command_of}
 use Rattle.srcp_core.specs.Handshake.{greets}
 use Rattle.srcp_core.specs.Held.{Place, Held, IsSound, at}
-use Rattle.srcp_core.specs.Machine.{asked_of, heard_from, heard, heard_in, heard_at, longest_answer, unsent_of, unsent_at, answered, line_taken, lines_taken, IsReceived}
+use Rattle.srcp_core.specs.Machine.{asked_of, heard_from, heard, heard_in, heard_at, longest_answer, unsent_of, unsent_at, begun_of, begun_at, answered, line_taken, lines_taken, steps_answered, steps_of_line, listed, HasRoom, IsLineTaken, IsReceived}
+use Rattle.srcp_core.specs.declared.answered.Answered.{Answered}
 use Rattle.srcp_core.specs.declared.asked.Asked.{Asked}
 use Rattle.srcp_core.specs.declared.asked.Asked.TheVariants.{Dropped, Greets, Commands}
 use Rattle.srcp_core.proofs.Covers.{IsMild, place_set_here, where_is, Where, Here, Away}
-use Rattle.srcp_core.proofs.Received.{begun_of, begun_at, answered_gains}
+use Rattle.srcp_core.proofs.Received.{answered_gains}
 use Rattle.srcp_core.proofs.Sound.{sound_place}
 
 -- ---- how long an answer is
@@ -182,49 +183,68 @@ line_asks key piece start stop asked old new e p there =
 
 -- ---- the lines of a piece
 
+pub nothing_begun : (key : ℕ) (piece : List ℕ) (held : Held) → unsent_at key held ≡ [] → HasRoom key piece 0 held
+nothing_begun key piece held idle =
+    let none : length (unsent_at key held) ≡ 0 = ap (λ (bs : List ℕ). length bs) idle in
+    record { far = omega arith; idle = λ e. none; room = omega (arith, none); begun = λ low. absurd (omega (arith, low)) }
+
+module _ (key : ℕ) (piece : List ℕ) (start stop : ℕ) (asked : Asked) (held mid : Held) (e : ◌≡◌ {A = Option (ℕ × Asked) × Held} (Some (stop, asked), mid) (heard_at key piece start held)) where
+  -- the line has room for its answer
+  pub line_room : length piece ≤ 256 → HasRoom key piece start held → length (unsent_at key mid) + longest_answer asked ≤ 16640
+  line_room few t =
+      let f = line_found key piece start stop asked held mid e in
+      let same = ap (λ (bs : List ℕ). length bs) f.unsent in
+      let m = answer_most asked in
+      let o = f.onward in
+      let w = f.within in
+      let r = t.room in
+      omega (arith, same, m, r, o, w, few)
+
+  room_after : (granted : Bool) → IsSound mid → HasRoom key piece start held → HasRoom key piece stop (answered granted key asked mid)
+  room_after granted s t =
+      let f = line_found key piece start stop asked held mid e in
+      let g = answered_gains granted key asked mid f.place f.mark f.here f.asks s in
+      let same = ap (λ (bs : List ℕ). length bs) f.unsent in
+      record {
+        far = f.within;
+        idle = λ z. absurd (let o = f.onward in omega (arith, z, o));
+        room = elim (where_is start 0) [
+          | Here z ↦ let i = t.idle z in let m = answer_most asked in let o = f.onward in let w = g.few in omega (arith, z, i, m, o, w, same)
+          | Away n ↦ let low : 0 < start = elim (cases_lt 0 start) [ inl h ↦ h | inr h ↦ absurd (n (omega (arith, h))) ] in
+              let l = f.few (t.begun low) in let o = f.onward in let w = g.few in let r = t.room in omega (arith, l, o, w, r, same)
+        ];
+        begun = λ low. g.begun ∙ f.begun;
+      }
+
+  -- and is answered
+  pub line_answered : (did : Answered) (new : Held) → new ≡ answered did.granted key asked mid → listed did.steps ≡ steps_answered did.granted key asked mid
+      → IsSound mid → HasRoom key piece start held → IsLineTaken key piece start stop did held new
+  line_answered did new is steps s t = record {
+    onward = (line_found key piece start stop asked held mid e).onward;
+    room = subst (HasRoom key piece stop) (sym is) (room_after did.granted s t);
+    is = ap (λ (h : Held). let r : ℕ × Held = (stop, h) in r) is ∙ ap (λ (r : Option (ℕ × Asked) × Held). line_taken key did.granted (start, held) r) e;
+    steps = steps ∙ ap (λ (r : Option (ℕ × Asked) × Held). steps_of_line key did.granted r) e;
+  }
+
 -- the lines up to a place of the piece are answered
 pub record IsTaken (key : ℕ) (piece : List ℕ) (first : Held) (start : ℕ) (held : Held) : Type 0 where
-  pub far : start ≤ length piece
-  pub idle : start ≡ 0 → length (unsent_at key held) ≡ 0
-  pub room : length (unsent_at key held) ≤ 62 + 64 * start
-  pub begun : 0 < start → begun_at key held ≡ Some []
+  pub room : HasRoom key piece start held
   pub grants : List Bool
   pub is : ◌≡◌ {A = ℕ × Held} (start, held) (lines_taken key piece grants first)
 
 pub nothing_taken : (key : ℕ) (piece : List ℕ) (first : Held) → unsent_at key first ≡ [] → IsTaken key piece first 0 first
-nothing_taken key piece first idle =
-    let none : length (unsent_at key first) ≡ 0 = ap (λ (bs : List ℕ). length bs) idle in
-    record { far = omega arith; idle = λ e. none; room = omega (arith, none); begun = λ low. absurd (omega (arith, low)); grants = []; is = refl }
+nothing_taken key piece first idle = record { room = nothing_begun key piece first idle; grants = []; is = refl }
 
--- one more of them has room for its answer
-pub line_room : (key : ℕ) (piece : List ℕ) (first : Held) (start stop : ℕ) (asked : Asked) (held mid : Held) → length piece ≤ 256 → IsTaken key piece first start held → IsLineFound key piece start stop asked held mid
-    → length (unsent_at key mid) + longest_answer asked ≤ 16640
-line_room key piece first start stop asked held mid few t f =
-    let same = ap (λ (bs : List ℕ). length bs) f.unsent in
-    let m = answer_most asked in
-    omega (arith, same, m, t.room, f.onward, f.within, few)
-
-pub line_added : (key : ℕ) (piece : List ℕ) (first : Held) (start stop : ℕ) (asked : Asked) (held mid : Held) (granted : Bool) → ◌≡◌ {A = Option (ℕ × Asked) × Held} (Some (stop, asked), mid) (heard_at key piece start held)
-    → IsSound mid → IsTaken key piece first start held → IsTaken key piece first stop (answered granted key asked mid)
-line_added key piece first start stop asked held mid granted e s t =
-    let f = line_found key piece start stop asked held mid e in
-    let g = answered_gains granted key asked mid f.place f.mark f.here f.asks s in
-    let same = ap (λ (bs : List ℕ). length bs) f.unsent in
-    record {
-      far = f.within;
-      idle = λ z. absurd (let o = f.onward in omega (arith, z, o));
-      room = elim (where_is start 0) [
-        | Here z ↦ let i = t.idle z in let m = answer_most asked in let o = f.onward in let w = g.few in omega (arith, z, i, m, o, w, same)
-        | Away n ↦ let low : 0 < start = elim (cases_lt 0 start) [ inl h ↦ h | inr h ↦ absurd (n (omega (arith, h))) ] in
-            let l = f.few (t.begun low) in let o = f.onward in let w = g.few in let r = t.room in omega (arith, l, o, w, r, same)
-      ];
-      begun = λ low. g.begun ∙ f.begun;
-      grants = t.grants ++ granted ∷ [];
-      is =
-          ap (λ (r : Option (ℕ × Asked) × Held). line_taken key granted (start, held) r) e
-          ∙ ap (λ (b : ℕ × Held). line_taken key granted b (heard_at key piece b.0 b.1)) t.is
-          ∙ sym (fold-append (λ before granted. line_taken key granted before (heard_at key piece before.0 before.1)) (0, first) t.grants (granted ∷ []));
-    }
+pub line_added : (key : ℕ) (piece : List ℕ) (first : Held) (start stop : ℕ) (did : Answered) (held new : Held) → IsLineTaken key piece start stop did held new
+    → IsTaken key piece first start held → IsTaken key piece first stop new
+line_added key piece first start stop did held new l t = record {
+  room = l.room;
+  grants = t.grants ++ did.granted ∷ [];
+  is =
+      l.is
+      ∙ ap (λ (b : ℕ × Held). line_taken key did.granted b (heard_at key piece b.0 b.1)) t.is
+      ∙ sym (fold-append (λ before granted. line_taken key granted before (heard_at key piece before.0 before.1)) (0, first) t.grants (did.granted ∷ []));
+}
 
 pub lines_end : (key : ℕ) (piece : List ℕ) (first : Held) (start : ℕ) (held new : Held) → ◌≡◌ {A = Option (ℕ × Asked) × Held} (None, new) (heard_at key piece start held) → IsTaken key piece first start held → IsReceived key piece first new
 lines_end key piece first start held new e t = record { grants = t.grants; rest = e ∙ ap (λ (b : ℕ × Held). heard_at key piece b.0 b.1) t.is }

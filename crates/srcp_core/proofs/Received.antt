@@ -22,7 +22,7 @@ use Rattle.srcp_feed.specs.Cursor.{concerns}
 use Rattle.srcp_feed.specs.Feed.{Feed, is_full, told}
 use Rattle.srcp_core.specs.Handshake.{Greeting, Speaks, Chooses, Goes, Refuses}
 use Rattle.srcp_core.specs.Held.{Place, Held, place_at, at, IsSound}
-use Rattle.srcp_core.specs.Machine.{told_feed, told_place, told_all, told_each, carried, unsent_of, unsent_at, changed_in, changed_places, changed_at, with_unsent, replied, longest, longest_answer, entered_place, begun, goes, greeted, denied_line, one_denied, freed_of, finished, obeyed, commanded, answered_from, answered, asked_of}
+use Rattle.srcp_core.specs.Machine.{told_feed, told_place, told_all, told_each, carried, unsent_of, unsent_at, begun_of, begun_at, changed_in, changed_places, changed_at, with_unsent, replied, longest, longest_answer, entered_place, begun, goes, greeted, denied_line, one_denied, freed_of, finished, obeyed, commanded, answered_from, answered, asked_of}
 use Rattle.srcp_core.specs.declared.asked.Asked.{Asked}
 use Rattle.srcp_core.specs.declared.asked.Asked.TheVariants.{Dropped, Greets, Commands}
 use Rattle.srcp_core.proofs.Telling.{told_all_at}
@@ -30,14 +30,6 @@ use Rattle.srcp_core.proofs.Walks.{change_in}
 use Rattle.srcp_core.proofs.Covers.{place_set_here}
 use Rattle.srcp_core.proofs.Replies.{told_shorter, longest_most}
 use Rattle.srcp_core.proofs.Asking.{asked_by}
-
--- what is known of the line that has begun
-abbrev pub begun_of : Option Place → Option (List ℕ)
-begun_of None = Some []
-begun_of (Some p) = p.reader.begun
-
-abbrev pub begun_at : ℕ → Held → Option (List ℕ)
-begun_at key held = begun_of (at held key)
 
 -- at most so many bytes come to the unsent, and the line that has begun stays
 pub record Gains (n : ℕ) (old new : Option Place) : Type 0 where

@@ -1,5 +1,5 @@
 -- What each call makes of what is held.
-use Rattle.std.specs.Prelude.{⊤, ◌≡◌, ◌≢◌, ℕ, zero, suc, ◌+◌, ◌<◌, ◌≤◌, min, max, Bool, true, false, not, ◌&&◌, ◌||◌, ◌==◌, if◌then◌else◌, List, [], ◌∷◌, ◌++◌, map, drop, length, fold, nat_lt, slice_set, Option, Some, None, is_some, Result, Ok, Err}
+use Rattle.std.specs.Prelude.{⊤, ◌≡◌, ◌≢◌, ℕ, zero, suc, ◌+◌, ◌*◌, ◌<◌, ◌≤◌, min, max, Bool, true, false, not, ◌&&◌, ◌||◌, ◌==◌, if◌then◌else◌, List, [], ◌∷◌, ◌++◌, map, drop, length, fold, nat_lt, slice_set, Option, Some, None, is_some, Result, Ok, Err}
 use Rattle.std.specs.Option.{option_map, option_map_or}
 use Rattle.srcp_info.specs.Line.{line, reply_line}
 use Rattle.srcp_info.specs.WellFormed.{IsWellFormed}
@@ -30,8 +30,13 @@ use Rattle.srcp_core.specs.Connection.{is_nil, line_of}
 use Rattle.srcp_core.specs.Course.{welcome, is_info, command_of}
 use Rattle.srcp_core.specs.Handshake.{Greeting, Speaks, Chooses, Goes, Refuses, greets}
 use Rattle.srcp_core.specs.Held.{Place, Held, place_at, at, open_count}
+use Rattle.srcp_core.specs.declared.answered.Answered.{Answered}
+use Rattle.srcp_core.specs.declared.answered.LineSteps.{LineSteps}
+use Rattle.srcp_core.specs.declared.answered.LineSteps.TheVariants.{Nothing, One, Two}
 use Rattle.srcp_core.specs.declared.asked.Asked.{Asked}
 use Rattle.srcp_core.specs.declared.asked.Asked.TheVariants.{Dropped, Greets, Commands}
+use Rattle.srcp_core.specs.declared.record.Step.{Step}
+use Rattle.srcp_core.specs.declared.record.Step.TheVariants.{Obeyed, Began, Ended}
 use Rattle.srcp_core.specs.declared.record.CoreFault.{CoreFault}
 use Rattle.srcp_core.specs.declared.record.CoreFault.TheVariants.{Memory as MemoryFault, NoSuch, Busy, PieceTooLong, Closing}
 
@@ -106,6 +111,14 @@ heard_from buses p (FoundTooLong stop, reading) = (Some (stop, asked_of buses p 
 
 abbrev pub heard : List Bus → List ℕ → ℕ → Place → Option (ℕ × Asked) × Place
 heard buses piece start p = heard_from buses p (feed_of p.reader piece start)
+
+-- what is known of the line that has begun
+abbrev pub begun_of : Option Place → Option (List ℕ)
+begun_of None = Some []
+begun_of (Some p) = p.reader.begun
+
+abbrev pub begun_at : ℕ → Held → Option (List ℕ)
+begun_at key held = begun_of (at held key)
 
 -- ---- all places
 
@@ -203,6 +216,37 @@ answered_from granted key (Commands command) held (Some p) = commanded granted k
 abbrev pub answered : Bool → ℕ → Asked → Held → Held
 answered granted key asked held = answered_from granted key asked held (at held key)
 
+-- ---- the steps of the registry that the answer to a line is
+
+abbrev pub listed : LineSteps → List Step
+listed Nothing = []
+listed (One step) = step ∷ []
+listed (Two step next) = step ∷ next ∷ []
+
+abbrev pub steps_gone : Bool → Mode → Held → List Step
+steps_gone granted mode held = if nat_lt held.last_id 4294967295 && granted then Began (held.last_id + 1) held.moment mode ∷ [] else []
+
+abbrev pub steps_greeted : Bool → Mode → Greeting → Held → List Step
+steps_greeted granted mode Speaks held = []
+steps_greeted granted mode (Chooses chosen) held = []
+steps_greeted granted mode Goes held = steps_gone granted mode held
+steps_greeted granted mode (Refuses code) held = []
+
+-- a command that reads is a step whatever comes of it
+abbrev pub steps_commanded : Bool → ℕ → Result Command Code → Held → List Step
+steps_commanded granted session (Err code) held = []
+steps_commanded granted session (Ok command) held =
+    Obeyed session held.moment command ∷ (if (granted || not (adds_rows held.rows command)) && (effect held.rows session held.moment command).ends then Ended session held.moment ∷ [] else [])
+
+abbrev pub steps_answered_from : Bool → Asked → Held → Option Place → List Step
+steps_answered_from granted asked held None = []
+steps_answered_from granted Dropped held (Some p) = []
+steps_answered_from granted (Greets greeting) held (Some p) = steps_greeted granted p.mode greeting held
+steps_answered_from granted (Commands command) held (Some p) = steps_commanded granted p.session command held
+
+abbrev pub steps_answered : Bool → ℕ → Asked → Held → List Step
+steps_answered granted key asked held = steps_answered_from granted asked held (at held key)
+
 -- how many bytes a reply has at most
 abbrev pub longest : Reply → ℕ
 longest (Shows shown) = 126
@@ -253,9 +297,28 @@ abbrev pub line_taken : ℕ → Bool → ℕ × Held → Option (ℕ × Asked) �
 line_taken key granted before (None, held) = before
 line_taken key granted before (Some (stop, asked), held) = (stop, answered granted key asked held)
 
+-- the steps that the answer is
+abbrev pub steps_of_line : ℕ → Bool → Option (ℕ × Asked) × Held → List Step
+steps_of_line key granted (None, held) = []
+steps_of_line key granted (Some (stop, asked), held) = steps_answered granted key asked held
+
 -- lines of the piece are answered in turn, each by whether memory was given to it
 abbrev pub lines_taken : ℕ → List ℕ → List Bool → Held → ℕ × Held
 lines_taken key piece grants held = fold (λ before granted. line_taken key granted before (heard_at key piece before.0 before.1)) (0, held) grants
+
+-- the lines up to a place of the piece are answered: how many bytes are unsent then, and that no line has begun
+pub record HasRoom (key : ℕ) (piece : List ℕ) (start : ℕ) (held : Held) : Type 0 where
+  pub far : start ≤ length piece
+  pub idle : start ≡ 0 → length (unsent_at key held) ≡ 0
+  pub room : length (unsent_at key held) ≤ 62 + 64 * start
+  pub begun : 0 < start → begun_at key held ≡ Some []
+
+-- the next line of the piece is answered
+pub record IsLineTaken (key : ℕ) (piece : List ℕ) (start stop : ℕ) (did : Answered) (old new : Held) : Type 0 where
+  pub onward : start < stop
+  pub room : HasRoom key piece stop new
+  pub is : (stop, new) ≡ line_taken key did.granted (start, old) (heard_at key piece start old)
+  pub steps : listed did.steps ≡ steps_of_line key did.granted (heard_at key piece start old)
 
 -- each line that ends in the piece is answered in turn, by whether memory was given to it, and then the front of a line is left
 pub record IsReceived (key : ℕ) (piece : List ℕ) (old new : Held) : Type 0 where

@@ -8,11 +8,13 @@ ghost use Rattle.srcp_rules.specs.Due.{began};
 ghost use Rattle.srcp_rules.specs.Effect.{adds_rows, effect};
 ghost use Rattle.srcp_rules.specs.State.{session_device, is_there};
 ghost use Rattle.srcp_core.specs.Held.{Place, at, IsSessionAt};
-ghost use Rattle.srcp_core.specs.Machine.{feed_for, changed_at, unsent_at, one_denied, replied, denied_line, begun, goes, greeted, carried, freed_of, commanded, longest};
+ghost use Rattle.srcp_core.specs.Machine.{feed_for, changed_at, unsent_at, one_denied, replied, denied_line, begun, goes, greeted, carried, freed_of, commanded, longest, steps_gone, steps_greeted, steps_commanded, listed};
 
 use super::walk::{free_all, tell_all, tell_each};
 use super::{Core, place};
+use crate::answered::{Answered, LineSteps};
 use crate::greeting::Greeting;
+use crate::record::Step;
 use srcp_feed::InfoFeed;
 use srcp_info::{Code, Mode, Reply, write_reply};
 use srcp_rules::{Command, Memory, Obeyed, Rows, begin_session, obey};
@@ -80,32 +82,39 @@ impl<'a, R: Rows> Core<'a, R> {
         Ok(())
     }
 
-    /// Answers `GO`. False where a growth was refused.
-    fn go(&mut self, conn: usize, mode: Mode) -> bool
+    /// Answers `GO`.
+    fn go(&mut self, conn: usize, mode: Mode) -> Answered
         requires { length (unsent_at conn self.old) + 64 ≤ 16640 }
-        ensures { self.new ≡ goes result conn mode self.old }
+        ensures core { self.new ≡ goes result.granted conn mode self.old }
+        ensures steps { listed result.steps ≡ steps_gone result.granted mode self.old }
     {
         if self.last_id >= LAST_ID {
             self.reply(conn, &Reply::Refused(Code::C500));
-            return true;
+            return Answered::nothing();
         }
-        let id = self.last_id + 1;
-        match self.begin(conn, id, mode) {
+        let session = self.last_id + 1;
+        let moment = self.moment;
+        match self.begin(conn, session, mode) {
             Ok(()) => {
-                self.reply(conn, &Reply::Go(id));
-                true
+                self.reply(conn, &Reply::Go(session));
+                Answered::granted(Step::Began {
+                    session,
+                    moment,
+                    mode,
+                })
             }
             Err(Memory) => {
                 self.deny(conn);
-                false
+                Answered::denied()
             }
         }
     }
 
-    /// Answers a line before the session. False where a growth was refused.
-    pub(crate) fn greet(&mut self, conn: usize, mode: Mode, greeting: Greeting) -> bool
+    /// Answers a line before the session.
+    pub(crate) fn greet(&mut self, conn: usize, mode: Mode, greeting: Greeting) -> Answered
         requires { length (unsent_at conn self.old) + 64 ≤ 16640 }
-        ensures { self.new ≡ greeted result conn mode greeting self.old }
+        ensures core { self.new ≡ greeted result.granted conn mode greeting self.old }
+        ensures steps { listed result.steps ≡ steps_greeted result.granted mode greeting self.old }
     {
         match greeting {
             Greeting::Speaks => self.reply(conn, &Reply::Protocol),
@@ -116,7 +125,7 @@ impl<'a, R: Rows> Core<'a, R> {
             Greeting::Goes => return self.go(conn, mode),
             Greeting::Refuses(code) => self.reply(conn, &Reply::Refused(code)),
         }
-        true
+        Answered::nothing()
     }
 
     /// Carries out a command, and tells every connection its changes. `None` where a growth was refused, and then
@@ -148,23 +157,37 @@ impl<'a, R: Rows> Core<'a, R> {
         free_all(&mut self.rows, &mut self.connections, session, self.moment);
     }
 
-    /// Answers a command. False where a growth was refused.
-    pub(crate) fn obey(&mut self, conn: usize, session: u32, command: &Command) -> bool
+    /// Answers a command.
+    pub(crate) fn obey(&mut self, conn: usize, session: u32, command: &Command) -> Answered
         requires session { IsSessionAt session conn self.old }
         requires row { is_there (session_device session) self.old.rows ≡ true }
         requires command { IsCommandOf self.old.buses command.now }
         requires room { length (unsent_at conn self.old) + 126 ≤ 16640 }
-        ensures { self.new ≡ commanded result conn session (Ok command.now) self.old }
+        ensures core { self.new ≡ commanded result.granted conn session (Ok command.now) self.old }
+        ensures steps { listed result.steps ≡ steps_commanded result.granted session (Ok command.now) self.old }
     {
+        let moment = self.moment;
+        let step = Step::Obeyed {
+            session,
+            moment,
+            command: *command,
+        };
         let Some(obeyed) = self.carry_out(session, command) else {
             self.deny(conn);
-            return false;
+            return Answered {
+                granted: false,
+                steps: LineSteps::One(step),
+            };
         };
         self.reply(conn, &obeyed.reply);
-        if obeyed.ends {
-            self.end(conn, session);
+        if !obeyed.ends {
+            return Answered::granted(step);
         }
-        true
+        self.end(conn, session);
+        Answered {
+            granted: true,
+            steps: LineSteps::Two(step, Step::Ended { session, moment }),
+        }
     }
 }
 

@@ -1,12 +1,13 @@
 //! Bytes that come in, and what their lines ask for.
-ghost use Rattle.std.specs.Prelude.{◌≡◌, ◌+◌, ◌≤◌, [], true, length, Some, None, IfOk, OnOk, OnErr, MatchResult};
+ghost use Rattle.std.specs.Prelude.{◌≡◌, ◌+◌, ◌≤◌, [], true, length, Some, None, IfOk, IfNone, IfSome, OnOk, OnErr, MatchResult};
 ghost use Rattle.srcp_rules.specs.Command.{IsCommandOf};
 ghost use Rattle.srcp_rules.specs.State.{is_there, session_device};
 ghost use Rattle.srcp_text.specs.Marks.{Mark};
 ghost use Rattle.srcp_core.specs.Held.{Place, IsSessionAt, IsSound, at};
-ghost use Rattle.srcp_core.specs.Machine.{asked_of, answered, commanded, longest_answer, unsent_at, bytes_fault, heard_at, IsReceived};
+ghost use Rattle.srcp_core.specs.Machine.{asked_of, answered, commanded, longest_answer, unsent_at, bytes_fault, heard_at, IsReceived, HasRoom, IsLineTaken, steps_commanded, steps_answered, listed};
 
 use super::{Core, MOST_IN_PIECE};
+use crate::answered::Answered;
 use crate::asked::Asked;
 use crate::record::CoreFault;
 use srcp_info::Code;
@@ -54,10 +55,25 @@ impl<'a, R: Rows> Core<'a, R> {
         ensures { IsReceived conn piece.now self.old self.new }
     {
         let mut start = 0;
-        while let Some((stop, asked)) = self.hear(conn, piece, start) {
-            self.answer(conn, asked);
+        while let Some((stop, _)) = self.take_line(conn, piece, start) {
             start = stop;
         }
+    }
+
+    /// Reads the piece on from `start` and answers its next line: the place after that, and what came of it.
+    pub(crate) fn take_line(
+        &mut self,
+        conn: usize,
+        piece: &[u8],
+        start: usize,
+    ) -> Option<(usize, Answered)>
+        requires few { length piece.now ≤ 256 }
+        requires room { HasRoom conn piece.now start self.old }
+        ensures none { IfNone result ((None, self.new) ≡ heard_at conn piece.now start self.old) }
+        ensures line { IfSome result (λ r. IsLineTaken conn piece.now start r.0 r.1 self.old self.new) }
+    {
+        let (stop, asked) = self.hear(conn, piece, start)?;
+        Some((stop, self.answer(conn, asked)))
     }
 
     /// Reads the piece on from `start`: what its next line asks for, and the place after it.
@@ -72,37 +88,39 @@ impl<'a, R: Rows> Core<'a, R> {
         connection.hear(piece, start, self.layout)
     }
 
-    /// Answers what a line asks for. False where a growth was refused.
-    pub(crate) fn answer(&mut self, conn: usize, asked: Asked) -> bool
+    /// Answers what a line asks for.
+    fn answer(&mut self, conn: usize, asked: Asked) -> Answered
         requires asked { (p : Place) → at self.old conn ≡ Some p → (mark : Mark) × (asked ≡ asked_of self.old.buses p mark) }
         requires room { length (unsent_at conn self.old) + longest_answer asked ≤ 16640 }
-        ensures { self.new ≡ answered result conn asked self.old }
+        ensures core { self.new ≡ answered result.granted conn asked self.old }
+        ensures steps { listed result.steps ≡ steps_answered result.granted conn asked self.old }
     {
         let Some(connection) = self.connections.get(conn) else {
-            return true;
+            return Answered::nothing();
         };
         let mode = connection.mode();
         let session = connection.session();
         match asked {
-            Asked::Dropped => true,
+            Asked::Dropped => Answered::nothing(),
             Asked::Greets(greeting) => self.greet(conn, mode, greeting),
             Asked::Commands(command) => self.command(conn, session, command),
         }
     }
 
-    /// Answers a line of a command session. False where a growth was refused.
-    fn command(&mut self, conn: usize, session: u32, command: Result<Command, Code>) -> bool
+    /// Answers a line of a command session.
+    fn command(&mut self, conn: usize, session: u32, command: Result<Command, Code>) -> Answered
         requires session { IsSessionAt session conn self.old }
         requires row { is_there (session_device session) self.old.rows ≡ true }
         requires command { IfOk command (IsCommandOf self.old.buses) }
         requires room { length (unsent_at conn self.old) + longest_answer (Asked.Commands command) ≤ 16640 }
-        ensures { self.new ≡ commanded result conn session command self.old }
+        ensures core { self.new ≡ commanded result.granted conn session command self.old }
+        ensures steps { listed result.steps ≡ steps_commanded result.granted session command self.old }
     {
         match command {
             Ok(command) => self.obey(conn, session, &command),
             Err(code) => {
                 self.refuse(conn, code);
-                true
+                Answered::nothing()
             }
         }
     }

@@ -1,0 +1,19 @@
+use Rattle.std.proofs.Common.{◌≡◌, ℕ, Some, sym, ap, ◌∙◌}
+use Rattle.std.specs.Prelude.{Option}
+use Rattle.srcp_core.specs.Held.{Held}
+use Rattle.srcp_core.specs.declared.asked.Asked.{Asked}
+use Rattle.srcp_core.proofs.Hearing.{line_asks, line_room, line_answered}
+use Rattle.srcp_core.proofs.table.Core.take_line.Goals as goal
+
+pub answer-requires-clause-asked : goal.answer-requires-clause-asked
+answer-requires-clause-asked g c =
+    line_asks c.args.conn c.args.piece.now c.args.start c.in_ok-stop.stop c.in_ok-stop.asked c.args.self.now c.hear.new.self c.in_ok-stop.ensures.heard
+
+pub answer-requires-clause-room : goal.answer-requires-clause-room
+answer-requires-clause-room g c =
+    line_room c.args.conn c.args.piece.now c.args.start c.in_ok-stop.stop c.in_ok-stop.asked c.args.self.now c.hear.new.self c.in_ok-stop.ensures.heard c.requires.few c.requires.room
+
+pub returns-clause-line : goal.returns-clause-line
+returns-clause-line g c =
+    line_answered c.args.conn c.args.piece.now c.args.start c.in_ok-stop.stop c.in_ok-stop.asked c.args.self.now c.hear.new.self c.in_ok-stop.ensures.heard
+    c.answer.result c.answer.new.self c.answer.ensures.core c.answer.ensures.steps c.in_ok-stop.ensures.sound c.requires.room
