@@ -37,6 +37,8 @@ use Rattle.srcp_core.specs.declared.asked.Asked.{Asked}
 use Rattle.srcp_core.specs.declared.asked.Asked.TheVariants.{Dropped, Greets, Commands}
 use Rattle.srcp_core.specs.declared.record.Step.{Step}
 use Rattle.srcp_core.specs.declared.record.Step.TheVariants.{Obeyed, Began, Ended}
+use Rattle.srcp_core.specs.declared.record.Finish.{Finish}
+use Rattle.srcp_core.specs.declared.record.Finish.TheVariants.{Live, Closing as Finishes, Overrun, Shut}
 use Rattle.srcp_core.specs.declared.record.CoreFault.{CoreFault}
 use Rattle.srcp_core.specs.declared.record.CoreFault.TheVariants.{Memory as MemoryFault, NoSuch, Busy, PieceTooLong, Closing}
 
@@ -332,6 +334,22 @@ is_closing_from (Some p) = p.overran || (p.ended && is_nil p.unsent)
 
 abbrev pub is_closing : ℕ → Held → Bool
 is_closing key held = is_closing_from (at held key)
+
+-- the session of a connection, where it has one that did not end
+abbrev pub live_session_of : Option Place → Option ℕ
+live_session_of None = None
+live_session_of (Some p) = if (p.session == 0) || p.ended then None else Some p.session
+
+abbrev pub live_session : ℕ → Held → Option ℕ
+live_session key held = live_session_of (at held key)
+
+-- how it stands
+abbrev pub finish_from : Option Place → Finish
+finish_from None = Shut
+finish_from (Some p) = if p.overran then Overrun else (if p.ended && is_nil p.unsent then Finishes else Live)
+
+abbrev pub finish_at : ℕ → Held → Finish
+finish_at key held = finish_from (at held key)
 
 -- the next line is put in at that place
 abbrev pub let_out : ℕ → Held → Held

@@ -28,6 +28,13 @@ impl<T: Drop> Entries<T> {
         }
     }
 
+    /// These entries.
+    pub(crate) fn of(entries: Vec<T>) -> Entries<T>
+        ensures { result ≡ entries.items }
+    {
+        Entries { entries }
+    }
+
     /// One more entry at the end. Where memory is refused, the list is as before and the entry is dropped.
     pub(crate) fn push(&mut self, entry: T) -> Result<(), AllocError>
         ensures ok { OnOk result (self.new ≡ self.old ++ entry ∷ []) }
@@ -41,5 +48,15 @@ impl<T: Drop> Entries<T> {
         ensures { result.now ≡ self.now }
     {
         &self.entries
+    }
+}
+
+impl<T: Copy + Drop> Entries<T> {
+    /// More entries at the end. Where memory is refused, the list is as before.
+    pub(crate) fn extend(&mut self, more: &[T]) -> Result<(), AllocError>
+        ensures ok { OnOk result (self.new ≡ self.old ++ more.now) }
+        ensures err { OnErr result (self.new ≡ self.old) }
+    {
+        Ok(self.entries.extend_from_slice(more)?)
     }
 }

@@ -7,6 +7,7 @@ ghost use Rattle.srcp_rules.specs.State.{opening};
 
 mod answer;
 mod calls;
+mod finish;
 mod outgoing;
 mod place;
 mod receive;

@@ -30,7 +30,7 @@ impl<'a, R: Rows> Core<'a, R> {
     }
 
     /// Why bytes are refused, the first cause.
-    fn bytes_fault(&self, conn: usize, piece: &[u8]) -> Option<CoreFault>
+    pub(crate) fn bytes_fault(&self, conn: usize, piece: &[u8]) -> Option<CoreFault>
         ensures { result ≡ bytes_fault conn piece.now self.now }
     {
         let Some(connection) = self.connections.get(conn) else {

@@ -1,0 +1,68 @@
+//! What is told of the core at the end of a run.
+ghost use Rattle.std.specs.Prelude.{◌≡◌, OnOk, IfOk};
+ghost use Rattle.std.specs.List.{AllByRecursion};
+ghost use Rattle.srcp_info.specs.WellFormed.{IsWellFormedShown};
+ghost use Rattle.srcp_rules.specs.State.{IsRising};
+ghost use Rattle.srcp_core.specs.Machine.{finish_at, live_session};
+
+use super::Core;
+use crate::entries::Entries;
+use crate::record::{Finish, Rows as RowEntries};
+use srcp_info::{Cursor, Shown};
+use srcp_rules::{Memory, Rows};
+use std::alloc::Global;
+
+impl<'a, R: Rows> Core<'a, R> {
+    /// The moment that was taken last, in milliseconds.
+    pub(crate) fn moment(&self) -> u64
+        ensures { result ≡ self.now.moment }
+    {
+        self.moment
+    }
+
+    /// The session of a connection, where it has one that did not end.
+    pub(crate) fn live_session(&self, conn: usize) -> Option<u32>
+        ensures { result ≡ live_session conn self.now }
+    {
+        let connection = self.connections.get(conn)?;
+        if connection.session() == 0 || connection.ended() {
+            return None;
+        }
+        Some(connection.session())
+    }
+
+    /// How a connection stands. `Shut` where there is none at the place.
+    pub(crate) fn finish(&self, conn: usize) -> Finish
+        ensures { result ≡ finish_at conn self.now }
+    {
+        match self.connections.get(conn) {
+            None => Finish::Shut,
+            Some(connection) if connection.overran() => Finish::Overrun,
+            Some(connection) if connection.ended() && connection.unsent().is_empty() => {
+                Finish::Closing
+            }
+            Some(_) => Finish::Live,
+        }
+    }
+
+    /// All rows, in key order.
+    pub(crate) fn rows(&self, alloc: Global) -> Result<RowEntries, Memory>
+        ensures rows { IfOk result (λ rows. rows ≡ self.now.rows) }
+        ensures well_formed { IfOk result (AllByRecursion (λ row. IsWellFormedShown row.shown)) }
+    {
+        all_rows(alloc, &self.rows)
+    }
+}
+
+fn all_rows<R: Rows>(alloc: Global, rows: &R) -> Result<RowEntries, Memory>
+    requires { IsRising (R.state rows.now) }
+    ensures { IfOk result (λ told. told ≡ R.state rows.now) }
+{
+    let mut told = Entries::new(alloc);
+    let mut at = Cursor::Start;
+    while let Some(row) = rows.row_after(at) {
+        at = Cursor::After(row.shown.key);
+        told.extend(&[*row])?;
+    }
+    Ok(told)
+}
