@@ -1,6 +1,6 @@
 -- Functions that are read one by one.
-use Rattle.std.specs.Prelude.{◌≡◌, ℕ, ◌+◌, ◌≤◌, Bool, List, [], ◌∷◌, ◌++◌, length, Result, Ok, Err, IfOk}
-use Rattle.std.proofs.Common.{refl, ap, arith, length-append}
+use Rattle.std.specs.Prelude.{◌≡◌, ℕ, ◌+◌, Bool, List, [], ◌∷◌, ◌++◌, length, Result, Ok, Err, IfOk}
+use Rattle.std.proofs.Common.{refl, arith, length-append}
 use Rattle.std.proofs.lemmas.List.{append-nil, append_assoc}
 use Rattle.srcp_info.specs.declared.change.Code.{Code}
 use Rattle.srcp_rules.specs.Grammar.{◌>>=◌, and_bit, bit_of, bits_of}

@@ -68,6 +68,7 @@ pub(crate) fn get_ga(bus: &Bus, mut words: Words<'_>) -> Result<Command, Code>
 }
 
 /// What a port is set to.
+#[derive(Clone, Copy)]
 pub(crate) struct Switch {
     pub(crate) address: u32,
     pub(crate) port: u8,
@@ -193,6 +194,7 @@ pub(crate) fn powered(mut words: Words<'_>) -> Result<(bool, Text), Code>
 }
 
 /// What a locomotive is driven as.
+#[derive(Clone, Copy)]
 pub(crate) struct Drive {
     pub(crate) address: u32,
     pub(crate) mode: u32,

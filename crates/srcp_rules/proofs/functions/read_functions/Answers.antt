@@ -1,5 +1,5 @@
 use Rattle.std.specs.Prelude.{IfOk}
-use Rattle.std.proofs.Common.{◌≡◌, ℕ, ◌+◌, List, Bool, length, Result, sym, ap, subst, ◌∙◌, arith}
+use Rattle.std.proofs.Common.{◌≡◌, ◌+◌, List, Bool, length, Result, sym, ap, subst, ◌∙◌, arith}
 use Rattle.srcp_info.specs.declared.change.Code.{Code}
 use Rattle.srcp_rules.proofs.BitLaws.{and_bits, and_bits-cons, and_bit-length}
 use Rattle.srcp_rules.proofs.functions.read_functions.Goals as goal
