@@ -1,3 +1,5 @@
+mod document;
+
 use crate::input::read_input;
 use crate::output::write_whole;
 use crate::{Cause, ConfigFault, Field, ScriptFault, ToolFault, mirror, read_script};
