@@ -1,3 +1,5 @@
+mod arguments;
+mod checking;
 mod document;
 
 use crate::input::read_input;
