@@ -1,46 +1,74 @@
-//! The program `srcp_server`: information lines mirrored.
+//! The program `srcp_server`: a configuration checked, information lines mirrored.
 #![tactic(auto)]
 
-use srcp_server::mirror;
-use std::env;
+use clap::error::ErrorKind;
+use srcp_server::{Tool, ToolFault, check, mirror, read_config, read_words};
+use std::io::Write;
 use std::process::ExitCode;
-use std::rt::Env;
+use std::rt::{Env, Files};
+use std::string::String;
+use std::vec::Vec;
+use std::{env, fs};
 
-/// What the words ask for.
-#[derive(Clone, Copy)]
-enum Task {
-    Mirror,
-}
-
-/// Reads the standard input and writes the standard output. A fault is told on the standard error and
-/// by the status: 2 for words that ask for nothing known.
+/// Does what the words ask for. A fault is told on the standard error and by the status.
 fn main(rt: HostRuntime) -> ExitCode {
-    let Some(task) = task_asked(&rt) else {
-        let _ = eprintln!(&rt; "srcp_server: usage");
-        return ExitCode::from(2);
+    let Some(words) = words_given(&rt) else {
+        return tell(&rt, ToolFault::Memory);
     };
-    let done = match task {
-        Task::Mirror => mirror(rt.alloc(), &mut rt.stdin(), &mut rt.stdout()),
+    let tool = match read_words(rt.alloc(), &words) {
+        Ok(tool) => tool,
+        Err(refused) => return print_refusal(&rt, &refused),
+    };
+    let done = match tool {
+        Tool::Mirror => mirror(rt.alloc(), &mut rt.stdin(), &mut rt.stdout()),
+        Tool::Check { config } => check_file(&rt, config, &mut rt.stdout()),
+        Tool::Replay { .. } | Tool::Serve { .. } => {
+            let _ = eprintln!(&rt; "srcp_server: usage");
+            return ExitCode::from(2);
+        }
     };
     match done {
         Ok(()) => ExitCode::SUCCESS,
-        Err(fault) => {
-            let _ = eprintln!(&rt; "srcp_server: {fault}");
-            ExitCode::from(fault.status())
-        }
+        Err(fault) => tell(&rt, fault),
     }
 }
 
-/// The task that the words behind the program's name ask for.
-fn task_asked<R: Env + Alloc>(rt: &R) -> Option<Task> {
-    let mut words = env::args(rt).ok()?.skip(1);
-    let task = match words.next()?.as_str() {
-        "mirror" => Task::Mirror,
-        _ => return None,
-    };
-    if words.next().is_some() {
-        None
+/// The program's name and the words behind it; None where memory was refused.
+fn words_given<R: Env + AllocGlobal>(rt: &R) -> Option<Vec<String>> {
+    env::args(rt).ok()?.collect(rt.alloc()).ok()
+}
+
+/// Prints what `clap` says of words that it refuses, or that ask for help or for the version.
+fn print_refusal<R: Print + Eprint>(rt: &R, refused: &clap::Error) -> ExitCode {
+    if refused.kind() == ErrorKind::OutOfMemory {
+        return tell(rt, ToolFault::Memory);
+    }
+    let _ = refused.print(rt);
+    if refused.use_stderr() {
+        ExitCode::from(2)
     } else {
-        Some(task)
+        ExitCode::SUCCESS
+    }
+}
+
+fn tell<R: Eprint>(rt: &R, fault: ToolFault) -> ExitCode {
+    let _ = eprintln!(rt; "srcp_server: {fault}");
+    ExitCode::from(fault.status())
+}
+
+/// Checks the configuration in a file.
+fn check_file<R: Files + AllocGlobal, W: Write>(
+    rt: &R,
+    path: &str,
+    writer: &mut W,
+) -> Result<(), ToolFault> {
+    let config = read_config_file(rt, path)?;
+    check(rt.alloc(), &config, writer)
+}
+
+fn read_config_file<R: Files + AllocGlobal>(rt: &R, path: &str) -> Result<Vec<u8>, ToolFault> {
+    match fs::open(rt, path) {
+        Ok(mut file) => read_config(rt.alloc(), &mut file),
+        Err(_) => Err(ToolFault::Unreadable),
     }
 }
