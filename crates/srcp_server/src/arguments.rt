@@ -39,6 +39,7 @@ fn subtool<'a>(name: &str, found: &ArgMatches<'a>) -> Tool<'a>
 {
     match name {
         "mirror" => Tool::Mirror,
+        // `clap` refuses these two without a configuration
         "check" => Tool::Check {
             config: config_in(found).unwrap_or(""),
         },

@@ -1,6 +1,5 @@
 use Rattle.std.proofs.Common.{◌≡◌, true, [], map, string_bytes, refl, subst}
 use Rattle.clap.specs.Words.{App, fault_of, is_simple_and_free}
-use Rattle.srcp_server.specs.Arguments.{program_app}
 use Rattle.srcp_server.proofs.arguments.read_words.Goals as goal
 
 pub returns-clause-kinds : goal.returns-clause-kinds

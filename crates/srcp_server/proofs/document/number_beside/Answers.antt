@@ -1,5 +1,5 @@
 use Rattle.std.specs.Prelude.{◌≡◌, ℕ, Bool, true, false, ◌==◌, is_some, find, option_copied, Option, Some, None, List}
-use Rattle.std.proofs.Common.{◌∙◌, Bor, refl, sym, ap, rules}
+use Rattle.std.proofs.Common.{◌∙◌, Bor, refl, sym, ap}
 use Rattle.srcp_rules.specs.Layout.{has_number}
 use Rattle.srcp_rules.specs.declared.layout.Bus.{Bus}
 use Rattle.srcp_rules.proofs.BusLaws.{has_number-found}
