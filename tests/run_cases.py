@@ -1,5 +1,5 @@
 #!/usr/bin/env python3
-"""run_cases.py PROGRAM: runs the built program over every case of cases/ and over the failures of its streams.
+"""run_cases.py PROGRAM: runs the built program over every case of cases/, over the failures of its streams, and serving.
 
 A case is a folder: `args` (one word a line), `stdin`, `config.toml` where it needs one, `status`, and what is
 expected: `stdout` and `stderr` to the byte, or in `expect.json` what single connections are sent, the word that each
@@ -12,6 +12,8 @@ import subprocess
 import sys
 import tempfile
 from pathlib import Path
+
+from serving import SERVING_CASES
 
 CASES = Path(__file__).resolve().parent / "cases"
 INPUT_LIMIT = 16_777_216
@@ -162,7 +164,7 @@ STREAM_CASES = (input_past_its_limit, input_at_its_limit, input_that_cannot_be_r
 def main():
     program = str(Path(sys.argv[1]).resolve())
     results = [(folder.name, run_case(folder, program)) for folder in sorted(CASES.iterdir()) if folder.is_dir()]
-    results += [(case.__name__.replace("_", "-"), case(program)) for case in STREAM_CASES]
+    results += [(case.__name__.replace("_", "-"), case(program)) for case in STREAM_CASES + SERVING_CASES]
     failed = [(name, fault) for name, fault in results if fault]
     for name, fault in failed:
         print(f"FAIL {name}: {fault}")

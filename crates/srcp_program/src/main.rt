@@ -1,14 +1,19 @@
-//! The program `srcp_server`: a script replayed, information lines mirrored, a configuration checked.
+//! The program `srcp_server`: a layout served, a script replayed, information lines mirrored, a configuration checked.
 #![tactic(auto)]
 
 use clap::error::ErrorKind;
-use srcp_rules::{Bus, Layout};
-use srcp_server::{Tool, ToolFault, check, mirror, read_config, read_layout, read_words, replay};
+use srcp_core::Core;
+use srcp_rules::{Bus, Flat, Layout};
+use srcp_server::{
+    SocketDoor, Tool, ToolFault, check, mirror, read_config, read_layout, read_words, replay, serve,
+};
 use std::alloc::Global;
 use std::io::{Read, Write};
+use std::net::Net;
 use std::process::ExitCode;
 use std::rt::{Env, Files};
 use std::string::String;
+use std::time::Clock;
 use std::vec::Vec;
 use std::{env, fs};
 
@@ -25,10 +30,7 @@ fn main(rt: HostRuntime) -> ExitCode {
         Tool::Mirror => mirror(rt.alloc(), &mut rt.stdin(), &mut rt.stdout()),
         Tool::Check { config } => check_file(&rt, config, &mut rt.stdout()),
         Tool::Replay { config } => replay_input(&rt, config, &mut rt.stdin(), &mut rt.stdout()),
-        Tool::Serve { .. } => {
-            let _ = eprintln!(&rt; "srcp_server: usage");
-            return ExitCode::from(2);
-        }
+        Tool::Serve { config, turns } => serve_layout(&rt, config, turns),
     };
     match done {
         Ok(()) => ExitCode::SUCCESS,
@@ -105,4 +107,19 @@ fn built_in_layout(alloc: Global) -> Result<Layout, ToolFault> {
         Ok(()) => Ok(layout),
         Err(_) => Err(ToolFault::Memory),
     }
+}
+
+/// Serves the layout of the configuration in a file, for so many turns, to the peers that come to its port.
+fn serve_layout<R: Files + AllocGlobal + Net + Clock>(
+    rt: &R,
+    path: &str,
+    turns: u64,
+) -> Result<(), ToolFault> {
+    let config = read_layout(rt.alloc(), &read_config_file(rt, path)?)?;
+    let mut door = SocketDoor::listen(rt, rt.alloc(), config.port, rt)?;
+    let Ok(mut core) = Core::<Flat>::new(rt.alloc(), &config.layout, 0, 0) else {
+        return Err(ToolFault::Memory);
+    };
+    serve(&mut core, &mut door, turns);
+    Ok(())
 }
