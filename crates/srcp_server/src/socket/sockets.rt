@@ -12,7 +12,7 @@ use std::time::Duration;
 use std::vec::Vec;
 
 /// How long nothing may happen before the time is looked at again, in milliseconds.
-const PAUSE: u64 = 4;
+const PAUSE: u64 = 8;
 
 /// How many sockets may be found ready at once.
 const MOST_EVENTS: usize = 128;
