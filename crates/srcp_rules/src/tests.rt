@@ -1,5 +1,6 @@
 mod inits;
 mod layouts;
+mod locked;
 mod moments;
 mod pairs;
 mod ports;

@@ -1,7 +1,8 @@
-//! The order of refusals, each against one that could come first.
+//! The order of refusals in a line, each against one that could come first.
 
 use super::served::{Served, bus};
 use crate::Bus;
+use srcp_info::Code;
 use std::test::Fail;
 
 /// A bus with accessories alone.
@@ -25,523 +26,174 @@ fn feedback(number: u8) -> Bus {
 }
 
 #[test]
-fn the_operation_before_the_bus_and_the_bus_before_the_group(rt: HostRuntime) -> Result<(), Fail> {
-    let mut served = Served::open(rt.alloc(), &[bus(1), feedback(4)])?;
+fn the_operation_before_the_bus(rt: HostRuntime) -> Result<(), Fail> {
+    let mut served = Served::open(rt.alloc(), &[bus(1)])?;
     served.begin(1)?;
-    served.says(
+    served.refuses(
         &rt,
         rt.alloc(),
+        1,
         &[
-            (1, 1000, "", "1.000 410 ERROR unknown command\n"),
-            (1, 1000, "FOO 9 XX", "1.000 410 ERROR unknown command\n"),
-            (1, 1000, "GET", "1.000 419 ERROR list too short\n"),
-            (1, 1000, "GET 9", "1.000 419 ERROR list too short\n"),
-            (1, 1000, "SET 9 XX", "1.000 412 ERROR wrong value\n"),
-            (1, 1000, "SET XX XX", "1.000 412 ERROR wrong value\n"),
-            (1, 1000, "GET 251 POWER", "1.000 412 ERROR wrong value\n"),
-            (
-                1,
-                1000,
-                "GET 4294967297 POWER",
-                "1.000 412 ERROR wrong value\n",
-            ),
-            (
-                1,
-                1000,
-                "GET 1 SM 3",
-                "1.000 421 ERROR unsupported device\n",
-            ),
-            (1, 1000, "WAIT 1 SM", "1.000 421 ERROR unsupported device\n"),
-            (
-                1,
-                1000,
-                "GET 0 POWER",
-                "1.000 422 ERROR unsupported device group\n",
-            ),
-            (
-                1,
-                1000,
-                "WAIT 0 GL",
-                "1.000 422 ERROR unsupported device group\n",
-            ),
-            (
-                1,
-                1000,
-                "WAIT 4 GL 3",
-                "1.000 422 ERROR unsupported device group\n",
-            ),
-            (
-                1,
-                1000,
-                "GET 4 LOCK GL 3",
-                "1.000 422 ERROR unsupported device group\n",
-            ),
-            (
-                1,
-                1000,
-                "GET 1 SESSION 1",
-                "1.000 422 ERROR unsupported device group\n",
-            ),
+            ("", Code::C410),
+            (" \t ", Code::C410),
+            ("FOO 9 XX", Code::C410),
+            ("GETS 1 POWER", Code::C410),
         ],
     )
 }
 
 #[test]
-fn the_group_before_the_operation_and_the_operation_before_the_count(
-    rt: HostRuntime,
-) -> Result<(), Fail> {
+fn the_bus_before_the_group(rt: HostRuntime) -> Result<(), Fail> {
     let mut served = Served::open(rt.alloc(), &[bus(1)])?;
     served.begin(1)?;
-    served.says(
+    served.refuses(
         &rt,
         rt.alloc(),
+        1,
         &[
-            (
-                1,
-                1000,
-                "TERM 1 POWER",
-                "1.000 423 ERROR unsupported operation\n",
-            ),
-            (
-                1,
-                1000,
-                "WAIT 1 GL 3",
-                "1.000 423 ERROR unsupported operation\n",
-            ),
-            (
-                1,
-                1000,
-                "VERIFY 1 FB",
-                "1.000 423 ERROR unsupported operation\n",
-            ),
-            (
-                1,
-                1000,
-                "RESET 1 GA",
-                "1.000 423 ERROR unsupported operation\n",
-            ),
-            (
-                1,
-                1000,
-                "TERM 1 FB",
-                "1.000 423 ERROR unsupported operation\n",
-            ),
-            (
-                1,
-                1000,
-                "INIT 1 LOCK",
-                "1.000 423 ERROR unsupported operation\n",
-            ),
-            (
-                1,
-                1000,
-                "SET 0 SESSION 1",
-                "1.000 423 ERROR unsupported operation\n",
-            ),
-            (
-                1,
-                1000,
-                "CHECK 0 SESSION",
-                "1.000 423 ERROR unsupported operation\n",
-            ),
-            (1, 1000, "GET 1 POWER x", "1.000 418 ERROR list too long\n"),
-            (1, 1000, "SET 1 POWER", "1.000 419 ERROR list too short\n"),
-            (
-                1,
-                1000,
-                "TERM 0 SESSION 1 2",
-                "1.000 418 ERROR list too long\n",
-            ),
-            (1, 1000, "GET 0 SESSION", "1.000 419 ERROR list too short\n"),
-            (1, 1000, "GET 1 GL", "1.000 419 ERROR list too short\n"),
-            (1, 1000, "GET 1 FB 1 1", "1.000 418 ERROR list too long\n"),
+            ("GET", Code::C419),
+            ("GET 9", Code::C419),
+            ("SET 9 XX", Code::C412),
+            ("SET XX XX", Code::C412),
+            ("SET -1 XX", Code::C412),
+            ("GET 251 POWER", Code::C412),
+            ("GET 4294967297 POWER", Code::C412),
+        ],
+    )
+}
+
+#[test]
+fn the_group_before_the_operation(rt: HostRuntime) -> Result<(), Fail> {
+    let mut served = Served::open(rt.alloc(), &[bus(1), accessories(2), feedback(4)])?;
+    served.begin(1)?;
+    served.refuses(
+        &rt,
+        rt.alloc(),
+        1,
+        &[
+            ("GET 1 SM 3", Code::C421),
+            ("WAIT 1 SM", Code::C421),
+            ("GET 0 POWER", Code::C422),
+            ("WAIT 0 GL", Code::C422),
+            ("GET 2 POWER", Code::C422),
+            ("WAIT 4 GL 3", Code::C422),
+            ("WAIT 4 LOCK GL 3", Code::C422),
+            ("GET 1 SESSION 1", Code::C422),
+            ("WAIT 2 LOCK GL 3", Code::C423),
+        ],
+    )
+}
+
+#[test]
+fn the_operation_before_the_count(rt: HostRuntime) -> Result<(), Fail> {
+    let mut served = Served::open(rt.alloc(), &[bus(1)])?;
+    served.begin(1)?;
+    served.refuses(
+        &rt,
+        rt.alloc(),
+        1,
+        &[
+            ("TERM 1 POWER x", Code::C423),
+            ("WAIT 1 GL", Code::C423),
+            ("VERIFY 1 FB", Code::C423),
+            ("RESET 1 GA", Code::C423),
+            ("TERM 1 FB", Code::C423),
+            ("INIT 1 LOCK", Code::C423),
+            ("SET 0 SESSION", Code::C423),
+            ("CHECK 0 SESSION", Code::C423),
+            ("INIT 0 SESSION", Code::C423),
         ],
     )
 }
 
 #[test]
 fn the_count_before_the_values(rt: HostRuntime) -> Result<(), Fail> {
-    let mut served = Served::open(rt.alloc(), &[bus(1), accessories(2)])?;
+    let mut served = Served::open(rt.alloc(), &[bus(1)])?;
     served.begin(1)?;
-    served.says(
+    served.refuses(
         &rt,
         rt.alloc(),
+        1,
         &[
+            ("GET 1 POWER x", Code::C418),
+            ("SET 1 POWER", Code::C419),
+            ("TERM 0 SESSION x 2", Code::C418),
+            ("GET 0 SESSION", Code::C419),
+            ("GET 1 GL", Code::C419),
+            ("GET 1 GL 0 1", Code::C418),
+            ("GET 1 FB 0 1", Code::C418),
+            ("SET 1 GL 0 9 9", Code::C419),
             (
-                1,
-                1000,
-                "SET 1 GL 0 9 9",
-                "1.000 419 ERROR list too short\n",
-            ),
-            (
-                1,
-                1000,
                 "SET 1 GL 0 9 0 0 2 2 2 2 2 2 2 2 2 2 2 2 2 2 2 2 2 2 2 2 2 2 2 2 2 2 2 2 2 2",
-                "1.000 418 ERROR list too long\n",
+                Code::C418,
             ),
-            (1, 1000, "INIT 1 GL 0 Q", "1.000 419 ERROR list too short\n"),
-            (
-                1,
-                1000,
-                "INIT 1 GL 0 P 1 28",
-                "1.000 419 ERROR list too short\n",
-            ),
-            (
-                1,
-                1000,
-                "INIT 1 GL 0 Q 256 0 30 1",
-                "1.000 418 ERROR list too long\n",
-            ),
-            (
-                1,
-                1000,
-                "SET 1 GA 0 2 2",
-                "1.000 419 ERROR list too short\n",
-            ),
-            (
-                1,
-                1000,
-                "SET 1 GA 0 2 2 -2 1",
-                "1.000 418 ERROR list too long\n",
-            ),
-            (1, 1000, "INIT 1 GA 0", "1.000 419 ERROR list too short\n"),
-            (1, 1000, "GET 1 LOCK SM", "1.000 419 ERROR list too short\n"),
-            (
-                1,
-                1000,
-                "SET 1 LOCK SM 0 86401 1",
-                "1.000 418 ERROR list too long\n",
-            ),
+            ("INIT 1 GL 0 Q", Code::C419),
+            ("INIT 1 GL 0 P 1 28", Code::C419),
+            ("INIT 1 GL 0 Q 256 0 30 1", Code::C418),
+            ("SET 1 GA 0 2 2", Code::C419),
+            ("SET 1 GA 0 2 2 -2 1", Code::C418),
+            ("INIT 1 GA 0", Code::C419),
+            ("GET 1 LOCK SM", Code::C419),
+            ("SET 1 LOCK SM 0 86401 1", Code::C418),
         ],
     )
 }
 
 #[test]
-fn the_values_from_left_to_right(rt: HostRuntime) -> Result<(), Fail> {
+fn the_values_of_a_locomotive_from_left_to_right(rt: HostRuntime) -> Result<(), Fail> {
+    let mut served = Served::open(rt.alloc(), &[bus(1)])?;
+    served.begin(1)?;
+    served.refuses(
+        &rt,
+        rt.alloc(),
+        1,
+        &[
+            ("INIT 1 GL 0 P", Code::C412),
+            ("INIT 1 GL 0 Q 1 28 5", Code::C412),
+            ("INIT 1 GL 4 Q 256 28 5", Code::C420),
+            ("INIT 1 GL 4 N 256 28 5", Code::C412),
+            ("INIT 1 GL 4 N 1 0 5", Code::C412),
+            ("INIT 1 GL 4 N 1 1001 5", Code::C412),
+            ("INIT 1 GL 4 N 1 28 30", Code::C412),
+            ("SET 1 GL 10240 1 0 0", Code::C412),
+            ("SET 1 GL 3 3 0 0", Code::C412),
+            ("SET 1 GL 3 1 65536 0", Code::C412),
+            ("SET 1 GL 3 1 29 28", Code::C412),
+            ("SET 1 GL 3 2 29 28", Code::C412),
+            ("SET 1 GL 3 1 0 0 2", Code::C412),
+        ],
+    )
+}
+
+#[test]
+fn the_other_values_from_left_to_right(rt: HostRuntime) -> Result<(), Fail> {
     let mut served = Served::open(rt.alloc(), &[bus(1), accessories(2)])?;
     served.begin(1)?;
-    served.says(
+    served.refuses(
         &rt,
         rt.alloc(),
+        1,
         &[
-            (1, 1000, "INIT 1 GL 0 P", "1.000 412 ERROR wrong value\n"),
+            ("INIT 1 GA 0 Q", Code::C412),
+            ("INIT 1 GA 5 Q any", Code::C420),
+            ("GET 1 LOCK SM 3", Code::C412),
+            ("GET 2 LOCK GL 3", Code::C412),
+            ("SET 1 LOCK GL 3 86401", Code::C412),
+            ("SET 1 GA 2045 0 0 0", Code::C412),
+            ("SET 1 GA 5 2 0 0", Code::C412),
+            ("SET 1 GA 5 0 2 0", Code::C412),
+            ("SET 1 GA 5 0 1 -2", Code::C412),
+            ("SET 1 GA 5 0 1 -01", Code::C412),
+            ("SET 1 GA 5 0 1 60001", Code::C412),
+            ("SET 1 FB 3 1", Code::C412),
+            ("SET 1 FB 0 1", Code::C412),
+            ("SET 1 FB 1 2", Code::C412),
+            ("SET 1 POWER MAYBE", Code::C412),
             (
-                1,
-                1000,
-                "INIT 1 GL 0 Q 1 28 5",
-                "1.000 412 ERROR wrong value\n",
+                "SET 1 POWER ON xxxxxxxxxxxxxxxxxxxxxxxxxxxxxxxxxxxxxxxxxxxxxxxxxxxxxxxxxxxxxxxxxxxxxxxxxxxxxxxxx",
+                Code::C412,
             ),
-            (
-                1,
-                1000,
-                "INIT 1 GL 4 Q 256 28 5",
-                "1.000 420 ERROR unsupported device protocol\n",
-            ),
-            (
-                1,
-                1000,
-                "INIT 1 GL 4 N 256 28 5",
-                "1.000 412 ERROR wrong value\n",
-            ),
-            (
-                1,
-                1000,
-                "INIT 1 GL 4 N 1 0 5",
-                "1.000 412 ERROR wrong value\n",
-            ),
-            (
-                1,
-                1000,
-                "INIT 1 GL 4 N 1 1001 5",
-                "1.000 412 ERROR wrong value\n",
-            ),
-            (
-                1,
-                1000,
-                "INIT 1 GL 4 N 1 28 30",
-                "1.000 412 ERROR wrong value\n",
-            ),
-            (1, 1000, "INIT 1 GA 0 Q", "1.000 412 ERROR wrong value\n"),
-            (
-                1,
-                1000,
-                "INIT 1 GA 5 Q any",
-                "1.000 420 ERROR unsupported device protocol\n",
-            ),
-            (1, 1000, "GET 1 LOCK SM 3", "1.000 412 ERROR wrong value\n"),
-            (1, 1000, "GET 2 LOCK GL 3", "1.000 412 ERROR wrong value\n"),
-            (
-                1,
-                1000,
-                "SET 1 LOCK GL 3 86401",
-                "1.000 412 ERROR wrong value\n",
-            ),
-            (1, 1000, "SET 1 GL 3 3 0 0", "1.000 412 ERROR wrong value\n"),
-            (
-                1,
-                1000,
-                "SET 1 GL 3 1 29 28",
-                "1.000 412 ERROR wrong value\n",
-            ),
-            (
-                1,
-                1000,
-                "SET 1 GL 3 2 29 28",
-                "1.000 412 ERROR wrong value\n",
-            ),
-            (
-                1,
-                1000,
-                "SET 1 GL 3 1 0 0 2",
-                "1.000 412 ERROR wrong value\n",
-            ),
-            (1, 1000, "SET 1 GA 5 2 0 0", "1.000 412 ERROR wrong value\n"),
-            (1, 1000, "SET 1 GA 5 0 2 0", "1.000 412 ERROR wrong value\n"),
-            (
-                1,
-                1000,
-                "SET 1 GA 5 0 1 -2",
-                "1.000 412 ERROR wrong value\n",
-            ),
-            (
-                1,
-                1000,
-                "SET 1 GA 5 0 1 -01",
-                "1.000 412 ERROR wrong value\n",
-            ),
-            (
-                1,
-                1000,
-                "SET 1 GA 5 0 1 60001",
-                "1.000 412 ERROR wrong value\n",
-            ),
-            (1, 1000, "SET 1 FB 3 1", "1.000 412 ERROR wrong value\n"),
-            (1, 1000, "SET 1 FB 1 2", "1.000 412 ERROR wrong value\n"),
-            (
-                1,
-                1000,
-                "SET 1 POWER MAYBE",
-                "1.000 412 ERROR wrong value\n",
-            ),
-        ],
-    )
-}
-
-#[test]
-fn the_values_before_the_registry_and_an_absent_device_before_the_rest(
-    rt: HostRuntime,
-) -> Result<(), Fail> {
-    let mut served = Served::open(rt.alloc(), &[bus(1)])?;
-    served.begin(1)?;
-    served.says(
-        &rt,
-        rt.alloc(),
-        &[
-            (
-                1,
-                0,
-                "INIT 1 GL 3 N 1 28 1",
-                "0.000 200 OK\n0.000 101 INFO 1 GL 3 N 1 28 1\n0.000 100 INFO 1 GL 3 1 0 0 0\n",
-            ),
-            (
-                1,
-                0,
-                "SET 1 LOCK GL 3 0",
-                "0.000 200 OK\n0.000 100 INFO 1 LOCK GL 3 0 1\n",
-            ),
-            (1, 1000, "SET 1 GL 4 3 0 0", "1.000 412 ERROR wrong value\n"),
-            (1, 1000, "SET 1 GL 4 1 0 0 1 1", "1.000 416 ERROR no data\n"),
-            (
-                1,
-                1000,
-                "CHECK 1 GL 4 1 0 0 1 1",
-                "1.000 416 ERROR no data\n",
-            ),
-            (1, 1000, "SET 1 GL 4 1 29 0", "1.000 416 ERROR no data\n"),
-            (1, 1000, "TERM 1 GL 4", "1.000 416 ERROR no data\n"),
-            (1, 1000, "GET 1 GL 4", "1.000 416 ERROR no data\n"),
-            (1, 1000, "GET 1 GA 5 0", "1.000 416 ERROR no data\n"),
-            (1, 1000, "SET 1 GA 5 0 1 0", "1.000 416 ERROR no data\n"),
-            (1, 1000, "TERM 1 GA 5", "1.000 416 ERROR no data\n"),
-            (1, 1000, "GET 1 LOCK GL 4", "1.000 416 ERROR no data\n"),
-            (1, 1000, "SET 1 LOCK GL 4 0", "1.000 416 ERROR no data\n"),
-            (1, 1000, "CHECK 1 LOCK GA 5 0", "1.000 416 ERROR no data\n"),
-            (1, 1000, "TERM 1 LOCK GL 4", "1.000 416 ERROR no data\n"),
-            (
-                1,
-                1000,
-                "SET 1 GL 3 1 0 0 1 1",
-                "1.000 418 ERROR list too long\n",
-            ),
-            (
-                1,
-                1000,
-                "CHECK 1 GL 3 1 0 0 1 1",
-                "1.000 418 ERROR list too long\n",
-            ),
-        ],
-    )
-}
-
-#[test]
-fn the_number_of_functions_before_the_lock(rt: HostRuntime) -> Result<(), Fail> {
-    let mut served = Served::open(rt.alloc(), &[bus(1)])?;
-    served.begin(1)?;
-    served.begin(2)?;
-    served.says(
-        &rt,
-        rt.alloc(),
-        &[
-            (
-                1,
-                0,
-                "INIT 1 GL 3 N 1 28 1",
-                "0.000 200 OK\n0.000 101 INFO 1 GL 3 N 1 28 1\n0.000 100 INFO 1 GL 3 1 0 0 0\n",
-            ),
-            (
-                1,
-                0,
-                "SET 1 LOCK GL 3 0",
-                "0.000 200 OK\n0.000 100 INFO 1 LOCK GL 3 0 1\n",
-            ),
-            (2, 1000, "SET 1 GL 3 3 0 0", "1.000 412 ERROR wrong value\n"),
-            (
-                2,
-                1000,
-                "SET 1 GL 3 1 0 0 1 1",
-                "1.000 418 ERROR list too long\n",
-            ),
-            (
-                2,
-                1000,
-                "SET 1 GL 3 1 0 0 1",
-                "1.000 414 ERROR device locked\n",
-            ),
-            (
-                2,
-                1000,
-                "CHECK 1 GL 3 1 0 0 1 1",
-                "1.000 418 ERROR list too long\n",
-            ),
-            (
-                2,
-                1000,
-                "CHECK 1 GL 3 1 0 0 1",
-                "1.000 414 ERROR device locked\n",
-            ),
-            (2, 1000, "TERM 1 GL 3", "1.000 414 ERROR device locked\n"),
-            (
-                2,
-                1000,
-                "SET 1 LOCK GL 3 0",
-                "1.000 414 ERROR device locked\n",
-            ),
-            (
-                2,
-                1000,
-                "CHECK 1 LOCK GL 3 0",
-                "1.000 414 ERROR device locked\n",
-            ),
-            (
-                2,
-                1000,
-                "TERM 1 LOCK GL 3",
-                "1.000 414 ERROR device locked\n",
-            ),
-            (
-                2,
-                1000,
-                "GET 1 LOCK GL 3",
-                "0.000 100 INFO 1 LOCK GL 3 0 1\n",
-            ),
-        ],
-    )
-}
-
-#[test]
-fn the_lock_of_an_accessory(rt: HostRuntime) -> Result<(), Fail> {
-    let mut served = Served::open(rt.alloc(), &[bus(1)])?;
-    served.begin(1)?;
-    served.begin(2)?;
-    served.says(
-        &rt,
-        rt.alloc(),
-        &[
-            (
-                1,
-                0,
-                "INIT 1 GA 5 N",
-                "0.000 200 OK\n0.000 101 INFO 1 GA 5 N\n0.000 100 INFO 1 GA 5 0 0\n0.000 100 INFO 1 GA 5 1 0\n",
-            ),
-            (1, 1000, "TERM 1 LOCK GA 5", "1.000 416 ERROR no data\n"),
-            (
-                1,
-                0,
-                "SET 1 LOCK GA 5 0",
-                "0.000 200 OK\n0.000 100 INFO 1 LOCK GA 5 0 1\n",
-            ),
-            (2, 1000, "SET 1 GA 5 0 2 0", "1.000 412 ERROR wrong value\n"),
-            (
-                2,
-                1000,
-                "SET 1 GA 5 0 1 0",
-                "1.000 414 ERROR device locked\n",
-            ),
-            (
-                2,
-                1000,
-                "CHECK 1 GA 5 0 1 0",
-                "1.000 414 ERROR device locked\n",
-            ),
-            (2, 1000, "TERM 1 GA 5", "1.000 414 ERROR device locked\n"),
-            (
-                2,
-                1000,
-                "SET 1 LOCK GA 5 0",
-                "1.000 414 ERROR device locked\n",
-            ),
-            (
-                2,
-                1000,
-                "TERM 1 LOCK GA 5",
-                "1.000 414 ERROR device locked\n",
-            ),
-            (
-                1,
-                0,
-                "SET 1 GA 5 0 1 0",
-                "0.000 200 OK\n0.000 100 INFO 1 GA 5 0 1\n",
-            ),
-        ],
-    )
-}
-
-#[test]
-fn sessions_end_themselves_alone(rt: HostRuntime) -> Result<(), Fail> {
-    let mut served = Served::open(rt.alloc(), &[bus(1)])?;
-    served.begin(1)?;
-    served.begin(2)?;
-    served.says(
-        &rt,
-        rt.alloc(),
-        &[
-            (1, 1000, "TERM 0 SESSION 7", "1.000 415 ERROR forbidden\n"),
-            (1, 1000, "TERM 0 SESSION 2", "1.000 415 ERROR forbidden\n"),
-            (1, 1000, "TERM 0 SESSION 0", "1.000 415 ERROR forbidden\n"),
-            (1, 1000, "GET 0 SESSION 7", "1.000 416 ERROR no data\n"),
-            (1, 1000, "GET 0 SESSION 0", "1.000 416 ERROR no data\n"),
-            (
-                1,
-                1000,
-                "TERM 0 SESSION 1",
-                "1.000 200 OK\nthe session ends\n",
-            ),
-            (
-                2,
-                1000,
-                "TERM 0 SESSION",
-                "1.000 200 OK\nthe session ends\n",
-            ),
+            ("SET 1 POWER ON \x7f", Code::C412),
         ],
     )
 }

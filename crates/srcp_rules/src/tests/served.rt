@@ -12,7 +12,7 @@ use crate::{
     Bus, Command, Flat, Layout, Obeyed, Rows, begin_session, due_next, free_next, obey,
     parse_command,
 };
-use srcp_info::{Change, Cursor, Mode, Reply, write_change, write_reply};
+use srcp_info::{Change, Code, Cursor, Mode, Reply, write_change, write_reply};
 use srcp_text::LineBuf;
 use std::alloc::Global;
 use std::marker::Model;
@@ -159,6 +159,23 @@ impl Served {
         for (session, moment, line, want) in table {
             let said = self.say(alloc, *session, *moment, line.as_bytes())?;
             assert_eq!(rt; said.as_slice(), want.as_bytes(), "at {line}");
+        }
+        Ok(())
+    }
+
+    /// Each line of the session at the moment 1000 is refused so, and nothing else is told.
+    pub(super) fn refuses(
+        &mut self,
+        rt: &impl Abort,
+        alloc: Global,
+        session: u32,
+        table: &[(&str, Code)],
+    ) -> Result<(), Fail> {
+        for (line, code) in table {
+            let said = self.say(alloc, session, 1000, line.as_bytes())?;
+            let mut want = Vec::new(alloc);
+            push_reply(&mut want, 1000, &Reply::Refused(*code))?;
+            assert_eq!(rt; said.as_slice(), want.as_slice(), "at {line}");
         }
         Ok(())
     }
