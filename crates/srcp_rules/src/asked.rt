@@ -163,12 +163,11 @@ fn fb_asked(operation: Operation, bus: &Bus, words: Words<'_>) -> Result<Command
 fn lock_asked(operation: Operation, bus: &Bus, words: Words<'_>) -> Result<Command, Code>
     ensures { result ≡ asked operation named.Lock bus.now words.entry }
 {
-    let number = bus.number;
     match operation {
         Operation::Get => {
             let (group, address) = lock(bus, words)?;
             Ok(Command::GetLock {
-                bus: number,
+                bus: bus.number,
                 group,
                 address,
             })
@@ -176,7 +175,7 @@ fn lock_asked(operation: Operation, bus: &Bus, words: Words<'_>) -> Result<Comma
         Operation::Set => {
             let (group, address, seconds) = timed_lock(bus, words)?;
             Ok(Command::SetLock {
-                bus: number,
+                bus: bus.number,
                 group,
                 address,
                 seconds,
@@ -185,7 +184,7 @@ fn lock_asked(operation: Operation, bus: &Bus, words: Words<'_>) -> Result<Comma
         Operation::Check => {
             let (group, address, seconds) = timed_lock(bus, words)?;
             Ok(Command::CheckLock {
-                bus: number,
+                bus: bus.number,
                 group,
                 address,
                 seconds,
@@ -194,7 +193,7 @@ fn lock_asked(operation: Operation, bus: &Bus, words: Words<'_>) -> Result<Comma
         Operation::Term => {
             let (group, address) = lock(bus, words)?;
             Ok(Command::TermLock {
-                bus: number,
+                bus: bus.number,
                 group,
                 address,
             })

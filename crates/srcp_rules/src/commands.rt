@@ -1,15 +1,16 @@
-ghost use Rattle.std.specs.Prelude.{◌≡◌, ◌≤◌, [], ◌∷◌, IsTrue, None, length};
+ghost use Rattle.std.specs.Prelude.{◌≡◌, ℕ, ◌≤◌, [], ◌∷◌, IsTrue, None, length};
 ghost use Rattle.std.specs.List.{AllByRecursion};
 ghost use Rattle.srcp_info.specs.Key.{first_key};
 ghost use Rattle.srcp_info.specs.WellFormed.{IsWellFormed, IsWellFormedReply};
 ghost use Rattle.srcp_info.specs.declared.value.Value.TheVariants as value;
-ghost use Rattle.srcp_rules.specs.Command.{IsCommandOf};
+ghost use Rattle.srcp_rules.specs.Command.{IsCommandOf, named_of};
+ghost use Rattle.srcp_rules.specs.declared.command.Named.TheVariants as named;
 ghost use Rattle.srcp_rules.specs.Effect.{accepted, done, put_at, term_session};
 ghost use Rattle.srcp_rules.specs.Layout.{IsLayout};
 ghost use Rattle.srcp_rules.specs.Obeyed.{IsObeyed, IsTold, MayObey, Took};
 ghost use Rattle.srcp_rules.specs.State.{IsWhole, fb_device, is_there, power_device, session_device};
 
-use crate::command::{Command, Lockable};
+use crate::command::{Command, Lockable, Named};
 use crate::device::{device_in, fb_device, key_at, lock_on, power_device, session_device};
 use crate::drive::{gl_refusal, set_ga, set_gl};
 use crate::fresh::{init_ga, init_gl};
@@ -65,19 +66,42 @@ fn accepted() -> Obeyed
     Obeyed::accepted(ArrayVec::new())
 }
 
-/// Answers the command.
-fn answer<R: Rows>(rows: &mut R, session: u32, moment: u64, command: &Command) -> Obeyed
-    requires { MayObey (R.buses rows.old) (R.state rows.old) session command.now }
-    ensures obeyed { IsObeyed (R.state rows.old) (R.state rows.new) session moment command.now result }
-    ensures layout { R.buses rows.new ≡ R.buses rows.old }
+/// Answers a command of a session.
+fn answer_session<R: Rows>(rows: &R, session: u32, command: &Command) -> Obeyed
+    requires { named_of command.now ≡ named.Session }
+    ensures { (moment : ℕ) → IsObeyed (R.state rows.now) (R.state rows.now) session moment command.now result }
 {
     match *command {
         Command::GetSession { session: id } => show(rows, &session_device(id).first_key()),
         Command::TermSession { session: named } => end_session(session, named),
+        _ => unreachable!(),
+    }
+}
+
+/// Answers a command of the power of a bus.
+fn answer_power<R: Rows>(rows: &mut R, session: u32, moment: u64, command: &Command) -> Obeyed
+    requires may { MayObey (R.buses rows.old) (R.state rows.old) session command.now }
+    requires named { named_of command.now ≡ named.Power }
+    ensures obeyed { IsObeyed (R.state rows.old) (R.state rows.new) session moment command.now result }
+    ensures layout { R.buses rows.new ≡ R.buses rows.old }
+{
+    match *command {
         Command::GetPower { bus } => show(rows, &power_device(bus).first_key()),
         Command::SetPower { bus, on, text } => set_power(rows, session, moment, bus, on, text),
         Command::CheckPower { .. } => accepted(),
         Command::InitPower { .. } => accepted(),
+        _ => unreachable!(),
+    }
+}
+
+/// Answers a command of a locomotive.
+fn answer_gl<R: Rows>(rows: &mut R, session: u32, moment: u64, command: &Command) -> Obeyed
+    requires may { MayObey (R.buses rows.old) (R.state rows.old) session command.now }
+    requires named { named_of command.now ≡ named.Gl }
+    ensures obeyed { IsObeyed (R.state rows.old) (R.state rows.new) session moment command.now result }
+    ensures layout { R.buses rows.new ≡ R.buses rows.old }
+{
+    match *command {
         Command::GetGl { bus, address } => {
             show(rows, &key_at(device_in(Lockable::Gl, bus, address), 1))
         }
@@ -110,6 +134,18 @@ fn answer<R: Rows>(rows: &mut R, session: u32, moment: u64, command: &Command) -
         Command::TermGl { bus, address } => {
             term_device(rows, session, moment, Lockable::Gl, bus, address)
         }
+        _ => unreachable!(),
+    }
+}
+
+/// Answers a command of an accessory.
+fn answer_ga<R: Rows>(rows: &mut R, session: u32, moment: u64, command: &Command) -> Obeyed
+    requires may { MayObey (R.buses rows.old) (R.state rows.old) session command.now }
+    requires named { named_of command.now ≡ named.Ga }
+    ensures obeyed { IsObeyed (R.state rows.old) (R.state rows.new) session moment command.now result }
+    ensures layout { R.buses rows.new ≡ R.buses rows.old }
+{
+    match *command {
         Command::GetGa { bus, address, port } => {
             show(
                 rows,
@@ -135,10 +171,34 @@ fn answer<R: Rows>(rows: &mut R, session: u32, moment: u64, command: &Command) -
         Command::TermGa { bus, address } => {
             term_device(rows, session, moment, Lockable::Ga, bus, address)
         }
+        _ => unreachable!(),
+    }
+}
+
+/// Answers a command of a feedback port.
+fn answer_fb<R: Rows>(rows: &mut R, session: u32, moment: u64, command: &Command) -> Obeyed
+    requires may { MayObey (R.buses rows.old) (R.state rows.old) session command.now }
+    requires named { named_of command.now ≡ named.Fb }
+    ensures obeyed { IsObeyed (R.state rows.old) (R.state rows.new) session moment command.now result }
+    ensures layout { R.buses rows.new ≡ R.buses rows.old }
+{
+    match *command {
         Command::GetFb { bus, port } => show(rows, &fb_device(bus, port).first_key()),
         Command::SetFb { bus, port, on } => set_fb(rows, session, moment, bus, port, on),
         Command::CheckFb { .. } => accepted(),
         Command::InitFb { .. } => accepted(),
+        _ => unreachable!(),
+    }
+}
+
+/// Answers a command of a lock.
+fn answer_lock<R: Rows>(rows: &mut R, session: u32, moment: u64, command: &Command) -> Obeyed
+    requires may { MayObey (R.buses rows.old) (R.state rows.old) session command.now }
+    requires named { named_of command.now ≡ named.Lock }
+    ensures obeyed { IsObeyed (R.state rows.old) (R.state rows.new) session moment command.now result }
+    ensures layout { R.buses rows.new ≡ R.buses rows.old }
+{
+    match *command {
         Command::GetLock {
             bus,
             group,
@@ -161,6 +221,23 @@ fn answer<R: Rows>(rows: &mut R, session: u32, moment: u64, command: &Command) -
             group,
             address,
         } => term_lock(rows, session, moment, group, bus, address),
+        _ => unreachable!(),
+    }
+}
+
+/// Answers the command.
+fn answer<R: Rows>(rows: &mut R, session: u32, moment: u64, command: &Command) -> Obeyed
+    requires { MayObey (R.buses rows.old) (R.state rows.old) session command.now }
+    ensures obeyed { IsObeyed (R.state rows.old) (R.state rows.new) session moment command.now result }
+    ensures layout { R.buses rows.new ≡ R.buses rows.old }
+{
+    match command.named() {
+        Named::Session => answer_session(rows, session, command),
+        Named::Power => answer_power(rows, session, moment, command),
+        Named::Gl => answer_gl(rows, session, moment, command),
+        Named::Ga => answer_ga(rows, session, moment, command),
+        Named::Fb => answer_fb(rows, session, moment, command),
+        Named::Lock => answer_lock(rows, session, moment, command),
     }
 }
 

@@ -1,0 +1,345 @@
+//! What moments bring, just before and at the moment, and what the end of a session brings.
+
+use super::served::{Served, bus};
+use std::test::Fail;
+
+#[test]
+fn a_port_goes_back_at_its_moment(rt: HostRuntime) -> Result<(), Fail> {
+    let mut served = Served::open(rt.alloc(), &[bus(1)])?;
+    served.begin(1)?;
+    served.says(
+        &rt,
+        rt.alloc(),
+        &[
+            (
+                1,
+                1000,
+                "INIT 1 GA 5 N",
+                "1.000 200 OK\n1.000 101 INFO 1 GA 5 N\n1.000 100 INFO 1 GA 5 0 0\n1.000 100 INFO 1 GA 5 1 0\n",
+            ),
+            (
+                1,
+                1000,
+                "SET 1 GA 5 0 1 100",
+                "1.000 200 OK\n1.000 100 INFO 1 GA 5 0 1\n",
+            ),
+        ],
+    )?;
+    served.brings(&rt, rt.alloc(), 1099, "")?;
+    served.brings(&rt, rt.alloc(), 1100, "1.100 100 INFO 1 GA 5 0 0\n")?;
+    served.brings(&rt, rt.alloc(), 1101, "")?;
+    Ok(())
+}
+
+#[test]
+fn a_later_set_of_a_port_cancels_its_end(rt: HostRuntime) -> Result<(), Fail> {
+    let mut served = Served::open(rt.alloc(), &[bus(1)])?;
+    served.begin(1)?;
+    served.says(
+        &rt,
+        rt.alloc(),
+        &[
+            (
+                1,
+                1000,
+                "INIT 1 GA 5 N",
+                "1.000 200 OK\n1.000 101 INFO 1 GA 5 N\n1.000 100 INFO 1 GA 5 0 0\n1.000 100 INFO 1 GA 5 1 0\n",
+            ),
+            (
+                1,
+                1000,
+                "SET 1 GA 5 0 1 100",
+                "1.000 200 OK\n1.000 100 INFO 1 GA 5 0 1\n",
+            ),
+            (
+                1,
+                1000,
+                "SET 1 GA 5 1 1 100",
+                "1.000 200 OK\n1.000 100 INFO 1 GA 5 1 1\n",
+            ),
+            (
+                1,
+                1050,
+                "SET 1 GA 5 0 1 -1",
+                "1.050 200 OK\n1.050 100 INFO 1 GA 5 0 1\n",
+            ),
+            (
+                1,
+                1050,
+                "SET 1 GA 5 1 0 100",
+                "1.050 200 OK\n1.050 100 INFO 1 GA 5 1 0\n",
+            ),
+        ],
+    )?;
+    served.brings(&rt, rt.alloc(), 2000, "")?;
+    served.says(
+        &rt,
+        rt.alloc(),
+        &[(1, 2000, "GET 1 GA 5 0", "1.050 100 INFO 1 GA 5 0 1\n")],
+    )?;
+    Ok(())
+}
+
+#[test]
+fn a_lock_ends_at_its_moment(rt: HostRuntime) -> Result<(), Fail> {
+    let mut served = Served::open(rt.alloc(), &[bus(1)])?;
+    served.begin(1)?;
+    served.says(
+        &rt,
+        rt.alloc(),
+        &[
+            (
+                1,
+                1000,
+                "INIT 1 GL 3 N 1 28 0",
+                "1.000 200 OK\n1.000 101 INFO 1 GL 3 N 1 28 0\n1.000 100 INFO 1 GL 3 1 0 0\n",
+            ),
+            (
+                1,
+                1000,
+                "SET 1 LOCK GL 3 60",
+                "1.000 200 OK\n1.000 100 INFO 1 LOCK GL 3 60 1\n",
+            ),
+        ],
+    )?;
+    served.brings(&rt, rt.alloc(), 60999, "")?;
+    served.brings(&rt, rt.alloc(), 61000, "61.000 102 INFO 1 LOCK GL 3\n")?;
+    served.says(
+        &rt,
+        rt.alloc(),
+        &[(1, 61000, "GET 1 LOCK GL 3", "61.000 416 ERROR no data\n")],
+    )?;
+    Ok(())
+}
+
+#[test]
+fn a_lock_that_is_set_again_ends_later(rt: HostRuntime) -> Result<(), Fail> {
+    let mut served = Served::open(rt.alloc(), &[bus(1)])?;
+    served.begin(1)?;
+    served.says(
+        &rt,
+        rt.alloc(),
+        &[
+            (
+                1,
+                1000,
+                "INIT 1 GL 3 N 1 28 0",
+                "1.000 200 OK\n1.000 101 INFO 1 GL 3 N 1 28 0\n1.000 100 INFO 1 GL 3 1 0 0\n",
+            ),
+            (
+                1,
+                1000,
+                "SET 1 LOCK GL 3 60",
+                "1.000 200 OK\n1.000 100 INFO 1 LOCK GL 3 60 1\n",
+            ),
+            (
+                1,
+                31000,
+                "SET 1 LOCK GL 3 60",
+                "31.000 200 OK\n31.000 100 INFO 1 LOCK GL 3 60 1\n",
+            ),
+        ],
+    )?;
+    served.brings(&rt, rt.alloc(), 61000, "")?;
+    served.brings(&rt, rt.alloc(), 90999, "")?;
+    served.brings(&rt, rt.alloc(), 91000, "91.000 102 INFO 1 LOCK GL 3\n")?;
+    served.says(
+        &rt,
+        rt.alloc(),
+        &[
+            (
+                1,
+                92000,
+                "SET 1 LOCK GL 3 1",
+                "92.000 200 OK\n92.000 100 INFO 1 LOCK GL 3 1 1\n",
+            ),
+            (
+                1,
+                92500,
+                "SET 1 LOCK GL 3 0",
+                "92.500 200 OK\n92.500 100 INFO 1 LOCK GL 3 0 1\n",
+            ),
+        ],
+    )?;
+    served.brings(&rt, rt.alloc(), 99000, "")?;
+    Ok(())
+}
+
+#[test]
+fn a_moment_brings_its_changes_in_key_order(rt: HostRuntime) -> Result<(), Fail> {
+    let mut served = Served::open(rt.alloc(), &[bus(1)])?;
+    served.begin(1)?;
+    served.says(
+        &rt,
+        rt.alloc(),
+        &[
+            (
+                1,
+                0,
+                "INIT 1 GL 3 N 1 28 0",
+                "0.000 200 OK\n0.000 101 INFO 1 GL 3 N 1 28 0\n0.000 100 INFO 1 GL 3 1 0 0\n",
+            ),
+            (
+                1,
+                0,
+                "INIT 1 GA 5 N",
+                "0.000 200 OK\n0.000 101 INFO 1 GA 5 N\n0.000 100 INFO 1 GA 5 0 0\n0.000 100 INFO 1 GA 5 1 0\n",
+            ),
+            (
+                1,
+                0,
+                "SET 1 LOCK GA 5 1",
+                "0.000 200 OK\n0.000 100 INFO 1 LOCK GA 5 1 1\n",
+            ),
+            (
+                1,
+                0,
+                "SET 1 LOCK GL 3 1",
+                "0.000 200 OK\n0.000 100 INFO 1 LOCK GL 3 1 1\n",
+            ),
+            (
+                1,
+                0,
+                "SET 1 GA 5 1 1 900",
+                "0.000 200 OK\n0.000 100 INFO 1 GA 5 1 1\n",
+            ),
+            (
+                1,
+                0,
+                "SET 1 GA 5 0 1 950",
+                "0.000 200 OK\n0.000 100 INFO 1 GA 5 0 1\n",
+            ),
+        ],
+    )?;
+    served.brings(
+        &rt,
+        rt.alloc(),
+        5000,
+        "5.000 100 INFO 1 GA 5 0 0\n5.000 100 INFO 1 GA 5 1 0\n5.000 102 INFO 1 LOCK GL 3\n5.000 102 INFO 1 LOCK GA 5\n",
+    )?;
+    Ok(())
+}
+
+#[test]
+fn no_end_lies_beyond_the_greatest_moment(rt: HostRuntime) -> Result<(), Fail> {
+    let mut served = Served::open(rt.alloc(), &[bus(1)])?;
+    served.begin(1)?;
+    served.says(
+        &rt,
+        rt.alloc(),
+        &[
+            (
+                1,
+                18446744073709551615,
+                "INIT 1 GL 3 N 1 28 0",
+                "18446744073709551.615 200 OK\n18446744073709551.615 101 INFO 1 GL 3 N 1 28 0\n18446744073709551.615 100 INFO 1 GL 3 1 0 0\n",
+            ),
+            (
+                1,
+                18446744073709551615,
+                "INIT 1 GA 5 N",
+                "18446744073709551.615 200 OK\n18446744073709551.615 101 INFO 1 GA 5 N\n18446744073709551.615 100 INFO 1 GA 5 0 0\n18446744073709551.615 100 INFO 1 GA 5 1 0\n",
+            ),
+            (
+                1,
+                18446744073709551615,
+                "SET 1 GA 5 0 1 100",
+                "18446744073709551.615 200 OK\n18446744073709551.615 100 INFO 1 GA 5 0 1\n",
+            ),
+            (
+                1,
+                18446744073709551615,
+                "SET 1 LOCK GL 3 86400",
+                "18446744073709551.615 200 OK\n18446744073709551.615 100 INFO 1 LOCK GL 3 86400 1\n",
+            ),
+            (
+                1,
+                18446744073709551615,
+                "GET 1 GA 5 0",
+                "18446744073709551.615 100 INFO 1 GA 5 0 1\n",
+            ),
+        ],
+    )?;
+    served.brings(&rt, rt.alloc(), 18446744073709551614, "")?;
+    served.brings(
+        &rt,
+        rt.alloc(),
+        18446744073709551615,
+        "18446744073709551.615 100 INFO 1 GA 5 0 0\n18446744073709551.615 102 INFO 1 LOCK GL 3\n",
+    )?;
+    Ok(())
+}
+
+#[test]
+fn the_end_of_a_session_frees_its_locks(rt: HostRuntime) -> Result<(), Fail> {
+    let mut served = Served::open(rt.alloc(), &[bus(1)])?;
+    served.begin(1)?;
+    served.begin(2)?;
+    served.says(
+        &rt,
+        rt.alloc(),
+        &[
+            (
+                1,
+                0,
+                "INIT 1 GL 3 N 1 28 0",
+                "0.000 200 OK\n0.000 101 INFO 1 GL 3 N 1 28 0\n0.000 100 INFO 1 GL 3 1 0 0\n",
+            ),
+            (
+                1,
+                0,
+                "INIT 1 GA 5 N",
+                "0.000 200 OK\n0.000 101 INFO 1 GA 5 N\n0.000 100 INFO 1 GA 5 0 0\n0.000 100 INFO 1 GA 5 1 0\n",
+            ),
+            (
+                1,
+                0,
+                "INIT 1 GL 4 N 1 28 0",
+                "0.000 200 OK\n0.000 101 INFO 1 GL 4 N 1 28 0\n0.000 100 INFO 1 GL 4 1 0 0\n",
+            ),
+            (
+                1,
+                0,
+                "SET 1 LOCK GA 5 0",
+                "0.000 200 OK\n0.000 100 INFO 1 LOCK GA 5 0 1\n",
+            ),
+            (
+                1,
+                0,
+                "SET 1 LOCK GL 3 60",
+                "0.000 200 OK\n0.000 100 INFO 1 LOCK GL 3 60 1\n",
+            ),
+            (
+                2,
+                0,
+                "SET 1 LOCK GL 4 0",
+                "0.000 200 OK\n0.000 100 INFO 1 LOCK GL 4 0 2\n",
+            ),
+        ],
+    )?;
+    let said = served.end(rt.alloc(), 1, 7000)?;
+    let want =
+        "7.000 102 INFO 1 LOCK GL 3\n7.000 102 INFO 1 LOCK GA 5\n7.000 102 INFO 0 SESSION 1\n";
+    assert_eq!(rt; said.as_slice(), want.as_bytes());
+    served.says(
+        &rt,
+        rt.alloc(),
+        &[
+            (
+                2,
+                7000,
+                "GET 1 LOCK GL 4",
+                "0.000 100 INFO 1 LOCK GL 4 0 2\n",
+            ),
+            (2, 7000, "GET 0 SESSION 1", "7.000 416 ERROR no data\n"),
+            (
+                2,
+                7000,
+                "SET 1 GL 3 1 0 0",
+                "7.000 200 OK\n7.000 100 INFO 1 GL 3 1 0 0\n",
+            ),
+        ],
+    )?;
+    assert!(rt; served.end(rt.alloc(), 1, 8000)?.is_empty());
+    Ok(())
+}
