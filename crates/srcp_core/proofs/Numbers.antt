@@ -5,7 +5,7 @@ use Rattle.std.specs.List.{filter}
 use Rattle.std.specs.Prelude.{Option, Some, None, slice_get, slice_set, slice_index_or}
 use Rattle.srcp_core.specs.Connection.{Connection, is_open}
 use Rattle.srcp_core.specs.Course.{numbered, with_numbered}
-use Rattle.srcp_core.specs.Recording.{key_of}
+use Rattle.srcp_core.specs.Recording.{key_of, without_key}
 
 -- ---- connections
 
@@ -78,11 +78,6 @@ key_within (suc n) [] key e = absurd (nothing n e)
     nothing (suc n) e = cc
 key_within (suc zero) (k ∷ keys) key e = (omega arith, omega arith)
 key_within (suc (suc n)) (k ∷ keys) key e = let ih = key_within (suc n) keys key e in let l = ih.1 in (omega arith, omega (arith, l))
-
--- the keys without that of a number
-abbrev pub without_key : ℕ → List (Option ℕ) → List (Option ℕ)
-without_key zero keys = keys
-without_key (suc n) keys = slice_set keys n None
 
 pub length_without : (n : ℕ) (keys : List (Option ℕ)) → length (without_key n keys) ≡ length keys
 length_without zero keys = refl
