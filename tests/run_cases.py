@@ -111,8 +111,34 @@ def words_that_are_unknown(program):
     return ended(done, 2, b"usage")
 
 
+def script_past_its_limit(program):
+    done = subprocess.run([program], input=b"\n" * (INPUT_LIMIT + 1), capture_output=True, timeout=SECONDS)
+    return ended(done, 2, b"input too large")
+
+
+def script_at_its_limit(program):
+    done = subprocess.run([program], input=b"\n" * INPUT_LIMIT, capture_output=True, timeout=SECONDS)
+    return ended(done, 0, b"", b"rows 1\n0.000 100 INFO 1 POWER OFF\n")
+
+
+def script_that_cannot_be_read(program):
+    folder = os.open("/", os.O_RDONLY)
+    try:
+        done = subprocess.run([program], stdin=folder, capture_output=True, timeout=SECONDS)
+    finally:
+        os.close(folder)
+    return ended(done, 1, b"cannot read the input")
+
+
+def run_that_cannot_be_written(program):
+    with open("/dev/full", "wb") as full:
+        done = subprocess.run([program], input=b"open\n", stdout=full, stderr=subprocess.PIPE, timeout=SECONDS)
+    return ended(done, 1, b"cannot write")
+
+
 STREAM_CASES = (input_past_its_limit, input_at_its_limit, input_that_cannot_be_read, output_that_cannot_be_written,
-                words_that_are_unknown)
+                words_that_are_unknown, script_past_its_limit, script_at_its_limit, script_that_cannot_be_read,
+                run_that_cannot_be_written)
 
 
 def main():

@@ -1,7 +1,6 @@
 //! What is kept of one connection.
 ghost use Rattle.std.specs.Prelude.{◌≡◌, ◌≤◌, ◌<◌, ◌+◌, [], ◌∷◌, ◌++◌, length, drop, Bool, List, true, false, ◌||◌, IfOk, Some, None, vec_capacity, if◌then◌else◌};
 ghost use Rattle.srcp_core.specs.Course.{welcome};
-ghost use Rattle.srcp_rules.specs.Grammar.{reads};
 ghost use Rattle.srcp_rules.specs.State.{shown_rows};
 ghost use Rattle.std.specs.List.{AllByRecursion};
 ghost use Rattle.srcp_info.specs.WellFormed.{IsWellFormed, IsWellFormedShown};
@@ -14,7 +13,7 @@ use crate::greeting::Greeting;
 use crate::handshake::greet;
 use srcp_feed::{InfoFeed, Next, Told};
 use srcp_info::{Change, Code, Mode, write_change};
-use srcp_rules::{Layout, Memory, Rows};
+use srcp_rules::{Layout, Memory, Rows, parse_command};
 use srcp_text::{Fed, LineBuf, LineReader};
 use std::alloc::Global;
 use std::marker::Model;
@@ -273,10 +272,4 @@ fn compact(buffer: &mut Vec<u8>, start: usize)
     let end = buffer.len();
     buffer.copy_within(start..end, 0);
     buffer.truncate(end - start);
-}
-
-fn parse_command(line: &[u8], layout: &Layout) -> Result<srcp_rules::Command, Code>
-    ensures { result ≡ reads layout.now line.now }
-{
-    Err(Code::C410)
 }

@@ -1,6 +1,6 @@
 -- The rows of a fresh device.
 use Rattle.std.specs.Prelude.{◌≡◌, ℕ, zero, suc, ◌+◌, ◌<◌, ◌≤◌, false, List, [], ◌∷◌, length, map, replicate, take, None}
-use Rattle.std.proofs.Common.{refl, sym, ap, subst, ◌∙◌, arith}
+use Rattle.std.proofs.Common.{refl, sym, ap, ◌∙◌, arith}
 use Rattle.std.proofs.lemmas.List.{length-replicate}
 use Rattle.std.proofs.lemmas.List.FromFn.{take-map-range_with_len}
 use Rattle.std.specs.List.{AllByRecursion, range_with_len}
@@ -13,7 +13,7 @@ use Rattle.srcp_rules.specs.declared.layout.Bus.{Bus}
 use Rattle.srcp_rules.specs.declared.command.Lockable.TheVariants as lockable
 use Rattle.srcp_rules.specs.declared.command.Command.TheVariants.{InitGl, InitGa}
 use Rattle.srcp_rules.specs.Layout.{row_count}
-use Rattle.srcp_rules.specs.State.{State, Update, IsRowOf, device_in, key_at, put_of}
+use Rattle.srcp_rules.specs.State.{State, IsRowOf, device_in, key_at, put_of}
 use Rattle.srcp_rules.specs.Effect.{row_put, put_at, fresh_ga}
 use Rattle.srcp_rules.specs.Obeyed.{MayObey}
 use Rattle.srcp_rules.specs.Rows.{AreRowsOf}

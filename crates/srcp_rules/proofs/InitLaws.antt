@@ -1,6 +1,6 @@
 -- A device that is made, or made afresh.
-use Rattle.std.specs.Prelude.{◌≡◌, ℕ, ◌<◌, Bool, true, false, not, ◌&&◌, cond, is_some, List, [], ◌∷◌, ◌++◌, map, None, Ok, Err}
-use Rattle.std.proofs.Common.{refl, sym, ap, subst, ◌∙◌, true≢false, append_assoc}
+use Rattle.std.specs.Prelude.{◌≡◌, ℕ, ◌<◌, Bool, true, false, ◌&&◌, cond, is_some, List, [], ◌∷◌, ◌++◌, map, None, Ok, Err}
+use Rattle.std.proofs.Common.{refl, sym, ap, ◌∙◌, true≢false}
 use Rattle.std.proofs.lemmas.List.{map-append}
 use Rattle.srcp_info.specs.declared.change.Row.{Row}
 use Rattle.srcp_info.specs.declared.change.Change.{Change}
@@ -11,7 +11,7 @@ use Rattle.srcp_rules.specs.declared.layout.Bus.{Bus}
 use Rattle.srcp_rules.specs.declared.command.Lockable.{Lockable}
 use Rattle.srcp_rules.specs.declared.command.Lockable.TheVariants as lockable
 use Rattle.srcp_rules.specs.Layout.{row_count}
-use Rattle.srcp_rules.specs.State.{State, Update, IsWhole, IsRowOf, row_at, is_there, put_of, without, device_in, lock_on, updated_all}
+use Rattle.srcp_rules.specs.State.{State, Update, IsWhole, row_at, is_there, put_of, without, device_in, lock_on, updated_all}
 use Rattle.srcp_rules.specs.Effect.{accepted, done, gone_at, has_init, init_device, is_locked, removal, removals}
 use Rattle.srcp_rules.specs.Rows.{AreRowsOf, AreNewRowsOf, put_rows}
 use Rattle.srcp_rules.proofs.StateLaws.{row_at-without, updated_all-append}

@@ -1,9 +1,8 @@
 -- The first change of a moment beyond a cursor, and the first of a session's end.
-use Rattle.std.specs.Prelude.{◌≡◌, ℕ, ◌+◌, ◌<◌, Bool, true, false, not, ◌&&◌, cond, is_some, List, [], ◌∷◌, ◌++◌, length, drop, map, filter, find, slice_get, option_map, Option, Some, None, IfSome}
-use Rattle.std.proofs.Common.{refl, sym, ap, subst, ◌∙◌, true≢false, arith}
+use Rattle.std.specs.Prelude.{◌≡◌, ℕ, Bool, true, false, not, ◌&&◌, cond, is_some, List, [], ◌∷◌, ◌++◌, map, filter, find, option_map, Some, None}
+use Rattle.std.proofs.Common.{refl, sym, ap, subst, ◌∙◌}
 use Rattle.std.specs.Cmp.{second_so}
 use Rattle.std.specs.List.{AllByRecursion}
-use Rattle.std.specs.Option.{option_map_or}
 use Rattle.srcp_info.specs.declared.key.Key.{Key}
 use Rattle.srcp_info.specs.declared.value.Value.{Value}
 use Rattle.srcp_info.specs.declared.value.Value.TheVariants as value
@@ -15,9 +14,9 @@ use Rattle.srcp_info.specs.WellFormed.{IsMoment, IsValueAt, IsWellFormed}
 use Rattle.srcp_rules.specs.declared.layout.Bus.{Bus}
 use Rattle.srcp_rules.specs.declared.next.Sought.TheVariants as sought
 use Rattle.srcp_rules.specs.Layout.{IsLayout}
-use Rattle.srcp_rules.specs.State.{State, Update, AddsNoRow, IsWhole, IsRowOf, MayBeDue, row_at, has_row, is_there, session_device, updated, updated_if}
-use Rattle.srcp_rules.specs.Effect.{gone_at, removal}
-use Rattle.srcp_rules.specs.Due.{due, due_after, due_change, is_due, is_held_by, freed, sought_after}
+use Rattle.srcp_rules.specs.State.{State, Update, AddsNoRow, IsWhole, IsRowOf, MayBeDue, row_at, is_there, session_device, updated}
+use Rattle.srcp_rules.specs.Effect.{gone_at}
+use Rattle.srcp_rules.specs.Due.{due_after, due_change, is_due, is_held_by, freed, sought_after}
 use Rattle.srcp_rules.proofs.FindLaws.{found_holds, find_passes, each-weaken}
 use Rattle.srcp_rules.proofs.StateLaws.{row_at_key, each_found}
 use Rattle.srcp_rules.proofs.SoughtLaws.{find-both}

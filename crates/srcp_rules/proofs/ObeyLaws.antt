@@ -1,10 +1,9 @@
 -- What is refused and what is accepted of a command, and the rows that it sets.
-use Rattle.std.specs.Prelude.{◌≡◌, ℕ, ◌+◌, ◌≤◌, ◌<◌, Bool, true, false, not, cond, IsTrue, is_some, List, [], ◌∷◌, length, Option, Some, None, Result, Ok, Err}
-use Rattle.std.proofs.Common.{refl, sym, ap, subst, ◌∙◌, true≢false, arith}
-use Rattle.std.specs.List.{AllByRecursion}
+use Rattle.std.specs.Prelude.{◌≡◌, ℕ, ◌+◌, ◌≤◌, Bool, true, false, not, cond, List, [], ◌∷◌, length, Option, Some, None, Err}
+use Rattle.std.proofs.Common.{refl, ap, arith}
 use Rattle.srcp_info.specs.declared.key.Device.{Device}
 use Rattle.srcp_info.specs.declared.change.Code.{Code}
-use Rattle.srcp_info.specs.declared.change.Code.TheVariants.{C414, C416, C418}
+use Rattle.srcp_info.specs.declared.change.Code.TheVariants.{C416}
 use Rattle.srcp_info.specs.declared.value.Value.TheVariants as value
 use Rattle.srcp_info.specs.Key.{first_key}
 use Rattle.srcp_info.specs.WellFormed.{IsMoment}
@@ -13,10 +12,9 @@ use Rattle.srcp_rules.specs.Layout.{IsKeyOf}
 use Rattle.srcp_rules.specs.Command.{kept_v}
 use Rattle.srcp_rules.specs.declared.command.Lockable.{Lockable}
 use Rattle.srcp_rules.specs.declared.command.Lockable.TheVariants as lockable
-use Rattle.srcp_rules.specs.declared.command.Command.{Command}
-use Rattle.srcp_rules.specs.declared.command.Command.TheVariants.{SetPower, SetGl, InitGl, SetGa, InitGa, SetFb, SetLock}
+use Rattle.srcp_rules.specs.declared.command.Command.TheVariants.{SetPower, SetGl, SetGa, SetFb, SetLock}
 use Rattle.srcp_rules.specs.State.{State, Update, IsRowOf, IsWhole, has_row, row_at, is_there, key_at, power_device, fb_device, device_in, lock_on, functions_of}
-use Rattle.srcp_rules.specs.Effect.{Effect, done, checked, refused, accepted, unless_refused, row_put, lock_end, port_end, gl_refusals, functions_after}
+use Rattle.srcp_rules.specs.Effect.{done, checked, refused, accepted, unless_refused, row_put, lock_end, port_end, functions_after}
 use Rattle.srcp_rules.specs.Obeyed.{MayObey, first_refusal, refused_or_not}
 use Rattle.srcp_rules.proofs.EffectLaws.{NoneApplies, lock_value, lock_end_fits, port_end_fits, is_not, found_few, as_many}
 use Rattle.srcp_rules.proofs.StepLaws.{IsRowOf-put}

@@ -1,23 +1,20 @@
 -- Several rows that are put one after another, and a device that is made afresh in place.
-use Rattle.std.specs.Prelude.{◌≡◌, ℕ, zero, suc, ◌+◌, ◌<◌, ◌≤◌, Bool, true, false, not, ◌&&◌, ◌||◌, ◌==◌, cond, is_some, List, [], ◌∷◌, ◌++◌, map, length, fold, Option, Some, None}
+use Rattle.std.specs.Prelude.{◌≡◌, ℕ, zero, suc, ◌+◌, ◌<◌, ◌≤◌, Bool, true, false, not, ◌||◌, cond, List, [], ◌∷◌, map, Option, Some, None}
 use Rattle.std.proofs.Common.{refl, sym, ap, subst, ◌∙◌, true≢false, arith}
 use Rattle.std.specs.List.{AllByRecursion, list_any, range_with_len}
-use Rattle.std.specs.Ordering.{is_eq, ordering_reverse}
-use Rattle.std.specs.declared.cmp.Ordering.{Ordering}
-use Rattle.std.specs.declared.cmp.Ordering.TheVariants.{Less, Equal, Greater}
+use Rattle.std.specs.Ordering.{ordering_reverse}
+use Rattle.std.specs.declared.cmp.Ordering.TheVariants.{Less, Greater}
 use Rattle.srcp_info.specs.declared.key.Key.{Key}
 use Rattle.srcp_info.specs.declared.key.Device.{Device}
 use Rattle.srcp_info.specs.declared.change.Row.{Row}
 use Rattle.srcp_info.specs.Key.{key_cmp, device_of, first_key, owns}
 use Rattle.srcp_rules.specs.declared.layout.Bus.{Bus}
-use Rattle.srcp_rules.specs.declared.command.Lockable.{Lockable}
-use Rattle.srcp_rules.specs.declared.command.Lockable.TheVariants as lockable
-use Rattle.srcp_rules.specs.Layout.{IsLayout, row_count}
-use Rattle.srcp_rules.specs.State.{State, Update, IsRising, IsWhole, IsRowOf, row_at, has_row, is_there, key_at, put_row, put_of, without, device_in, lock_on, updated_all}
+use Rattle.srcp_rules.specs.Layout.{row_count}
+use Rattle.srcp_rules.specs.State.{State, IsRising, IsWhole, IsRowOf, row_at, has_row, is_there, key_at, put_row, put_of, without, updated_all}
 use Rattle.srcp_rules.specs.Rows.{AreRowsOf, put_rows}
 use Rattle.srcp_rules.proofs.KeyLaws.{same_key, same_key-itself, same_key-true, key_cmp-total, owns-true}
 use Rattle.srcp_rules.proofs.FindLaws.{found_holds}
-use Rattle.srcp_rules.proofs.StateLaws.{row_key, row_at_key, row_at-first, row_at-later, row_at-put_row, row_at-without, rising-put_by, rising-filter, has_row-put_row}
+use Rattle.srcp_rules.proofs.StateLaws.{row_key, row_at_key, row_at-first, row_at-put_row, row_at-without, rising-put_by, rising-filter, has_row-put_row}
 use Rattle.srcp_rules.proofs.OpeningLaws.{each_unmapped, each_and}
 
 -- ---- two registries with the same rows

@@ -1,6 +1,6 @@
 -- Where a key is among rows by rising key, and what a write or an insert there gives.
-use Rattle.std.specs.Prelude.{◌≡◌, ℕ, zero, suc, ◌+◌, ◌<◌, ◌≤◌, Bool, true, false, not, cond, List, [], ◌∷◌, ◌++◌, length, take, drop, find, insert, slice_get, slice_set, slice_index_or, Option, Some, None, Result, Ok, Err, IfOk, IfErr}
-use Rattle.std.proofs.Common.{refl, sym, ap, subst, ◌∙◌, true≢false, arith}
+use Rattle.std.specs.Prelude.{◌≡◌, ℕ, zero, suc, ◌<◌, ◌≤◌, Bool, false, cond, List, [], ◌∷◌, ◌++◌, length, take, drop, find, insert, slice_set, slice_index_or, Some, None, Result, Ok, Err, IfOk, IfErr}
+use Rattle.std.proofs.Common.{refl, sym, ap, subst, ◌∙◌, arith}
 use Rattle.std.proofs.lemmas.List.{take-append-drop, set_split}
 use Rattle.std.proofs.lemmas.List.Folds.{find-append}
 use Rattle.std.specs.Option.{option_or}
@@ -12,16 +12,15 @@ use Rattle.std.specs.declared.cmp.Ordering.TheVariants.{Less, Equal, Greater}
 use Rattle.srcp_info.specs.declared.key.Key.{Key}
 use Rattle.srcp_info.specs.declared.change.Row.{Row}
 use Rattle.srcp_info.specs.declared.change.Cursor.{Cursor}
-use Rattle.srcp_info.specs.declared.change.Cursor.TheVariants as cursor
 use Rattle.srcp_info.specs.Key.{key_cmp, is_after, has_reached}
 use Rattle.srcp_info.proofs.KeyLaws.{key_tie}
-use Rattle.srcp_info.proofs.ClientLaws.{put_between, put_over, reached_below, after_from_less}
-use Rattle.srcp_rules.specs.State.{State, IsRising, row_at, row_after, put_row}
+use Rattle.srcp_info.proofs.ClientLaws.{put_between, put_over, reached_below}
+use Rattle.srcp_rules.specs.State.{State, IsRising, row_at, put_row}
 use Rattle.srcp_rules.specs.Rows.{IsAt, IsGap}
 use Rattle.srcp_rules.proofs.KeyLaws.{same_key, key_cmp-total}
 use Rattle.srcp_rules.proofs.FindLaws.{each-weaken}
 use Rattle.srcp_rules.proofs.StateLaws.{row_key, row_at-first, row_at-later}
-use Rattle.srcp_rules.proofs.PlaceLaws.{front_each, back_each, each_at, Follows, partitioned, non_decreasing, find-parted}
+use Rattle.srcp_rules.proofs.PlaceLaws.{front_each, back_each, each_at, Follows, partitioned, non_decreasing}
 
 abbrev Below : Row → Row → Type 0
 Below a b = key_cmp a.shown.key b.shown.key ≡ Less

@@ -1,17 +1,15 @@
 -- What holds of whatever a command of the layout does.
-use Rattle.std.specs.Prelude.{◌≡◌, ℕ, ◌≤◌, List, [], ◌∷◌, length, map, ◌⊎◌}
-use Rattle.std.proofs.Common.{refl, sym, ap, subst, ◌∙◌, inl, inr, arith}
+use Rattle.std.specs.Prelude.{ℕ, ◌≤◌, List, [], ◌∷◌, length, map}
+use Rattle.std.proofs.Common.{sym, ap, subst, inl, inr, arith}
 use Rattle.std.proofs.lemmas.List.{length-map}
 use Rattle.std.specs.List.{AllByRecursion}
-use Rattle.srcp_info.specs.declared.change.Change.{Change}
-use Rattle.srcp_info.specs.declared.change.Reply.{Reply}
 use Rattle.srcp_info.specs.WellFormed.{IsMoment, IsWellFormed, IsWellFormedReply}
 use Rattle.srcp_rules.specs.declared.layout.Bus.{Bus}
 use Rattle.srcp_rules.specs.declared.command.Command.{Command}
 use Rattle.srcp_rules.specs.declared.obeyed.Obeyed.{Obeyed}
-use Rattle.srcp_rules.specs.State.{State, Update, IsWhole, updated_all}
+use Rattle.srcp_rules.specs.State.{State, Update, IsWhole}
 use Rattle.srcp_rules.specs.Effect.{effect}
-use Rattle.srcp_rules.specs.Obeyed.{IsObeyed, MayObey, Took, WantsMemory}
+use Rattle.srcp_rules.specs.Obeyed.{IsObeyed, MayObey}
 use Rattle.srcp_rules.proofs.CountLaws.{effect_few}
 use Rattle.srcp_rules.proofs.EffectLaws.{effect_kept}
 use Rattle.srcp_rules.proofs.ToldLaws.{effect_told, reply_told}

@@ -1,12 +1,10 @@
 -- Words that are joined one by one.
-use Rattle.std.specs.Prelude.{◌≡◌, ℕ, ◌+◌, ◌<◌, ◌≤◌, Bool, true, false, ◌&&◌, List, [], ◌∷◌, ◌++◌, length, nat_le}
-use Rattle.std.proofs.Common.{refl, sym, ap, ◌∙◌, append-nil, arith}
+use Rattle.std.specs.Prelude.{◌≡◌, ℕ, ◌<◌, ◌≤◌, Bool, true, false, List, [], ◌∷◌, ◌++◌, length, nat_le}
+use Rattle.std.proofs.Common.{refl, ap, arith}
 use Rattle.std.proofs.lemmas.Bool.{leb-true}
-use Rattle.std.proofs.Common.{true≢false}
 use Rattle.std.specs.Cmp.{first_so}
-use Rattle.std.specs.List.{join_with_byte, list_all, slice_split}
-use Rattle.srcp_info.specs.WellFormed.{is_text, is_text_word}
-use Rattle.srcp_text.specs.Words.{is_empty}
+use Rattle.std.specs.List.{join_with_byte}
+use Rattle.srcp_info.specs.WellFormed.{is_text}
 
 -- each word with a space before it
 abbrev pub spaced : List (List ℕ) → List ℕ

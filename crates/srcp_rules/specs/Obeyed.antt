@@ -1,8 +1,7 @@
 -- What became of a command, against what the command does.
-use Rattle.std.specs.Prelude.{◌≡◌, ℕ, Bool, false, IsTrue, ◌⊎◌, List, [], ◌∷◌, map, Option, Some, None, if◌then◌else◌}
+use Rattle.std.specs.Prelude.{◌≡◌, ℕ, Bool, IsTrue, ◌⊎◌, List, [], ◌∷◌, map, Option, Some, None, if◌then◌else◌}
 use Rattle.srcp_info.specs.declared.change.Code.{Code}
 use Rattle.srcp_info.specs.declared.change.Code.TheVariants.{C500}
-use Rattle.srcp_info.specs.declared.change.Reply.TheVariants.{Refused}
 use Rattle.srcp_rules.specs.declared.obeyed.Obeyed.{Obeyed}
 use Rattle.srcp_rules.specs.declared.command.Command.{Command}
 use Rattle.srcp_rules.specs.declared.layout.Bus.{Bus}

@@ -2,18 +2,19 @@ ghost use Rattle.std.specs.Prelude.{◌≡◌, ℕ, Bool, List, Option, Ok, Err,
 ghost use Rattle.srcp_rules.specs.declared.command.Lockable.{Lockable};
 ghost use Rattle.srcp_rules.specs.declared.command.Command.{Command};
 ghost use Rattle.srcp_rules.specs.Layout.{address_max};
-ghost use Rattle.srcp_rules.specs.Grammar.{addressed, ga_port, get_ga, get_session, init_ga, init_gl, named_lock, set_fb, set_ga, set_lock, set_power, term_session};
+ghost use Rattle.srcp_rules.specs.Grammar.{addressed, ga_port, get_ga, get_session, init_ga, init_gl, named_lock, set_fb, set_ga, set_gl, set_lock, set_power, term_session};
 
 use crate::command::{Command, Lockable};
 use crate::counted::{next_word, no_more};
+use crate::functions::read_functions;
 use crate::layout::Bus;
 use crate::power_text::text_of;
 use crate::read::{bit_of, is_keyword, letter_of, lockable_on, number_in, switch_of, time_of};
-use srcp_info::{Code, Letter, Text};
+use srcp_info::{Bits, Code, Letter, Text};
 use srcp_text::Words;
 
 /// An address and nothing else.
-fn address(most: u32, mut words: Words<'_>) -> Result<u32, Code>
+pub(crate) fn address(most: u32, mut words: Words<'_>) -> Result<u32, Code>
     ensures { (make : ℕ → Command) → MatchResult result (λ address. addressed most make words.entry ≡ Ok (make address)) (λ code. addressed most make words.entry ≡ Err code) }
 {
     let word = next_word(&mut words)?;
@@ -21,7 +22,7 @@ fn address(most: u32, mut words: Words<'_>) -> Result<u32, Code>
     number_in(1, most, word)
 }
 
-fn get_session(mut words: Words<'_>) -> Result<Command, Code>
+pub(crate) fn get_session(mut words: Words<'_>) -> Result<Command, Code>
     ensures { result ≡ get_session words.entry }
 {
     let word = next_word(&mut words)?;
@@ -31,7 +32,7 @@ fn get_session(mut words: Words<'_>) -> Result<Command, Code>
     })
 }
 
-fn term_session(mut words: Words<'_>) -> Result<Command, Code>
+pub(crate) fn term_session(mut words: Words<'_>) -> Result<Command, Code>
     ensures { result ≡ term_session words.entry }
 {
     let Some(word) = words.next() else {
@@ -51,7 +52,7 @@ fn ga_port(bus: &Bus, word: &[u8]) -> Result<u8, Code>
     Ok(port as u8)
 }
 
-fn get_ga(bus: &Bus, mut words: Words<'_>) -> Result<Command, Code>
+pub(crate) fn get_ga(bus: &Bus, mut words: Words<'_>) -> Result<Command, Code>
     ensures { result ≡ get_ga bus.now words.entry }
 {
     let first = next_word(&mut words)?;
@@ -67,15 +68,16 @@ fn get_ga(bus: &Bus, mut words: Words<'_>) -> Result<Command, Code>
 }
 
 /// What a port is set to.
-struct Switch {
-    address: u32,
-    port: u8,
-    on: bool,
-    time: Option<u32>,
+#[derive(Clone, Copy)]
+pub(crate) struct Switch {
+    pub(crate) address: u32,
+    pub(crate) port: u8,
+    pub(crate) on: bool,
+    pub(crate) time: Option<u32>,
 }
 
 /// Address, port, value and time.
-fn switched(bus: &Bus, mut words: Words<'_>) -> Result<Switch, Code>
+pub(crate) fn switched(bus: &Bus, mut words: Words<'_>) -> Result<Switch, Code>
     ensures { (make : ℕ → ℕ → Bool → Option ℕ → Command) → MatchResult result (λ s. set_ga bus.now make words.entry ≡ Ok (make s.address s.port s.on s.time)) (λ code. set_ga bus.now make words.entry ≡ Err code) }
 {
     let first = next_word(&mut words)?;
@@ -92,7 +94,7 @@ fn switched(bus: &Bus, mut words: Words<'_>) -> Result<Switch, Code>
 }
 
 /// Address and letter, then any words.
-fn init_ga(bus: &Bus, mut words: Words<'_>) -> Result<Command, Code>
+pub(crate) fn init_ga(bus: &Bus, mut words: Words<'_>) -> Result<Command, Code>
     ensures { result ≡ init_ga bus.now words.entry }
 {
     let first = next_word(&mut words)?;
@@ -106,7 +108,7 @@ fn init_ga(bus: &Bus, mut words: Words<'_>) -> Result<Command, Code>
 }
 
 /// Port and value.
-fn sensor(bus: &Bus, mut words: Words<'_>) -> Result<(u32, bool), Code>
+pub(crate) fn sensor(bus: &Bus, mut words: Words<'_>) -> Result<(u32, bool), Code>
     ensures { (make : ℕ → Bool → Command) → MatchResult result (λ s. set_fb bus.now make words.entry ≡ Ok (make s.0 s.1)) (λ code. set_fb bus.now make words.entry ≡ Err code) }
 {
     let first = next_word(&mut words)?;
@@ -127,7 +129,7 @@ fn address_max(bus: &Bus, group: Lockable) -> u32
 }
 
 /// Group and address.
-fn lock(bus: &Bus, mut words: Words<'_>) -> Result<(Lockable, u32), Code>
+pub(crate) fn lock(bus: &Bus, mut words: Words<'_>) -> Result<(Lockable, u32), Code>
     ensures { (make : Lockable → ℕ → Command) → MatchResult result (λ l. named_lock bus.now make words.entry ≡ Ok (make l.0 l.1)) (λ code. named_lock bus.now make words.entry ≡ Err code) }
 {
     let first = next_word(&mut words)?;
@@ -138,7 +140,7 @@ fn lock(bus: &Bus, mut words: Words<'_>) -> Result<(Lockable, u32), Code>
 }
 
 /// Group, address and seconds.
-fn timed_lock(bus: &Bus, mut words: Words<'_>) -> Result<(Lockable, u32, u32), Code>
+pub(crate) fn timed_lock(bus: &Bus, mut words: Words<'_>) -> Result<(Lockable, u32, u32), Code>
     ensures { (make : Lockable → ℕ → ℕ → Command) → MatchResult result (λ l. set_lock bus.now make words.entry ≡ Ok (make l.0 l.1 l.2)) (λ code. set_lock bus.now make words.entry ≡ Err code) }
 {
     let first = next_word(&mut words)?;
@@ -151,7 +153,7 @@ fn timed_lock(bus: &Bus, mut words: Words<'_>) -> Result<(Lockable, u32, u32), C
 }
 
 /// Address, letter, version, steps and number of functions, of which P alone stands for P 1 28 5.
-fn init_gl(bus: &Bus, mut words: Words<'_>) -> Result<Command, Code>
+pub(crate) fn init_gl(bus: &Bus, mut words: Words<'_>) -> Result<Command, Code>
     ensures { result ≡ init_gl bus.now words.entry }
 {
     let first = next_word(&mut words)?;
@@ -183,10 +185,45 @@ fn init_gl(bus: &Bus, mut words: Words<'_>) -> Result<Command, Code>
 }
 
 /// ON or OFF, then the words of the text.
-fn powered(mut words: Words<'_>) -> Result<(bool, Text), Code>
+pub(crate) fn powered(mut words: Words<'_>) -> Result<(bool, Text), Code>
     ensures { (make : Bool → List ℕ → Command) → MatchResult result (λ p. set_power make words.entry ≡ Ok (make p.0 p.1)) (λ code. set_power make words.entry ≡ Err code) }
 {
     let first = next_word(&mut words)?;
     let on = switch_of(first)?;
     Ok((on, text_of(words)?))
+}
+
+/// What a locomotive is driven as.
+#[derive(Clone, Copy)]
+pub(crate) struct Drive {
+    pub(crate) address: u32,
+    pub(crate) mode: u32,
+    pub(crate) v: u32,
+    pub(crate) vmax: u32,
+    pub(crate) functions: Bits,
+}
+
+/// Address, mode, V, Vmax, and at most 29 functions.
+pub(crate) fn driven(bus: &Bus, mut words: Words<'_>) -> Result<Drive, Code>
+    ensures { (make : ℕ → ℕ → ℕ → ℕ → List Bool → Command) → MatchResult result (λ d. set_gl bus.now make words.entry ≡ Ok (make d.address d.mode d.v d.vmax d.functions)) (λ code. set_gl bus.now make words.entry ≡ Err code) }
+{
+    let first = next_word(&mut words)?;
+    let second = next_word(&mut words)?;
+    let third = next_word(&mut words)?;
+    let fourth = next_word(&mut words)?;
+    let functions = read_functions(words)?;
+    let address = number_in(1, bus.gl_max, first)?;
+    let mode = number_in(0, 2, second)?;
+    let v = number_in(0, 65535, third)?;
+    let vmax = number_in(0, 65535, fourth)?;
+    if vmax < v && vmax != 0 {
+        return Err(Code::C412);
+    }
+    Ok(Drive {
+        address,
+        mode,
+        v,
+        vmax,
+        functions: functions?,
+    })
 }

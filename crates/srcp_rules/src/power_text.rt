@@ -1,4 +1,4 @@
-//! The text of a POWER command, and the functions of a GL command.
+//! The text of a POWER command.
 
 ghost use Rattle.std.specs.Prelude.{◌≡◌, ◌+◌, ◌++◌, ◌≤◌, [], ◌∷◌, Ok, length};
 ghost use Rattle.srcp_rules.specs.Grammar.{text_of};

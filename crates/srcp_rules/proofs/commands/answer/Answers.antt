@@ -1,4 +1,4 @@
-use Rattle.std.proofs.Common.{◌≡◌, ◌+◌, ◌<◌, ◌≤◌, subst, arith}
+use Rattle.std.proofs.Common.{◌+◌, ◌<◌, subst, arith}
 use Rattle.srcp_rules.specs.declared.command.Command.{Command}
 use Rattle.srcp_rules.specs.declared.command.Lockable.TheVariants as lockable
 use Rattle.srcp_rules.specs.Command.{IsCommandOf}

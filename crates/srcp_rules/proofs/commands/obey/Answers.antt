@@ -1,4 +1,3 @@
-use Rattle.srcp_rules.specs.State.{IsWhole}
 use Rattle.srcp_rules.specs.Obeyed.{MayObey}
 use Rattle.srcp_rules.proofs.TookLaws.{obeyed_whole, obeyed_reply, obeyed_changes, obeyed_few}
 use Rattle.srcp_rules.proofs.commands.obey.Goals as goal

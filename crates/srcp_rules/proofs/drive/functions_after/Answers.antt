@@ -1,4 +1,4 @@
-use Rattle.std.proofs.Common.{◌≡◌, Bool, List, ◌++◌, [], ◌∷◌, length, get_or, false, ◌≤◌, ◌<◌, sym, ap, ◌∙◌, append_assoc, arith}
+use Rattle.std.proofs.Common.{Bool, List, ◌++◌, [], ◌∷◌, length, get_or, false, ◌≤◌, ◌<◌, sym, ap, ◌∙◌, append_assoc, arith}
 use Rattle.std.specs.List.{between}
 use Rattle.std.proofs.lemmas.List.Edits.{between_more}
 use Rattle.srcp_rules.proofs.drive.functions_after.Goals as goal

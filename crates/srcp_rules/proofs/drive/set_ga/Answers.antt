@@ -1,4 +1,4 @@
-use Rattle.std.proofs.Common.{[], ◌∷◌, sym, ap, ◌∙◌, ◌+◌}
+use Rattle.std.proofs.Common.{[], ◌∷◌, ◌+◌}
 use Rattle.srcp_rules.specs.declared.command.Lockable.TheVariants as lockable
 use Rattle.srcp_info.specs.declared.change.Code.TheVariants.{C414}
 use Rattle.srcp_rules.specs.Effect.{is_locked}

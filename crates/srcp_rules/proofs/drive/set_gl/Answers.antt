@@ -1,10 +1,10 @@
-use Rattle.std.proofs.Common.{◌≡◌, length, None, nat_lt, refl, [], ◌∷◌, sym, ap, subst, ◌∙◌}
+use Rattle.std.proofs.Common.{length, None, nat_lt, refl, [], ◌∷◌, subst}
 use Rattle.std.proofs.lemmas.Bool.{ltb-false}
 use Rattle.srcp_info.specs.declared.change.Code.TheVariants.{C414, C418}
 use Rattle.srcp_info.specs.declared.value.Value.TheVariants as value
 use Rattle.srcp_rules.specs.declared.command.Lockable.TheVariants as lockable
 use Rattle.srcp_rules.specs.Command.{kept_v}
-use Rattle.srcp_rules.specs.Effect.{Effect, done, gl_refusals, functions_after, is_locked, put_at}
+use Rattle.srcp_rules.specs.Effect.{Effect, gl_refusals, functions_after, is_locked, put_at}
 use Rattle.srcp_rules.specs.Obeyed.{Took}
 use Rattle.srcp_rules.specs.State.{device_in, functions_of, key_at}
 use Rattle.srcp_rules.proofs.ObeyLaws.{accepted_done, gl_row, none_applies, port_there, refused_done, set_there}

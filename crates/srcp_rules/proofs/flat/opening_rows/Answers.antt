@@ -1,7 +1,7 @@
-use Rattle.std.proofs.Common.{◌≡◌, sym, ap, subst, ◌∙◌, arith, lit<}
+use Rattle.std.proofs.Common.{sym, ap, subst, ◌∙◌, lit<}
 use Rattle.std.specs.List.{flat_map}
 use Rattle.std.proofs.lemmas.List.{take_all}
-use Rattle.srcp_rules.specs.State.{IsRising, opening, opening_on}
+use Rattle.srcp_rules.specs.State.{IsRising, opening_on}
 use Rattle.srcp_rules.proofs.OpeningLaws.{opening_whole}
 use Rattle.srcp_rules.proofs.flat.opening_rows.Goals as goal
 

@@ -1,6 +1,5 @@
-use Rattle.std.proofs.Common.{◌≡◌, true, cond, sym, ap, subst, ◌∙◌}
+use Rattle.std.proofs.Common.{cond, ap, subst, ◌∙◌}
 use Rattle.std.specs.List.{insert}
-use Rattle.srcp_rules.specs.State.{IsRising, put_row}
 use Rattle.srcp_rules.specs.Rows.{IsAt, IsGap}
 use Rattle.srcp_rules.proofs.RowPlaceLaws.{set-put_row, insert-put_row}
 use Rattle.srcp_rules.proofs.flat.put.Goals as goal

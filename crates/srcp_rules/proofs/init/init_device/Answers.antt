@@ -1,4 +1,4 @@
-use Rattle.std.proofs.Common.{◌≡◌, List, Result, Ok, Err, OnOk, is_ok, not, true, false, inl, map, ◌++◌, [], true≢false, sym, ap, subst, ◌∙◌}
+use Rattle.std.proofs.Common.{◌≡◌, List, Result, Ok, Err, OnOk, is_ok, not, true, false, inl, map, ◌++◌, true≢false, sym, ap, subst, ◌∙◌}
 use Rattle.srcp_info.specs.declared.key.Device.{Device}
 use Rattle.srcp_info.specs.declared.change.Row.{Row}
 use Rattle.srcp_info.specs.declared.change.Change.{Change}

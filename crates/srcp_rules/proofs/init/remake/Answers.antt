@@ -1,4 +1,3 @@
-use Rattle.std.proofs.Common.{sym, ap, ◌∙◌}
 use Rattle.srcp_rules.specs.State.{device_in}
 use Rattle.srcp_rules.proofs.PutRowsLaws.{each_there}
 use Rattle.srcp_rules.proofs.InitLaws.{unlocked, unlocked_whole, unlocked_there, changes_remade, rows_remade}

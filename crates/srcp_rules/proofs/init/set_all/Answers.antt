@@ -1,4 +1,4 @@
-use Rattle.std.proofs.Common.{◌≡◌, true, take, sym, ap, subst, ◌∙◌}
+use Rattle.std.proofs.Common.{◌≡◌, true, take, ap, ◌∙◌}
 use Rattle.srcp_info.specs.declared.change.Row.{Row}
 use Rattle.srcp_rules.specs.State.{State, IsRowOf, has_row}
 use Rattle.srcp_rules.proofs.PlaceLaws.{each_at}

@@ -1,10 +1,9 @@
-use Rattle.std.proofs.Common.{◌≡◌, ℕ, is_some, None, sym, ap, subst, ◌∙◌, false}
+use Rattle.std.proofs.Common.{is_some, None, sym, ap, subst, ◌∙◌, false}
 use Rattle.srcp_info.specs.declared.key.Device.{Device}
-use Rattle.srcp_info.specs.declared.change.Change.{Change}
 use Rattle.srcp_info.specs.declared.value.Value.{Value}
 use Rattle.srcp_info.specs.declared.value.Value.TheVariants as value
 use Rattle.srcp_info.specs.WellFormed.{IsValueAt, can_go}
-use Rattle.srcp_rules.specs.State.{Update, updated}
+use Rattle.srcp_rules.specs.State.{updated}
 use Rattle.srcp_rules.specs.Effect.{gone_at}
 use Rattle.srcp_rules.specs.Due.{due_change}
 use Rattle.srcp_rules.proofs.StepLaws.{IsRowOf-put}

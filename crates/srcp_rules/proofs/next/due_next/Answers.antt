@@ -1,9 +1,6 @@
-use Rattle.std.proofs.Common.{◌≡◌, Option, None, Some, option_map, sym, ap, subst, ◌∙◌}
+use Rattle.std.proofs.Common.{Option, Some, option_map, sym, ap, ◌∙◌}
 use Rattle.srcp_info.specs.declared.change.Row.{Row}
-use Rattle.srcp_info.specs.declared.change.Change.{Change}
-use Rattle.srcp_info.specs.WellFormed.{IsWellFormed}
-use Rattle.srcp_rules.specs.declared.layout.Bus.{Bus}
-use Rattle.srcp_rules.specs.State.{State, Update, AddsNoRow, IsWhole, updated, updated_if}
+use Rattle.srcp_rules.specs.State.{Update, updated_if}
 use Rattle.srcp_rules.specs.Due.{due_change}
 use Rattle.srcp_rules.proofs.NextLaws.{due_after-sought, row_known, row_may, due_whole, due_well_formed, due_adds_no_row}
 use Rattle.srcp_rules.proofs.next.due_next.Goals as goal

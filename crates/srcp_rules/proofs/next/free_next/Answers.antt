@@ -1,13 +1,10 @@
-use Rattle.std.proofs.Common.{◌≡◌, ℕ, List, ◌∷◌, [], Option, None, Some, option_map, cond, is_some, not, true, false, sym, ap, subst, ◌∙◌}
+use Rattle.std.proofs.Common.{List, [], Option, Some, option_map, true, false, sym, ap, ◌∙◌}
 use Rattle.std.specs.List.{slice_get}
 use Rattle.srcp_info.specs.declared.key.Device.{Device}
-use Rattle.srcp_info.specs.declared.change.Row.{Row}
 use Rattle.srcp_info.specs.declared.change.Change.{Change}
-use Rattle.srcp_info.specs.Key.{device_of}
-use Rattle.srcp_info.specs.WellFormed.{IsWellFormed, can_go}
-use Rattle.srcp_rules.specs.State.{State, Update, IsWhole, is_there, session_device, updated, updated_if}
+use Rattle.srcp_info.specs.WellFormed.{can_go}
+use Rattle.srcp_rules.specs.State.{Update, is_there, session_device, updated, updated_if}
 use Rattle.srcp_rules.specs.Effect.{gone_at}
-use Rattle.srcp_rules.specs.Due.{freed}
 use Rattle.srcp_rules.proofs.NextLaws.{freed_held, freed_own, freed_step}
 use Rattle.srcp_rules.proofs.next.free_next.Goals as goal
 

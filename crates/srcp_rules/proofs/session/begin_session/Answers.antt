@@ -1,12 +1,6 @@
-use Rattle.std.proofs.Common.{◌≡◌, ℕ, ◌<◌, ◌≤◌, List, [], ◌∷◌, None, sym, ap, subst, ◌∙◌, arith}
-use Rattle.srcp_info.specs.declared.key.Key.{Key}
-use Rattle.srcp_info.specs.declared.change.Row.{Row}
-use Rattle.srcp_info.specs.declared.value.Value.TheVariants as value
-use Rattle.srcp_info.specs.Key.{first_key}
-use Rattle.srcp_rules.specs.Layout.{IsKeyOf, row_count}
-use Rattle.srcp_rules.specs.State.{AddsNoRow, IsWhole, session_device}
-use Rattle.srcp_rules.specs.Effect.{row_put}
-use Rattle.srcp_rules.specs.Rows.{AreNewRowsOf}
+use Rattle.std.proofs.Common.{◌<◌, ◌≤◌, arith}
+use Rattle.srcp_rules.specs.Layout.{row_count}
+use Rattle.srcp_rules.specs.State.{session_device}
 use Rattle.srcp_rules.proofs.AddingLaws.{session_added, session_rows}
 use Rattle.srcp_rules.proofs.AddsNoRowLaws.{began-adds_no_row}
 use Rattle.srcp_rules.proofs.DueLaws.{began_kept}

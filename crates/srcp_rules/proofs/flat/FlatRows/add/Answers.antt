@@ -1,4 +1,4 @@
-use Rattle.std.proofs.Common.{sym, ap, subst, ◌∙◌, arith}
+use Rattle.std.proofs.Common.{sym, subst, ◌∙◌, arith}
 use Rattle.std.proofs.lemmas.List.Sums.{fold_more}
 use Rattle.srcp_rules.specs.State.{IsRising, put_row}
 use Rattle.srcp_rules.proofs.StateLaws.{row_key, rising-put_by}

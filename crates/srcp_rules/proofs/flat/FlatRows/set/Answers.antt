@@ -1,4 +1,4 @@
-use Rattle.std.proofs.Common.{◌≡◌, true, false, is_some, sym, ap, subst, ◌∙◌, true≢false}
+use Rattle.std.proofs.Common.{is_some, sym, ap, subst, ◌∙◌, true≢false}
 use Rattle.srcp_rules.specs.State.{IsRising, row_at, put_row}
 use Rattle.srcp_rules.specs.Rows.{Kept, IsAt}
 use Rattle.srcp_rules.proofs.StateLaws.{row_key, rising-put_by}

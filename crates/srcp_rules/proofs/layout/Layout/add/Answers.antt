@@ -1,4 +1,4 @@
-use Rattle.std.specs.Prelude.{◌≡◌, Bool, true, false, insert, is_ok, cond, not, is_some, option_copied, Option, Some, None}
+use Rattle.std.specs.Prelude.{◌≡◌, false, insert, cond, not, is_some, option_copied, Option, Some, None}
 use Rattle.std.proofs.Common.{refl, sym, ap, subst, ◌∙◌, rules}
 use Rattle.std.proofs.lemmas.List.Sorted.{IsPartitionPoint-from_clause}
 use denote.Ref.{Bor}

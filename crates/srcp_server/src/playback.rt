@@ -1,8 +1,9 @@
-//! The two ends of a replay: a script that is read, and a run that is written.
+//! A script that is read, run, and told of.
 
 ghost use Rattle.std.specs.Prelude.{◌≡◌, List, IfOk, IfErr, IfSome};
 ghost use Rattle.std.specs.List.{AllByRecursion};
 ghost use Rattle.srcp_info.specs.WellFormed.{IsWellFormedShown};
+ghost use Rattle.srcp_core.specs.declared.record.Record.{Record};
 ghost use Rattle.srcp_rules.specs.declared.layout.Bus.{Bus};
 ghost use Rattle.srcp_server.specs.Output.{StopsFor, Writes, printed, run_of, replayed};
 
@@ -11,17 +12,42 @@ use crate::input::read_input;
 use crate::output::write_whole;
 use crate::print::print;
 use crate::script::read_script;
-use srcp_core::{Event, Record};
+use srcp_core::{Event, Record, run};
+use srcp_rules::{Flat, Layout};
 use std::alloc::Global;
 use std::io::{Read, Write};
 use std::vec::Vec;
+
+/// Reads a script to the end of the input, carries out its events over the registry of the layout, from moment 0 on and
+/// with session ids from 1 on, and writes what every connection was sent, which events were refused, and the rows
+/// at the end.
+///
+/// # Errors
+/// `Input` where a read fails, `TooLarge` where there is more than 16,777,216 bytes, `Script` for the script's first
+/// fault, `Memory` where a growth was refused, in the run too: nothing is written then. `Output` where a write fails or
+/// takes nothing: a front is written.
+pub fn replay<R: Read, W: Write>(
+    alloc: Global,
+    layout: &Layout,
+    reader: &mut R,
+    writer: &mut W,
+) -> Result<(), ToolFault>
+    ensures { Writes
+        (λ text. (told : Record) × (told.denied ≡ 0) × (text ≡ printed told))
+        (λ fault. IfSome (R.remaining reader.old) (λ input. (buses : List Bus) → replayed buses input ≡ Err fault))
+        result (W.contents writer.old) (W.contents writer.new) }
+{
+    let events = read_events(alloc, reader)?;
+    let told = run::<Flat>(alloc, layout, &events)?;
+    write_run(alloc, &told, writer)
+}
 
 /// The events of the script that a reader gives.
 ///
 /// # Errors
 /// `Input` where a read fails, `TooLarge` where there is more than 16,777,216 bytes, `Script` for the
 /// script's first fault, `Memory` where a growth was refused.
-pub(crate) fn read_events<R: Read>(alloc: Global, reader: &mut R) -> Result<Vec<Event>, ToolFault>
+fn read_events<R: Read>(alloc: Global, reader: &mut R) -> Result<Vec<Event>, ToolFault>
     ensures events { IfOk result (λ events. IfSome (R.remaining reader.old) (λ input.
         (buses : List Bus) → replayed buses input ≡ Ok (printed (run_of buses events.items)))) }
     ensures stops { IfErr result (StopsFor (λ fault. IfSome (R.remaining reader.old) (λ input.
@@ -37,11 +63,7 @@ pub(crate) fn read_events<R: Read>(alloc: Global, reader: &mut R) -> Result<Vec<
 /// # Errors
 /// `Memory` where a growth was refused, in the run too: nothing is written then. `Output` where a write
 /// fails or takes nothing: a front is written.
-pub(crate) fn write_run<W: Write>(
-    alloc: Global,
-    run: &Record,
-    writer: &mut W,
-) -> Result<(), ToolFault>
+fn write_run<W: Write>(alloc: Global, run: &Record, writer: &mut W) -> Result<(), ToolFault>
     requires { run.now.denied ≡ 0 → AllByRecursion (λ row. IsWellFormedShown row.shown) run.now.rows }
     ensures { Writes (λ text. (run.now.denied ≡ 0) × (text ≡ printed run.now)) (λ fault. ⊥)
         result (W.contents writer.old) (W.contents writer.new) }

@@ -1,0 +1,223 @@
+//! The operations of each group, with their words; any other pair is 423.
+
+ghost use Rattle.std.specs.Prelude.{◌≡◌};
+ghost use Rattle.srcp_rules.specs.declared.layout.Bus.{Bus};
+ghost use Rattle.srcp_rules.specs.declared.command.Named.TheVariants as named;
+ghost use Rattle.srcp_rules.specs.Grammar.{asked};
+
+use crate::command::{Command, Named, Operation};
+use crate::counted::no_more;
+use crate::grammar::{
+    address, driven, get_ga, get_session, init_ga, init_gl, lock, powered, sensor, switched,
+    term_session, timed_lock,
+};
+use crate::layout::Bus;
+use srcp_info::Code;
+use srcp_text::Words;
+
+fn session_asked(operation: Operation, words: Words<'_>) -> Result<Command, Code>
+    ensures { (bus : Bus) → result ≡ asked operation named.Session bus words.entry }
+{
+    match operation {
+        Operation::Get => get_session(words),
+        Operation::Term => term_session(words),
+        _ => Err(Code::C423),
+    }
+}
+
+fn power_asked(operation: Operation, bus: &Bus, words: Words<'_>) -> Result<Command, Code>
+    ensures { result ≡ asked operation named.Power bus.now words.entry }
+{
+    let number = bus.number;
+    match operation {
+        Operation::Get => {
+            no_more(words)?;
+            Ok(Command::GetPower { bus: number })
+        }
+        Operation::Set => {
+            let (on, text) = powered(words)?;
+            Ok(Command::SetPower {
+                bus: number,
+                on,
+                text,
+            })
+        }
+        Operation::Check => {
+            let (on, text) = powered(words)?;
+            Ok(Command::CheckPower {
+                bus: number,
+                on,
+                text,
+            })
+        }
+        Operation::Init => Ok(Command::InitPower { bus: number }),
+        _ => Err(Code::C423),
+    }
+}
+
+fn gl_asked(operation: Operation, bus: &Bus, words: Words<'_>) -> Result<Command, Code>
+    ensures { result ≡ asked operation named.Gl bus.now words.entry }
+{
+    let number = bus.number;
+    match operation {
+        Operation::Get => Ok(Command::GetGl {
+            bus: number,
+            address: address(bus.gl_max, words)?,
+        }),
+        Operation::Set => {
+            let drive = driven(bus, words)?;
+            Ok(Command::SetGl {
+                bus: number,
+                address: drive.address,
+                mode: drive.mode,
+                v: drive.v,
+                vmax: drive.vmax,
+                functions: drive.functions,
+            })
+        }
+        Operation::Check => {
+            let drive = driven(bus, words)?;
+            Ok(Command::CheckGl {
+                bus: number,
+                address: drive.address,
+                mode: drive.mode,
+                v: drive.v,
+                vmax: drive.vmax,
+                functions: drive.functions,
+            })
+        }
+        Operation::Init => init_gl(bus, words),
+        Operation::Term => Ok(Command::TermGl {
+            bus: number,
+            address: address(bus.gl_max, words)?,
+        }),
+        _ => Err(Code::C423),
+    }
+}
+
+fn ga_asked(operation: Operation, bus: &Bus, words: Words<'_>) -> Result<Command, Code>
+    ensures { result ≡ asked operation named.Ga bus.now words.entry }
+{
+    let number = bus.number;
+    match operation {
+        Operation::Get => get_ga(bus, words),
+        Operation::Set => {
+            let switch = switched(bus, words)?;
+            Ok(Command::SetGa {
+                bus: number,
+                address: switch.address,
+                port: switch.port,
+                on: switch.on,
+                time: switch.time,
+            })
+        }
+        Operation::Check => {
+            let switch = switched(bus, words)?;
+            Ok(Command::CheckGa {
+                bus: number,
+                address: switch.address,
+                port: switch.port,
+                on: switch.on,
+                time: switch.time,
+            })
+        }
+        Operation::Init => init_ga(bus, words),
+        Operation::Term => Ok(Command::TermGa {
+            bus: number,
+            address: address(bus.ga_max, words)?,
+        }),
+        _ => Err(Code::C423),
+    }
+}
+
+fn fb_asked(operation: Operation, bus: &Bus, words: Words<'_>) -> Result<Command, Code>
+    ensures { result ≡ asked operation named.Fb bus.now words.entry }
+{
+    let number = bus.number;
+    match operation {
+        Operation::Get => Ok(Command::GetFb {
+            bus: number,
+            port: address(bus.fb_ports, words)?,
+        }),
+        Operation::Set => {
+            let (port, on) = sensor(bus, words)?;
+            Ok(Command::SetFb {
+                bus: number,
+                port,
+                on,
+            })
+        }
+        Operation::Check => {
+            let (port, on) = sensor(bus, words)?;
+            Ok(Command::CheckFb {
+                bus: number,
+                port,
+                on,
+            })
+        }
+        Operation::Init => Ok(Command::InitFb { bus: number }),
+        _ => Err(Code::C423),
+    }
+}
+
+fn lock_asked(operation: Operation, bus: &Bus, words: Words<'_>) -> Result<Command, Code>
+    ensures { result ≡ asked operation named.Lock bus.now words.entry }
+{
+    let number = bus.number;
+    match operation {
+        Operation::Get => {
+            let (group, address) = lock(bus, words)?;
+            Ok(Command::GetLock {
+                bus: number,
+                group,
+                address,
+            })
+        }
+        Operation::Set => {
+            let (group, address, seconds) = timed_lock(bus, words)?;
+            Ok(Command::SetLock {
+                bus: number,
+                group,
+                address,
+                seconds,
+            })
+        }
+        Operation::Check => {
+            let (group, address, seconds) = timed_lock(bus, words)?;
+            Ok(Command::CheckLock {
+                bus: number,
+                group,
+                address,
+                seconds,
+            })
+        }
+        Operation::Term => {
+            let (group, address) = lock(bus, words)?;
+            Ok(Command::TermLock {
+                bus: number,
+                group,
+                address,
+            })
+        }
+        _ => Err(Code::C423),
+    }
+}
+
+/// The command of the operation and the group.
+pub(crate) fn asked_of(
+    operation: Operation,
+    group: Named,
+    bus: &Bus,
+    words: Words<'_>,
+) -> Result<Command, Code>
+    ensures { result ≡ asked operation group bus.now words.entry }
+{
+    match group {
+        Named::Session => session_asked(operation, words),
+        Named::Power => power_asked(operation, bus, words),
+        Named::Gl => gl_asked(operation, bus, words),
+        Named::Ga => ga_asked(operation, bus, words),
+        Named::Fb => fb_asked(operation, bus, words),
+        Named::Lock => lock_asked(operation, bus, words),
+    }
+}
