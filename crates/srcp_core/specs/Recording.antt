@@ -2,6 +2,7 @@
 use Rattle.std.specs.Prelude.{ℕ, zero, suc, Bool, true, false, if◌then◌else◌, List, [], ◌∷◌, ◌++◌, length, Option, Some, None}
 use Rattle.std.specs.Prelude.{slice_get, slice_set, slice_index_or}
 use Rattle.srcp_feed.specs.declared.Next.{Next}
+use Rattle.srcp_feed.specs.declared.Next.TheVariants.{Told, Listed, Settled}
 use Rattle.srcp_core.specs.Connection.{Connection, is_open, sent}
 use Rattle.srcp_core.specs.Course.{is_info}
 use Rattle.srcp_core.specs.declared.record.ConnRecord.{ConnRecord}
@@ -72,10 +73,16 @@ noted n [] r = r
 noted n (step ∷ []) r = began n step (stepped (step ∷ []) r)
 noted n (step ∷ next ∷ steps) r = stepped (step ∷ next ∷ steps) r
 
--- an information session was given this, if anything
+-- a line was given, after so many steps
+abbrev pub with_item : ℕ → Next → ConnRecord → ConnRecord
+with_item steps what told = record told { items = told.items ++ record { steps = steps; what = what } ∷ [] }
+
+-- an information session was given this, if anything; where nothing is left there is no line
 abbrev pub gave : ℕ → Option Next → Recording → Recording
 gave n None r = r
-gave n (Some what) r = changed n (λ told. record told { items = told.items ++ record { steps = length r.steps; what = what } ∷ [] }) r
+gave n (Some (Told change)) r = changed n (with_item (length r.steps) (Told change)) r
+gave n (Some (Listed row)) r = changed n (with_item (length r.steps) (Listed row)) r
+gave n (Some Settled) r = r
 
 -- these bytes were taken
 abbrev pub took : ℕ → List ℕ → Recording → Recording
