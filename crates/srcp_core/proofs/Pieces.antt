@@ -52,7 +52,7 @@ fed_of n w = option_map (λ (c : Connection). c.fed) (numbered n w.connections)
 
 -- ---- the reader alone
 
-with_itself : (n : ℕ) (xs : List Connection) → with_numbered n (λ c. c) xs ≡ xs
+pub with_itself : (n : ℕ) (xs : List Connection) → with_numbered n (λ c. c) xs ≡ xs
 with_itself n [] = refl
 with_itself zero (x ∷ xs) = refl
 with_itself (suc zero) (x ∷ xs) = refl
@@ -304,7 +304,7 @@ module _ (buses : List Bus) (order : IsInOrder (shown_rows (opening buses 0))) (
 
 -- ---- the beginning of a piece
 
-set_same : (places : List (Option Place)) (key : ℕ) (p : Place) → place_at places key ≡ Some p → slice_set places key (Some p) ≡ places
+pub set_same : (places : List (Option Place)) (key : ℕ) (p : Place) → place_at places key ≡ Some p → slice_set places key (Some p) ≡ places
 set_same [] key p h = refl
 set_same (x ∷ places) zero p h = ap (λ y. y ∷ places) (sym h)
 set_same (x ∷ places) (suc key) p h = ap (λ ys. x ∷ ys) (set_same places key p h)
