@@ -21,6 +21,7 @@ use Rattle.srcp_core.specs.Handshake.{Greeting, Speaks, Chooses, Goes, Refuses, 
 use Rattle.srcp_core.specs.Held.{Place, Held, at}
 use Rattle.srcp_core.specs.Machine.{asked_of, steps_gone, steps_greeted, steps_commanded, steps_answered_from}
 use Rattle.srcp_core.specs.Recording.{Recording, key_of, told_of, changed_record, changed_in, noted, stepped}
+pub use Rattle.srcp_core.specs.Run.{Tells}
 use Rattle.srcp_core.specs.Stands.{StandsBy, place_of}
 use Rattle.srcp_core.specs.declared.asked.Asked.{Asked}
 use Rattle.srcp_core.specs.declared.asked.Asked.TheVariants.{Dropped, Greets, Commands}
@@ -67,11 +68,6 @@ told_reply : (conn : Connection) (line : List ℕ) → conn.items ≡ [] → con
 told_reply conn line none within = ap (λ bytes. record (told_of conn) { sent = bytes }) (sent_reply conn line none within)
 
 -- ---- what a run has told of a course
-
-pub record Tells (r : Recording) (w : World) : Type 0 where
-  pub steps : r.steps ≡ w.steps
-  pub refused : r.refused ≡ w.refused
-  pub connections : r.connections ≡ map told_of w.connections
 
 pub tells_same : (r : Recording) (w : World) (n : ℕ) (f : Connection → Connection) → ((conn : Connection) → numbered n w.connections ≡ Some conn → told_of (f conn) ≡ told_of conn) → Tells r w → Tells r (at_connection n f w)
 tells_same r w n f h t = record { steps = t.steps; refused = t.refused; connections = t.connections ∙ sym (told_same n f w.connections h) }

@@ -5,7 +5,10 @@ use Rattle.srcp_feed.specs.declared.Next.{Next}
 use Rattle.srcp_feed.specs.declared.Next.TheVariants.{Told, Listed, Settled}
 use Rattle.srcp_core.specs.Connection.{Connection, is_open, sent}
 use Rattle.srcp_core.specs.Course.{is_info}
+use Rattle.srcp_core.specs.Held.{Held}
+use Rattle.srcp_core.specs.Machine.{finish_at}
 use Rattle.srcp_core.specs.declared.record.ConnRecord.{ConnRecord}
+use Rattle.srcp_core.specs.declared.record.CoreFault.{CoreFault}
 use Rattle.srcp_core.specs.declared.record.Finish.{Finish}
 use Rattle.srcp_core.specs.declared.record.Finish.TheVariants.{Live, Shut}
 use Rattle.srcp_core.specs.declared.record.Refusal.{Refusal}
@@ -87,3 +90,17 @@ gave n (Some Settled) r = r
 -- these bytes were taken
 abbrev pub took : ℕ → List ℕ → Recording → Recording
 took n bytes r = changed n (λ told. record told { sent = told.sent ++ bytes }) r
+
+-- how each open connection stands in the end
+abbrev pub finished_by : Held → Option ℕ → ConnRecord → ConnRecord
+finished_by held None told = told
+finished_by held (Some key) told = record told { finish = finish_at key held }
+
+abbrev pub finished : Held → List (Option ℕ) → List ConnRecord → List ConnRecord
+finished held [] tolds = tolds
+finished held (key ∷ keys) [] = []
+finished held (key ∷ keys) (told ∷ tolds) = finished_by held key told ∷ finished held keys tolds
+
+-- the event of that number was refused
+abbrev pub with_refusal : ℕ → CoreFault → Recording → Recording
+with_refusal event cause r = record r { refused = r.refused ++ record { event = event; fault = cause } ∷ [] }
