@@ -1,9 +1,19 @@
 -- What a run has told so far.
-use Rattle.std.specs.Prelude.{ℕ, zero, suc, Bool, List, Option, None}
-use Rattle.std.specs.Prelude.{slice_index_or}
+use Rattle.std.specs.Prelude.{ℕ, zero, suc, Bool, true, false, if◌then◌else◌, List, [], ◌∷◌, ◌++◌, length, Option, Some, None}
+use Rattle.std.specs.Prelude.{slice_get, slice_set, slice_index_or}
+use Rattle.srcp_feed.specs.declared.Next.{Next}
+use Rattle.srcp_feed.specs.declared.Next.TheVariants.{Told, Listed, Settled}
+use Rattle.srcp_core.specs.Connection.{Connection, is_open, sent}
+use Rattle.srcp_core.specs.Course.{is_info}
+use Rattle.srcp_core.specs.Held.{Held}
+use Rattle.srcp_core.specs.Machine.{finish_at}
 use Rattle.srcp_core.specs.declared.record.ConnRecord.{ConnRecord}
+use Rattle.srcp_core.specs.declared.record.CoreFault.{CoreFault}
+use Rattle.srcp_core.specs.declared.record.Finish.{Finish}
+use Rattle.srcp_core.specs.declared.record.Finish.TheVariants.{Live, Shut}
 use Rattle.srcp_core.specs.declared.record.Refusal.{Refusal}
 use Rattle.srcp_core.specs.declared.record.Step.{Step}
+use Rattle.srcp_core.specs.declared.record.Step.TheVariants.{Obeyed, Began, Moment, Ended}
 
 pub record Recording : Type 0 where
   pub keys : List (Option ℕ)  -- the place of each connection, while it is open
@@ -15,3 +25,82 @@ pub record Recording : Type 0 where
 abbrev pub key_of : ℕ → List (Option ℕ) → Option ℕ
 key_of zero keys = None
 key_of (suc conn) keys = slice_index_or keys conn None
+
+-- the keys without that of a number
+abbrev pub without_key : ℕ → List (Option ℕ) → List (Option ℕ)
+without_key zero keys = keys
+without_key (suc n) keys = slice_set keys n None
+
+-- what is told of a connection before the end
+abbrev pub told_of : Connection → ConnRecord
+told_of conn = record { session = conn.session; info = conn.info; go_step = conn.go_step; sent = sent conn; items = conn.items; finish = if is_open conn then Live else Shut }
+
+-- what is told of the connection of that number is changed, where there is one
+abbrev pub changed_in : ℕ → (ConnRecord → ConnRecord) → List ConnRecord → Option ConnRecord → List ConnRecord
+changed_in index change records None = records
+changed_in index change records (Some told) = slice_set records index (change told)
+
+abbrev pub changed_record : ℕ → (ConnRecord → ConnRecord) → List ConnRecord → List ConnRecord
+changed_record zero change records = records
+changed_record (suc index) change records = changed_in index change records (slice_get records index)
+
+abbrev pub changed : ℕ → (ConnRecord → ConnRecord) → Recording → Recording
+changed n change r = record r { connections = changed_record n change r.connections }
+
+-- nothing yet
+abbrev pub nothing_told : Recording
+nothing_told = record { keys = []; steps = []; connections = []; refused = [] }
+
+-- a connection was opened at a place
+abbrev pub opened : ℕ → Recording → Recording
+opened key r = record r { keys = r.keys ++ Some key ∷ []; connections = r.connections ++ record { session = 0; info = false; go_step = 0; sent = []; items = []; finish = Live } ∷ [] }
+
+-- a connection was shut
+abbrev pub shut : ℕ → Recording → Recording
+shut n r = changed n (λ told. record told { finish = Shut }) (record r { keys = without_key n r.keys })
+
+-- the registry took steps
+abbrev pub stepped : List Step → Recording → Recording
+stepped steps r = record r { steps = r.steps ++ steps }
+
+-- a session began, where the step is that
+abbrev pub began : ℕ → Step → Recording → Recording
+began n (Obeyed session moment command) r = r
+began n (Began session moment mode) r = changed n (λ told. record told { session = session; info = is_info mode; go_step = length r.steps }) r
+began n (Moment moment) r = r
+began n (Ended session moment) r = r
+
+-- a line was answered by these steps
+abbrev pub noted : ℕ → List Step → Recording → Recording
+noted n [] r = r
+noted n (step ∷ []) r = began n step (stepped (step ∷ []) r)
+noted n (step ∷ next ∷ steps) r = stepped (step ∷ next ∷ steps) r
+
+-- a line was given, after so many steps
+abbrev pub with_item : ℕ → Next → ConnRecord → ConnRecord
+with_item steps what told = record told { items = told.items ++ record { steps = steps; what = what } ∷ [] }
+
+-- an information session was given this, if anything; where nothing is left there is no line
+abbrev pub gave : ℕ → Option Next → Recording → Recording
+gave n None r = r
+gave n (Some (Told change)) r = changed n (with_item (length r.steps) (Told change)) r
+gave n (Some (Listed row)) r = changed n (with_item (length r.steps) (Listed row)) r
+gave n (Some Settled) r = r
+
+-- these bytes were taken
+abbrev pub took : ℕ → List ℕ → Recording → Recording
+took n bytes r = changed n (λ told. record told { sent = told.sent ++ bytes }) r
+
+-- how each open connection stands in the end
+abbrev pub finished_by : Held → Option ℕ → ConnRecord → ConnRecord
+finished_by held None told = told
+finished_by held (Some key) told = record told { finish = finish_at key held }
+
+abbrev pub finished : Held → List (Option ℕ) → List ConnRecord → List ConnRecord
+finished held [] tolds = tolds
+finished held (key ∷ keys) [] = []
+finished held (key ∷ keys) (told ∷ tolds) = finished_by held key told ∷ finished held keys tolds
+
+-- the event of that number was refused
+abbrev pub with_refusal : ℕ → CoreFault → Recording → Recording
+with_refusal event cause r = record r { refused = r.refused ++ record { event = event; fault = cause } ∷ [] }

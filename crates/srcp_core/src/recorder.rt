@@ -2,7 +2,9 @@
 ghost use Rattle.std.specs.Prelude.{◌≡◌, ◌∷◌, ◌++◌, [], OnOk, IfOk, Some};
 ghost use Rattle.std.specs.List.{AllByRecursion};
 ghost use Rattle.srcp_info.specs.WellFormed.{IsWellFormedShown};
-ghost use Rattle.srcp_core.specs.Recording.{key_of};
+ghost use Rattle.srcp_core.specs.Course.{is_info};
+ghost use Rattle.srcp_core.specs.Machine.{listed};
+ghost use Rattle.srcp_core.specs.Recording.{key_of, nothing_told, opened, shut, began, noted, gave, took, with_item, without_key, changed, changed_record, finished};
 
 use crate::answered::LineSteps;
 use crate::entries::Entries;
@@ -36,7 +38,7 @@ impl Model for Recorder {
 impl Recorder {
     /// Nothing yet.
     pub(crate) fn new(alloc: Global) -> Recorder
-        ensures { result ≡ record { keys = []; steps = []; connections = []; refused = [] } }
+        ensures { result ≡ nothing_told }
     {
         Recorder {
             alloc,
@@ -60,7 +62,9 @@ impl Recorder {
     }
 
     /// A connection was opened at a place.
-    pub(crate) fn opened(&mut self, key: usize) -> Result<(), Memory> {
+    pub(crate) fn opened(&mut self, key: usize) -> Result<(), Memory>
+        ensures { OnOk result (self.new ≡ opened key self.old) }
+    {
         self.keys.push(Some(key))?;
         self.connections.push(ConnRecord {
             session: 0,
@@ -74,21 +78,11 @@ impl Recorder {
     }
 
     /// A connection was shut.
-    pub(crate) fn shut(&mut self, conn: usize) {
-        let Some(index) = conn.checked_sub(1) else {
-            return;
-        };
-        if let Some(key) = self.keys.get_mut(index) {
-            *key = None;
-        }
-        self.finished(index, Finish::Shut);
-    }
-
-    /// How the connection stands at the end.
-    fn finished(&mut self, index: usize, finish: Finish) {
-        if let Some(connection) = self.connections.get_mut(index) {
-            connection.finish = finish;
-        }
+    pub(crate) fn shut(&mut self, conn: usize)
+        ensures { self.new ≡ shut conn self.old }
+    {
+        free(&mut self.keys, conn);
+        finish(&mut self.connections, conn, Finish::Shut);
     }
 
     /// The event of that number was refused.
@@ -106,7 +100,9 @@ impl Recorder {
     }
 
     /// A line of a connection was answered by these steps.
-    pub(crate) fn answered(&mut self, conn: usize, steps: LineSteps) -> Result<(), Memory> {
+    pub(crate) fn answered(&mut self, conn: usize, steps: LineSteps) -> Result<(), Memory>
+        ensures { OnOk result (self.new ≡ noted conn (listed steps) self.old) }
+    {
         match steps {
             LineSteps::Nothing => Ok(()),
             LineSteps::One(step) => {
@@ -114,57 +110,47 @@ impl Recorder {
                 self.began(conn, &step);
                 Ok(())
             }
-            LineSteps::Two(step, next) => {
-                self.step(&step)?;
-                self.step(&next)
-            }
+            LineSteps::Two(step, next) => Ok(self.steps.extend_from_slice(&[step, next])?),
         }
     }
 
     /// A session began, where the step was that.
-    fn began(&mut self, conn: usize, step: &Step) {
-        let Step::Began { session, mode, .. } = step else {
-            return;
-        };
-        let go_step = self.steps.len();
-        let Some(connection) = self.connection(conn) else {
-            return;
-        };
-        connection.session = *session;
-        connection.info = *mode == Mode::Info;
-        connection.go_step = go_step;
+    fn began(&mut self, conn: usize, step: &Step)
+        ensures { self.new ≡ began conn step.now self.old }
+    {
+        if let Step::Began { session, mode, .. } = step {
+            let go_step = self.steps.len();
+            begin(&mut self.connections, conn, *session, *mode, go_step);
+        }
     }
 
-    /// An information session was given this.
-    pub(crate) fn gave(&mut self, conn: usize, what: Next) -> Result<(), Memory> {
-        let steps = self.steps.len();
-        match self.connection(conn) {
-            Some(connection) => Ok(connection.items.extend(&[Item { steps, what }])?),
-            None => Ok(()),
+    /// An information session was given this, if anything. That nothing is left is no line.
+    pub(crate) fn gave(&mut self, conn: usize, item: Option<Next>) -> Result<(), Memory>
+        ensures { OnOk result (self.new ≡ gave conn item self.old) }
+    {
+        match item {
+            None | Some(Next::Settled) => Ok(()),
+            Some(what) => give(&mut self.connections, conn, self.steps.len(), what),
         }
     }
 
     /// These bytes were taken of a connection.
-    pub(crate) fn took(&mut self, conn: usize, bytes: &[u8]) -> Result<(), Memory> {
-        match self.connection(conn) {
-            Some(connection) => Ok(connection.sent.extend(bytes)?),
-            None => Ok(()),
-        }
-    }
-
-    fn connection(&mut self, conn: usize) -> Option<&mut ConnRecord> {
-        self.connections.get_mut(conn.checked_sub(1)?)
+    pub(crate) fn took(&mut self, conn: usize, bytes: &[u8]) -> Result<(), Memory>
+        ensures { OnOk result (self.new ≡ took conn bytes.now self.old) }
+    {
+        take(&mut self.connections, conn, bytes)
     }
 
     /// The record of the run, by how the core stands at the end.
     pub(crate) fn record<R: Rows>(mut self, core: &Core<'_, R>) -> Result<Record, Memory>
-        ensures { IfOk result (λ told. AllByRecursion (λ row. IsWellFormedShown row.shown) told.rows) }
+        ensures well_formed { IfOk result (λ told. AllByRecursion (λ row. IsWellFormedShown row.shown) told.rows) }
+        ensures steps { IfOk result (λ told. told.steps ≡ self.steps) }
+        ensures refused { IfOk result (λ told. told.refused ≡ self.refused) }
+        ensures connections { IfOk result (λ told. told.connections ≡ finished core.now self.keys self.connections) }
+        ensures rows { IfOk result (λ told. told.rows ≡ core.now.rows) }
+        ensures denied { IfOk result (λ told. told.denied ≡ core.now.denied) }
     {
-        for index in 0..self.keys.len() {
-            if let Some(key) = self.key(index + 1) {
-                self.finished(index, core.finish(key));
-            }
-        }
+        finish_all(&self.keys, &mut self.connections, core);
         Ok(Record {
             steps: Entries::of(self.steps),
             connections: Entries::of(self.connections),
@@ -172,5 +158,89 @@ impl Recorder {
             rows: core.rows(self.alloc)?,
             denied: core.denied(),
         })
+    }
+}
+
+/// How each open connection stands at the end.
+fn finish_all<R: Rows>(
+    keys: &[Option<usize>],
+    connections: &mut Vec<ConnRecord>,
+    core: &Core<'_, R>,
+)
+    ensures { connections.new.items ≡ finished core.now keys.now connections.old.items }
+{
+    for index in 0..keys.len() {
+        if let Some(key) = keys[index] {
+            finish(connections, index + 1, core.finish(key));
+        }
+    }
+}
+
+/// The connection of the number has no place any more.
+fn free(keys: &mut Vec<Option<usize>>, conn: usize)
+    ensures { keys.new.items ≡ without_key conn keys.old.items }
+{
+    let Some(index) = conn.checked_sub(1) else {
+        return;
+    };
+    if let Some(key) = keys.get_mut(index) {
+        *key = None;
+    }
+}
+
+/// A session of the connection of the number began.
+fn begin(connections: &mut Vec<ConnRecord>, conn: usize, session: u32, mode: Mode, go_step: usize)
+    ensures { connections.new.items ≡ changed_record conn (λ told. record told { session = session; info = is_info mode; go_step = go_step }) connections.old.items }
+{
+    let Some(index) = conn.checked_sub(1) else {
+        return;
+    };
+    if let Some(connection) = connections.get_mut(index) {
+        connection.session = session;
+        connection.info = mode == Mode::Info;
+        connection.go_step = go_step;
+    }
+}
+
+/// The connection of the number was given a line.
+fn give(
+    connections: &mut Vec<ConnRecord>,
+    conn: usize,
+    steps: usize,
+    what: Next,
+) -> Result<(), Memory>
+    ensures { OnOk result (connections.new.items ≡ changed_record conn (with_item steps what) connections.old.items) }
+{
+    let Some(index) = conn.checked_sub(1) else {
+        return Ok(());
+    };
+    match connections.get_mut(index) {
+        Some(connection) => Ok(connection.items.extend(&[Item { steps, what }])?),
+        None => Ok(()),
+    }
+}
+
+/// Bytes of the connection of the number were taken.
+fn take(connections: &mut Vec<ConnRecord>, conn: usize, bytes: &[u8]) -> Result<(), Memory>
+    ensures { OnOk result (connections.new.items ≡ changed_record conn (λ told. record told { sent = told.sent ++ bytes.now }) connections.old.items) }
+{
+    let Some(index) = conn.checked_sub(1) else {
+        return Ok(());
+    };
+    match connections.get_mut(index) {
+        Some(connection) => Ok(connection.sent.extend(bytes)?),
+        None => Ok(()),
+    }
+}
+
+/// How the connection of the number stands.
+fn finish(connections: &mut Vec<ConnRecord>, conn: usize, finish: Finish)
+    ensures { connections.new.items ≡ changed_record conn (λ told. record told { finish = finish }) connections.old.items }
+{
+    let Some(index) = conn.checked_sub(1) else {
+        return;
+    };
+    if let Some(connection) = connections.get_mut(index) {
+        connection.finish = finish;
     }
 }

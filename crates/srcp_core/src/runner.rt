@@ -1,7 +1,10 @@
 //! A run over a list of events.
-ghost use Rattle.std.specs.Prelude.{◌≡◌, ◌≤◌, IfOk};
+ghost use Rattle.std.specs.Prelude.{◌≡◌, ◌≤◌, IfOk, OnOk, Some, None};
 ghost use Rattle.std.specs.List.{AllByRecursion};
 ghost use Rattle.srcp_info.specs.WellFormed.{IsWellFormedShown};
+ghost use Rattle.srcp_core.specs.Laws.{IsRecordOf};
+ghost use Rattle.srcp_core.specs.Recording.{key_of};
+ghost use Rattle.srcp_core.specs.Run.{HappensAs, FollowsAs, count_at, taken_at, taking};
 
 use crate::event::Event;
 use crate::record::{CoreFault, Record, Step};
@@ -28,16 +31,33 @@ impl From<Memory> for RunFault {
 /// what came of them. An event that is refused changes nothing, and the run goes on. `Memory` where memory was
 /// refused to the core when it was made, or to the record; what was refused after that the record counts.
 pub fn run<R: Rows>(alloc: Global, layout: &Layout, events: &[Event]) -> Result<Record, RunFault>
-    ensures { IfOk result (λ told. AllByRecursion (λ row. IsWellFormedShown row.shown) told.rows) }
+    ensures well_formed { IfOk result (λ told. AllByRecursion (λ row. IsWellFormedShown row.shown) told.rows) }
+    ensures record { IfOk result (λ told. told.denied ≡ 0 → IsRecordOf layout.now events.now told) }
 {
+    // Asks for a layout's limits.
+    let _ = layout.buses();
     let mut core = Core::<R>::new(alloc, layout, 0, 0)?;
     let mut recorder = Recorder::new(alloc);
-    for (index, event) in events.iter().enumerate() {
-        if let Some(fault) = happen(&mut core, &mut recorder, event)? {
-            recorder.refused(index + 1, fault)?;
-        }
+    for index in 0..events.len() {
+        follow(&mut core, &mut recorder, index + 1, &events[index])?;
     }
     Ok(recorder.record(&core)?)
+}
+
+/// Carries out the event of that number, and notes where it is refused.
+fn follow<R: Rows>(
+    core: &mut Core<'_, R>,
+    recorder: &mut Recorder,
+    number: usize,
+    event: &Event,
+) -> Result<(), Memory>
+    ensures course { OnOk result (FollowsAs number event.now recorder.old core.old recorder.new core.new) }
+    ensures denied { core.new.denied ≡ 0 → core.old.denied ≡ 0 }
+{
+    if let Some(fault) = happen(core, recorder, event)? {
+        recorder.refused(number, fault)?;
+    }
+    Ok(())
 }
 
 /// Carries out an event, and answers why it is refused, if it is.
@@ -45,7 +65,10 @@ fn happen<R: Rows>(
     core: &mut Core<'_, R>,
     recorder: &mut Recorder,
     event: &Event,
-) -> Result<Option<CoreFault>, Memory> {
+) -> Result<Option<CoreFault>, Memory>
+    ensures course { IfOk result (λ refusal. HappensAs event.now refusal recorder.old core.old recorder.new core.new) }
+    ensures denied { core.new.denied ≡ 0 → core.old.denied ≡ 0 }
+{
     match event {
         Event::Open => open(core, recorder),
         Event::Bytes { conn, piece } => bytes(core, recorder, *conn, piece.as_slice()),
@@ -58,7 +81,10 @@ fn happen<R: Rows>(
 fn open<R: Rows>(
     core: &mut Core<'_, R>,
     recorder: &mut Recorder,
-) -> Result<Option<CoreFault>, Memory> {
+) -> Result<Option<CoreFault>, Memory>
+    ensures course { IfOk result (λ refusal. HappensAs Event.Open refusal recorder.old core.old recorder.new core.new) }
+    ensures denied { core.new.denied ≡ 0 → core.old.denied ≡ 0 }
+{
     match core.connect() {
         Ok(key) => {
             recorder.opened(key)?;
@@ -73,7 +99,10 @@ fn bytes<R: Rows>(
     recorder: &mut Recorder,
     conn: usize,
     piece: &[u8],
-) -> Result<Option<CoreFault>, Memory> {
+) -> Result<Option<CoreFault>, Memory>
+    ensures course { IfOk result (λ refusal. HappensAs (Event.Bytes conn piece.now) refusal recorder.old core.old recorder.new core.new) }
+    ensures denied { core.new.denied ≡ 0 → core.old.denied ≡ 0 }
+{
     let Some(key) = recorder.key(conn) else {
         return Ok(Some(CoreFault::NoSuch));
     };
@@ -93,7 +122,10 @@ fn room<R: Rows>(
     recorder: &mut Recorder,
     conn: usize,
     bytes: usize,
-) -> Result<Option<CoreFault>, Memory> {
+) -> Result<Option<CoreFault>, Memory>
+    ensures course { IfOk result (λ refusal. HappensAs (Event.Room conn bytes) refusal recorder.old core.old recorder.new core.new) }
+    ensures denied { core.new.denied ≡ 0 → core.old.denied ≡ 0 }
+{
     let Some(key) = recorder.key(conn) else {
         return Ok(Some(CoreFault::NoSuch));
     };
@@ -116,14 +148,16 @@ fn take<R: Rows>(
     key: usize,
     most: usize,
 ) -> Result<usize, Memory>
-    ensures { IfOk result (λ count. count ≤ most) }
+    ensures most { IfOk result (λ count. count ≤ most) }
+    ensures count { IfOk result (λ count. count ≡ count_at key most core.old) }
+    ensures recorder { OnOk result (recorder.new ≡ taking conn key most core.old recorder.old) }
+    ensures core { OnOk result (core.new ≡ taken_at key most core.old) }
+    ensures denied { core.new.denied ≡ core.old.denied }
 {
     let Ok(item) = core.fill(key) else {
         return Ok(0);
     };
-    if let Some(what) = item {
-        recorder.gave(conn, what)?;
-    }
+    recorder.gave(conn, item)?;
     let count = match core.unsent(key) {
         Ok(bytes) => {
             let count = bytes.len().min(most);
@@ -140,7 +174,10 @@ fn advance<R: Rows>(
     core: &mut Core<'_, R>,
     recorder: &mut Recorder,
     moment: u64,
-) -> Result<Option<CoreFault>, Memory> {
+) -> Result<Option<CoreFault>, Memory>
+    ensures course { IfOk result (λ refusal. HappensAs (Event.At moment) refusal recorder.old core.old recorder.new core.new) }
+    ensures denied { core.new.denied ≡ 0 → core.old.denied ≡ 0 }
+{
     core.advance(moment);
     recorder.step(&Step::Moment(core.moment()))?;
     Ok(None)
@@ -150,7 +187,10 @@ fn shut<R: Rows>(
     core: &mut Core<'_, R>,
     recorder: &mut Recorder,
     conn: usize,
-) -> Result<Option<CoreFault>, Memory> {
+) -> Result<Option<CoreFault>, Memory>
+    ensures course { IfOk result (λ refusal. HappensAs (Event.Shut conn) refusal recorder.old core.old recorder.new core.new) }
+    ensures denied { core.new.denied ≡ 0 → core.old.denied ≡ 0 }
+{
     let Some(key) = recorder.key(conn) else {
         return Ok(Some(CoreFault::NoSuch));
     };

@@ -1,5 +1,5 @@
 //! The core: the registry, and the connections with their sessions.
-ghost use Rattle.std.specs.Prelude.{◌≡◌, ◌≢◌, ◌+◌, ◌≤◌, ◌<◌, ◌↔◌, ◌||◌, Bool, true, false, Some, None, IfOk, OnErr, IsErr, IsErrOf, IfSome, MatchResult, IfErr, is_some, is_none, length, List, [], Option, count_by};
+ghost use Rattle.std.specs.Prelude.{◌⊎◌, ◌≡◌, ◌≢◌, ◌+◌, ◌≤◌, ◌<◌, ◌↔◌, ◌||◌, Bool, true, false, Some, None, IfOk, OnErr, IsErr, IsErrOf, IfSome, MatchResult, IfErr, is_some, is_none, length, List, [], Option, count_by};
 ghost use Rattle.srcp_core.specs.Connection.{is_nil};
 ghost use Rattle.srcp_core.specs.Held.{at, open_count};
 ghost use Rattle.srcp_core.specs.Machine.{IsAdmitted, refused_connect, is_closing, one_denied, unsent_at, bytes_fault};
@@ -90,6 +90,7 @@ impl<'a, R: Rows> Core<'a, R> {
         ensures full { IsErrOf result CoreFault.Full ↔ (open_count self.old ≡ 64) }
         ensures admitted { IfOk result (λ key. IsAdmitted key self.old self.new) }
         ensures refused { IfErr result (λ fault. self.new ≡ refused_connect fault self.old) }
+        ensures causes { IfErr result (λ fault. (fault ≡ CoreFault.Full) ⊎ (fault ≡ CoreFault.Memory)) }
     {
         if self.connections.len() >= MOST_CONNECTIONS {
             return Err(CoreFault::Full);

@@ -1,7 +1,12 @@
+use Rattle.std.proofs.Common.{◌≡◌}
+use Rattle.srcp_core.proofs.Running.{GivesOn}
 use Rattle.srcp_core.proofs.runner.room.Given as goal
 
 abbrev pub invariant-loop-count : goal.invariant-loop-count
-invariant-loop-count g l = Unit {0}
+invariant-loop-count g l = record {
+  gives : GivesOn l.conn l.key l.bytes l.fn.recorder l.fn.core l.left l.recorder l.core;
+  denied : l.core.denied ≡ l.fn.core.denied;
+}
 
 abbrev pub decreases-loop-count : goal.decreases-loop-count
 decreases-loop-count g l = l.left

@@ -1,0 +1,135 @@
+-- Keys and connections by their numbers, the first being 1.
+use Rattle.std.proofs.Common.{◌≡◌, ◌≢◌, ℕ, zero, suc, ◌+◌, ◌<◌, ◌≤◌, ⊎_elim, inl, inr, ◌⊎◌, Bool, true, false, cond, List, [], ◌∷◌, ◌++◌, length, length-append, refl, ap, sym, ◌∙◌, subst, arith}
+use Rattle.std.proofs.lemmas.List.Elements.{filter-append}
+use Rattle.std.specs.List.{filter}
+use Rattle.std.specs.Prelude.{Option, Some, None, slice_get, slice_set, slice_index_or}
+use Rattle.srcp_core.specs.Connection.{Connection, is_open}
+use Rattle.srcp_core.specs.Course.{numbered, with_numbered}
+use Rattle.srcp_core.specs.Recording.{key_of, without_key}
+
+-- ---- connections
+
+pub length_with : (n : ℕ) (f : Connection → Connection) (xs : List Connection) → length (with_numbered n f xs) ≡ length xs
+length_with n f [] = refl
+length_with zero f (x ∷ xs) = refl
+length_with (suc zero) f (x ∷ xs) = refl
+length_with (suc (suc n)) f (x ∷ xs) = ap (λ k. suc k) (length_with (suc n) f xs)
+
+-- how many are open
+abbrev pub opens : List Connection → ℕ
+opens xs = length (filter is_open xs)
+
+abbrev pub one_if : Bool → ℕ
+one_if t = cond t 1 0
+
+pub opens_cons : (x : Connection) (xs : List Connection) → opens (x ∷ xs) ≡ one_if (is_open x) + opens xs
+opens_cons x xs = by (is_open x) refl
+  where
+    by : (t : Bool) → is_open x ≡ t → length (cond (is_open x) (x ∷ filter is_open xs) (filter is_open xs)) ≡ one_if (is_open x) + opens xs
+    by true e = rw e (omega arith)
+    by false e = rw e (omega arith)
+
+pub opens_with : (n : ℕ) (f : Connection → Connection) (xs : List Connection) (x : Connection) → numbered n xs ≡ Some x → opens (with_numbered n f xs) + one_if (is_open x) ≡ opens xs + one_if (is_open (f x))
+opens_with zero f xs x e = cc
+opens_with (suc n) f [] x e = cc
+opens_with (suc zero) f (y ∷ xs) x e =
+    let same : y ≡ x = cc in
+    let a = opens_cons (f y) xs in
+    let b = opens_cons y xs in
+    let c = ap (λ z. one_if (is_open z)) same in
+    let d = ap (λ z. one_if (is_open (f z))) same in
+    omega (arith, a, b, c, d)
+opens_with (suc (suc n)) f (y ∷ xs) x e =
+    let ih = opens_with (suc n) f xs x e in
+    let a = opens_cons y (with_numbered (suc n) f xs) in
+    let b = opens_cons y xs in
+    omega (arith, a, b, ih)
+
+pub opens_same : (n : ℕ) (f : Connection → Connection) (xs : List Connection) (x : Connection) → numbered n xs ≡ Some x → is_open (f x) ≡ is_open x → opens (with_numbered n f xs) ≡ opens xs
+opens_same n f xs x e o =
+    let k = opens_with n f xs x e in
+    let s = ap one_if o in
+    omega (arith, k, s)
+
+pub opens_push : (xs : List Connection) (x : Connection) → is_open x ≡ true → opens (xs ++ x ∷ []) ≡ opens xs + 1
+opens_push xs x o =
+    ap length (filter-append is_open xs (x ∷ [])) ∙ length-append (filter is_open xs) (filter is_open (x ∷ [])) ∙ ap (λ k. opens xs + k) (opens_cons x [] ∙ ap (λ t. one_if t + 0) o)
+
+pub numbered_within : (n : ℕ) (xs : List Connection) (x : Connection) → numbered n xs ≡ Some x → (0 < n) × (n ≤ length xs)
+numbered_within zero xs x e = cc
+numbered_within (suc n) [] x e = cc
+numbered_within (suc zero) (y ∷ xs) x e = (omega arith, omega arith)
+numbered_within (suc (suc n)) (y ∷ xs) x e = let ih = numbered_within (suc n) xs x e in let k = ih.1 in (omega arith, omega (arith, k))
+
+pub numbered_none : (n : ℕ) (xs : List Connection) → 0 < n → numbered n xs ≡ None → length xs < n
+numbered_none zero xs p e = absurd (omega (arith, p))
+numbered_none (suc n) [] p e = omega arith
+numbered_none (suc zero) (y ∷ xs) p e = cc
+numbered_none (suc (suc n)) (y ∷ xs) p e = let q : 0 < suc n = omega arith in let ih = numbered_none (suc n) xs q e in omega (arith, ih)
+
+-- ---- keys
+
+pub key_within : (n : ℕ) (keys : List (Option ℕ)) (key : ℕ) → key_of n keys ≡ Some key → (0 < n) × (n ≤ length keys)
+key_within zero keys key e = cc
+key_within (suc n) [] key e = absurd (nothing n e)
+  where
+    nothing : (n : ℕ) → slice_index_or [] n None ≡ Some key → ⊥
+    nothing zero e = cc
+    nothing (suc n) e = cc
+key_within (suc zero) (k ∷ keys) key e = (omega arith, omega arith)
+key_within (suc (suc n)) (k ∷ keys) key e = let ih = key_within (suc n) keys key e in let l = ih.1 in (omega arith, omega (arith, l))
+
+pub length_without : (n : ℕ) (keys : List (Option ℕ)) → length (without_key n keys) ≡ length keys
+length_without zero keys = refl
+length_without (suc n) [] = refl
+length_without (suc zero) (k ∷ keys) = refl
+length_without (suc (suc n)) (k ∷ keys) = ap (λ k. suc k) (length_without (suc n) keys)
+
+pub without_here : (n : ℕ) (keys : List (Option ℕ)) → key_of n (without_key n keys) ≡ None
+without_here zero keys = refl
+without_here (suc zero) [] = refl
+without_here (suc (suc n)) [] = refl
+without_here (suc zero) (k ∷ keys) = refl
+without_here (suc (suc n)) (k ∷ keys) = without_here (suc n) keys
+
+pub without_other : (n m : ℕ) (keys : List (Option ℕ)) → m ≢ n → key_of m (without_key n keys) ≡ key_of m keys
+without_other zero m keys d = refl
+without_other (suc n) zero keys d = refl
+without_other (suc n) (suc m) [] d = refl
+without_other (suc zero) (suc zero) (k ∷ keys) d = absurd (d refl)
+without_other (suc zero) (suc (suc m)) (k ∷ keys) d = refl
+without_other (suc (suc n)) (suc zero) (k ∷ keys) d = refl
+without_other (suc (suc n)) (suc (suc m)) (k ∷ keys) d = without_other (suc n) (suc m) keys (λ e. d (ap (λ k. suc k) e))
+
+-- a key that is put at the end
+pub key_push : (n : ℕ) (keys : List (Option ℕ)) (key : Option ℕ) → n ≤ length keys → key_of n (keys ++ key ∷ []) ≡ key_of n keys
+key_push zero keys key h = refl
+key_push (suc n) [] key h = absurd (omega (arith, h))
+key_push (suc zero) (k ∷ keys) key h = refl
+key_push (suc (suc n)) (k ∷ keys) key h = let l : suc n ≤ length keys = omega arith in key_push (suc n) keys key l
+
+pub key_push_last : (keys : List (Option ℕ)) (key : Option ℕ) → key_of (suc (length keys)) (keys ++ key ∷ []) ≡ key
+key_push_last [] key = refl
+key_push_last (k ∷ keys) key = key_push_last keys key
+
+pub key_push_is : (n : ℕ) (keys : List (Option ℕ)) (key other : ℕ) → key_of n (keys ++ Some key ∷ []) ≡ Some other → (key_of n keys ≡ Some other) ⊎ ((n ≡ suc (length keys)) × (other ≡ key))
+key_push_is zero keys key other e = cc
+key_push_is (suc zero) [] key other e = let same : key ≡ other = cc in inr (refl, sym same)
+key_push_is (suc (suc n)) [] key other e = absurd (nothing n e)
+  where
+    nothing : (n : ℕ) → slice_index_or [] n None ≡ Some other → ⊥
+    nothing zero e = cc
+    nothing (suc n) e = cc
+key_push_is (suc zero) (k ∷ keys) key other e = inl e
+key_push_is (suc (suc n)) (k ∷ keys) key other e = ⊎_elim (λ h. inl h) (λ h. inr (ap (λ k. suc k) h.0, h.1)) (key_push_is (suc n) keys key other e)
+
+pub numbered_last : (xs : List Connection) (x : Connection) → numbered (suc (length xs)) (xs ++ x ∷ []) ≡ Some x
+numbered_last [] x = refl
+numbered_last (y ∷ xs) x = numbered_last xs x
+
+pub numbered_push_is : (n : ℕ) (xs : List Connection) (x y : Connection) → numbered n (xs ++ x ∷ []) ≡ Some y → (numbered n xs ≡ Some y) ⊎ ((n ≡ suc (length xs)) × (x ≡ y))
+numbered_push_is zero xs x y e = cc
+numbered_push_is (suc zero) [] x y e = let same : x ≡ y = cc in inr (refl, same)
+numbered_push_is (suc (suc n)) [] x y e = cc
+numbered_push_is (suc zero) (z ∷ xs) x y e = inl e
+numbered_push_is (suc (suc n)) (z ∷ xs) x y e = ⊎_elim (λ h. inl h) (λ h. inr (ap (λ k. suc k) h.0, h.1)) (numbered_push_is (suc n) xs x y e)

@@ -1,0 +1,6 @@
+use Rattle.std.proofs.Common.{◌≡◌, take}
+use Rattle.srcp_core.specs.Recording.{finished}
+use Rattle.srcp_core.proofs.recorder.finish_all.Given as goal
+
+abbrev pub invariant-loop-index : goal.invariant-loop-index
+invariant-loop-index g l = l.connections.items ≡ finished l.core (take l.index l.keys) l.fn.connections.items

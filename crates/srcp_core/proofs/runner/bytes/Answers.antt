@@ -1,0 +1,39 @@
+use Rattle.std.proofs.Common.{◌≡◌, sym, ◌∙◌, refl, ap, subst, None, Some}
+use Rattle.srcp_core.specs.Machine.{listed}
+use Rattle.srcp_core.specs.Recording.{Recording}
+use Rattle.srcp_core.proofs.Running.{no_bytes_happens, bytes_refused, bytes_room, reads_first, reads_more, line_denied, bytes_happens, ReadsOn}
+use Rattle.srcp_core.proofs.runner.bytes.Goals as goal
+
+pub returns-in_default-clause-course : goal.returns-in_default-clause-course
+returns-in_default-clause-course g c = no_bytes_happens c.args.conn c.args.piece.now c.args.recorder.now c.args.core.now (sym c.key.ensures ∙ c.in_default.is)
+
+pub returns-in-Some-bytes_fault-clause-course : goal.returns-in-Some-bytes_fault-clause-course
+returns-in-Some-bytes_fault-clause-course g c =
+    bytes_refused c.args.conn c.in-Some.key c.args.piece.now c.args.recorder.now c.args.core.now c.in-Some-bytes_fault.fault (sym c.key.ensures ∙ c.in-Some.is) (sym c.bytes_fault.ensures ∙ c.in-Some-bytes_fault.is)
+
+pub loop-stop-init : goal.loop-stop-init
+loop-stop-init g c =
+    let free = sym c.bytes_fault.ensures ∙ c.in_default-bytes_fault.is in
+    let room = bytes_room c.in-Some.key c.args.piece.now c.args.core.now free in
+    record { few = room.0; room = room.1; reads = reads_first c.args.conn c.in-Some.key c.args.piece.now c.args.recorder.now c.args.core.now (sym c.key.ensures ∙ c.in-Some.is) free; denied = λ d. d }
+
+pub returns-in_err-answered-clause-denied : goal.returns-in_err-answered-clause-denied
+returns-in_err-answered-clause-denied g c = λ d.
+    c.loop-stop.invariant.denied (line_denied c.in-Some.key c.args.piece.now c.loop-stop.start c.in-Some-take_line.stop c.in-Some-take_line.answered.granted c.loop-stop.core c.take_line.new.self c.in-Some-take_line.ensures.line.is d)
+
+pub loop-stop-preserved : goal.loop-stop-preserved
+loop-stop-preserved g c =
+    let line = c.in-Some-take_line.ensures.line in
+    let before = line_denied c.in-Some.key c.args.piece.now c.loop-stop.start c.in-Some-take_line.stop c.in-Some-take_line.answered.granted c.loop-stop.core c.take_line.new.self line.is in
+    record {
+      few = c.loop-stop.invariant.few;
+      room = line.room;
+      reads = subst (λ (r : Recording). ReadsOn c.args.conn c.in-Some.key c.args.piece.now c.args.recorder.now c.args.core.now c.in-Some-take_line.stop r c.take_line.new.self) (sym c.in_ok-answered.ensures)
+          (reads_more c.args.conn c.in-Some.key c.args.piece.now c.args.recorder.now c.args.core.now c.loop-stop.start c.in-Some-take_line.stop c.in-Some-take_line.answered.granted (listed c.in-Some-take_line.answered.steps) c.loop-stop.recorder c.loop-stop.core c.take_line.new.self
+          line.onward line.is line.steps before c.loop-stop.invariant.reads);
+      denied = λ d. c.loop-stop.invariant.denied (before d);
+    }
+
+pub returns-clause-course : goal.returns-clause-course
+returns-clause-course g c =
+    bytes_happens c.args.conn c.in-Some.key c.args.piece.now c.args.recorder.now c.args.core.now c.loop-stop.start c.loop-stop.recorder c.loop-stop.core c.take_line.new.self c.in_default-take_line.ensures.none c.loop-stop.invariant.reads

@@ -1,0 +1,54 @@
+-- What a core holds, and the course that it stands for.
+use Rattle.std.specs.Prelude.{◌≡◌, ℕ, Bool, true, false, ◌&&◌, if◌then◌else◌, List, [], length, filter, nat_lt, Option, Some, None}
+use Rattle.srcp_info.specs.declared.change.Change.{Change}
+use Rattle.srcp_info.specs.declared.change.Cursor.{Cursor}
+use Rattle.srcp_info.specs.declared.value.Mode.{Mode}
+use Rattle.srcp_rules.specs.declared.layout.Bus.{Bus}
+use Rattle.srcp_text.specs.Reading.{Reading, StandsAt}
+use Rattle.srcp_core.specs.Connection.{Connection, History, cursor_at, untold, unsent, is_open}
+use Rattle.srcp_core.specs.Course.{World, numbered, state, history}
+use Rattle.srcp_core.specs.Held.{Place, Held, place_at, open_count}
+use Rattle.srcp_core.specs.Recording.{key_of}
+
+-- what is held of a connection, by its reader, its mode, its session, the unsent bytes, and the cursor and the queue of its feed; where more wait
+-- than may, the bytes and the feed are given up
+abbrev pub placed : Reading → Mode → ℕ → Bool → Bool → List ℕ → Cursor → List Change → Place
+placed reader mode session info ended bytes cursor queue =
+    if info && nat_lt 256 (length queue)
+    then record { reader = reader; mode = mode; session = session; info = info; ended = ended; overran = true; unsent = []; feed = None }
+    else record { reader = reader; mode = mode; session = session; info = info; ended = ended; overran = false; unsent = bytes; feed = if info then Some (record { cursor = cursor; queue = queue }) else None }
+
+-- what is held of a connection of a course with that history
+abbrev pub place_of : Reading → History → Connection → Place
+place_of reader history conn = placed reader conn.mode conn.session conn.info conn.ended (unsent conn) (cursor_at conn (length history)) (untold conn history)
+
+-- the connection of that number has a place, and its reader has read these bytes
+pub record IsAt (keys : List (Option ℕ)) (places : List (Option Place)) (history : History) (n : ℕ) (conn : Connection) (bytes : List ℕ) : Type 0 where
+  pub key : ℕ
+  pub reader : Reading
+  pub named : key_of n keys ≡ Some key
+  pub place : place_at places key ≡ Some (place_of reader history conn)
+  pub reads : StandsAt bytes reader
+
+-- the place is that of a number
+pub record IsOwned (keys : List (Option ℕ)) (key : ℕ) : Type 0 where
+  pub number : ℕ
+  pub named : key_of number keys ≡ Some key
+
+module _ (buses : List Bus) where
+  -- the keys of the connections by their numbers, and the core, stand for that course, where of the bytes that were accepted of a number these were read
+  pub record StandsBy (read : ℕ → List ℕ → List ℕ) (keys : List (Option ℕ)) (held : Held) (w : World) : Type 0 where
+    pub layout : held.buses ≡ buses
+    pub rows : held.rows ≡ state buses w
+    pub moment : held.moment ≡ w.moment
+    pub last_id : held.last_id ≡ w.last_id
+    pub count : open_count held ≡ length (filter is_open w.connections)
+    pub long : length keys ≡ length w.connections
+    pub opens : (n : ℕ) (conn : Connection) → numbered n w.connections ≡ Some conn → is_open conn ≡ true → IsAt keys held.places (history buses w) n conn (read n conn.fed)
+    pub closed : (n : ℕ) (conn : Connection) → numbered n w.connections ≡ Some conn → is_open conn ≡ false → key_of n keys ≡ None
+    pub apart : (m n key : ℕ) → key_of m keys ≡ Some key → key_of n keys ≡ Some key → m ≡ n
+    pub owned : (key : ℕ) (place : Place) → place_at held.places key ≡ Some place → IsOwned keys key
+
+  -- all bytes were read
+  abbrev pub StandsFor : List (Option ℕ) → Held → World → Type 0
+  StandsFor keys held w = StandsBy (λ n fed. fed) keys held w
