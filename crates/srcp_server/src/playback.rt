@@ -3,7 +3,6 @@
 ghost use Rattle.std.specs.Prelude.{◌≡◌, List, IfOk, IfErr, IfSome};
 ghost use Rattle.std.specs.List.{AllByRecursion};
 ghost use Rattle.srcp_info.specs.WellFormed.{IsWellFormedShown};
-ghost use Rattle.srcp_core.specs.declared.record.Record.{Record};
 ghost use Rattle.srcp_rules.specs.declared.layout.Bus.{Bus};
 ghost use Rattle.srcp_server.specs.Output.{StopsFor, Writes, printed, run_of, replayed};
 
@@ -32,9 +31,9 @@ pub fn replay<R: Read, W: Write>(
     reader: &mut R,
     writer: &mut W,
 ) -> Result<(), ToolFault>
-    ensures { Writes
-        (λ text. (told : Record) × (told.denied ≡ 0) × (text ≡ printed told))
-        (λ fault. IfSome (R.remaining reader.old) (λ input. (buses : List Bus) → replayed buses input ≡ Err fault))
+    ensures { let input = R.remaining reader.old in Writes
+        (λ text. IfSome input (λ bytes. replayed layout.now bytes ≡ Ok text))
+        (λ fault. IfSome input (λ bytes. replayed layout.now bytes ≡ Err fault))
         result (W.contents writer.old) (W.contents writer.new) }
 {
     let events = read_events(alloc, reader)?;
