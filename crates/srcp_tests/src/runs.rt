@@ -150,6 +150,29 @@ fn a_run_tells_steps_and_items(rt: HostRuntime) -> Result<(), Fail> {
 }
 
 #[test]
+fn no_item_says_that_nothing_is_left(rt: HostRuntime) -> Result<(), Fail> {
+    let alloc = rt.alloc();
+    let layout = one_bus(alloc)?;
+    let mut events = Vec::new(alloc);
+    begin(alloc, &mut events, 1, PANEL)?;
+    for bytes in [1000, 0, 1000] {
+        events.push(Event::Room { conn: 1, bytes })?;
+    }
+    let record = carried_out(alloc, &layout, &events)?;
+    let [panel] = record.connections.as_slice() else {
+        return Err(Fail::from("not one connection"));
+    };
+    let items = [
+        listed(1, session_row(1, Mode::Info)),
+        listed(1, power_row()),
+        listed(1, sensor_row(1, false)),
+        listed(1, sensor_row(2, false)),
+    ];
+    assert!(rt; are_same_items(panel.items.as_slice(), &items));
+    Ok(())
+}
+
+#[test]
 fn refusals_are_told_by_the_numbers_of_their_events(rt: HostRuntime) -> Result<(), Fail> {
     let alloc = rt.alloc();
     let layout = one_bus(alloc)?;
