@@ -1,5 +1,5 @@
 #!/usr/bin/env python3
-"""run_cases.py PROGRAM: runs the built program over every case of cases/ and over the failures of its streams.
+"""run_cases.py PROGRAM: runs the built program over every case of cases/, over the failures of its streams, and serving.
 
 A case is a folder: `args` (one word a line), `stdin`, `config.toml` where it needs one, `status`, and what is
 expected: `stdout` and `stderr` to the byte, or in `expect.json` what single connections are sent, the word that each
@@ -10,10 +10,14 @@ import os
 import re
 import subprocess
 import sys
+import tempfile
 from pathlib import Path
+
+from serving import SERVING_CASES
 
 CASES = Path(__file__).resolve().parent / "cases"
 INPUT_LIMIT = 16_777_216
+CONFIG_LIMIT = 1_048_576
 SECONDS = 300
 
 
@@ -108,7 +112,23 @@ def output_that_cannot_be_written(program):
 
 def words_that_are_unknown(program):
     done = subprocess.run([program, "mirror", "mirror"], capture_output=True, timeout=SECONDS)
-    return ended(done, 2, b"usage")
+    is_told = done.returncode == 2 and done.stdout == b"" and done.stderr.startswith(b"error: ")
+    return None if is_told else f"got {(done.returncode, done.stderr, done.stdout)!r}"[:400]
+
+
+def run_check(program, config):
+    with tempfile.NamedTemporaryFile() as file:
+        file.write(config)
+        file.flush()
+        return subprocess.run([program, "check", "--config", file.name], capture_output=True, timeout=SECONDS)
+
+
+def configuration_at_its_limit(program):
+    return ended(run_check(program, b"bus = [] #".ljust(CONFIG_LIMIT, b"#")), 0, b"", b"port 4303\n")
+
+
+def configuration_past_its_limit(program):
+    return ended(run_check(program, b"bus = [] #".ljust(CONFIG_LIMIT + 1, b"#")), 2, b"input too large")
 
 
 def script_past_its_limit(program):
@@ -137,14 +157,14 @@ def run_that_cannot_be_written(program):
 
 
 STREAM_CASES = (input_past_its_limit, input_at_its_limit, input_that_cannot_be_read, output_that_cannot_be_written,
-                words_that_are_unknown, script_past_its_limit, script_at_its_limit, script_that_cannot_be_read,
-                run_that_cannot_be_written)
+                words_that_are_unknown, configuration_at_its_limit, configuration_past_its_limit, script_past_its_limit,
+                script_at_its_limit, script_that_cannot_be_read, run_that_cannot_be_written)
 
 
 def main():
     program = str(Path(sys.argv[1]).resolve())
     results = [(folder.name, run_case(folder, program)) for folder in sorted(CASES.iterdir()) if folder.is_dir()]
-    results += [(case.__name__.replace("_", "-"), case(program)) for case in STREAM_CASES]
+    results += [(case.__name__.replace("_", "-"), case(program)) for case in STREAM_CASES + SERVING_CASES]
     failed = [(name, fault) for name, fault in results if fault]
     for name, fault in failed:
         print(f"FAIL {name}: {fault}")

@@ -1,42 +1,95 @@
-//! The program `srcp_server`: a script replayed, or information lines mirrored.
+//! The program `srcp_server`: a layout served, a script replayed, information lines mirrored, a configuration checked.
 #![tactic(auto)]
 
-use srcp_rules::{Bus, Layout};
-use srcp_server::{ToolFault, mirror, replay};
+use clap::error::ErrorKind;
+use srcp_core::Core;
+use srcp_rules::{Bus, Flat, Layout};
+use srcp_server::{
+    SocketDoor, Tool, ToolFault, check, mirror, read_config, read_layout, read_words, replay, serve,
+};
 use std::alloc::Global;
-use std::env;
+use std::io::{Read, Write};
+use std::net::Net;
 use std::process::ExitCode;
-use std::rt::Env;
+use std::rt::{Env, Files};
+use std::string::String;
+use std::time::Clock;
+use std::vec::Vec;
+use std::{env, fs};
 
-/// What the words ask for.
-#[derive(Clone, Copy)]
-enum Task {
-    Mirror,
-    Replay,
-}
-
-/// Reads the standard input and writes the standard output. A fault is told on the standard error and
-/// by the status: 2 for words that ask for nothing known.
+/// Does what the words ask for. A fault is told on the standard error and by the status.
 fn main(rt: HostRuntime) -> ExitCode {
-    let Some(task) = task_asked(&rt) else {
-        let _ = eprintln!(&rt; "srcp_server: usage");
-        return ExitCode::from(2);
+    let Some(words) = words_given(&rt) else {
+        return tell(&rt, ToolFault::Memory);
     };
-    let alloc = rt.alloc();
-    let done = match task {
-        Task::Mirror => mirror(alloc, &mut rt.stdin(), &mut rt.stdout()),
-        Task::Replay => match built_in_layout(alloc) {
-            Ok(layout) => replay(alloc, &layout, &mut rt.stdin(), &mut rt.stdout()),
-            Err(fault) => Err(fault),
-        },
+    let tool = match read_words(rt.alloc(), &words) {
+        Ok(tool) => tool,
+        Err(refused) => return print_refusal(&rt, &refused),
+    };
+    let done = match tool {
+        Tool::Mirror => mirror(rt.alloc(), &mut rt.stdin(), &mut rt.stdout()),
+        Tool::Check { config } => check_file(&rt, config, &mut rt.stdout()),
+        Tool::Replay { config } => replay_input(&rt, config, &mut rt.stdin(), &mut rt.stdout()),
+        Tool::Serve { config, turns } => serve_layout(&rt, config, turns),
     };
     match done {
         Ok(()) => ExitCode::SUCCESS,
-        Err(fault) => {
-            let _ = eprintln!(&rt; "srcp_server: {fault}");
-            ExitCode::from(fault.status())
-        }
+        Err(fault) => tell(&rt, fault),
     }
+}
+
+/// The program's name and the words behind it; None where memory was refused.
+fn words_given<R: Env + AllocGlobal>(rt: &R) -> Option<Vec<String>> {
+    env::args(rt).ok()?.collect(rt.alloc()).ok()
+}
+
+/// Prints what `clap` says of words that it refuses, or that ask for help or for the version.
+fn print_refusal<R: Print + Eprint>(rt: &R, refused: &clap::Error) -> ExitCode {
+    if refused.kind() == ErrorKind::OutOfMemory {
+        return tell(rt, ToolFault::Memory);
+    }
+    let _ = refused.print(rt);
+    if refused.use_stderr() {
+        ExitCode::from(2)
+    } else {
+        ExitCode::SUCCESS
+    }
+}
+
+fn tell<R: Eprint>(rt: &R, fault: ToolFault) -> ExitCode {
+    let _ = eprintln!(rt; "srcp_server: {fault}");
+    ExitCode::from(fault.status())
+}
+
+/// Checks the configuration in a file.
+fn check_file<R: Files + AllocGlobal, W: Write>(
+    rt: &R,
+    path: &str,
+    writer: &mut W,
+) -> Result<(), ToolFault> {
+    let config = read_config_file(rt, path)?;
+    check(rt.alloc(), &config, writer)
+}
+
+fn read_config_file<R: Files + AllocGlobal>(rt: &R, path: &str) -> Result<Vec<u8>, ToolFault> {
+    match fs::open(rt, path) {
+        Ok(mut file) => read_config(rt.alloc(), &mut file),
+        Err(_) => Err(ToolFault::Unreadable),
+    }
+}
+
+/// Replays a script over the layout of the configuration in a file, or over the built-in layout.
+fn replay_input<R: Files + AllocGlobal, I: Read, W: Write>(
+    rt: &R,
+    path: Option<&str>,
+    reader: &mut I,
+    writer: &mut W,
+) -> Result<(), ToolFault> {
+    let layout = match path {
+        Some(path) => read_layout(rt.alloc(), &read_config_file(rt, path)?)?.layout,
+        None => built_in_layout(rt.alloc())?,
+    };
+    replay(rt.alloc(), &layout, reader, writer)
 }
 
 /// The layout of a server that was given none: bus 1 with POWER alone.
@@ -56,20 +109,17 @@ fn built_in_layout(alloc: Global) -> Result<Layout, ToolFault> {
     }
 }
 
-/// The task that the words behind the program's name ask for; none ask for a replay.
-fn task_asked<R: Env + Alloc>(rt: &R) -> Option<Task> {
-    let mut words = env::args(rt).ok()?.skip(1);
-    let Some(word) = words.next() else {
-        return Some(Task::Replay);
+/// Serves the layout of the configuration in a file, for so many turns, to the peers that come to its port.
+fn serve_layout<R: Files + AllocGlobal + Net + Clock>(
+    rt: &R,
+    path: &str,
+    turns: u64,
+) -> Result<(), ToolFault> {
+    let config = read_layout(rt.alloc(), &read_config_file(rt, path)?)?;
+    let mut door = SocketDoor::listen(rt, rt.alloc(), config.port, rt)?;
+    let Ok(mut core) = Core::<Flat>::new(rt.alloc(), &config.layout, 0, 0) else {
+        return Err(ToolFault::Memory);
     };
-    let task = match word.as_str() {
-        "mirror" => Task::Mirror,
-        "replay" => Task::Replay,
-        _ => return None,
-    };
-    if words.next().is_some() {
-        None
-    } else {
-        Some(task)
-    }
+    serve(&mut core, &mut door, turns);
+    Ok(())
 }

@@ -1,11 +1,11 @@
 -- What a text writes, from its first byte on.
-use Rattle.std.proofs.Common.{◌≡◌, ℕ, ◌+◌, ◌*◌, ◌-◌, ◌<◌, ◌≤◌, Bool, true, false, cond, eqb, ltb, List, [], ◌∷◌, ◌++◌, length, get_or, take, drop, refl, sym, ap, ◌∙◌, subst, arith, ◌&&◌, Option, Some, None, inl, inr, ◌≢◌, append-nil, append_assoc}
+use Rattle.std.proofs.Common.{◌≡◌, ℕ, ◌+◌, ◌*◌, ◌-◌, ◌<◌, ◌≤◌, Bool, false, eqb, ltb, List, [], ◌∷◌, ◌++◌, length, get_or, take, drop, refl, ◌∙◌, subst, arith, Option, Some, None, inl, inr}
 use Rattle.std.specs.Prelude.{option_map}
-use Rattle.std.specs.Char.{is_digit, digit_value}
+use Rattle.std.specs.Char.{digit_value}
 use Rattle.std.specs.List.{slice_split, onto_first}
-use Rattle.std.proofs.lemmas.Bool.{cases_Bool, eqb-true, ne_eqb, lt-ltb, ltb-true}
+use Rattle.std.proofs.lemmas.Bool.{cases_Bool, ne_eqb, lt-ltb, ltb-true}
 use Rattle.std.proofs.lemmas.Slice.{between_to_end}
-use Rattle.srcp_server.specs.Script.{unescaped, after, plain_and, escapes, escape, joined, hex_byte}
+use Rattle.srcp_server.specs.Script.{unescaped, after, plain_and, escapes, joined, hex_byte}
 
 -- two hexadecimal digits stand at the front of the text, and the byte that they write
 abbrev pub AreDigits : List ℕ → Type 0

@@ -1,12 +1,11 @@
 -- A script line by line.
-use Rattle.std.proofs.Common.{◌≡◌, ℕ, ◌+◌, ◌<◌, ◌≤◌, Bool, true, false, cond, List, [], ◌∷◌, ◌++◌, length, get_or, take, drop, refl, sym, ap, ◌∙◌, subst, arith, inl, inr, append-nil, append_assoc}
-use Rattle.std.specs.Prelude.{Result, Ok, Err, filter, not, if◌then◌else◌}
+use Rattle.std.proofs.Common.{◌≡◌, ℕ, ◌+◌, true, false, List, [], ◌∷◌, ◌++◌, refl, sym, ap, append_assoc}
+use Rattle.std.specs.Prelude.{Result, Ok, Err, filter, not}
 use Rattle.std.specs.List.{enumerate_from, slice_split}
-use Rattle.std.proofs.lemmas.Bool.{cases_Bool}
 use Rattle.srcp_text.specs.Marks.{is_lf}
 use Rattle.srcp_core.specs.declared.event.Event.{Event}
 use Rattle.srcp_server.specs.Gives.{◌>>=◌}
-use Rattle.srcp_server.specs.Script.{script, is_skipped, event_of, events_in, at_fault}
+use Rattle.srcp_server.specs.Script.{script, is_skipped, event_of, events_in}
 use Rattle.srcp_server.specs.declared.script.Cause.{Cause}
 use Rattle.srcp_server.specs.declared.script.ScriptFault.{ScriptFault}
 

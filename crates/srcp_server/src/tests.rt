@@ -1,3 +1,7 @@
+mod arguments;
+mod checking;
+mod document;
+
 use crate::input::read_input;
 use crate::output::write_whole;
 use crate::{Cause, ConfigFault, Field, ScriptFault, ToolFault, mirror, read_script};

@@ -1,4 +1,4 @@
-use Rattle.std.proofs.Common.{sym, append-nil}
+use Rattle.std.proofs.Common.{sym}
 use Rattle.srcp_server.proofs.Cuts.{cut_none, cut_some, clear_none, clear_some, whole_some}
 use Rattle.srcp_server.proofs.cut.cut_at.Goals as goal
 

@@ -1,0 +1,5 @@
+use Rattle.srcp_server.specs.Tally.{CountsFaults}
+use Rattle.srcp_server.proofs.serving.visit.write_out.Given as goal
+
+abbrev pub invariant-loop : goal.invariant-loop
+invariant-loop g l = CountsFaults l.fn.tally.faults (g.D.Door.faults l.fn.door) l.tally.faults (g.D.Door.faults l.door)

@@ -1,0 +1,104 @@
+//! Serving: what a server asks of its door in each turn, and what it makes of the answers.
+
+ghost use Rattle.std.specs.Prelude.{◌≡◌, ◌<◌, ◌≤◌, ◌+◌};
+ghost use Rattle.srcp_server.specs.Tally.{CountsFaults};
+
+mod tally;
+mod visit;
+
+use crate::door::{Door, Served};
+use srcp_core::Core;
+use srcp_rules::Rows;
+use tally::Tally;
+use visit::{Seat, close, visit};
+
+/// How many peers may have a place at once.
+const PLACES: usize = 64;
+
+/// Serves the peers of a door for so many turns, over a core that has no connection. In each turn the door is asked for
+/// the moment and for one peer that wants in, and then every peer that has a place is visited, in the order of the
+/// places: it is read from where the core would take bytes, written to what the core lends, and let go where it is lost
+/// or its connection is to be closed. A call of the door that fails is counted, and serving goes on.
+pub fn serve<R: Rows, D: Door>(core: &mut Core<'_, R>, door: &mut D, turns: u64) -> Served
+    ensures turns { result.turns ≡ turns }
+    ensures faults { D.faults door.new < 18446744073709551615 → D.faults door.old + result.faults ≡ D.faults door.new }
+{
+    let mut places = [None; PLACES];
+    let mut tally = Tally::new();
+    for _ in 0..turns {
+        turn(core, door, &mut places, &mut tally);
+    }
+    Served {
+        turns,
+        opened: tally.opened,
+        faults: tally.faults,
+    }
+}
+
+fn turn<R: Rows, D: Door>(
+    core: &mut Core<'_, R>,
+    door: &mut D,
+    places: &mut [Option<Seat>; PLACES],
+    tally: &mut Tally,
+)
+    requires { tally.old.faults ≤ D.faults door.old }
+    ensures { CountsFaults tally.old.faults (D.faults door.old) tally.new.faults (D.faults door.new) }
+{
+    take_moment(core, door, tally);
+    let_in(core, door, places, tally);
+    for place in 0..PLACES {
+        if let Some(seat) = places[place] {
+            if !visit(core, door, &seat, tally) {
+                places[place] = None;
+            }
+        }
+    }
+}
+
+/// Takes the present moment; where the door fails to tell it, the core keeps the one before.
+fn take_moment<R: Rows, D: Door>(core: &mut Core<'_, R>, door: &mut D, tally: &mut Tally)
+    requires { tally.old.faults ≤ D.faults door.old }
+    ensures { CountsFaults tally.old.faults (D.faults door.old) tally.new.faults (D.faults door.new) }
+{
+    match door.now() {
+        Ok(moment) => core.advance(moment),
+        Err(_) => tally.fault(),
+    }
+}
+
+/// Lets one peer in, to the first free place; it is let go where the core refuses it.
+fn let_in<R: Rows, D: Door>(
+    core: &mut Core<'_, R>,
+    door: &mut D,
+    places: &mut [Option<Seat>; PLACES],
+    tally: &mut Tally,
+)
+    requires { tally.old.faults ≤ D.faults door.old }
+    ensures { CountsFaults tally.old.faults (D.faults door.old) tally.new.faults (D.faults door.new) }
+{
+    match door.accept() {
+        Ok(None) => (),
+        Ok(Some(peer)) => seat(core, door, peer, places, tally),
+        Err(_) => tally.fault(),
+    }
+}
+
+fn seat<R: Rows, D: Door>(
+    core: &mut Core<'_, R>,
+    door: &mut D,
+    peer: u32,
+    places: &mut [Option<Seat>; PLACES],
+    tally: &mut Tally,
+)
+    requires { tally.old.faults ≤ D.faults door.old }
+    ensures { CountsFaults tally.old.faults (D.faults door.old) tally.new.faults (D.faults door.new) }
+{
+    let Some(free) = places.iter().position(|place| place.is_none()) else {
+        return close(door, peer, tally);
+    };
+    let Ok(key) = core.connect() else {
+        return close(door, peer, tally);
+    };
+    tally.open();
+    places[free] = Some(Seat { peer, key });
+}

@@ -1,0 +1,116 @@
+//! A door over the system's sockets.
+
+ghost use Rattle.std.specs.Prelude.{◌≡◌};
+ghost use Rattle.srcp_server.specs.Calls.{one_more};
+
+mod peer;
+mod sockets;
+
+use crate::door::{Door, DoorFault, Got};
+use crate::fault::ToolFault;
+use mio::Poll;
+use mio::net::TcpListener;
+use sockets::Sockets;
+use std::alloc::Global;
+use std::io;
+use std::net::{Ipv4Addr, Net, SocketAddr};
+use std::time::Clock;
+
+/// Peers over TCP on the machine itself, at 127.0.0.1, with the clock that it was handed. What a peer is written is
+/// gathered, and its socket is handed it at the next call of `now` or where 16,384 bytes are gathered. `now` waits a few
+/// milliseconds where nothing happened since it was called last, and ends its wait when a socket is ready.
+#[derive(Drop)]
+pub struct SocketDoor<C: Clock + Drop> {
+    sockets: Sockets,
+    clock: C,
+    faults: u64,
+}
+
+impl<C: Clock + Drop> SocketDoor<C> {
+    /// A door at the port; any free port where that is 0.
+    ///
+    /// # Errors
+    /// `Listen` where the port is taken or refused, or the system has no descriptors for it.
+    pub fn listen<N: Net>(
+        net: &N,
+        alloc: Global,
+        port: u16,
+        clock: C,
+    ) -> Result<SocketDoor<C>, ToolFault> {
+        match open(net, alloc, port) {
+            Ok(sockets) => Ok(SocketDoor {
+                sockets,
+                clock,
+                faults: 0,
+            }),
+            Err(_) => Err(ToolFault::Listen),
+        }
+    }
+
+    fn count_fault(&mut self)
+        ensures { self.new.faults ≡ one_more self.old.faults }
+    {
+        self.faults = self.faults.saturating_add(1);
+    }
+}
+
+fn open<N: Net>(net: &N, alloc: Global, port: u16) -> io::Result<Sockets> {
+    let listener = TcpListener::bind(net, SocketAddr::from((Ipv4Addr::LOCALHOST, port)))?;
+    Sockets::new(alloc, listener, Poll::new(net)?)
+}
+
+impl<C: Clock + Drop> Door for SocketDoor<C> {
+    ghost faults = { λ d. d.faults };
+
+    /// Milliseconds since 1970.
+    fn now(&mut self) -> Result<u64, DoorFault> {
+        self.sockets.pause();
+        match self.clock.since_1970() {
+            Ok(time) => Ok(u64::try_from(time.as_millis()).unwrap_or(u64::MAX)),
+            Err(_) => {
+                self.count_fault();
+                Err(DoorFault::Now)
+            }
+        }
+    }
+
+    fn accept(&mut self) -> Result<Option<u32>, DoorFault> {
+        match self.sockets.accept() {
+            Ok(peer) => Ok(peer),
+            Err(_) => {
+                self.count_fault();
+                Err(DoorFault::Accept)
+            }
+        }
+    }
+
+    fn read(&mut self, peer: u32, buf: &mut [u8]) -> Result<Got, DoorFault> {
+        match self.sockets.read(peer, buf) {
+            Ok(got) => Ok(got),
+            Err(_) => {
+                self.count_fault();
+                Err(DoorFault::Read)
+            }
+        }
+    }
+
+    fn write(&mut self, peer: u32, bytes: &[u8]) -> Result<usize, DoorFault> {
+        match self.sockets.write(peer, bytes) {
+            Ok(count) => Ok(count),
+            Err(_) => {
+                self.count_fault();
+                Err(DoorFault::Write)
+            }
+        }
+    }
+
+    fn close(&mut self, peer: u32) -> Result<(), DoorFault> {
+        match self.sockets.close(peer) {
+            Ok(()) => Ok(()),
+            Err(_) => {
+                self.count_fault();
+                Err(DoorFault::Close)
+            }
+        }
+    }
+}

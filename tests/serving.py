@@ -1,0 +1,174 @@
+"""What a served layout does, seen from outside: a throttle and panels over sockets of this machine."""
+import socket
+import subprocess
+import tempfile
+import time
+from contextlib import contextmanager
+
+LAYOUT = """port = {port}
+[[bus]]
+number = 1
+groups = ["POWER", "GL", "GA", "FB"]
+gl_max = 10239
+ga_max = 2044
+fb_ports = 8
+"""
+WELCOME = b"srcp_server 1.0; SRCP 0.8.4; SRCPOTHER 0.8.3\n"
+SECONDS = 20
+
+
+def free_port():
+    with socket.socket() as listener:
+        listener.bind(("127.0.0.1", 0))
+        return listener.getsockname()[1]
+
+
+class Client:
+    """A connection to a server, with the lines that came of it."""
+
+    def __init__(self, port, mode):
+        self.socket = socket.create_connection(("127.0.0.1", port), timeout=SECONDS)
+        self.begun = b""
+        self.lines = []
+        assert self.line() == WELCOME
+        self.session = int(self.asks(f"SET CONNECTIONMODE SRCP {mode}", "GO").split()[-1])
+
+    def line(self):
+        while b"\n" not in self.begun:
+            more = self.socket.recv(65536)
+            if not more:
+                raise EOFError
+            self.begun += more
+        line, _, self.begun = self.begun.partition(b"\n")
+        return line + b"\n"
+
+    def asks(self, *commands):
+        """Sends each command and waits for its reply; answers the last one without its stamp."""
+        for command in commands:
+            self.socket.sendall(command.encode() + b"\n")
+            reply = self.line()
+        return reply.split(b" ", 1)[1].decode().strip()
+
+    def hears_until(self, end):
+        """Takes lines up to one that ends so, and answers all that were taken."""
+        while not (self.lines and self.lines[-1].endswith(end)):
+            self.lines.append(self.line())
+        return b"".join(self.lines)
+
+    def close(self):
+        self.socket.close()
+
+
+@contextmanager
+def served(program, *words):
+    """A server of the layout at a free port, ended at the end by its process id."""
+    port = free_port()
+    with tempfile.NamedTemporaryFile("w", suffix=".toml") as config:
+        config.write(LAYOUT.format(port=port))
+        config.flush()
+        server = subprocess.Popen([program, "serve", "--config", config.name, *words], stdout=subprocess.PIPE,
+                                  stderr=subprocess.PIPE)
+        try:
+            wait_for(port, server)
+            yield port, server
+        finally:
+            server.kill()
+            server.wait()
+
+
+def wait_for(port, server):
+    end = time.monotonic() + SECONDS
+    while time.monotonic() < end and server.poll() is None:
+        try:
+            socket.create_connection(("127.0.0.1", port), timeout=1).close()
+            return
+        except OSError:
+            time.sleep(0.02)
+    raise RuntimeError(f"nobody listens: {server.poll()}")
+
+
+def mirrored(program, lines):
+    return subprocess.run([program, "mirror"], input=lines, capture_output=True, timeout=SECONDS, check=True).stdout
+
+
+def rows_of(lines):
+    """The lines but those of sessions, which differ from panel to panel."""
+    return [line for line in lines.splitlines() if b" SESSION " not in line]
+
+
+def panels_hold_the_registry(program):
+    """Two panels of which one came late hold what a fresh panel is listed."""
+    with served(program) as (port, _):
+        throttle = Client(port, "COMMAND")
+        early = Client(port, "INFO")
+        throttle.asks("INIT 1 GL 3 N 1 28 5", "INIT 1 GL 7 N 1 28 2", "INIT 1 GA 5 N", "SET 1 GL 3 1 14 28 1 0 0 0 1")
+        late = Client(port, "INFO")
+        for speed in range(28):
+            throttle.asks(f"SET 1 GL 7 0 {speed} 28 1 1", f"SET 1 FB {speed % 8 + 1} {speed % 2}")
+        throttle.asks("SET 1 LOCK GL 3 0", "TERM 1 GL 7", "SET 1 GA 5 0 1 -1", "SET 1 POWER ON last")
+        end = b"100 INFO 1 POWER ON last\n"
+        told = [mirrored(program, panel.hears_until(end)) for panel in (early, late)]
+        fresh = Client(port, "INFO")
+        listed = fresh.hears_until(b"1 LOCK GL 3 0 %d\n" % throttle.session)
+    if not rows_of(told[0]) == rows_of(told[1]) == rows_of(listed):
+        return f"early {told[0]!r}, late {told[1]!r}, listed {listed!r}"[:1500]
+    return None
+
+
+def peer_65_is_turned_away(program):
+    with served(program) as (port, _):
+        clients = [Client(port, "COMMAND") for _ in range(64)]
+        last = socket.create_connection(("127.0.0.1", port), timeout=SECONDS)
+        if last.recv(100) != b"":
+            return "the 65th peer is answered"
+        clients[10].close()
+        time.sleep(0.1)
+        if Client(port, "COMMAND").asks("GET 1 POWER") != "100 INFO 1 POWER OFF":
+            return "a place that was given up is not free"
+    return None
+
+
+def peers_that_harm_nobody(program):
+    """One resets, one sends garbage, one never reads: a throttle is answered all the same, and is told of nothing."""
+    with served(program) as (port, server):
+        throttle = Client(port, "COMMAND")
+        silent = Client(port, "INFO")
+        reset = Client(port, "COMMAND")
+        reset.socket.setsockopt(socket.SOL_SOCKET, socket.SO_LINGER, b"\1\0\0\0\0\0\0\0")
+        reset.socket.sendall(b"GET 1 POWER\n" * 2000)
+        reset.close()
+        garbage = socket.create_connection(("127.0.0.1", port), timeout=SECONDS)
+        garbage.sendall(bytes(range(256)) * 8)
+        throttle.asks("INIT 1 GL 3 N 1 28 5")
+        for speed in range(3000):
+            if throttle.asks(f"SET 1 GL 3 1 {speed % 29} 28") != "200 OK":
+                return "a command is not answered"
+        if server.poll() is not None:
+            return f"the server ended: {server.poll()}"
+        silent.close()
+    return None
+
+
+def turns_are_counted(program):
+    port = free_port()
+    with tempfile.NamedTemporaryFile("w", suffix=".toml") as config:
+        config.write(LAYOUT.format(port=port))
+        config.flush()
+        done = subprocess.run([program, "serve", "--config", config.name, "--turns", "3"], capture_output=True,
+                              timeout=SECONDS)
+    return None if (done.returncode, done.stdout, done.stderr) == (0, b"", b"") else f"got {done!r}"
+
+
+def port_that_is_taken(program):
+    with socket.socket() as taken, tempfile.NamedTemporaryFile("w", suffix=".toml") as config:
+        taken.bind(("127.0.0.1", 0))
+        taken.listen()
+        config.write(LAYOUT.format(port=taken.getsockname()[1]))
+        config.flush()
+        done = subprocess.run([program, "serve", "--config", config.name], capture_output=True, timeout=SECONDS)
+    is_told = (done.returncode, done.stderr, done.stdout) == (1, b"srcp_server: cannot listen\n", b"")
+    return None if is_told else f"got {done!r}"
+
+
+SERVING_CASES = (panels_hold_the_registry, peer_65_is_turned_away, peers_that_harm_nobody, turns_are_counted,
+                 port_that_is_taken)
