@@ -1,0 +1,186 @@
+//! Lists of events, and what two runs tell.
+use srcp_core::{ConnRecord, Event, Item, Piece, Step};
+use srcp_feed::Next;
+use srcp_info::{Change, Group, Key, Mode, Shown, Text, Value};
+use srcp_rules::Command;
+use std::alloc::Global;
+use std::test::Fail;
+use std::vec::Vec;
+
+/// These bytes of a connection come in.
+pub(crate) fn bytes(alloc: Global, conn: usize, text: &[u8]) -> Result<Event, Fail> {
+    Ok(Event::Bytes {
+        conn,
+        piece: Piece::new(Vec::from_slice(alloc, text)?),
+    })
+}
+
+/// A connection is opened, and its session begins with these lines; their replies are taken.
+pub(crate) fn begin(
+    alloc: Global,
+    events: &mut Vec<Event>,
+    conn: usize,
+    lines: &[u8],
+) -> Result<(), Fail> {
+    events.push(Event::Open)?;
+    events.push(Event::Room { conn, bytes: 45 })?;
+    events.push(bytes(alloc, conn, lines)?)?;
+    events.push(Event::Room {
+        conn,
+        bytes: if lines.len() > 3 { 46 } else { 18 },
+    })?;
+    Ok(())
+}
+
+/// Whether two steps are the same; commands only where they set a sensor or end a session.
+pub(crate) fn is_same_step(one: &Step, other: &Step) -> bool {
+    match (*one, *other) {
+        (Step::Moment(one), Step::Moment(other)) => one == other,
+        (
+            Step::Began {
+                session,
+                moment,
+                mode,
+            },
+            Step::Began {
+                session: other_session,
+                moment: other_moment,
+                mode: other_mode,
+            },
+        ) => session == other_session && moment == other_moment && mode == other_mode,
+        (
+            Step::Ended { session, moment },
+            Step::Ended {
+                session: other_session,
+                moment: other_moment,
+            },
+        ) => session == other_session && moment == other_moment,
+        (
+            Step::Obeyed {
+                session,
+                moment,
+                command,
+            },
+            Step::Obeyed {
+                session: other_session,
+                moment: other_moment,
+                command: other_command,
+            },
+        ) => {
+            session == other_session
+                && moment == other_moment
+                && is_same_command(&command, &other_command)
+        }
+        _ => false,
+    }
+}
+
+pub(crate) fn is_same_command(one: &Command, other: &Command) -> bool {
+    match (*one, *other) {
+        (
+            Command::SetFb { bus, port, on },
+            Command::SetFb {
+                bus: other_bus,
+                port: other_port,
+                on: other_on,
+            },
+        ) => bus == other_bus && port == other_port && on == other_on,
+        (Command::TermSession { session: one }, Command::TermSession { session: other }) => {
+            one == other
+        }
+        _ => false,
+    }
+}
+
+pub(crate) fn are_same_steps(one: &[Step], other: &[Step]) -> bool {
+    one.len() == other.len()
+        && one
+            .iter()
+            .zip(other)
+            .all(|(one, other)| is_same_step(one, other))
+}
+
+pub(crate) fn is_same_item(one: &Item, other: &Item) -> bool {
+    one.steps == other.steps
+        && match (one.what, other.what) {
+            (Next::Told(one), Next::Told(other)) => one == other,
+            (Next::Listed(one), Next::Listed(other)) => one == other,
+            (Next::Settled, Next::Settled) => true,
+            _ => false,
+        }
+}
+
+pub(crate) fn are_same_items(one: &[Item], other: &[Item]) -> bool {
+    one.len() == other.len()
+        && one
+            .iter()
+            .zip(other)
+            .all(|(one, other)| is_same_item(one, other))
+}
+
+pub(crate) fn is_same_connection(one: &ConnRecord, other: &ConnRecord) -> bool {
+    one.session == other.session
+        && one.info == other.info
+        && one.go_step == other.go_step
+        && one.sent.as_slice() == other.sent.as_slice()
+        && are_same_items(one.items.as_slice(), other.items.as_slice())
+        && one.finish == other.finish
+}
+
+/// The row of a session.
+pub(crate) fn session_row(session: u32, mode: Mode) -> Shown {
+    Shown {
+        key: Key {
+            bus: 0,
+            group: Group::Session,
+            address: session,
+            port: 0,
+        },
+        stamp: 0,
+        value: Value::Session { mode },
+    }
+}
+
+/// The row of a sensor.
+pub(crate) fn sensor_row(port: u32, on: bool) -> Shown {
+    Shown {
+        key: Key {
+            bus: 1,
+            group: Group::Fb,
+            address: port,
+            port: 0,
+        },
+        stamp: 0,
+        value: Value::Fb { on },
+    }
+}
+
+pub(crate) fn listed(steps: usize, row: Shown) -> Item {
+    Item {
+        steps,
+        what: Next::Listed(row),
+    }
+}
+
+pub(crate) fn told(steps: usize, row: Shown) -> Item {
+    Item {
+        steps,
+        what: Next::Told(Change::Put(row)),
+    }
+}
+/// The row of the power of the bus, which is off.
+pub(crate) fn power_row() -> Shown {
+    Shown {
+        key: Key {
+            bus: 1,
+            group: Group::Power,
+            address: 0,
+            port: 0,
+        },
+        stamp: 0,
+        value: Value::Power {
+            on: false,
+            text: Text::new(),
+        },
+    }
+}

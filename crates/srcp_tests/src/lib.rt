@@ -1,0 +1,25 @@
+//! Tests of the crates below that cross them: they stand here so that those crates are not proved twice.
+#![tactic(auto)]
+
+#[cfg(test)]
+mod calls;
+#[cfg(test)]
+mod events;
+#[cfg(test)]
+mod feeds;
+#[cfg(test)]
+mod fixture;
+#[cfg(test)]
+mod last_id;
+#[cfg(test)]
+mod mirrors;
+#[cfg(test)]
+mod panels;
+#[cfg(test)]
+mod pieces;
+#[cfg(test)]
+mod places;
+#[cfg(test)]
+mod refused_growths;
+#[cfg(test)]
+mod runs;
