@@ -2,6 +2,7 @@
 ghost use Rattle.std.specs.Prelude.{◌≡◌, ◌≤◌, IfOk, OnOk, Some, None};
 ghost use Rattle.std.specs.List.{AllByRecursion};
 ghost use Rattle.srcp_info.specs.WellFormed.{IsWellFormedShown};
+ghost use Rattle.srcp_core.specs.Headline.{ToldSessions};
 ghost use Rattle.srcp_core.specs.Laws.{IsRecordOf};
 ghost use Rattle.srcp_core.specs.Recording.{key_of};
 ghost use Rattle.srcp_core.specs.Run.{HappensAs, FollowsAs, count_at, taken_at, taking};
@@ -29,10 +30,12 @@ impl From<Memory> for RunFault {
 
 /// Carries out the events over the registry of the layout, from moment 0 on and with session ids from 1 on, and tells
 /// what came of them. An event that is refused changes nothing, and the run goes on. `Memory` where memory was
-/// refused to the core when it was made, or to the record; what was refused after that the record counts.
+/// refused to the core when it was made, or to the record; what was refused after that the record counts. Where it
+/// counts none, the record is that of the course of the events, and has the laws of its information sessions.
 pub fn run<R: Rows>(alloc: Global, layout: &Layout, events: &[Event]) -> Result<Record, RunFault>
     ensures well_formed { IfOk result (λ told. AllByRecursion (λ row. IsWellFormedShown row.shown) told.rows) }
     ensures record { IfOk result (λ told. told.denied ≡ 0 → IsRecordOf layout.now events.now told) }
+    ensures sessions { IfOk result (λ told. told.denied ≡ 0 → ToldSessions layout.now events.now told) }
 {
     // Asks for a layout's limits.
     let _ = layout.buses();
