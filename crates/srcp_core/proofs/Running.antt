@@ -40,7 +40,7 @@ use Rattle.srcp_core.proofs.Taking.{Kept, IsRooming, room_goes_on, room_taken, r
 use Rattle.srcp_core.proofs.Worlds.{sound}
 
 -- every course has sound connections
-fine_course : (buses : List Bus) (layout : IsLayout buses) (events : List Event) → IsFine buses (opening_in_order buses layout) (counted (course buses events))
+pub fine_course : (buses : List Bus) (layout : IsLayout buses) (events : List Event) → IsFine buses (opening_in_order buses layout) (counted (course buses events))
 fine_course buses layout events = sound buses (opening_in_order buses layout) Anything (anything (shown_rows (opening buses 0))) events
 
 tells_counted : (r : Recording) (w : World) → Tells r w → Tells r (counted w)
@@ -140,6 +140,10 @@ gone_happens event refusal n key r held later_r later named gone buses events la
   where
     none_some : (p : Place) → None ≡ Some p → ⊥
     none_some p e = cc
+
+pub shut_keys : (n : ℕ) (o : Option ℕ) (m : ℕ) (r : Recording) → (with_end o m (shut n r)).keys ≡ without_key n r.keys
+shut_keys n None m r = refl
+shut_keys n (Some session) m r = refl
 
 pub shut_happens : (n key : ℕ) (r : Recording) (old new : Held) (now : ℕ) → key_of n r.keys ≡ Some key → new ≡ hung_up key old → now ≡ new.moment → HappensAs (Shut n) None r old (with_end (live_session key old) now (shut n r)) new
 shut_happens n key r old new now named is now_is buses events layout d s =
