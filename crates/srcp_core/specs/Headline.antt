@@ -6,7 +6,7 @@ use Rattle.srcp_info.specs.declared.key.Key.{Key}
 use Rattle.srcp_rules.specs.declared.layout.Bus.{Bus}
 use Rattle.srcp_core.specs.Connection.{Connection, is_settled, recorded}
 use Rattle.srcp_core.specs.Course.{course, history, rows}
-use Rattle.srcp_core.specs.Laws.{IsSession, AllMoments, ListsStill, ListsNoneTwice, IsThereFrom, HoldsRegistry, has_key, times_listed}
+use Rattle.srcp_core.specs.Laws.{IsSession, ListsStill, ListsNoneTwice, IsThereFrom, HoldsRegistry, has_key, times_listed}
 use Rattle.srcp_core.specs.declared.event.Event.{Event}
 use Rattle.srcp_core.specs.declared.record.ConnRecord.{ConnRecord}
 use Rattle.srcp_core.specs.declared.record.Record.{Record}
@@ -27,11 +27,11 @@ module _ (buses : List Bus) where
     pub is : told ≡ recorded (history buses (course buses events)) conn
     pub still : ListsStill buses (course buses events) conn
     pub never_twice : ListsNoneTwice buses (course buses events) conn
-    pub once : (first more : List Event) (early : Connection) → events ≡ first ++ more → IsSession buses first number early → AllMoments first
+    pub once : (first more : List Event) (early : Connection) → events ≡ first ++ more → IsSession buses first number early
         → is_settled early (history buses (course buses first)) (rows buses (course buses first)) ≡ true
         → (device : Device) → IsThereFrom buses (course buses first) early (length (course buses first).steps) device
         → (key : Key) → owns device key ≡ true → has_key key (rows buses (course buses first)) ≡ true → times_listed key told.items ≡ 1
-    pub registry : AllMoments events → is_settled conn (history buses (course buses events)) (rows buses (course buses events)) ≡ true → HoldsRegistry buses (course buses events) conn
+    pub registry : is_settled conn (history buses (course buses events)) (rows buses (course buses events)) ≡ true → HoldsRegistry buses (course buses events) conn
 
   -- so it is of each
   abbrev pub ToldSessions : List Event → Record → Type 0

@@ -1,9 +1,9 @@
 //! A run over a list of events.
 ghost use Rattle.std.specs.Prelude.{◌≡◌, ◌≤◌, IfOk, OnOk, Some, None};
 ghost use Rattle.std.specs.List.{AllByRecursion};
-ghost use Rattle.srcp_info.specs.WellFormed.{IsWellFormedShown};
+ghost use Rattle.srcp_info.specs.WellFormed.{IsMoment, IsWellFormedShown};
 ghost use Rattle.srcp_core.specs.Headline.{ToldSessions};
-ghost use Rattle.srcp_core.specs.Laws.{IsRecordOf};
+ghost use Rattle.srcp_core.specs.Laws.{HasMoment, IsRecordOf};
 ghost use Rattle.srcp_core.specs.Recording.{key_of};
 ghost use Rattle.srcp_core.specs.Run.{HappensAs, FollowsAs, count_at, taken_at, taking};
 
@@ -56,6 +56,7 @@ fn follow<R: Rows>(
 ) -> Result<(), Memory>
     ensures course { OnOk result (FollowsAs number event.now recorder.old core.old recorder.new core.new) }
     ensures denied { core.new.denied ≡ 0 → core.old.denied ≡ 0 }
+    ensures moment { HasMoment event.now }
 {
     if let Some(fault) = happen(core, recorder, event)? {
         recorder.refused(number, fault)?;
@@ -71,6 +72,7 @@ fn happen<R: Rows>(
 ) -> Result<Option<CoreFault>, Memory>
     ensures course { IfOk result (λ refusal. HappensAs event.now refusal recorder.old core.old recorder.new core.new) }
     ensures denied { core.new.denied ≡ 0 → core.old.denied ≡ 0 }
+    ensures moment { HasMoment event.now }
 {
     match event {
         Event::Open => open(core, recorder),
@@ -180,6 +182,7 @@ fn advance<R: Rows>(
 ) -> Result<Option<CoreFault>, Memory>
     ensures course { IfOk result (λ refusal. HappensAs (Event.At moment) refusal recorder.old core.old recorder.new core.new) }
     ensures denied { core.new.denied ≡ 0 → core.old.denied ≡ 0 }
+    ensures fits { IsMoment moment }
 {
     core.advance(moment);
     recorder.step(&Step::Moment(core.moment()))?;
