@@ -1,20 +1,22 @@
 -- Each call of the core leads from the course of any events to that with its event.
 use Rattle.std.proofs.Common.{◌≡◌, ◌≢◌, ℕ, ◌+◌, ◌<◌, ◌≤◌, List, [], ◌∷◌, ◌++◌, map, length, refl, ap, sym, ◌∙◌, subst}
-use Rattle.std.specs.Prelude.{Option, Some, None}
+use Rattle.std.specs.Prelude.{Option, Some, None, Result, Ok, Err, IfOk}
 use Rattle.srcp_rules.specs.declared.layout.Bus.{Bus}
 use Rattle.srcp_rules.specs.Layout.{IsLayout}
+use Rattle.srcp_rules.specs.State.{opening}
 use Rattle.srcp_core.specs.Course.{World, counted, fault, absent_fault, accepted, course}
 use Rattle.srcp_core.specs.Held.{Held, open_count}
 use Rattle.srcp_core.specs.Machine.{IsAdmitted, advanced, hung_up, let_out, unsent_at, changed_at, without_sent, live_session}
-use Rattle.srcp_core.specs.Recording.{Recording, key_of, without_key, told_of, opened, stepped, shut}
+use Rattle.srcp_core.specs.Recording.{Recording, nothing_told, key_of, without_key, told_of, opened, stepped, shut}
 use Rattle.srcp_core.specs.Run.{Runs, Happened, HappensAs, LeadsTo, LeadsAt, LeadsToFree, LeadsToOpen}
 use Rattle.srcp_core.specs.Stands.{StandsFor}
 use Rattle.srcp_core.specs.declared.event.Event.{Event}
 use Rattle.srcp_core.specs.declared.event.Event.TheVariants.{Open, Room, At, Shut}
+use Rattle.srcp_core.specs.declared.record.CoreFault.{CoreFault}
 use Rattle.srcp_core.specs.declared.record.CoreFault.TheVariants.{Full}
 use Rattle.srcp_core.specs.declared.record.Step.TheVariants.{Moment}
 use Rattle.srcp_core.proofs.Calling.{stands_counted}
-use Rattle.srcp_core.proofs.Recorded.{runs_on, with_fault}
+use Rattle.srcp_core.proofs.Recorded.{runs_on, runs_start, with_fault}
 use Rattle.srcp_core.proofs.Running.{fine_course, open_happens, full_happens, at_happens, shut_happens, with_end, shut_keys}
 use Rattle.srcp_core.proofs.SessionLaws.{opening_in_order}
 use Rattle.srcp_core.proofs.Standing.{found_at}
@@ -38,6 +40,20 @@ open_leads key old new a buses events keys layout d s =
     let w = course buses events in
     let h = open_happens key (telling keys w) old new a buses events layout d (runs_telling buses keys old w s) in
     (runs_on buses events Open None (length events + 1) (opened key (telling keys w)) new refl h).stands
+
+pub opens_or_not : (old new : Held) (result : Result ℕ CoreFault) → IfOk result (λ key. IsAdmitted key old new) → IfOk result (λ key. LeadsToOpen key old new)
+opens_or_not old new (Ok key) a = open_leads key old new a
+opens_or_not old new (Err fault) a = tt
+
+-- before all events
+pub stands_first : {E : Type 0} (buses : List Bus) (moment last_id : ℕ) (result : Result Held E) → IfOk result (λ core. core ≡ record { buses = buses; rows = opening buses 0; moment = moment; last_id = last_id; places = []; denied = 0 })
+    → moment ≡ 0 → last_id ≡ 0 → IfOk result (λ core. StandsFor buses [] core (course buses []))
+stands_first buses moment last_id (Ok core) e m l =
+    let first : core ≡ record { buses = buses; rows = opening buses 0; moment = 0; last_id = 0; places = []; denied = 0 } =
+    e ∙ ap (λ k. record { buses = buses; rows = opening buses 0; moment = k; last_id = last_id; places = []; denied = 0 }) m
+    ∙ ap (λ k. record { buses = buses; rows = opening buses 0; moment = 0; last_id = k; places = []; denied = 0 }) l in
+    (runs_start buses nothing_told core refl first).stands
+stands_first buses moment last_id (Err fault) e m l = tt
 
 pub full_leads : (old new : Held) → open_count old ≡ 64 → new ≡ old → LeadsTo Open old new
 full_leads old new full same buses events keys layout d s =
