@@ -1,5 +1,5 @@
 -- Each call of the core leads from the course of any events to that with its event.
-use Rattle.std.proofs.Common.{◌≡◌, ◌≢◌, ℕ, ◌+◌, ◌<◌, ◌≤◌, List, [], ◌∷◌, ◌++◌, map, length, refl, ap, sym, ◌∙◌, subst}
+use Rattle.std.proofs.Common.{◌≡◌, ℕ, ◌+◌, ◌<◌, ◌≤◌, List, [], ◌∷◌, ◌++◌, map, length, refl, ap, sym, ◌∙◌, subst}
 use Rattle.std.specs.Prelude.{Option, Some, None, Result, Ok, Err, IfOk}
 use Rattle.srcp_rules.specs.declared.layout.Bus.{Bus}
 use Rattle.srcp_rules.specs.Layout.{IsLayout}
@@ -7,8 +7,8 @@ use Rattle.srcp_rules.specs.State.{opening}
 use Rattle.srcp_core.specs.Course.{World, counted, fault, absent_fault, accepted, course}
 use Rattle.srcp_core.specs.Held.{Held, open_count}
 use Rattle.srcp_core.specs.Machine.{IsAdmitted, advanced, hung_up, let_out, unsent_at, changed_at, without_sent, live_session}
-use Rattle.srcp_core.specs.Recording.{Recording, nothing_told, key_of, without_key, told_of, opened, stepped, shut}
-use Rattle.srcp_core.specs.Run.{Runs, Happened, HappensAs, LeadsTo, LeadsAt, LeadsToFree, LeadsToOpen}
+use Rattle.srcp_core.specs.Recording.{Recording, nothing_told, key_of, told_of, opened, stepped, shut}
+use Rattle.srcp_core.specs.Run.{Runs, LeadsTo, LeadsAt, LeadsToFree, LeadsToOpen}
 use Rattle.srcp_core.specs.Stands.{StandsFor}
 use Rattle.srcp_core.specs.declared.event.Event.{Event}
 use Rattle.srcp_core.specs.declared.event.Event.TheVariants.{Open, Room, At, Shut}
@@ -16,7 +16,7 @@ use Rattle.srcp_core.specs.declared.record.CoreFault.{CoreFault}
 use Rattle.srcp_core.specs.declared.record.CoreFault.TheVariants.{Full}
 use Rattle.srcp_core.specs.declared.record.Step.TheVariants.{Moment}
 use Rattle.srcp_core.proofs.Calling.{stands_counted}
-use Rattle.srcp_core.proofs.Recorded.{runs_on, runs_start, with_fault}
+use Rattle.srcp_core.proofs.Recorded.{runs_on, runs_start}
 use Rattle.srcp_core.proofs.Running.{fine_course, open_happens, full_happens, at_happens, shut_happens, with_end, shut_keys}
 use Rattle.srcp_core.proofs.SessionLaws.{opening_in_order}
 use Rattle.srcp_core.proofs.Standing.{found_at}

@@ -1,4 +1,4 @@
-use Rattle.std.proofs.Common.{◌≡◌, refl, None, [], ◌∷◌}
+use Rattle.std.proofs.Common.{refl, None, [], ◌∷◌}
 use Rattle.srcp_core.specs.Recording.{stepped}
 use Rattle.srcp_core.specs.declared.event.Event.TheVariants.{At}
 use Rattle.srcp_core.specs.declared.record.Step.TheVariants.{Moment}

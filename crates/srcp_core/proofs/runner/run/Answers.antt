@@ -1,4 +1,4 @@
-use Rattle.std.proofs.Common.{◌≡◌, ◌≤◌, length, ◌∙◌, sym, arith}
+use Rattle.std.proofs.Common.{◌≤◌, length, ◌∙◌, sym, arith}
 use Rattle.srcp_core.proofs.Promises.{told_sessions, moments_all}
 use Rattle.srcp_core.proofs.Recorded.{record_is, runs_all}
 use Rattle.srcp_core.proofs.runner.run.Goals as goal

@@ -1,4 +1,3 @@
-use Rattle.std.proofs.Common.{sym, ap, ◌∙◌, subst, arith}
 use Rattle.srcp_core.proofs.Sound.{sound_opening}
 use Rattle.srcp_core.proofs.table.Core.made.Goals as goal
 

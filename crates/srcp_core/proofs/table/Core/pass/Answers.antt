@@ -1,6 +1,6 @@
-use Rattle.std.proofs.Common.{◌≡◌, ◌≤◌, ◌<◌, ◌^◌, max, sym, ap, ◌∙◌, subst, arith}
+use Rattle.std.proofs.Common.{◌≤◌, ◌<◌, ◌^◌, sym, ◌∙◌, subst}
 use Rattle.srcp_rules.specs.Due.{due}
-use Rattle.srcp_core.specs.Held.{Held, IsSound}
+use Rattle.srcp_core.specs.Held.{Held}
 use Rattle.srcp_core.proofs.Sound.{sound_due, sound_moment, sound_carried_as}
 use Rattle.srcp_core.proofs.table.Core.pass.Goals as goal
 

@@ -1,7 +1,7 @@
-use Rattle.std.proofs.Common.{◌≡◌, ◌≤◌, ◌<◌, length, map, Some, None, sym, ap, ◌∙◌, subst, arith}
-use Rattle.std.specs.Prelude.{is_some, count_by, slice_set, Option, List}
+use Rattle.std.proofs.Common.{◌≡◌, ◌≤◌, ◌<◌, map, Some, sym, ap, ◌∙◌, subst, arith}
+use Rattle.std.specs.Prelude.{is_some, count_by, Option, List}
 use Rattle.srcp_rules.specs.Due.{freed}
-use Rattle.srcp_core.specs.Held.{Held, Place, IsSound, at, open_count}
+use Rattle.srcp_core.specs.Held.{Held, Place, at, open_count}
 use Rattle.srcp_core.specs.Machine.{freed_place, told_each}
 use Rattle.srcp_core.proofs.Walks.{change_in}
 use Rattle.srcp_core.proofs.Sound.{sound_hung_up, sound_carried_as}
