@@ -1,5 +1,5 @@
 -- A core that stands for a course answers a line as the course does.
-use Rattle.std.proofs.Common.{◌≡◌, ◌≢◌, ℕ, zero, suc, ◌+◌, ◌<◌, ◌≤◌, Bool, true, false, cond, List, [], ◌∷◌, ◌++◌, map, length, refl, ap, sym, ◌∙◌, subst, arith}
+use Rattle.std.proofs.Common.{◌≡◌, ℕ, ◌+◌, ◌≤◌, Bool, true, false, List, [], ◌∷◌, ◌++◌, length, refl, ap, sym, ◌∙◌, subst}
 use Rattle.std.specs.Option.{option_map}
 use Rattle.std.specs.Prelude.{Option, Some, None, ◌&&◌, ◌||◌, ◌==◌, nat_lt, Result, Ok, Err, if◌then◌else◌}
 use Rattle.srcp_info.specs.Line.{reply_line}
@@ -7,7 +7,6 @@ use Rattle.srcp_info.specs.declared.change.Code.{Code}
 use Rattle.srcp_info.specs.declared.change.Code.TheVariants.{C500}
 use Rattle.srcp_info.specs.declared.change.Reply.{Reply}
 use Rattle.srcp_info.specs.declared.change.Reply.TheVariants.{Protocol, Mode as ModeReply, Go, Refused}
-use Rattle.srcp_info.specs.declared.value.Mode.{Mode}
 use Rattle.srcp_text.specs.Marks.{Mark}
 use Rattle.srcp_text.specs.Reading.{Reading}
 use Rattle.srcp_rules.specs.declared.layout.Bus.{Bus}
@@ -16,8 +15,8 @@ use Rattle.srcp_rules.specs.Effect.{Effect, effect}
 use Rattle.srcp_rules.specs.Due.{began}
 use Rattle.srcp_rules.specs.State.{State, Update, opening, shown_rows}
 use Rattle.srcp_feed.proofs.Steps.{IsInOrder}
-use Rattle.srcp_core.specs.Connection.{Connection, History, is_open, given, untold}
-use Rattle.srcp_core.specs.Course.{World, numbered, at_connection, open_connection, did, is_info, state, history, command_of, replied as course_replied, entered, goes as course_goes, greeted as course_greeted, ended as course_ended, obeyed as course_obeyed, commanded as course_commanded, answered_as, answered as course_answered}
+use Rattle.srcp_core.specs.Connection.{Connection, is_open, given, untold}
+use Rattle.srcp_core.specs.Course.{World, numbered, at_connection, did, is_info, state, history, command_of, replied as course_replied, entered, goes as course_goes, greeted as course_greeted, ended as course_ended, obeyed as course_obeyed, commanded as course_commanded, answered_as, answered as course_answered}
 use Rattle.srcp_core.specs.Handshake.{Greeting, Speaks, Chooses, Goes, Refuses, greets}
 use Rattle.srcp_core.specs.Held.{Place, Held, at}
 use Rattle.srcp_core.specs.Machine.{with_unsent, entered_place, carried, changed_at, replied, begun, goes, greeted, freed_of, finished, obeyed, commanded, asked_of, answered, answered_from}

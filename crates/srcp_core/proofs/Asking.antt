@@ -1,7 +1,7 @@
 -- What a line asks for, and of whom.
-use Rattle.std.proofs.Common.{◌≡◌, ℕ, List, ◌<◌, Bool, true, false, cond, refl, sym, ◌∙◌, subst, arith}
+use Rattle.std.proofs.Common.{◌≡◌, List, ◌<◌, Bool, true, false, refl, sym, subst, arith}
 use Rattle.std.proofs.lemmas.Bool.Decides.{nat_tests}
-use Rattle.std.specs.Prelude.{◌||◌, ◌==◌, if◌then◌else◌, Result, Ok, Err, IfOk}
+use Rattle.std.specs.Prelude.{◌||◌, ◌==◌, if◌then◌else◌, Result, IfOk}
 use Rattle.srcp_info.specs.declared.change.Code.{Code}
 use Rattle.srcp_rules.specs.Command.{IsCommandOf}
 use Rattle.srcp_rules.specs.Layout.{IsLayout}
@@ -13,7 +13,6 @@ use Rattle.srcp_core.specs.Course.{command_of}
 use Rattle.srcp_core.specs.Handshake.{greets}
 use Rattle.srcp_core.specs.Held.{Place, IsLive}
 use Rattle.srcp_core.specs.Machine.{asked_of}
-use Rattle.srcp_core.specs.declared.asked.Asked.{Asked}
 use Rattle.srcp_core.specs.declared.asked.Asked.TheVariants.{Dropped, Greets, Commands}
 
 fits : (buses : List Bus) → IsLayout buses → (mark : Mark) → IfOk (command_of buses mark) (IsCommandOf buses)

@@ -1,22 +1,20 @@
 -- A core that stands for a course, and the events of connections and moments.
-use Rattle.std.proofs.Common.{◌≡◌, ◌≢◌, ⊎_elim, inl, inr, ◌⊎◌, ℕ, zero, suc, ◌+◌, ◌<◌, ◌≤◌, max, Bool, true, false, cond, List, [], ◌∷◌, ◌++◌, map, length, length-append, refl, ap, sym, ◌∙◌, subst, arith}
+use Rattle.std.proofs.Common.{◌≡◌, ◌≢◌, ⊎_elim, inl, inr, ◌⊎◌, ℕ, zero, suc, ◌+◌, ◌<◌, max, Bool, true, false, cond, List, [], ◌∷◌, ◌++◌, length, length-append, refl, ap, sym, ◌∙◌, subst, arith}
 use Rattle.std.proofs.lemmas.Bool.Decides.{nat_tests}
 use Rattle.std.specs.List.{filter}
-use Rattle.std.specs.Option.{option_map}
 use Rattle.std.specs.Prelude.{Option, Some, None, not, ◌&&◌, ◌||◌, ◌==◌, nat_lt, slice_set, is_some, count_by, if◌then◌else◌}
 use Rattle.srcp_text.specs.Reading.{nothing_read}
 use Rattle.srcp_rules.specs.declared.layout.Bus.{Bus}
 use Rattle.srcp_rules.specs.State.{opening, shown_rows}
 use Rattle.srcp_feed.proofs.Steps.{IsInOrder}
 use Rattle.srcp_core.specs.Connection.{Connection, History, is_open, is_nil, overran, unsent, untold}
-use Rattle.srcp_core.specs.Course.{World, numbered, at_connection, open_connection, if_open, did, history, fresh, counted, fault, bytes_fault as course_fault, absent_fault, accepted, shut_as}
+use Rattle.srcp_core.specs.Course.{World, numbered, at_connection, open_connection, if_open, did, history, fresh, counted, fault, bytes_fault as course_fault, accepted, shut_as}
 use Rattle.srcp_core.specs.Held.{Place, Held, at, place_at, open_count}
 use Rattle.srcp_core.specs.Machine.{IsAdmitted, bytes_fault, bytes_fault_from, freed_place, freed_of, hung_up, hung_up_from, advanced}
 use Rattle.srcp_core.specs.Recording.{key_of, without_key}
 use Rattle.srcp_core.specs.Stands.{StandsBy, StandsFor, IsAt, IsOwned, place_of}
 use Rattle.srcp_core.specs.declared.event.Event.TheVariants.{Open, At, Shut}
-use Rattle.srcp_core.specs.declared.record.CoreFault.{CoreFault}
-use Rattle.srcp_core.specs.declared.record.CoreFault.TheVariants.{Full, NoSuch, Busy, PieceTooLong, Closing}
+use Rattle.srcp_core.specs.declared.record.CoreFault.TheVariants.{Full, Busy, PieceTooLong, Closing}
 use Rattle.srcp_core.specs.declared.record.Refusal.{Refusal}
 use Rattle.srcp_core.specs.declared.record.Step.TheVariants.{Moment, Ended}
 use Rattle.srcp_core.proofs.Answering.{IsFine}

@@ -1,8 +1,7 @@
 -- Places whose connections come from those of other places, with the sessions that these have.
-use Rattle.std.proofs.Common.{◌≡◌, ◌≢◌, ℕ, zero, suc, ◌+◌, ◌<◌, ◌≤◌, Bool, true, false, cond, List, [], ◌∷◌, length, refl, ap, sym, ◌∙◌, subst, arith}
+use Rattle.std.proofs.Common.{◌≡◌, ◌≢◌, ℕ, zero, suc, ◌+◌, ◌<◌, ◌≤◌, true, false, cond, List, [], ◌∷◌, refl, ap, sym, ◌∙◌, subst, arith}
 use Rattle.std.specs.Option.{option_map}
 use Rattle.std.specs.Prelude.{◌&&◌, Option, Some, None, is_some, slice_set, count_by, if◌then◌else◌}
-use Rattle.std.proofs.lemmas.List.Sums.{sum_by-cons}
 use Rattle.srcp_info.specs.declared.change.Change.{Change}
 use Rattle.srcp_rules.specs.State.{State, session_device, is_there}
 use Rattle.srcp_feed.specs.Cursor.{concerns}

@@ -1,10 +1,10 @@
 -- Bytes that go out: the line that is put in, and the bytes that are taken, by the course.
-use Rattle.std.proofs.Common.{◌≡◌, ◌≢◌, ℕ, zero, suc, min, ◌+◌, ◌-◌, ◌<◌, ◌≤◌, Bool, true, false, cond, List, [], ◌∷◌, ◌++◌, map, take, drop, length, length-append, length-drop, refl, ap, sym, ◌∙◌, subst, arith, append-nil, append_assoc}
+use Rattle.std.proofs.Common.{◌≡◌, ℕ, suc, min, ◌+◌, ◌-◌, ◌≤◌, Bool, true, false, List, [], ◌∷◌, ◌++◌, map, take, drop, length, refl, ap, sym, ◌∙◌, subst, arith, append-nil, append_assoc}
 use Rattle.std.proofs.lemmas.Bool.Decides.{nat_tests}
-use Rattle.std.proofs.lemmas.List.{drop-append-le, take-append-le, drop-drop}
+use Rattle.std.proofs.lemmas.List.{drop-append-le, take-append-le}
 use Rattle.std.specs.List.{flat_map}
 use Rattle.std.specs.Option.{option_or}
-use Rattle.std.specs.Prelude.{Option, Some, None, ◌&&◌, ◌||◌, ◌==◌, nat_lt, nat_le, is_none, IfSome, if◌then◌else◌}
+use Rattle.std.specs.Prelude.{Option, Some, None, ◌&&◌, ◌||◌, nat_lt, nat_le, is_none, IfSome, if◌then◌else◌}
 use Rattle.srcp_info.specs.declared.change.Change.{Change}
 use Rattle.srcp_info.specs.declared.change.Cursor.{Cursor}
 use Rattle.srcp_info.specs.declared.change.Cursor.TheVariants.{Done}
@@ -18,7 +18,7 @@ use Rattle.srcp_feed.specs.declared.Next.TheVariants.{Told, Listed, Settled}
 use Rattle.srcp_feed.proofs.Steps.{IsInOrder}
 use Rattle.srcp_core.specs.Connection.{Connection, History, cursor_at, untold, unsent, sent, given, text, line_of, is_nil, is_open, owed, front, fitting, available, exhausts, items_of, took, given_room, overran}
 use Rattle.srcp_core.specs.Held.{Place}
-use Rattle.srcp_core.specs.Machine.{filled, filled_from, item_from, without_sent}
+use Rattle.srcp_core.specs.Machine.{filled, item_from}
 use Rattle.srcp_core.specs.Recording.{told_of, with_item}
 use Rattle.srcp_core.specs.Stands.{placed, place_of}
 use Rattle.srcp_core.specs.declared.record.ConnRecord.{ConnRecord}
@@ -27,7 +27,7 @@ use Rattle.srcp_core.proofs.Adding.{owed_plain, fitting_none}
 use Rattle.srcp_core.proofs.Histories.{rows_after, cursor_by}
 use Rattle.srcp_core.proofs.Placing.{plain_place, plain_is, is_over_place, untold_shut}
 use Rattle.srcp_core.proofs.Rooms.{text_items, done_owes, nothing_owed}
-use Rattle.srcp_core.proofs.Sessions.{Fits, item_of, untold_by, owed_by, cursor_told, cursor_item, fits_told, fits_listed, not_done}
+use Rattle.srcp_core.proofs.Sessions.{Fits, untold_by, owed_by, cursor_told, cursor_item, fits_told, fits_listed, not_done}
 
 -- ---- an information session that did not overrun
 

@@ -1,18 +1,16 @@
 -- Where no memory was refused, each line was given what it asked for.
-use Rattle.std.proofs.Common.{◌≡◌, ℕ, ◌+◌, min, Bool, true, false, cond, List, [], ◌∷◌, refl, ap, sym, ◌∙◌, subst, arith}
-use Rattle.std.specs.Prelude.{not, ◌&&◌, ◌||◌, nat_lt, Option, Some, None, Result, Ok, Err, if◌then◌else◌}
-use Rattle.srcp_info.specs.declared.change.Code.{Code}
+use Rattle.std.proofs.Common.{◌≡◌, ℕ, ◌+◌, min, Bool, true, false, [], ◌∷◌, refl, sym, ◌∙◌, arith}
+use Rattle.std.specs.Prelude.{not, ◌&&◌, ◌||◌, nat_lt, Option, Some, None, Ok, Err, if◌then◌else◌}
 use Rattle.srcp_info.specs.declared.change.Code.TheVariants.{C500}
 use Rattle.srcp_info.specs.declared.change.Reply.TheVariants.{Go, Refused}
 use Rattle.srcp_info.specs.declared.value.Mode.{Mode}
 use Rattle.srcp_rules.specs.declared.command.Command.{Command}
 use Rattle.srcp_rules.specs.Effect.{Effect, effect, adds_rows}
-use Rattle.srcp_core.specs.Handshake.{Greeting, Speaks, Chooses, Goes, Refuses}
-use Rattle.srcp_core.specs.Held.{Place, Held, at}
-use Rattle.srcp_core.specs.Machine.{replied, begun, goes, greeted, freed_of, finished, obeyed, commanded, carried, denied_line, answered, answered_from, steps_gone, steps_greeted, steps_commanded, steps_answered, steps_answered_from}
+use Rattle.srcp_core.specs.Handshake.{Speaks, Chooses, Goes, Refuses}
+use Rattle.srcp_core.specs.Held.{Place, Held}
+use Rattle.srcp_core.specs.Machine.{replied, begun, goes, finished, obeyed, commanded, carried, denied_line, answered_from, steps_gone, steps_commanded, steps_answered_from}
 use Rattle.srcp_core.specs.declared.asked.Asked.{Asked}
 use Rattle.srcp_core.specs.declared.asked.Asked.TheVariants.{Dropped, Greets, Commands}
-use Rattle.srcp_core.specs.declared.record.Step.{Step}
 use Rattle.srcp_core.specs.declared.record.Step.TheVariants.{Obeyed, Began, Ended}
 
 -- it was given what it asked for, and none was refused before

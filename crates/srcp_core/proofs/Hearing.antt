@@ -1,24 +1,22 @@
 -- What a line that was found in a piece asks for, and what it leaves of its connection.
-use Rattle.std.proofs.Common.{◌≡◌, ℕ, zero, suc, ◌+◌, ◌-◌, ◌*◌, ◌<◌, ◌≤◌, Bool, true, false, cond, List, [], ◌∷◌, ◌++◌, drop, take, length, inl, inr, refl, ap, sym, ◌∙◌, subst, arith}
-use Rattle.std.specs.Prelude.{◌||◌, ◌==◌, if◌then◌else◌, Option, Some, None, Result, Ok, Err, position, slice_set}
+use Rattle.std.proofs.Common.{◌≡◌, ℕ, zero, suc, ◌+◌, ◌-◌, ◌*◌, ◌<◌, ◌≤◌, Bool, true, false, List, [], ◌∷◌, ◌++◌, drop, take, length, inl, inr, refl, ap, sym, ◌∙◌, subst, arith}
+use Rattle.std.specs.Prelude.{◌||◌, ◌==◌, if◌then◌else◌, Option, Some, None, Ok, Err, position, slice_set}
 use Rattle.srcp_info.specs.declared.change.Code.{Code}
-use Rattle.srcp_rules.specs.declared.command.Command.{Command}
 use Rattle.srcp_rules.specs.declared.layout.Bus.{Bus}
 use Rattle.srcp_text.specs.Marks.{Mark, Line, TooLong, is_lf, without_cr}
-use Rattle.srcp_text.specs.Reading.{Reading, after_lf, extended, nothing_read}
+use Rattle.srcp_text.specs.Reading.{after_lf, extended, nothing_read}
 use Rattle.srcp_text.specs.Feeding.{feed_at, fed_at}
 use Rattle.srcp_text.proofs.ScanLaws.{position_some}
 use Rattle.std.proofs.lemmas.Bool.{cases_lt}
 use Rattle.std.proofs.lemmas.List.{length-drop}
 use Rattle.std.proofs.lemmas.List.Sums.{fold-append}
-use Rattle.srcp_core.specs.Course.{command_of}
 use Rattle.srcp_core.specs.Handshake.{greets}
 use Rattle.srcp_core.specs.Held.{Place, Held, IsSound, at}
 use Rattle.srcp_core.specs.Machine.{asked_of, heard_from, heard, heard_in, heard_at, longest_answer, unsent_of, unsent_at, begun_of, begun_at, answered, line_taken, lines_taken, steps_answered, steps_of_line, listed, HasRoom, IsLineTaken, IsReceived}
 use Rattle.srcp_core.specs.declared.answered.Answered.{Answered}
 use Rattle.srcp_core.specs.declared.asked.Asked.{Asked}
 use Rattle.srcp_core.specs.declared.asked.Asked.TheVariants.{Dropped, Greets, Commands}
-use Rattle.srcp_core.proofs.Covers.{IsMild, place_set_here, where_is, Where, Here, Away}
+use Rattle.srcp_core.proofs.Covers.{IsMild, place_set_here, where_is, Here, Away}
 use Rattle.srcp_core.proofs.Received.{answered_gains}
 use Rattle.srcp_core.proofs.Sound.{sound_place}
 

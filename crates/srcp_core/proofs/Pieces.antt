@@ -1,5 +1,5 @@
 -- A core that stands for a course takes a piece as the course does.
-use Rattle.std.proofs.Common.{◌≡◌, ◌≢◌, ℕ, zero, suc, ◌+◌, ◌<◌, ◌≤◌, Bool, true, false, cond, List, [], ◌∷◌, ◌++◌, map, take, drop, length, refl, ap, sym, ◌∙◌, subst, arith, append-nil}
+use Rattle.std.proofs.Common.{◌≡◌, ◌≢◌, ℕ, zero, suc, ◌+◌, ◌<◌, ◌≤◌, Bool, true, false, List, [], ◌∷◌, ◌++◌, take, drop, length, refl, ap, sym, ◌∙◌, subst, arith, append-nil}
 use Rattle.std.proofs.lemmas.Bool.Decides.{nat_tests}
 use Rattle.std.proofs.lemmas.List.{drop_all}
 use Rattle.std.specs.List.{fold}
@@ -13,7 +13,7 @@ use Rattle.srcp_info.specs.declared.change.Reply.TheVariants.{Protocol, Mode as 
 use Rattle.srcp_info.specs.declared.value.Mode.{Mode}
 use Rattle.srcp_text.specs.Marks.{Mark, Line, TooLong, marks}
 use Rattle.srcp_text.specs.Reading.{Reading, StandsAt}
-use Rattle.srcp_text.specs.Feeding.{feed_of, taken, new_marks as found_marks}
+use Rattle.srcp_text.specs.Feeding.{feed_of}
 use Rattle.srcp_text.specs.declared.reader.Fed.{Fed}
 use Rattle.srcp_text.specs.declared.reader.Fed.TheVariants.{Line as FoundLine, TooLong as FoundTooLong, More}
 use Rattle.srcp_text.proofs.ReadingLaws.{marks-fed, stands-fed, fed_to_stop, fed_to_end, later_marks}
@@ -22,20 +22,20 @@ use Rattle.srcp_rules.specs.declared.command.Command.{Command}
 use Rattle.srcp_rules.specs.Effect.{Effect, effect}
 use Rattle.srcp_rules.specs.State.{opening, shown_rows}
 use Rattle.srcp_feed.proofs.Steps.{IsInOrder}
-use Rattle.srcp_core.specs.Connection.{Connection, History, is_open}
+use Rattle.srcp_core.specs.Connection.{Connection}
 use Rattle.srcp_core.specs.Course.{World, numbered, with_numbered, at_connection, did, is_info, state, history, command_of, replied, entered, goes, greeted, ended, obeyed, commanded, answered_as, answered as course_answered, open_connection, new_marks}
 use Rattle.srcp_core.specs.Handshake.{Greeting, Speaks, Chooses, Goes, Refuses, greets}
 use Rattle.srcp_core.specs.Held.{Place, Held, at, place_at}
-use Rattle.srcp_core.specs.Machine.{asked_of, heard_from, heard, heard_in, heard_at, line_taken, steps_of_line, answered, answered_from, steps_answered, steps_answered_from}
+use Rattle.srcp_core.specs.Machine.{asked_of, heard_from, heard_in, heard_at, line_taken, steps_of_line, answered, steps_answered, steps_answered_from}
 use Rattle.srcp_core.specs.Recording.{Recording, key_of, noted}
-use Rattle.srcp_core.specs.Stands.{StandsBy, StandsFor, IsAt, place_of}
+use Rattle.srcp_core.specs.Stands.{StandsBy, StandsFor, place_of}
 use Rattle.srcp_core.specs.declared.asked.Asked.{Asked}
 use Rattle.srcp_core.proofs.Answering.{IsFine, stands_answered}
-use Rattle.srcp_core.specs.declared.record.Step.TheVariants.{Obeyed, Began, Ended}
+use Rattle.srcp_core.specs.declared.record.Step.TheVariants.{Obeyed, Began}
 use Rattle.srcp_core.proofs.Covers.{Where, Here, Away, where_is, place_set_here}
-use Rattle.srcp_core.proofs.Granting.{IsGranted, granted_from}
+use Rattle.srcp_core.proofs.Granting.{granted_from}
 use Rattle.srcp_core.proofs.Histories.{fold_append}
-use Rattle.srcp_core.proofs.Noting.{Tells, tells_same, tells_answered}
+use Rattle.srcp_core.proofs.Noting.{Tells, tells_answered}
 use Rattle.srcp_core.proofs.Placing.{place_reader, place_read}
 use Rattle.srcp_core.proofs.SessionLaws.{anything}
 use Rattle.srcp_core.proofs.Slow.{numbered_with}

@@ -1,10 +1,10 @@
 -- What a call makes of the place of one connection.
-use Rattle.std.proofs.Common.{◌≡◌, ℕ, zero, suc, ◌+◌, ◌<◌, ◌≤◌, Bool, true, false, cond, List, [], ◌∷◌, ◌++◌, map, length, length-append, drop, refl, ap, sym, ◌∙◌, subst, arith, append-nil, append_assoc}
+use Rattle.std.proofs.Common.{◌≡◌, ℕ, ◌+◌, ◌≤◌, Bool, true, false, cond, List, [], ◌∷◌, ◌++◌, length, length-append, drop, refl, ap, sym, ◌∙◌, subst, arith, append-nil, append_assoc}
 use Rattle.std.proofs.lemmas.Bool.Decides.{nat_tests}
 use Rattle.std.proofs.lemmas.List.{length_push, drop-append-le}
 use Rattle.std.specs.List.{filter, fold}
 use Rattle.std.specs.Option.{option_map}
-use Rattle.std.specs.Prelude.{not, ◌&&◌, nat_lt, if◌then◌else◌, Option, Some, None}
+use Rattle.std.specs.Prelude.{◌&&◌, nat_lt, if◌then◌else◌, Option, Some, None}
 use Rattle.srcp_info.specs.declared.change.Change.{Change}
 use Rattle.srcp_info.specs.declared.change.Cursor.{Cursor}
 use Rattle.srcp_info.specs.declared.change.Cursor.TheVariants.{Start}
@@ -13,7 +13,7 @@ use Rattle.srcp_info.specs.declared.value.Mode.{Mode}
 use Rattle.srcp_info.specs.declared.value.Mode.TheVariants.{Command as CommandMode, Info}
 use Rattle.srcp_text.specs.Reading.{Reading}
 use Rattle.srcp_feed.specs.Cursor.{concerns}
-use Rattle.srcp_core.specs.Connection.{Connection, History, cursor_at, untold, unsent, overran, heard, text, given}
+use Rattle.srcp_core.specs.Connection.{Connection, History, cursor_at, untold, unsent, heard, text, given}
 use Rattle.srcp_core.specs.Course.{is_info}
 use Rattle.srcp_core.specs.Held.{Place, place_at}
 use Rattle.srcp_core.specs.Machine.{told_place, told_all, told_each, with_unsent, entered_place}

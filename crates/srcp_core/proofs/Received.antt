@@ -1,18 +1,16 @@
 -- What the answer to a line leaves of its connection: the line that has begun, and how many bytes are unsent.
-use Rattle.std.proofs.Common.{◌≡◌, ℕ, ◌+◌, ◌<◌, ◌≤◌, ◌^◌, Bool, true, false, cond, List, [], ◌∷◌, ◌++◌, map, length, length-append, refl, ap, sym, ◌∙◌, subst, arith}
+use Rattle.std.proofs.Common.{◌≡◌, ℕ, ◌+◌, ◌<◌, ◌≤◌, ◌^◌, Bool, true, false, cond, List, [], ◌∷◌, map, length, length-append, refl, ap, sym, ◌∙◌, subst, arith}
 use Rattle.std.specs.Option.{option_map}
-use Rattle.std.specs.Prelude.{not, ◌||◌, ◌&&◌, nat_lt, if◌then◌else◌, Option, Some, None, Result, Ok, Err}
+use Rattle.std.specs.Prelude.{not, ◌||◌, ◌&&◌, nat_lt, if◌then◌else◌, Option, Some, None, Ok, Err}
 use Rattle.std.proofs.lemmas.Bool.Decides.{nat_tests}
 use Rattle.srcp_info.specs.Line.{reply_line}
 use Rattle.srcp_info.specs.WellFormed.{IsMoment, IsWellFormedReply}
 use Rattle.srcp_info.specs.declared.change.Change.{Change}
-use Rattle.srcp_info.specs.declared.change.Code.{Code}
 use Rattle.srcp_info.specs.declared.change.Code.TheVariants.{C500}
 use Rattle.srcp_info.specs.declared.change.Reply.{Reply}
 use Rattle.srcp_info.specs.declared.change.Reply.TheVariants.{Accepted, Protocol, Mode as ModeReply, Go, Refused, Shows}
 use Rattle.srcp_info.specs.declared.value.Mode.{Mode}
 use Rattle.srcp_info.proofs.LineLaws.{length-reply_line-le, length-reply_line-most}
-use Rattle.srcp_rules.specs.declared.command.Command.{Command}
 use Rattle.srcp_rules.specs.Due.{began, freed}
 use Rattle.srcp_rules.specs.Effect.{Effect, effect, adds_rows}
 use Rattle.srcp_rules.specs.State.{is_there, session_device}
@@ -22,7 +20,7 @@ use Rattle.srcp_feed.specs.Cursor.{concerns}
 use Rattle.srcp_feed.specs.Feed.{Feed, is_full, told}
 use Rattle.srcp_core.specs.Handshake.{Greeting, Speaks, Chooses, Goes, Refuses}
 use Rattle.srcp_core.specs.Held.{Place, Held, place_at, at, IsSound}
-use Rattle.srcp_core.specs.Machine.{told_feed, told_place, told_all, told_each, carried, unsent_of, unsent_at, begun_of, begun_at, changed_in, changed_places, changed_at, with_unsent, replied, longest, longest_answer, entered_place, begun, goes, greeted, denied_line, one_denied, freed_of, finished, obeyed, commanded, answered_from, answered, asked_of}
+use Rattle.srcp_core.specs.Machine.{told_feed, told_place, told_all, told_each, carried, unsent_of, begun_of, changed_in, changed_places, changed_at, with_unsent, replied, longest, longest_answer, entered_place, begun, goes, greeted, denied_line, one_denied, finished, obeyed, answered_from, answered, asked_of}
 use Rattle.srcp_core.specs.declared.asked.Asked.{Asked}
 use Rattle.srcp_core.specs.declared.asked.Asked.TheVariants.{Dropped, Greets, Commands}
 use Rattle.srcp_core.proofs.Telling.{told_all_at}

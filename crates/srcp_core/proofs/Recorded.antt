@@ -1,8 +1,8 @@
 -- The record of a run is that of the course of its events.
-use Rattle.std.proofs.Common.{◌≡◌, ◌≢◌, ℕ, zero, suc, ◌+◌, ◌<◌, ◌≤◌, Bool, true, false, cond, List, [], ◌∷◌, ◌++◌, map, take, length, refl, ap, sym, ◌∙◌, subst, arith, add-one}
+use Rattle.std.proofs.Common.{◌≡◌, ℕ, zero, suc, ◌+◌, ◌<◌, ◌≤◌, Bool, true, false, List, [], ◌∷◌, ◌++◌, map, take, length, refl, ap, sym, ◌∙◌, subst, arith, add-one}
 use Rattle.std.proofs.lemmas.List.{take_all}
 use Rattle.std.specs.List.{fold}
-use Rattle.std.specs.Prelude.{Option, Some, None, ◌&&◌, ◌||◌, ◌==◌, nat_lt, slice_get, slice_set, slice_index_or, Result, Ok, Err, if◌then◌else◌}
+use Rattle.std.specs.Prelude.{Option, Some, None, ◌&&◌, ◌||◌, ◌==◌, nat_lt, slice_get, slice_index_or, Result, Ok, Err, if◌then◌else◌}
 use Rattle.srcp_info.specs.declared.change.Code.{Code}
 use Rattle.srcp_info.specs.declared.change.Code.TheVariants.{C500}
 use Rattle.srcp_info.specs.declared.change.Reply.TheVariants.{Go, Refused}
@@ -13,14 +13,14 @@ use Rattle.srcp_rules.specs.Layout.{IsLayout}
 use Rattle.srcp_rules.specs.State.{opening, shown_rows}
 use Rattle.srcp_rules.specs.declared.command.Command.{Command}
 use Rattle.srcp_rules.specs.Effect.{Effect, effect}
-use Rattle.srcp_core.specs.Connection.{Connection, History, is_open, is_nil, overran, unsent, finish, recorded}
+use Rattle.srcp_core.specs.Connection.{Connection, History, is_open, is_nil, overran, unsent, recorded}
 use Rattle.srcp_core.specs.Course.{World, start, numbered, at_connection, did, state, history, counted, fault, open_connection, command_of, replied, entered, goes, greeted, ended, obeyed, commanded, answered_as, answered, new_marks, fed_to, shut_as, accepted, or_refused, happens, course}
 use Rattle.srcp_core.specs.Handshake.{Greeting, Speaks, Chooses, Goes, Refuses, greets}
 use Rattle.srcp_core.specs.Held.{Place, Held, at, place_at}
 use Rattle.srcp_core.specs.Laws.{IsRecordOf}
 use Rattle.srcp_core.specs.Machine.{finish_at, finish_from}
 use Rattle.srcp_core.specs.Recording.{Recording, key_of, told_of, changed_record, changed_in, finished, finished_by, with_refusal, nothing_told}
-use Rattle.srcp_core.specs.Run.{Tells, Runs, Happened, HappensAs, FollowsAs}
+use Rattle.srcp_core.specs.Run.{Runs, Happened, HappensAs, FollowsAs}
 use Rattle.srcp_core.specs.Stands.{StandsFor, place_of}
 use Rattle.srcp_core.specs.declared.event.Event.{Event}
 use Rattle.srcp_core.specs.declared.event.Event.TheVariants.{Open, Bytes, Room, At, Shut}
@@ -30,10 +30,9 @@ use Rattle.srcp_core.specs.declared.record.Finish.{Finish}
 use Rattle.srcp_core.specs.declared.record.Finish.TheVariants.{Live, Closing, Overrun, Shut as ShutFinish}
 use Rattle.srcp_core.specs.declared.record.Record.{Record}
 use Rattle.srcp_core.specs.declared.record.Step.TheVariants.{Obeyed, Began, Ended}
-use Rattle.srcp_core.proofs.Answering.{IsFine}
 use Rattle.srcp_core.proofs.Calling.{over_is}
 use Rattle.srcp_core.proofs.Histories.{fold_append}
-use Rattle.srcp_core.proofs.Placing.{is_over_place, place_ended, place_overran, place_unsent}
+use Rattle.srcp_core.proofs.Placing.{place_ended, place_overran, place_unsent}
 use Rattle.srcp_core.proofs.SessionLaws.{anything, at_number, opening_in_order, open_shut}
 use Rattle.srcp_core.proofs.Standing.{Anything, Fine}
 use Rattle.srcp_core.proofs.Worlds.{sound}

@@ -1,5 +1,5 @@
 -- What is unsent, and whose session goes on, while lines are answered.
-use Rattle.std.proofs.Common.{◌≡◌, ℕ, ◌+◌, ◌<◌, ◌≤◌, Bool, true, false, cond, List, [], ◌∷◌, ◌++◌, map, length, refl, ap, sym, ◌∙◌, subst, arith}
+use Rattle.std.proofs.Common.{◌≡◌, ℕ, ◌+◌, ◌<◌, ◌≤◌, true, false, cond, List, [], ◌∷◌, map, length, refl, ap, sym, ◌∙◌, subst, arith}
 use Rattle.std.specs.Option.{option_map}
 use Rattle.std.specs.Prelude.{◌&&◌, nat_lt, if◌then◌else◌, Option, Some, None}
 use Rattle.std.proofs.lemmas.Bool.Decides.{nat_tests}
@@ -9,11 +9,11 @@ use Rattle.srcp_info.specs.declared.change.Change.{Change}
 use Rattle.srcp_info.specs.declared.change.Reply.{Reply}
 use Rattle.srcp_info.specs.declared.change.Reply.TheVariants.{Accepted, Protocol, Mode as ModeReply, Go, Refused, Shows}
 use Rattle.srcp_info.specs.declared.value.Mode.{Mode}
-use Rattle.srcp_rules.specs.State.{State, Update, is_there, session_device}
+use Rattle.srcp_rules.specs.State.{Update, is_there, session_device}
 use Rattle.srcp_feed.specs.Cursor.{concerns}
 use Rattle.srcp_feed.specs.Feed.{Feed, is_full, told}
-use Rattle.srcp_core.specs.Held.{Place, Held, place_at, at, IsLive, IsSound, IsSessionAt}
-use Rattle.srcp_core.specs.Machine.{told_feed, told_place, told_all, told_each, carried, unsent_of, unsent_at, changed_in, changed_places, changed_at, with_unsent, replied, longest, entered_place, begun, goes}
+use Rattle.srcp_core.specs.Held.{Place, Held, place_at, IsLive, IsSound, IsSessionAt}
+use Rattle.srcp_core.specs.Machine.{told_feed, told_place, told_all, told_each, carried, unsent_of, changed_in, changed_places, with_unsent, replied, longest, entered_place, begun, goes}
 use Rattle.srcp_core.proofs.Telling.{told_all_at}
 use Rattle.srcp_core.proofs.Walks.{change_in}
 use Rattle.srcp_core.proofs.Covers.{place_set_here}

@@ -1,7 +1,6 @@
 -- The rows of a registry, listed one after another.
-use Rattle.std.proofs.Common.{◌≡◌, ◌<◌, length, arith, [], ◌∷◌, ◌++◌, filter, not, Some, None, refl, sym, ap, subst, ◌∙◌}
+use Rattle.std.proofs.Common.{◌≡◌, ◌<◌, length, arith, [], ◌∷◌, ◌++◌, Some, None, refl, sym, ap, subst, ◌∙◌}
 use Rattle.std.proofs.lemmas.List.{append_assoc, append-nil}
-use Rattle.srcp_info.specs.Key.{has_reached}
 use Rattle.srcp_info.specs.declared.change.Cursor.{Cursor}
 use Rattle.srcp_info.specs.declared.change.Cursor.TheVariants.{Start, After}
 use Rattle.srcp_info.specs.declared.change.Row.{Row}

@@ -1,8 +1,7 @@
 -- A run over one more event.
-use Rattle.std.proofs.Common.{◌≡◌, ◌≢◌, ℕ, zero, suc, min, max, ◌+◌, ◌-◌, ◌<◌, ◌≤◌, Bool, true, false, cond, List, [], ◌∷◌, ◌++◌, map, take, length, refl, ap, sym, ◌∙◌, subst, arith, append-nil, ◌⊎◌, inl, inr}
+use Rattle.std.proofs.Common.{◌≡◌, ◌≢◌, ℕ, zero, suc, min, max, ◌+◌, ◌-◌, ◌<◌, ◌≤◌, Bool, true, false, List, [], ◌∷◌, ◌++◌, take, length, refl, ap, sym, ◌∙◌, subst, arith, append-nil, ◌⊎◌, inl, inr}
 use Rattle.std.proofs.lemmas.Bool.Decides.{nat_tests}
 use Rattle.std.specs.List.{fold}
-use Rattle.std.specs.Option.{option_map}
 use Rattle.std.specs.Prelude.{Option, Some, None, not, ◌||◌, ◌==◌, nat_lt, slice_get, slice_set, if◌then◌else◌}
 use Rattle.std.proofs.lemmas.List.{map-append}
 use Rattle.srcp_rules.specs.declared.layout.Bus.{Bus}
@@ -10,20 +9,19 @@ use Rattle.srcp_rules.specs.Layout.{IsLayout}
 use Rattle.srcp_rules.specs.State.{opening, shown_rows}
 use Rattle.srcp_feed.specs.declared.Next.{Next}
 use Rattle.srcp_feed.specs.declared.Next.TheVariants.{Told, Listed, Settled}
-use Rattle.srcp_feed.proofs.Steps.{IsInOrder}
-use Rattle.srcp_core.specs.Connection.{Connection, is_open, is_nil}
+use Rattle.srcp_core.specs.Connection.{Connection, is_nil}
 use Rattle.srcp_core.specs.Course.{World, numbered, at_connection, open_connection, did, history, fresh, counted, fault, absent_fault, bytes_fault as course_fault, accepted, fed_to, shut_as, answered as course_answered, new_marks, course}
 use Rattle.srcp_core.specs.Held.{Place, Held, at, open_count}
-use Rattle.srcp_core.specs.Machine.{IsAdmitted, refused_connect, one_denied, HasRoom, bytes_fault, bytes_fault_from, heard_in, heard_at, line_taken, steps_of_line, answered, freed_place, freed_of, hung_up, hung_up_from, advanced, live_session, live_session_of, let_out, without_sent, changed_at, changed_in as changed_places_in, filled, unsent_of, unsent_at, item_of, item_at}
-use Rattle.srcp_core.specs.Recording.{Recording, key_of, told_of, opened, shut, stepped, noted, began, gave, took, without_key, changed_record, changed_in}
-use Rattle.srcp_core.specs.Run.{Tells, Runs, Happened, HappensAs, count_at, taken_at, taking}
+use Rattle.srcp_core.specs.Machine.{IsAdmitted, one_denied, HasRoom, bytes_fault, bytes_fault_from, heard_in, heard_at, line_taken, steps_of_line, answered, freed_place, freed_of, hung_up, hung_up_from, advanced, live_session, live_session_of, let_out, without_sent, changed_at, changed_in as changed_places_in, filled, unsent_of, unsent_at, item_of, item_at}
+use Rattle.srcp_core.specs.Recording.{Recording, key_of, told_of, opened, shut, stepped, noted, gave, took, without_key, changed_record, changed_in}
+use Rattle.srcp_core.specs.Run.{Tells, Runs, HappensAs, count_at, taken_at, taking}
 use Rattle.srcp_core.specs.Stands.{StandsFor, place_of}
 use Rattle.srcp_core.specs.declared.asked.Asked.{Asked}
 use Rattle.srcp_core.specs.declared.event.Event.{Event}
 use Rattle.srcp_core.specs.declared.event.Event.TheVariants.{Open, Bytes, Room, At, Shut}
 use Rattle.srcp_core.specs.declared.record.ConnRecord.{ConnRecord}
 use Rattle.srcp_core.specs.declared.record.CoreFault.{CoreFault}
-use Rattle.srcp_core.specs.declared.record.CoreFault.TheVariants.{Full, NoSuch, Busy, PieceTooLong, Closing, Memory}
+use Rattle.srcp_core.specs.declared.record.CoreFault.TheVariants.{Full, NoSuch, Busy, PieceTooLong, Closing}
 use Rattle.srcp_core.specs.declared.record.Finish.TheVariants.{Shut as ShutFinish}
 use Rattle.srcp_core.specs.declared.record.Step.{Step}
 use Rattle.srcp_core.specs.declared.record.Step.TheVariants.{Obeyed, Began, Moment, Ended}
@@ -32,15 +30,15 @@ use Rattle.srcp_core.proofs.Calling.{absent_at, fault_same, full_fault, free_fau
 use Rattle.srcp_core.proofs.Granting.{granted_from}
 use Rattle.srcp_core.proofs.Hearing.{nothing_begun}
 use Rattle.srcp_core.proofs.Noting.{tells_same, tells_did, tells_changed}
-use Rattle.srcp_core.proofs.Pieces.{accepting, IsUpTo, IsLined, IsEnded, world_upto, lined, lines_ended, piece_begun}
+use Rattle.srcp_core.proofs.Pieces.{accepting, IsUpTo, world_upto, lined, lines_ended, piece_begun}
 use Rattle.srcp_core.proofs.Placing.{place_session, place_ended}
 use Rattle.srcp_core.proofs.SessionLaws.{anything, at_number, opening_in_order}
-use Rattle.srcp_core.proofs.Standing.{Anything, Fine, AllFine, Found, found_at}
-use Rattle.srcp_core.proofs.Taking.{Kept, IsRooming, room_goes_on, room_taken, room_empty, count_of, recording_after, held_after}
+use Rattle.srcp_core.proofs.Standing.{Anything, Fine, AllFine, found_at}
+use Rattle.srcp_core.proofs.Taking.{Kept, IsRooming, room_goes_on, room_taken, room_empty}
 use Rattle.srcp_core.proofs.Worlds.{sound}
 
 -- every course has sound connections
-fine_course : (buses : List Bus) (layout : IsLayout buses) (events : List Event) → IsFine buses (opening_in_order buses layout) (counted (course buses events))
+pub fine_course : (buses : List Bus) (layout : IsLayout buses) (events : List Event) → IsFine buses (opening_in_order buses layout) (counted (course buses events))
 fine_course buses layout events = sound buses (opening_in_order buses layout) Anything (anything (shown_rows (opening buses 0))) events
 
 tells_counted : (r : Recording) (w : World) → Tells r w → Tells r (counted w)
@@ -140,6 +138,10 @@ gone_happens event refusal n key r held later_r later named gone buses events la
   where
     none_some : (p : Place) → None ≡ Some p → ⊥
     none_some p e = cc
+
+pub shut_keys : (n : ℕ) (o : Option ℕ) (m : ℕ) (r : Recording) → (with_end o m (shut n r)).keys ≡ without_key n r.keys
+shut_keys n None m r = refl
+shut_keys n (Some session) m r = refl
 
 pub shut_happens : (n key : ℕ) (r : Recording) (old new : Held) (now : ℕ) → key_of n r.keys ≡ Some key → new ≡ hung_up key old → now ≡ new.moment → HappensAs (Shut n) None r old (with_end (live_session key old) now (shut n r)) new
 shut_happens n key r old new now named is now_is buses events layout d s =

@@ -1,6 +1,6 @@
 -- The rows of sessions in a registry.
 use Rattle.std.proofs.Common.{◌≡◌, ℕ, Bool, true, false, cond, List, [], ◌∷◌, ◌++◌, map, refl, ap, sym, ◌∙◌, subst, true≢false}
-use Rattle.std.specs.List.{AllByRecursion, range_with_len, find, flat_map}
+use Rattle.std.specs.List.{AllByRecursion, range_with_len}
 use Rattle.std.specs.Prelude.{Option, Some, None, is_some}
 use Rattle.std.specs.Ordering.{eq_by_cmp}
 use Rattle.srcp_info.specs.Key.{key_cmp, first_key}

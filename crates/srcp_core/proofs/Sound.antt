@@ -1,8 +1,7 @@
 -- What holds of every core is kept.
-use Rattle.std.proofs.Common.{inl, inr, ◌⊎◌, ◌≡◌, ◌≢◌, ℕ, zero, suc, ◌+◌, ◌^◌, ◌<◌, ◌≤◌, Bool, true, false, cond, List, [], ◌∷◌, map, length, refl, ap, sym, ◌∙◌, subst, arith}
+use Rattle.std.proofs.Common.{inl, inr, ◌⊎◌, ◌≡◌, ◌≢◌, ℕ, zero, suc, ◌+◌, ◌<◌, ◌≤◌, Bool, true, false, List, [], ◌∷◌, map, refl, ap, sym, ◌∙◌, subst, arith}
 use Rattle.std.specs.List.{AllByRecursion}
-use Rattle.std.specs.Option.{option_map}
-use Rattle.std.specs.Prelude.{Option, Some, None, is_some, slice_index_or, slice_set, count_by, IsTrue}
+use Rattle.std.specs.Prelude.{Option, Some, None, is_some, slice_set, count_by}
 use Rattle.srcp_info.specs.Key.{first_key}
 use Rattle.srcp_info.specs.WellFormed.{IsMoment}
 use Rattle.srcp_info.specs.declared.change.Change.{Change}
@@ -13,14 +12,12 @@ use Rattle.srcp_rules.proofs.OpeningLaws.{opening_whole}
 use Rattle.srcp_core.specs.Held.{Place, Held, place_at, at, open_count, IsLive, AreSessions, IsSound, IsSessionAt}
 use Rattle.srcp_info.specs.declared.value.Mode.{Mode}
 use Rattle.srcp_info.specs.declared.value.Value.TheVariants as value
-use Rattle.srcp_info.specs.declared.change.Row.{Row}
-use Rattle.srcp_info.specs.Key.{owns}
 use Rattle.srcp_rules.specs.declared.command.Command.{Command}
 use Rattle.srcp_rules.specs.Command.{IsCommandOf}
 use Rattle.srcp_rules.specs.Due.{due, freed, began}
 use Rattle.srcp_rules.specs.Effect.{effect}
 use Rattle.srcp_rules.specs.Layout.{IsKeyOf, is_within, rows_if}
-use Rattle.srcp_rules.specs.State.{updated, row_at, put_row}
+use Rattle.srcp_rules.specs.State.{updated}
 use Rattle.srcp_rules.proofs.DueLaws.{began_kept, due_kept, freed_kept}
 use Rattle.srcp_rules.proofs.EffectLaws.{effect_kept}
 use Rattle.srcp_rules.proofs.SessionLaws.{session_row-updated_all, effect_elsewhere, due_elsewhere, freed_others}
@@ -28,7 +25,7 @@ use Rattle.srcp_rules.proofs.StateLaws.{row_at-put_same, row_at-put_other}
 use Rattle.srcp_rules.proofs.KeyLaws.{same_key, same_key-true}
 use Rattle.std.proofs.lemmas.Bool.{le-leb}
 use Rattle.std.specs.Prelude.{◌&&◌}
-use Rattle.srcp_core.specs.Machine.{changed_at, changed_in, changed_places, carried, told_all, told_each, one_denied, freed_of, freed_place, entered_place, begun}
+use Rattle.srcp_core.specs.Machine.{changed_at, changed_in, changed_places, carried, told_all, told_each, freed_of, freed_place, entered_place, begun}
 use Rattle.srcp_info.specs.WellFormed.{IsWellFormedShown}
 use Rattle.srcp_info.specs.declared.change.Shown.{Shown}
 use Rattle.srcp_rules.specs.State.{IsRowOf, shown_rows}
@@ -36,7 +33,7 @@ use Rattle.srcp_rules.proofs.StateLaws.{each_found}
 use Rattle.srcp_feed.specs.Feed.{Feed}
 use Rattle.srcp_core.specs.Machine.{filled, filled_from}
 use Rattle.srcp_core.proofs.Walks.{change_in}
-use Rattle.srcp_core.proofs.Covers.{IsMild, mild_itself, mild_live, Source, Covers, covers_itself, covers_set, covers_free, covers_told_each, told_each_count, set_count, free_other, sessions_covered, place_set, place_set_here, where_is, Where, Here, Away}
+use Rattle.srcp_core.proofs.Covers.{IsMild, mild_itself, mild_live, Covers, covers_itself, covers_set, covers_free, covers_told_each, told_each_count, set_count, free_other, sessions_covered, place_set, place_set_here, where_is, Where, Here, Away}
 use Rattle.srcp_core.proofs.SessionRows.{no_session-opening}
 
 no_place : (key : ℕ) (p : Place) → place_at [] key ≡ Some p → ⊥

@@ -1,40 +1,38 @@
 -- Room for bytes, as many takings of what is unsent, each after the next line is put in.
-use Rattle.std.proofs.Common.{◌≡◌, ◌≢◌, ℕ, zero, suc, min, ◌+◌, ◌-◌, ◌<◌, ◌≤◌, Bool, true, false, cond, List, [], ◌∷◌, ◌++◌, map, take, drop, length, length-append, length-drop, refl, ap, sym, ◌∙◌, subst, arith, append-nil}
+use Rattle.std.proofs.Common.{◌≡◌, ℕ, zero, suc, min, ◌+◌, ◌-◌, ◌<◌, ◌≤◌, Bool, true, false, List, [], ◌∷◌, ◌++◌, take, drop, length, length-append, refl, ap, sym, ◌∙◌, subst, arith, append-nil}
 use Rattle.std.proofs.lemmas.Bool.Decides.{nat_tests}
 use Rattle.std.proofs.lemmas.List.{drop-drop}
 use Rattle.std.specs.List.{flat_map}
 use Rattle.std.specs.Option.{option_map, option_or}
-use Rattle.std.specs.Prelude.{Option, Some, None, is_none, ◌&&◌, ◌||◌, ◌==◌, nat_lt, slice_set, if◌then◌else◌}
+use Rattle.std.specs.Prelude.{Option, Some, None, is_none, ◌&&◌, ◌||◌, ◌==◌, nat_lt, if◌then◌else◌}
 use Rattle.srcp_info.specs.declared.change.Shown.{Shown}
 use Rattle.srcp_text.specs.Reading.{Reading}
 use Rattle.srcp_rules.specs.declared.layout.Bus.{Bus}
 use Rattle.srcp_rules.specs.Layout.{IsLayout}
-use Rattle.srcp_rules.specs.State.{State, opening, shown_rows}
+use Rattle.srcp_rules.specs.State.{opening, shown_rows}
 use Rattle.srcp_feed.specs.declared.Next.{Next}
 use Rattle.srcp_feed.specs.declared.Next.TheVariants.{Told, Listed, Settled}
 use Rattle.srcp_feed.proofs.Steps.{IsInOrder}
-use Rattle.srcp_core.specs.Connection.{Connection, History, cursor_at, untold, unsent, sent, given, line_of, is_nil, is_open, owed, front, fitting, available, exhausts, items_of, took as took_room, given_room, overran}
-use Rattle.srcp_core.specs.Course.{World, numbered, with_numbered, at_connection, history, rows, accepted, state}
-use Rattle.srcp_core.specs.Held.{Place, Held, at, place_at}
+use Rattle.srcp_core.specs.Connection.{Connection, History, cursor_at, untold, unsent, sent, given, line_of, is_nil, is_open, owed, front, available, items_of, took as took_room, given_room, overran}
+use Rattle.srcp_core.specs.Course.{World, numbered, with_numbered, at_connection, history, rows}
+use Rattle.srcp_core.specs.Held.{Place, Held}
 use Rattle.srcp_core.specs.Laws.{AddsUp}
 use Rattle.srcp_core.specs.Machine.{filled, item_from, item_of, item_at, let_out, without_sent, changed_at, changed_in, unsent_of, unsent_at}
-use Rattle.srcp_core.specs.Recording.{Recording, key_of, told_of, with_item, gave, took, changed_record}
-use Rattle.srcp_core.specs.Stands.{StandsBy, StandsFor, place_of}
-use Rattle.srcp_core.specs.declared.event.Event.TheVariants.{Room}
-use Rattle.srcp_core.specs.declared.record.ConnRecord.{ConnRecord}
+use Rattle.srcp_core.specs.Recording.{Recording, key_of, told_of, with_item, gave, took}
+use Rattle.srcp_core.specs.Stands.{StandsFor, place_of}
 use Rattle.srcp_core.specs.declared.record.Item.{Item}
-use Rattle.srcp_core.proofs.Adding.{adds_up, with_twice, shut_after, owed_plain}
+use Rattle.srcp_core.proofs.Adding.{adds_up, with_twice, shut_after}
 use Rattle.srcp_core.proofs.Answering.{IsFine, stands_of}
 use Rattle.srcp_core.proofs.Calling.{over_is}
 use Rattle.srcp_core.proofs.Giving.{IsFilled, fills, with_given}
 use Rattle.srcp_core.proofs.Histories.{rows_after}
 use Rattle.srcp_core.proofs.Noting.{Tells, tells_same, tells_changed}
 use Rattle.srcp_core.proofs.Pieces.{with_itself, set_same}
-use Rattle.srcp_core.proofs.Placing.{is_over_place, place_overran, place_unsent}
+use Rattle.srcp_core.proofs.Placing.{is_over_place, place_unsent}
 use Rattle.srcp_core.proofs.Registry.{shown_after, length_history}
 use Rattle.srcp_core.proofs.SessionLaws.{anything, at_number, fits_open}
 use Rattle.srcp_core.proofs.Slow.{numbered_with}
-use Rattle.srcp_core.proofs.Standing.{Anything, Fine, Found, found_at}
+use Rattle.srcp_core.proofs.Standing.{Anything, Fine, found_at}
 use Rattle.srcp_core.proofs.Worlds.{sound_at, stands_room, in_order_after}
 
 -- ---- one connection

@@ -1,19 +1,15 @@
 -- Changes that are carried out and told one by one are those of the whole step.
-use Rattle.std.proofs.Common.{◌≡◌, ℕ, ◌<◌, List, [], ◌∷◌, map, length, refl, ap, sym, ◌∙◌, subst, arith}
-use Rattle.std.specs.List.{AllByRecursion, find}
+use Rattle.std.proofs.Common.{◌≡◌, ◌<◌, List, [], ◌∷◌, map, length, refl, ap, sym, ◌∙◌, subst, arith}
+use Rattle.std.specs.List.{find}
 use Rattle.std.specs.Option.{option_map, option_map_or}
 use Rattle.std.specs.Prelude.{Option, Some, None, slice_get, not}
 use Rattle.srcp_info.specs.Key.{key_of, has_reached}
-use Rattle.srcp_info.specs.WellFormed.{IsMoment, IsWellFormed}
+use Rattle.srcp_info.specs.WellFormed.{IsWellFormed}
 use Rattle.srcp_info.specs.declared.change.Change.{Change}
 use Rattle.srcp_info.specs.declared.change.Cursor.TheVariants.{Start}
 use Rattle.srcp_rules.specs.declared.layout.Bus.{Bus}
-use Rattle.srcp_rules.specs.Due.{due, freed}
-use Rattle.srcp_rules.specs.Layout.{IsLayout}
 use Rattle.srcp_rules.specs.State.{State, Update, IsWhole, updated, updated_all}
-use Rattle.srcp_rules.proofs.DueStepLaws.{due_later}
-use Rattle.srcp_rules.proofs.FreedStepLaws.{freed_later}
-use Rattle.srcp_rules.proofs.ToldLaws.{AreTold, due_told, freed_told}
+use Rattle.srcp_rules.proofs.ToldLaws.{AreTold}
 use Rattle.srcp_core.specs.Held.{Place}
 use Rattle.srcp_core.specs.Machine.{told_all, told_each}
 

@@ -1,5 +1,5 @@
 -- What is seen of a core: the registry, and a place for each connection.
-use Rattle.std.specs.Prelude.{◌≡◌, ℕ, ◌<◌, ◌≤◌, Bool, true, false, List, Option, Some, None, IsTrue, is_some, count_by, slice_index_or}
+use Rattle.std.specs.Prelude.{◌≡◌, ℕ, ◌<◌, ◌≤◌, Bool, true, false, List, Option, Some, None, is_some, count_by, slice_index_or}
 use Rattle.srcp_info.specs.WellFormed.{IsMoment}
 use Rattle.srcp_info.specs.declared.value.Mode.{Mode}
 use Rattle.srcp_text.specs.Reading.{Reading}

@@ -1,12 +1,12 @@
 -- What each call makes of what is held.
-use Rattle.std.specs.Prelude.{⊤, ◌≡◌, ◌≢◌, ℕ, zero, suc, ◌+◌, ◌*◌, ◌<◌, ◌≤◌, min, max, Bool, true, false, not, ◌&&◌, ◌||◌, ◌==◌, if◌then◌else◌, List, [], ◌∷◌, ◌++◌, map, drop, length, fold, nat_lt, slice_set, Option, Some, None, is_some, Result, Ok, Err}
-use Rattle.std.specs.Option.{option_map, option_map_or}
-use Rattle.srcp_info.specs.Line.{line, reply_line}
+use Rattle.std.specs.Prelude.{⊤, ◌≡◌, ◌≢◌, ℕ, zero, suc, ◌+◌, ◌*◌, ◌<◌, ◌≤◌, min, max, Bool, true, false, not, ◌&&◌, ◌||◌, ◌==◌, if◌then◌else◌, List, [], ◌∷◌, ◌++◌, map, drop, length, fold, nat_lt, slice_set, Option, Some, None, Result, Ok, Err}
+use Rattle.std.specs.Option.{option_map}
+use Rattle.srcp_info.specs.Line.{reply_line}
 use Rattle.srcp_info.specs.WellFormed.{IsWellFormed}
 use Rattle.srcp_info.specs.declared.change.Change.{Change}
 use Rattle.srcp_info.specs.declared.change.Change.TheVariants.{Put}
 use Rattle.srcp_info.specs.declared.change.Code.{Code}
-use Rattle.srcp_info.specs.declared.change.Code.TheVariants.{C418, C500}
+use Rattle.srcp_info.specs.declared.change.Code.TheVariants.{C500}
 use Rattle.srcp_info.specs.declared.change.Reply.{Reply}
 use Rattle.srcp_info.specs.declared.change.Reply.TheVariants.{Protocol, Mode as ModeReply, Go, Refused, Shows}
 use Rattle.srcp_info.specs.declared.change.Shown.{Shown}
@@ -16,7 +16,7 @@ use Rattle.srcp_rules.specs.declared.layout.Bus.{Bus}
 use Rattle.srcp_rules.specs.declared.command.Command.{Command}
 use Rattle.srcp_rules.specs.Due.{due, freed, began}
 use Rattle.srcp_rules.specs.Effect.{Effect, effect, adds_rows}
-use Rattle.srcp_rules.specs.State.{State, Update, updated_all, shown_rows}
+use Rattle.srcp_rules.specs.State.{Update, updated_all, shown_rows}
 use Rattle.srcp_text.specs.Marks.{Mark, Line, TooLong}
 use Rattle.srcp_text.specs.Reading.{Reading, nothing_read}
 use Rattle.srcp_text.specs.Feeding.{feed_of}

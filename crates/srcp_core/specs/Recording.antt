@@ -1,5 +1,5 @@
 -- What a run has told so far.
-use Rattle.std.specs.Prelude.{ℕ, zero, suc, Bool, true, false, if◌then◌else◌, List, [], ◌∷◌, ◌++◌, length, Option, Some, None}
+use Rattle.std.specs.Prelude.{ℕ, zero, suc, false, if◌then◌else◌, List, [], ◌∷◌, ◌++◌, length, Option, Some, None}
 use Rattle.std.specs.Prelude.{slice_get, slice_set, slice_index_or}
 use Rattle.srcp_feed.specs.declared.Next.{Next}
 use Rattle.srcp_feed.specs.declared.Next.TheVariants.{Told, Listed, Settled}
@@ -9,7 +9,6 @@ use Rattle.srcp_core.specs.Held.{Held}
 use Rattle.srcp_core.specs.Machine.{finish_at}
 use Rattle.srcp_core.specs.declared.record.ConnRecord.{ConnRecord}
 use Rattle.srcp_core.specs.declared.record.CoreFault.{CoreFault}
-use Rattle.srcp_core.specs.declared.record.Finish.{Finish}
 use Rattle.srcp_core.specs.declared.record.Finish.TheVariants.{Live, Shut}
 use Rattle.srcp_core.specs.declared.record.Refusal.{Refusal}
 use Rattle.srcp_core.specs.declared.record.Step.{Step}

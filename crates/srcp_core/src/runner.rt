@@ -1,8 +1,9 @@
 //! A run over a list of events.
 ghost use Rattle.std.specs.Prelude.{◌≡◌, ◌≤◌, IfOk, OnOk, Some, None};
 ghost use Rattle.std.specs.List.{AllByRecursion};
-ghost use Rattle.srcp_info.specs.WellFormed.{IsWellFormedShown};
-ghost use Rattle.srcp_core.specs.Laws.{IsRecordOf};
+ghost use Rattle.srcp_info.specs.WellFormed.{IsMoment, IsWellFormedShown};
+ghost use Rattle.srcp_core.specs.Headline.{ToldSessions};
+ghost use Rattle.srcp_core.specs.Laws.{HasMoment, IsRecordOf};
 ghost use Rattle.srcp_core.specs.Recording.{key_of};
 ghost use Rattle.srcp_core.specs.Run.{HappensAs, FollowsAs, count_at, taken_at, taking};
 
@@ -29,10 +30,12 @@ impl From<Memory> for RunFault {
 
 /// Carries out the events over the registry of the layout, from moment 0 on and with session ids from 1 on, and tells
 /// what came of them. An event that is refused changes nothing, and the run goes on. `Memory` where memory was
-/// refused to the core when it was made, or to the record; what was refused after that the record counts.
+/// refused to the core when it was made, or to the record; what was refused after that the record counts. Where it
+/// counts none, the record is that of the course of the events, and has the laws of its information sessions.
 pub fn run<R: Rows>(alloc: Global, layout: &Layout, events: &[Event]) -> Result<Record, RunFault>
     ensures well_formed { IfOk result (λ told. AllByRecursion (λ row. IsWellFormedShown row.shown) told.rows) }
     ensures record { IfOk result (λ told. told.denied ≡ 0 → IsRecordOf layout.now events.now told) }
+    ensures sessions { IfOk result (λ told. told.denied ≡ 0 → ToldSessions layout.now events.now told) }
 {
     // Asks for a layout's limits.
     let _ = layout.buses();
@@ -53,6 +56,7 @@ fn follow<R: Rows>(
 ) -> Result<(), Memory>
     ensures course { OnOk result (FollowsAs number event.now recorder.old core.old recorder.new core.new) }
     ensures denied { core.new.denied ≡ 0 → core.old.denied ≡ 0 }
+    ensures moment { HasMoment event.now }
 {
     if let Some(fault) = happen(core, recorder, event)? {
         recorder.refused(number, fault)?;
@@ -68,6 +72,7 @@ fn happen<R: Rows>(
 ) -> Result<Option<CoreFault>, Memory>
     ensures course { IfOk result (λ refusal. HappensAs event.now refusal recorder.old core.old recorder.new core.new) }
     ensures denied { core.new.denied ≡ 0 → core.old.denied ≡ 0 }
+    ensures moment { HasMoment event.now }
 {
     match event {
         Event::Open => open(core, recorder),
@@ -177,6 +182,7 @@ fn advance<R: Rows>(
 ) -> Result<Option<CoreFault>, Memory>
     ensures course { IfOk result (λ refusal. HappensAs (Event.At moment) refusal recorder.old core.old recorder.new core.new) }
     ensures denied { core.new.denied ≡ 0 → core.old.denied ≡ 0 }
+    ensures fits { IsMoment moment }
 {
     core.advance(moment);
     recorder.step(&Step::Moment(core.moment()))?;

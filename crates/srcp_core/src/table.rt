@@ -3,6 +3,9 @@ ghost use Rattle.std.specs.Prelude.{◌⊎◌, ◌≡◌, ◌≢◌, ◌+◌, �
 ghost use Rattle.srcp_core.specs.Connection.{is_nil};
 ghost use Rattle.srcp_core.specs.Held.{at, open_count};
 ghost use Rattle.srcp_core.specs.Machine.{IsAdmitted, refused_connect, is_closing, one_denied, unsent_at, bytes_fault};
+ghost use Rattle.srcp_core.specs.Course.{course};
+ghost use Rattle.srcp_core.specs.Run.{LeadsToOpen};
+ghost use Rattle.srcp_core.specs.Stands.{StandsFor};
 ghost use Rattle.srcp_rules.specs.State.{opening};
 
 mod answer;
@@ -59,6 +62,19 @@ impl<'a, R: Rows> Core<'a, R> {
         moment: u64,
         last_id: u32,
     ) -> Result<Core<'a, R>, Memory>
+        ensures core { IfOk result (λ core. core ≡ record { buses = layout.now; rows = opening layout.now 0; moment = moment; last_id = last_id; places = []; denied = 0 }) }
+        ensures stands { moment ≡ 0 → last_id ≡ 0 → IfOk result (λ core. StandsFor layout.now [] core (course layout.now [])) }
+    {
+        Core::made(alloc, layout, moment, last_id)
+    }
+
+    /// The registry as it begins.
+    fn made(
+        alloc: Global,
+        layout: &'a Layout,
+        moment: u64,
+        last_id: u32,
+    ) -> Result<Core<'a, R>, Memory>
         ensures { IfOk result (λ core. core ≡ record { buses = layout.now; rows = opening layout.now 0; moment = moment; last_id = last_id; places = []; denied = 0 }) }
     {
         // Asks for a layout's limits.
@@ -87,6 +103,17 @@ impl<'a, R: Rows> Core<'a, R> {
     /// anything changes; the welcome line stands in it. `Full` where 64 connections are open; `Memory` where the
     /// growth was refused, which is counted. Either leaves all else as it is.
     pub fn connect(&mut self) -> Result<usize, CoreFault>
+        ensures full { IsErrOf result CoreFault.Full ↔ (open_count self.old ≡ 64) }
+        ensures admitted { IfOk result (λ key. IsAdmitted key self.old self.new) }
+        ensures refused { IfErr result (λ fault. self.new ≡ refused_connect fault self.old) }
+        ensures causes { IfErr result (λ fault. (fault ≡ CoreFault.Full) ⊎ (fault ≡ CoreFault.Memory)) }
+        ensures stands { IfOk result (λ key. LeadsToOpen key self.old self.new) }
+    {
+        self.admit()
+    }
+
+    /// Opens a connection.
+    fn admit(&mut self) -> Result<usize, CoreFault>
         ensures full { IsErrOf result CoreFault.Full ↔ (open_count self.old ≡ 64) }
         ensures admitted { IfOk result (λ key. IsAdmitted key self.old self.new) }
         ensures refused { IfErr result (λ fault. self.new ≡ refused_connect fault self.old) }

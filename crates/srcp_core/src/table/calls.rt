@@ -5,6 +5,8 @@ ghost use Rattle.srcp_rules.specs.State.{is_there, session_device};
 ghost use Rattle.srcp_text.specs.Marks.{Mark};
 ghost use Rattle.srcp_core.specs.Held.{Place, IsSessionAt, at};
 ghost use Rattle.srcp_core.specs.Machine.{asked_of, answered, commanded, longest_answer, unsent_at, bytes_fault, hung_up, advanced, changed_at, without_sent};
+ghost use Rattle.srcp_core.specs.Run.{LeadsTo, LeadsToFree};
+ghost use Rattle.srcp_core.specs.declared.event.Event.TheVariants.{At};
 
 use super::Core;
 use super::walk::{carry_out_due, free_all};
@@ -15,6 +17,14 @@ impl<'a, R: Rows> Core<'a, R> {
     /// Takes the moment, in milliseconds, where it is not before the one taken last, and carries out every row that
     /// is due then, in key order.
     pub fn advance(&mut self, moment: u64)
+        ensures core { self.new ≡ advanced moment self.old }
+        ensures stands { LeadsTo (At moment) self.old self.new }
+    {
+        self.pass(moment);
+    }
+
+    /// Takes the moment.
+    fn pass(&mut self, moment: u64)
         ensures { self.new ≡ advanced moment self.old }
     {
         self.moment = self.moment.max(moment);
@@ -24,6 +34,15 @@ impl<'a, R: Rows> Core<'a, R> {
     /// Takes a connection out; then its session ends, where it has one that did not end: its locks are taken out in
     /// key order, and its own row. `NoSuch` where there is no such connection.
     pub fn hangup(&mut self, conn: usize) -> Result<(), CoreFault>
+        ensures absent { MatchResult result (λ _. IsSome (at self.old conn)) (λ fault. (fault ≡ CoreFault.NoSuch) × (at self.old conn ≡ None)) }
+        ensures core { self.new ≡ hung_up conn self.old }
+        ensures stands { LeadsToFree conn self.old self.new }
+    {
+        self.take_out(conn)
+    }
+
+    /// Takes a connection out.
+    fn take_out(&mut self, conn: usize) -> Result<(), CoreFault>
         ensures absent { MatchResult result (λ _. IsSome (at self.old conn)) (λ fault. (fault ≡ CoreFault.NoSuch) × (at self.old conn ≡ None)) }
         ensures core { self.new ≡ hung_up conn self.old }
     {

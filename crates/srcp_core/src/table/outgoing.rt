@@ -1,7 +1,9 @@
 //! Bytes that go out.
-ghost use Rattle.std.specs.Prelude.{◌≡◌, ◌≤◌, length, Some, None, IsErr, IsSome, IfOk, IfErr, ◌↔◌};
+ghost use Rattle.std.specs.Prelude.{◌≡◌, ◌≤◌, ◌<◌, length, Some, None, IsErr, IsSome, IfOk, IfErr, ◌↔◌};
 ghost use Rattle.srcp_core.specs.Held.{at};
 ghost use Rattle.srcp_core.specs.Machine.{changed_at, without_sent, unsent_at, let_out, item_at};
+ghost use Rattle.srcp_core.specs.Run.{LeadsAt};
+ghost use Rattle.srcp_core.specs.declared.event.Event.TheVariants.{Room};
 
 use super::{Core, place};
 use crate::record::CoreFault;
@@ -49,6 +51,16 @@ impl<'a, R: Rows> Core<'a, R> {
 
     /// So many of the bytes that are to be sent of a connection were sent.
     pub fn sent(&mut self, conn: usize, count: usize)
+        requires open { IsSome (at self.old conn) }
+        requires unsent { count ≤ length (unsent_at conn self.old) }
+        ensures core { self.new ≡ changed_at conn (without_sent count) self.old }
+        ensures stands { 0 < count → LeadsAt conn (λ n. Room n count) self.old self.new }
+    {
+        self.drop_sent(conn, count);
+    }
+
+    /// So many of the bytes that are to be sent are there no more.
+    fn drop_sent(&mut self, conn: usize, count: usize)
         requires open { IsSome (at self.old conn) }
         requires unsent { count ≤ length (unsent_at conn self.old) }
         ensures { self.new ≡ changed_at conn (without_sent count) self.old }

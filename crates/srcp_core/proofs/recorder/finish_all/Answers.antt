@@ -1,4 +1,4 @@
-use Rattle.std.proofs.Common.{◌≡◌, ap, ◌∙◌, sym}
+use Rattle.std.proofs.Common.{ap, ◌∙◌}
 use Rattle.srcp_core.proofs.Recorded.{finish_kept, finish_noted}
 use Rattle.srcp_core.proofs.recorder.finish_all.Goals as goal
 use Rattle.srcp_core.proofs.recorder.finish_all.Goals.{in-Some, in_default}

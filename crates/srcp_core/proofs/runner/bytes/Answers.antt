@@ -1,4 +1,4 @@
-use Rattle.std.proofs.Common.{◌≡◌, sym, ◌∙◌, refl, ap, subst, None, Some}
+use Rattle.std.proofs.Common.{sym, ◌∙◌, subst}
 use Rattle.srcp_core.specs.Machine.{listed}
 use Rattle.srcp_core.specs.Recording.{Recording}
 use Rattle.srcp_core.proofs.Running.{no_bytes_happens, bytes_refused, bytes_room, reads_first, reads_more, line_denied, bytes_happens, ReadsOn}

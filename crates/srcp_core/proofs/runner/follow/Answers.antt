@@ -1,4 +1,4 @@
-use Rattle.std.proofs.Common.{◌≡◌, ap, ◌∙◌, sym}
+use Rattle.std.proofs.Common.{ap, ◌∙◌, sym}
 use Rattle.srcp_core.proofs.Recorded.{follows, with_fault}
 use Rattle.srcp_core.proofs.runner.follow.Goals as goal
 

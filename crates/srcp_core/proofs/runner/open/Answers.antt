@@ -1,4 +1,4 @@
-use Rattle.std.proofs.Common.{◌≡◌, refl, None}
+use Rattle.std.proofs.Common.{refl, None}
 use Rattle.srcp_core.specs.Recording.{opened}
 use Rattle.srcp_core.specs.declared.event.Event.TheVariants.{Open}
 use Rattle.srcp_core.proofs.Running.{told_as, open_happens}

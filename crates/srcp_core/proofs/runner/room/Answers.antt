@@ -1,4 +1,4 @@
-use Rattle.std.proofs.Common.{◌≡◌, ℕ, ◌-◌, ◌⊎◌, inl, inr, refl, sym, ◌∙◌, subst, arith, None, Some}
+use Rattle.std.proofs.Common.{◌≡◌, ℕ, ◌-◌, ◌⊎◌, inl, inr, refl, sym, ◌∙◌, arith, None}
 use Rattle.srcp_core.specs.Run.{taking, taken_at, count_at}
 use Rattle.srcp_core.specs.declared.event.Event.TheVariants.{Room}
 use Rattle.srcp_core.proofs.Running.{told_as, no_room_happens, gives_first, gives_as, room_happens}

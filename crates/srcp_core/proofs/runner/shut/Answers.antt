@@ -1,4 +1,4 @@
-use Rattle.std.proofs.Common.{◌≡◌, sym, ◌∙◌, refl, ap, None, Some, [], ◌∷◌}
+use Rattle.std.proofs.Common.{sym, ◌∙◌, refl, ap, None, Some, [], ◌∷◌}
 use Rattle.srcp_core.specs.Machine.{live_session}
 use Rattle.srcp_core.specs.Recording.{Recording, shut, stepped}
 use Rattle.srcp_core.specs.declared.event.Event.TheVariants.{Shut}

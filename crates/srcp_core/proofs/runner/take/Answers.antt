@@ -1,4 +1,4 @@
-use Rattle.std.proofs.Common.{◌≡◌, sym, refl}
+use Rattle.std.proofs.Common.{sym, refl}
 use Rattle.srcp_core.proofs.Running.{taking_none}
 use Rattle.srcp_core.proofs.runner.take.Goals as goal
 

@@ -1,4 +1,4 @@
-use Rattle.std.proofs.Common.{◌≡◌, ◌≤◌, true, refl, sym, ap, ◌∙◌, subst, map}
+use Rattle.std.proofs.Common.{◌≤◌, true, sym, ap, ◌∙◌, subst, map}
 use Rattle.srcp_rules.specs.Due.{freed}
 use Rattle.srcp_core.specs.Held.{Held, IsSessionAt}
 use Rattle.srcp_core.specs.Machine.{told_each, changed_at}

@@ -1,10 +1,5 @@
-use Rattle.std.proofs.Common.{sym, ap, ◌∙◌, subst, arith}
-use Rattle.srcp_core.proofs.Sound.{sound_opening}
+use Rattle.srcp_core.proofs.Leading.{stands_first}
 use Rattle.srcp_core.proofs.table.Core.new.Goals as goal
 
-pub invariant_of-result : goal.invariant_of-result
-invariant_of-result g c = (
-  sound_opening c.args.layout.now c.buses.ensures.laid_out c.args.moment c.ranges.moment.fits c.args.last_id (g.R.Rows.state c.in_ok-rows.rows) c.in_ok-rows.ensures.rows c.in_ok-connections.connections.slots c.in_ok-connections.ensures.empty,
-  c.in_ok-rows.ensures.layout,
-  c.in_ok-connections.ensures.capacity,
-)
+pub returns-clause-stands : goal.returns-clause-stands
+returns-clause-stands g c = stands_first c.args.layout.now c.args.moment c.args.last_id c.made.result c.made.ensures

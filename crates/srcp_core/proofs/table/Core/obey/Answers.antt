@@ -1,4 +1,4 @@
-use Rattle.std.proofs.Common.{◌≡◌, ◌≤◌, length, sym, ap, ◌∙◌, subst, map, arith}
+use Rattle.std.proofs.Common.{length, sym, ap, ◌∙◌, subst, map, arith}
 use Rattle.srcp_rules.specs.Effect.{effect}
 use Rattle.srcp_core.specs.Held.{Held, IsSessionAt}
 use Rattle.srcp_core.specs.Machine.{unsent_at, replied}

@@ -1,10 +1,5 @@
-use Rattle.std.proofs.Common.{◌≤◌, refl, sym, subst}
-use Rattle.srcp_core.proofs.Sound.{sound_set}
+use Rattle.srcp_core.proofs.Leading.{sent_leads}
 use Rattle.srcp_core.proofs.table.Core.sent.Goals as goal
 
-pub invariant_of-self : goal.invariant_of-self
-invariant_of-self g c = (
-  sound_set _ _ _ _ (λ p. record { session = refl; ended = λ h. h }) c.took.ensures.slots c.self.invariant.0,
-  c.self.invariant.1,
-  subst (λ n. 64 ≤ n) (sym c.took.ensures.capacity) c.self.invariant.2,
-)
+pub returns-clause-stands : goal.returns-clause-stands
+returns-clause-stands g c = sent_leads c.args.conn c.args.count c.args.self.now c.drop_sent.new.self c.requires.unsent c.drop_sent.ensures

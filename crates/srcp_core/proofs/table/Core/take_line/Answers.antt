@@ -1,7 +1,3 @@
-use Rattle.std.proofs.Common.{◌≡◌, ℕ, Some, sym, ap, ◌∙◌}
-use Rattle.std.specs.Prelude.{Option}
-use Rattle.srcp_core.specs.Held.{Held}
-use Rattle.srcp_core.specs.declared.asked.Asked.{Asked}
 use Rattle.srcp_core.proofs.Hearing.{line_asks, line_room, line_answered}
 use Rattle.srcp_core.proofs.table.Core.take_line.Goals as goal
 

@@ -1,6 +1,4 @@
-use Rattle.std.proofs.Common.{◌≡◌, ◌≤◌, ◌<◌, ◌+◌, ◌*◌, ◌-◌, Bool, List, [], length, Some}
-use Rattle.srcp_core.specs.Held.{Held}
-use Rattle.srcp_core.specs.Machine.{lines_taken, unsent_at}
+use Rattle.std.proofs.Common.{◌-◌, length}
 use Rattle.srcp_core.proofs.Hearing.{IsTaken}
 use Rattle.srcp_core.proofs.table.Core.take_lines.Given as goal
 

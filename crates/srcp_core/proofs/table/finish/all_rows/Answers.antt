@@ -1,4 +1,4 @@
-use Rattle.std.proofs.Common.{◌≡◌, ap, sym, ◌∙◌, ◌++◌}
+use Rattle.std.proofs.Common.{ap, sym, ◌∙◌, ◌++◌}
 use Rattle.srcp_rules.specs.State.{State}
 use Rattle.srcp_rules.proofs.SoughtLaws.{beyond}
 use Rattle.srcp_info.specs.declared.change.Cursor.TheVariants.{Start, After}

@@ -1,8 +1,8 @@
-use Rattle.std.proofs.Common.{sym, ap, ◌∙◌, map, [], List}
+use Rattle.std.proofs.Common.{sym, ap, ◌∙◌, map}
 use Rattle.std.specs.Prelude.{Option}
 use Rattle.std.specs.Option.{option_map, option_map_or}
 use Rattle.srcp_rules.specs.Due.{due}
-use Rattle.srcp_rules.specs.State.{State, Update, updated, updated_all}
+use Rattle.srcp_rules.specs.State.{Update, updated, updated_all}
 use Rattle.srcp_rules.proofs.DueStepLaws.{due_later}
 use Rattle.srcp_rules.proofs.ToldLaws.{due_told}
 use Rattle.srcp_core.specs.Machine.{told_each}

@@ -1,8 +1,6 @@
-use Rattle.std.proofs.Common.{sym, ap, ◌∙◌, map, [], List}
-use Rattle.std.specs.Prelude.{Option}
-use Rattle.std.specs.Option.{option_map, option_map_or}
+use Rattle.std.proofs.Common.{sym, ap, ◌∙◌, map}
 use Rattle.srcp_rules.specs.Due.{freed}
-use Rattle.srcp_rules.specs.State.{State, Update, updated, updated_all}
+use Rattle.srcp_rules.specs.State.{updated_all}
 use Rattle.srcp_rules.proofs.FreedStepLaws.{freed_later}
 use Rattle.srcp_rules.proofs.ToldLaws.{freed_told}
 use Rattle.srcp_core.specs.Machine.{told_each}

@@ -1,4 +1,4 @@
-use Rattle.std.proofs.Common.{ap, sym, ◌∙◌, arith, Some, slice_set, count_by, is_some}
+use Rattle.std.proofs.Common.{ap, sym, ◌∙◌, arith, Some, slice_set}
 use Rattle.std.specs.Option.{option_copied_mut}
 use Rattle.slab.specs.Slab.{Slab}
 use Rattle.srcp_core.specs.Held.{Place}

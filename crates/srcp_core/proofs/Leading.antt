@@ -1,0 +1,95 @@
+-- Each call of the core leads from the course of any events to that with its event.
+use Rattle.std.proofs.Common.{◌≡◌, ℕ, ◌+◌, ◌<◌, ◌≤◌, List, [], ◌∷◌, ◌++◌, map, length, refl, ap, sym, ◌∙◌, subst}
+use Rattle.std.specs.Prelude.{Option, Some, None, Result, Ok, Err, IfOk}
+use Rattle.srcp_rules.specs.declared.layout.Bus.{Bus}
+use Rattle.srcp_rules.specs.Layout.{IsLayout}
+use Rattle.srcp_rules.specs.State.{opening}
+use Rattle.srcp_core.specs.Course.{World, counted, fault, absent_fault, accepted, course}
+use Rattle.srcp_core.specs.Held.{Held, open_count}
+use Rattle.srcp_core.specs.Machine.{IsAdmitted, advanced, hung_up, let_out, unsent_at, changed_at, without_sent, live_session}
+use Rattle.srcp_core.specs.Recording.{Recording, nothing_told, key_of, told_of, opened, stepped, shut}
+use Rattle.srcp_core.specs.Run.{Runs, LeadsTo, LeadsAt, LeadsToFree, LeadsToOpen}
+use Rattle.srcp_core.specs.Stands.{StandsFor}
+use Rattle.srcp_core.specs.declared.event.Event.{Event}
+use Rattle.srcp_core.specs.declared.event.Event.TheVariants.{Open, Room, At, Shut}
+use Rattle.srcp_core.specs.declared.record.CoreFault.{CoreFault}
+use Rattle.srcp_core.specs.declared.record.CoreFault.TheVariants.{Full}
+use Rattle.srcp_core.specs.declared.record.Step.TheVariants.{Moment}
+use Rattle.srcp_core.proofs.Calling.{stands_counted}
+use Rattle.srcp_core.proofs.Recorded.{runs_on, runs_start}
+use Rattle.srcp_core.proofs.Running.{fine_course, open_happens, full_happens, at_happens, shut_happens, with_end, shut_keys}
+use Rattle.srcp_core.proofs.SessionLaws.{opening_in_order}
+use Rattle.srcp_core.proofs.Standing.{found_at}
+use Rattle.srcp_core.proofs.Taking.{filled_kept, taken_kept, Kept}
+
+-- what a run would have told of the course
+abbrev telling : List (Option ℕ) → World → Recording
+telling keys w = record { keys = keys; steps = w.steps; connections = map told_of w.connections; refused = w.refused }
+
+runs_telling : (buses : List Bus) (keys : List (Option ℕ)) (held : Held) (w : World) → StandsFor buses keys held w → Runs buses (telling keys w) held w
+runs_telling buses keys held w s = record { stands = s; tells = record { steps = refl; refused = refl; connections = refl } }
+
+pub at_leads : (moment : ℕ) (old new : Held) → new ≡ advanced moment old → LeadsTo (At moment) old new
+at_leads moment old new is buses events keys layout d s =
+    let w = course buses events in
+    let h = at_happens moment (telling keys w) old new new.moment is refl buses events layout d (runs_telling buses keys old w s) in
+    (runs_on buses events (At moment) None (length events + 1) (stepped (Moment new.moment ∷ []) (telling keys w)) new refl h).stands
+
+pub open_leads : (key : ℕ) (old new : Held) → IsAdmitted key old new → LeadsToOpen key old new
+open_leads key old new a buses events keys layout d s =
+    let w = course buses events in
+    let h = open_happens key (telling keys w) old new a buses events layout d (runs_telling buses keys old w s) in
+    (runs_on buses events Open None (length events + 1) (opened key (telling keys w)) new refl h).stands
+
+pub opens_or_not : (old new : Held) (result : Result ℕ CoreFault) → IfOk result (λ key. IsAdmitted key old new) → IfOk result (λ key. LeadsToOpen key old new)
+opens_or_not old new (Ok key) a = open_leads key old new a
+opens_or_not old new (Err fault) a = tt
+
+-- before all events
+pub stands_first : {E : Type 0} (buses : List Bus) (moment last_id : ℕ) (result : Result Held E) → IfOk result (λ core. core ≡ record { buses = buses; rows = opening buses 0; moment = moment; last_id = last_id; places = []; denied = 0 })
+    → moment ≡ 0 → last_id ≡ 0 → IfOk result (λ core. StandsFor buses [] core (course buses []))
+stands_first buses moment last_id (Ok core) e m l =
+    let first : core ≡ record { buses = buses; rows = opening buses 0; moment = 0; last_id = 0; places = []; denied = 0 } =
+    e ∙ ap (λ k. record { buses = buses; rows = opening buses 0; moment = k; last_id = last_id; places = []; denied = 0 }) m
+    ∙ ap (λ k. record { buses = buses; rows = opening buses 0; moment = 0; last_id = k; places = []; denied = 0 }) l in
+    (runs_start buses nothing_told core refl first).stands
+stands_first buses moment last_id (Err fault) e m l = tt
+
+pub full_leads : (old new : Held) → open_count old ≡ 64 → new ≡ old → LeadsTo Open old new
+full_leads old new full same buses events keys layout d s =
+    let w = course buses events in
+    let h = full_happens (telling keys w) old new full same buses events layout d (runs_telling buses keys old w s) in
+    (runs_on buses events Open (Some Full) (length events + 1) (telling keys w) new refl h).stands
+
+pub shut_leads : (key : ℕ) (old new : Held) → new ≡ hung_up key old → LeadsToFree key old new
+shut_leads key old new is buses events keys n layout d named s =
+    let w = course buses events in
+    let h = shut_happens n key (telling keys w) old new new.moment named is refl buses events layout d (runs_telling buses keys old w s) in
+    subst (λ (ks : List (Option ℕ)). StandsFor buses ks new (course buses (events ++ Shut n ∷ []))) (shut_keys n (live_session key old) new.moment (telling keys w))
+    (runs_on buses events (Shut n) None (length events + 1) (with_end (live_session key old) new.moment (shut n (telling keys w))) new refl h).stands
+
+-- room of an open connection
+kept_of : (buses : List Bus) (layout : IsLayout buses) (events : List Event) (keys : List (Option ℕ)) (n key : ℕ) (named : key_of n keys ≡ Some key) (held : Held) → StandsFor buses keys held (course buses events)
+    → Kept buses layout (opening_in_order buses layout) keys n key named (telling keys (course buses events)) held (counted (course buses events))
+kept_of buses layout events keys n key named held s = record { fine = fine_course buses layout events; stands = stands_counted buses keys held (course buses events) s; tells = record { steps = refl; refused = refl; connections = refl } }
+
+room_free : (buses : List Bus) (events : List Event) (keys : List (Option ℕ)) (n key bytes : ℕ) (held : Held) → key_of n keys ≡ Some key → StandsFor buses keys held (course buses events) → fault buses (counted (course buses events)) (Room n bytes) ≡ None
+room_free buses events keys n key bytes held named s =
+    let h = found_at buses (λ n fed. fed) keys held (counted (course buses events)) n key (stands_counted buses keys held (course buses events) s) named in
+    ap (absent_fault buses) h.opened
+
+room_leads : (buses : List Bus) (events : List Event) (keys : List (Option ℕ)) (n bytes : ℕ) (new : Held) → fault buses (counted (course buses events)) (Room n bytes) ≡ None → StandsFor buses keys new (accepted buses (Room n bytes) (counted (course buses events)))
+    → StandsFor buses keys new (course buses (events ++ Room n bytes ∷ []))
+room_leads buses events keys n bytes new free s =
+    let w = accepted buses (Room n bytes) (counted (course buses events)) in
+    (runs_on buses events (Room n bytes) None (length events + 1) (telling keys w) new refl (free, runs_telling buses keys new w s)).stands
+
+pub out_leads : (key : ℕ) (old : Held) → LeadsAt key (λ n. Room n 0) old (let_out key old)
+out_leads key old buses events keys n layout d named s =
+    let k = filled_kept buses layout (opening_in_order buses layout) keys n key named (telling keys (course buses events)) old (counted (course buses events)) (kept_of buses layout events keys n key named old s) in
+    room_leads buses events keys n 0 (let_out key old) (room_free buses events keys n key 0 old named s) k.stands
+
+pub sent_leads : (key count : ℕ) (old new : Held) → count ≤ length (unsent_at key old) → new ≡ changed_at key (without_sent count) old → 0 < count → LeadsAt key (λ n. Room n count) old new
+sent_leads key count old new few is some buses events keys n layout d named s =
+    let k = taken_kept buses layout (opening_in_order buses layout) keys n key named (telling keys (course buses events)) old (counted (course buses events)) count some few (kept_of buses layout events keys n key named old s) in
+    room_leads buses events keys n count new (room_free buses events keys n key count old named s) (subst (λ (x : Held). StandsFor buses keys x (accepted buses (Room n count) (counted (course buses events)))) (sym is) k.stands)

@@ -1,0 +1,10 @@
+use Rattle.std.proofs.Common.{◌≤◌, refl, sym, subst}
+use Rattle.srcp_core.proofs.Sound.{sound_set}
+use Rattle.srcp_core.proofs.table.Core.drop_sent.Goals as goal
+
+pub invariant_of-self : goal.invariant_of-self
+invariant_of-self g c = (
+  sound_set _ _ _ _ (λ p. record { session = refl; ended = λ h. h }) c.took.ensures.slots c.self.invariant.0,
+  c.self.invariant.1,
+  subst (λ n. 64 ≤ n) (sym c.took.ensures.capacity) c.self.invariant.2,
+)
