@@ -12,14 +12,14 @@ use std::vec::Vec;
 #[derive(Drop)]
 pub(super) struct ScriptPeer<'a> {
     /// What the reads find, one after another: an empty piece is the end, and after the last there is nothing.
-    pub pieces: &'a [&'a [u8]],
+    pieces: &'a [&'a [u8]],
     /// How many bytes a write takes at most.
-    pub at_once: usize,
+    at_once: usize,
     /// How many pieces are read.
     reads: usize,
-    pub written: Vec<u8>,
+    written: Vec<u8>,
     /// How many times the peer was let go.
-    pub closes: u32,
+    closes: u32,
 }
 
 impl<'a> ScriptPeer<'a> {
@@ -65,10 +65,10 @@ impl<'a> ScriptPeer<'a> {
 #[derive(Drop)]
 pub(super) struct ScriptDoor<'a> {
     /// The moments of the turns; 0 after them.
-    pub moments: &'a [u64],
-    pub peers: Vec<ScriptPeer<'a>>,
+    moments: &'a [u64],
+    peers: Vec<ScriptPeer<'a>>,
     /// Which call fails, counted from 1; none does where it is 0.
-    pub failing: u32,
+    failing: u32,
     /// How many peers have come.
     arrived: u32,
     pub calls: u32,

@@ -36,6 +36,7 @@ fn serves_a_peer(rt: HostRuntime) -> Result<(), Fail> {
 
 #[test]
 fn goes_on_after_a_call_that_fails(rt: HostRuntime) -> Result<(), Fail> {
+    // In turn 2 the call 4 asks for the moment, 6 reads and 7 writes the reply; 11 closes in turn 3.
     let written = [
         (1, AT_2),
         (2, AT_3),
