@@ -1,6 +1,8 @@
 mod arguments;
 mod checking;
 mod document;
+mod script_door;
+mod serving;
 
 use crate::input::read_input;
 use crate::output::write_whole;
