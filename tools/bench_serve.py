@@ -18,7 +18,8 @@ from serving import Client, served  # noqa: E402
 
 TICKS = os.sysconf("SC_CLK_TCK")
 IDLE_SECONDS = 5
-COMMANDS = 40_000
+COMMANDS = 64_000
+COMMAND = b"SET 1 GL 3 1 5 28" + b" 0 1" * 9 + b"\n"
 
 
 def processor_seconds(server):
@@ -58,15 +59,18 @@ def switch_off(program):
         print(f"a switch-off after 40 ms comes {statistics.median(late):.2f} ms late (median), {max(late):.2f} ms (most)")
 
 
-def pipelined(client, count):
-    """Commands in pieces of 256 bytes, the next piece once the replies of the one before are there."""
-    piece = (b"SET 1 GL 3 1 5 28\n" * 14)[:252]
-    replies = piece.count(b"\n")
-    for _ in range(count // replies):
-        client.socket.sendall(piece)
-        for _ in range(replies):
-            client.line()
-    return count // replies * replies
+def stream(client, count):
+    """Sends commands in pieces of 256 bytes, without waiting, and takes a reply for each."""
+    commands = COMMAND * count
+    sender = threading.Thread(target=lambda: [client.socket.sendall(commands[at:at + 256])
+                                              for at in range(0, len(commands), 256)])
+    sender.start()
+    replies = 0
+    while replies < count:
+        bytes_in = client.socket.recv(1 << 16)
+        assert bytes_in and b" ERROR " not in bytes_in, bytes_in
+        replies += bytes_in.count(b"\n")
+    sender.join()
 
 
 def drain(client, stop, counted):
@@ -79,32 +83,38 @@ def drain(client, stop, counted):
 
 
 def throughput(program, throttles, panels):
+    """All throttles send at once; each SET is a line for each panel."""
     with served(program) as (port, server):
         senders = [Client(port, "COMMAND") for _ in range(throttles)]
-        senders[0].asks("INIT 1 GL 3 N 1 28 0")
+        senders[0].asks("INIT 1 GL 3 N 1 28 18")
         listeners = [Client(port, "INFO") for _ in range(panels)]
-        stop, counted = threading.Event(), []
-        threads = [threading.Thread(target=drain, args=(client, stop, counted)) for client in listeners]
-        for thread in threads:
-            thread.start()
+        stop, counted, share = threading.Event(), [], COMMANDS // throttles
+        drains = [threading.Thread(target=drain, args=(client, stop, counted)) for client in listeners]
+        streams = [threading.Thread(target=stream, args=(client, share)) for client in senders]
         before, begun = processor_seconds(server), time.monotonic()
-        sent = sum(pipelined(sender, COMMANDS // throttles) for sender in senders)
-        seconds, spent = time.monotonic() - begun, processor_seconds(server) - before
-        time.sleep(0.5)
-        stop.set()
-        for thread in threads:
+        for thread in drains + streams:
+            thread.start()
+        for thread in streams:
             thread.join()
-        lines = sum(counted)
+        seconds = time.monotonic() - begun
+        time.sleep(0.5)
+        spent = processor_seconds(server) - before
+        stop.set()
+        for thread in drains:
+            thread.join()
+        sent, lines = share * throttles, sum(counted)
         print(f"{throttles} command sessions, {panels} panels: {sent / seconds:,.0f} replies/s, {lines / seconds:,.0f} "
               f"information lines/s, {spent / sent * 1e6:.1f} us of processor a command"
-              + (f", {spent / lines * 1e6:.2f} us a line" if lines else ""))
+              + (f", {spent / lines * 1e6:.3f} us a line" if lines else ""))
 
 
 def write_costs():
-    """The processor time of writing the same lines in pieces of 16 KB to a socket that is read."""
-    near, far = socket.socketpair()
-    line = b"1763800000.000 100 INFO 1 GL 3 1 5 28\n"
-    piece, pieces = (line * (16384 // len(line))), 4000
+    """The processor time of writing such lines in pieces of 16 KB to a peer of this machine that reads."""
+    listener = socket.create_server(("127.0.0.1", 0))
+    near = socket.create_connection(listener.getsockname())
+    far, _ = listener.accept()
+    line = b"1763800000.000 100 INFO 1 GL 3 1 5 28" + b" 0 1" * 9 + b"\n"
+    piece, pieces = line * (16384 // len(line)), 20_000
     reader = threading.Thread(target=lambda: [None for _ in iter(lambda: far.recv(1 << 16), b"")])
     reader.start()
     before = time.thread_time()
@@ -113,7 +123,7 @@ def write_costs():
     spent = time.thread_time() - before
     near.close()
     reader.join()
-    print(f"writing lines in pieces of 16 KB alone: {spent / (pieces * piece.count(line)) * 1e6:.2f} us a line")
+    print(f"writing such lines in pieces of 16 KB alone: {spent / (pieces * piece.count(line)) * 1e6:.3f} us a line")
 
 
 def main():
