@@ -6,7 +6,6 @@ ghost use Rattle.srcp_info.specs.declared.value.Value.TheVariants as value;
 ghost use Rattle.srcp_rules.specs.Command.{IsCommandOf, named_of};
 ghost use Rattle.srcp_rules.specs.declared.command.Named.TheVariants as named;
 ghost use Rattle.srcp_rules.specs.Effect.{accepted, done, put_at, term_session};
-ghost use Rattle.srcp_rules.specs.Layout.{IsLayout};
 ghost use Rattle.srcp_rules.specs.Obeyed.{IsObeyed, IsTold, MayObey, Took};
 ghost use Rattle.srcp_rules.specs.State.{IsWhole, fb_device, is_there, power_device, session_device};
 
@@ -246,7 +245,6 @@ fn answer<R: Rows>(rows: &mut R, session: u32, moment: u64, command: &Command) -
 /// there, SET of a lock where there is none) and memory is refused for them, the reply is 500 and
 /// nothing has changed; nothing else takes memory.
 pub fn obey<R: Rows>(rows: &mut R, session: u32, moment: u64, command: &Command) -> Obeyed
-    requires laid_out { IsLayout (R.buses rows.old) }
     requires whole { IsWhole (R.buses rows.old) (R.state rows.old) }
     requires begun { IsTrue (is_there (session_device session) (R.state rows.old)) }
     requires command { IsCommandOf (R.buses rows.old) command.now }
