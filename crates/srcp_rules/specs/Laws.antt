@@ -1,0 +1,130 @@
+-- What holds of every command, every moment, and every session's beginning and end.
+use Rattle.std.specs.Prelude.{◌≡◌, ℕ, ◌≤◌, ◌<◌, ◌^◌, false, List, [], take, drop, length, IsTrue, Option, Some, None, IfSome}
+use Rattle.std.specs.List.{AllByRecursion}
+use Rattle.srcp_info.specs.declared.change.Code.{Code}
+use Rattle.srcp_info.specs.declared.change.Reply.TheVariants.{Refused}
+use Rattle.srcp_info.specs.declared.value.Mode.{Mode}
+use Rattle.srcp_info.specs.WellFormed.{IsMoment, IsWellFormed, IsWellFormedReply}
+use Rattle.srcp_rules.specs.declared.layout.Bus.{Bus}
+use Rattle.srcp_rules.specs.declared.command.Command.{Command}
+use Rattle.srcp_rules.specs.declared.command.Command.TheVariants.{SetPower, CheckPower, SetGl, CheckGl, SetGa, CheckGa, SetFb, CheckFb, SetLock, CheckLock}
+use Rattle.srcp_rules.specs.State.{State, Update, AddsNoRow, IsRising, IsWhole, is_there, session_device, updated, updated_all}
+use Rattle.srcp_rules.specs.Command.{IsCommandOf}
+use Rattle.srcp_rules.specs.Effect.{Effect, effect}
+use Rattle.srcp_rules.specs.Due.{due, freed, began}
+
+-- ---- what happens to a whole registry
+
+-- a session that has begun gives a whole registry a command of its layout
+pub record IsGiven (buses : List Bus) (state : State) (session moment : ℕ) (command : Command) : Type 0 where
+  pub whole : IsWhole buses state
+  pub begun : IsTrue (is_there (session_device session) state)
+  pub of : IsCommandOf buses command
+  pub now : IsMoment moment
+
+-- a moment comes to a whole registry
+pub record IsMomentOf (buses : List Bus) (state : State) (moment : ℕ) : Type 0 where
+  pub whole : IsWhole buses state
+  pub now : IsMoment moment
+
+-- ---- whole registries
+
+-- an update leaves the keys rising
+abbrev pub UpdatesKeepRising : Type 0
+UpdatesKeepRising = (update : Update) (state : State) → IsRising state → IsRising (updated update state)
+
+-- the updates of a command, taken together, leave the registry whole
+abbrev pub CommandsKeepWhole : Type 0
+CommandsKeepWhole = (buses : List Bus) (state : State) (session moment : ℕ) (command : Command) → IsGiven buses state session moment command
+    → IsWhole buses (updated_all (effect state session moment command).updates state)
+
+-- those of a moment do so one by one: after the first k of them it is whole, and the others are still to come
+abbrev pub MomentsKeepWhole : Type 0
+MomentsKeepWhole = (buses : List Bus) (state : State) (moment k : ℕ) → IsMomentOf buses state moment
+    → IsWhole buses (updated_all (take k (due state moment)) state) × (due (updated_all (take k (due state moment)) state) moment ≡ drop k (due state moment))
+
+-- and those of a session's end
+abbrev pub EndsKeepWhole : Type 0
+EndsKeepWhole = (buses : List Bus) (state : State) (session moment k : ℕ) → IsMomentOf buses state moment
+    → IsWhole buses (updated_all (take k (freed state session moment)) state)
+    × (freed (updated_all (take k (freed state session moment)) state) session moment ≡ drop k (freed state session moment))
+
+-- and a session's beginning
+abbrev pub BeginningsKeepWhole : Type 0
+BeginningsKeepWhole = (buses : List Bus) (state : State) (session moment : ℕ) (mode : Mode) → IsMomentOf buses state moment → 1 ≤ session → session < 2 ^ 32
+    → IsWhole buses (updated (began session moment mode) state)
+
+-- ---- the rows of a device come and go together
+
+-- no Put gives a row to a device that has rows
+abbrev pub AddNoRow : State → List Update → Type 0
+AddNoRow state updates = AllByRecursion (λ update. AddsNoRow state update.change) updates
+
+abbrev pub CommandsAddNoRow : Type 0
+CommandsAddNoRow = (buses : List Bus) (state : State) (session moment : ℕ) (command : Command) → IsWhole buses state → IsCommandOf buses command
+    → AddNoRow state (effect state session moment command).updates
+
+abbrev pub MomentsAddNoRow : Type 0
+MomentsAddNoRow = (buses : List Bus) (state : State) (moment : ℕ) → IsWhole buses state → AddNoRow state (due state moment)
+
+abbrev pub EndsAddNoRow : Type 0
+EndsAddNoRow = (state : State) (session moment : ℕ) → AddNoRow state (freed state session moment)
+
+abbrev pub BeginningsAddNoRow : Type 0
+BeginningsAddNoRow = (buses : List Bus) (state : State) (session moment : ℕ) (mode : Mode) → IsWhole buses state → 1 ≤ session → session < 2 ^ 32
+    → AddsNoRow state (began session moment mode).change
+
+-- ---- what is told
+
+-- a command makes at most 11 changes
+abbrev pub CommandsChangeLittle : Type 0
+CommandsChangeLittle = (buses : List Bus) (state : State) (session moment : ℕ) (command : Command) → IsCommandOf buses command
+    → length (effect state session moment command).updates ≤ 11
+
+-- each of the changes can be written as a line
+abbrev pub CanBeTold : List Update → Type 0
+CanBeTold updates = AllByRecursion (λ update. IsWellFormed update.change) updates
+
+-- the changes of a command can be told, and so can its reply
+abbrev pub CommandsCanBeTold : Type 0
+CommandsCanBeTold = (buses : List Bus) (state : State) (session moment : ℕ) (command : Command) → IsGiven buses state session moment command
+    → CanBeTold (effect state session moment command).updates × IsWellFormedReply (effect state session moment command).reply
+
+abbrev pub MomentsCanBeTold : Type 0
+MomentsCanBeTold = (buses : List Bus) (state : State) (moment : ℕ) → IsMomentOf buses state moment → CanBeTold (due state moment)
+
+abbrev pub EndsCanBeTold : Type 0
+EndsCanBeTold = (buses : List Bus) (state : State) (session moment : ℕ) → IsMomentOf buses state moment → CanBeTold (freed state session moment)
+
+abbrev pub BeginningsCanBeTold : Type 0
+BeginningsCanBeTold = (session moment : ℕ) (mode : Mode) → IsMoment moment → 1 ≤ session → session < 2 ^ 32 → IsWellFormed (began session moment mode).change
+
+-- ---- what a command does not do
+
+-- a refusal changes nothing and ends nothing
+pub record ChangesNothing (did : Effect) : Type 0 where
+  pub updates : did.updates ≡ []
+  pub ends : did.ends ≡ false
+
+abbrev pub RefusalsChangeNothing : Type 0
+RefusalsChangeNothing = (state : State) (session moment : ℕ) (command : Command) (code : Code) → (effect state session moment command).reply ≡ Refused code
+    → ChangesNothing (effect state session moment command)
+
+-- the SET that a CHECK is about
+abbrev pub set_of : Command → Option Command
+set_of (CheckPower bus on text) = Some (SetPower bus on text)
+set_of (CheckGl bus address mode v vmax functions) = Some (SetGl bus address mode v vmax functions)
+set_of (CheckGa bus address port on time) = Some (SetGa bus address port on time)
+set_of (CheckFb bus port on) = Some (SetFb bus port on)
+set_of (CheckLock bus group address seconds) = Some (SetLock bus group address seconds)
+set_of other = None
+
+-- the one command answers as the other, and changes nothing
+pub record AnswersAs (check set : Effect) : Type 0 where
+  pub reply : check.reply ≡ set.reply
+  pub nothing : ChangesNothing check
+
+-- CHECK answers what SET would, and changes nothing
+abbrev pub ChecksAnswerAsSets : Type 0
+ChecksAnswerAsSets = (state : State) (session moment : ℕ) (command : Command)
+    → IfSome (set_of command) (λ set. AnswersAs (effect state session moment command) (effect state session moment set))
