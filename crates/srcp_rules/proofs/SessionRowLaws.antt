@@ -1,11 +1,11 @@
 -- The row of a session that begins, whatever its id.
-use Rattle.std.specs.Prelude.{◌≡◌, ℕ, ◌≤◌, ◌<◌, ◌^◌, List}
+use Rattle.std.specs.Prelude.{ℕ, ◌≤◌, ◌<◌, ◌^◌, List}
 use Rattle.std.proofs.Common.{refl, arith}
 use Rattle.srcp_info.specs.declared.value.Mode.{Mode}
 use Rattle.srcp_info.specs.Key.{first_key}
 use Rattle.srcp_info.specs.WellFormed.{IsMoment, IsWellFormed}
 use Rattle.srcp_rules.specs.declared.layout.Bus.{Bus}
-use Rattle.srcp_rules.specs.Layout.{IsKeyOf, row_count}
+use Rattle.srcp_rules.specs.Layout.{IsKeyOf}
 use Rattle.srcp_rules.specs.State.{State, AddsNoRow, IsWhole, session_device, updated}
 use Rattle.srcp_rules.specs.Due.{began}
 use Rattle.srcp_rules.proofs.AddingLaws.{session_rows}

@@ -6,11 +6,12 @@ use Rattle.srcp_info.specs.declared.change.Reply.TheVariants.{Refused}
 use Rattle.srcp_info.specs.declared.value.Mode.{Mode}
 use Rattle.srcp_info.specs.WellFormed.{IsMoment, IsWellFormed, IsWellFormedReply}
 use Rattle.srcp_rules.specs.declared.layout.Bus.{Bus}
+use Rattle.srcp_rules.specs.declared.command.Lockable.{Lockable}
 use Rattle.srcp_rules.specs.declared.command.Command.{Command}
 use Rattle.srcp_rules.specs.declared.command.Command.TheVariants.{SetPower, CheckPower, SetGl, CheckGl, SetGa, CheckGa, SetFb, CheckFb, SetLock, CheckLock}
-use Rattle.srcp_rules.specs.State.{State, Update, AddsNoRow, IsRising, IsWhole, is_there, session_device, updated, updated_all}
+use Rattle.srcp_rules.specs.State.{State, Update, AddsNoRow, IsRising, IsWhole, row_at, is_there, key_at, session_device, device_in, lock_on, updated, updated_all}
 use Rattle.srcp_rules.specs.Command.{IsCommandOf}
-use Rattle.srcp_rules.specs.Effect.{Effect, effect}
+use Rattle.srcp_rules.specs.Effect.{Effect, effect, is_locked}
 use Rattle.srcp_rules.specs.Due.{due, freed, began}
 
 -- ---- what happens to a whole registry
@@ -128,3 +129,15 @@ pub record AnswersAs (check set : Effect) : Type 0 where
 abbrev pub ChecksAnswerAsSets : Type 0
 ChecksAnswerAsSets = (state : State) (session moment : ℕ) (command : Command)
     → IfSome (set_of command) (λ set. AnswersAs (effect state session moment command) (effect state session moment set))
+
+-- ---- locks
+
+-- the rows of the device, and of its lock, are as before
+pub record IsKept (group : Lockable) (bus address : ℕ) (before after : State) : Type 0 where
+  pub device : (port : ℕ) → row_at (key_at (device_in group bus address) port) after ≡ row_at (key_at (device_in group bus address) port) before
+  pub lock : (port : ℕ) → row_at (key_at (lock_on group bus address) port) after ≡ row_at (key_at (lock_on group bus address) port) before
+
+-- no command of a session changes a device, or its lock, that another session has locked
+abbrev pub LocksHold : Type 0
+LocksHold = (state : State) (session moment : ℕ) (command : Command) (group : Lockable) (bus address : ℕ) → IsTrue (is_locked state session group bus address)
+    → IsKept group bus address state (updated_all (effect state session moment command).updates state)

@@ -4,7 +4,7 @@
 ghost use Rattle.srcp_rules.specs.Laws.{UpdatesKeepRising, CommandsKeepWhole, MomentsKeepWhole, EndsKeepWhole, BeginningsKeepWhole};
 ghost use Rattle.srcp_rules.specs.Laws.{CommandsAddNoRow, MomentsAddNoRow, EndsAddNoRow, BeginningsAddNoRow, CommandsChangeLittle};
 ghost use Rattle.srcp_rules.specs.Laws.{CommandsCanBeTold, MomentsCanBeTold, EndsCanBeTold, BeginningsCanBeTold};
-ghost use Rattle.srcp_rules.specs.Laws.{RefusalsChangeNothing, ChecksAnswerAsSets};
+ghost use Rattle.srcp_rules.specs.Laws.{RefusalsChangeNothing, ChecksAnswerAsSets, LocksHold};
 
 /// Each update leaves the keys rising.
 pub fn updates_keep_rising()
@@ -84,4 +84,9 @@ pub fn refusals_change_nothing()
 /// CHECK answers what SET would, and changes nothing.
 pub fn checks_answer_as_sets()
     ensures { ChecksAnswerAsSets }
+{}
+
+/// No command of a session changes a device, or its lock, that another session has locked.
+pub fn locks_hold()
+    ensures { LocksHold }
 {}
