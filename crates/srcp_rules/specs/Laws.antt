@@ -1,18 +1,25 @@
 -- What holds of every command, every moment, and every session's beginning and end.
-use Rattle.std.specs.Prelude.{◌≡◌, ℕ, ◌≤◌, ◌<◌, ◌^◌, false, List, [], take, drop, length, IsTrue, Option, Some, None, IfSome}
+use Rattle.std.specs.Prelude.{◌≡◌, ℕ, ◌+◌, ◌*◌, ◌≤◌, ◌<◌, ◌^◌, Bool, true, false, nat_le, if◌then◌else◌, List, [], take, drop, length, IsTrue, Option, Some, None, IfSome}
 use Rattle.std.specs.List.{AllByRecursion}
+use Rattle.std.specs.Option.{option_map_or}
+use Rattle.srcp_info.specs.declared.key.Key.{Key}
+use Rattle.srcp_info.specs.declared.value.Value.{Value}
+use Rattle.srcp_info.specs.declared.value.Value.TheVariants as value
+use Rattle.srcp_info.specs.declared.change.Row.{Row}
+use Rattle.srcp_info.specs.Key.{first_key}
 use Rattle.srcp_info.specs.declared.change.Code.{Code}
-use Rattle.srcp_info.specs.declared.change.Reply.TheVariants.{Refused}
+use Rattle.srcp_info.specs.declared.change.Reply.TheVariants.{Accepted, Refused}
 use Rattle.srcp_info.specs.declared.value.Mode.{Mode}
 use Rattle.srcp_info.specs.WellFormed.{IsMoment, IsWellFormed, IsWellFormedReply}
 use Rattle.srcp_rules.specs.declared.layout.Bus.{Bus}
 use Rattle.srcp_rules.specs.declared.command.Lockable.{Lockable}
+use Rattle.srcp_rules.specs.declared.command.Lockable.TheVariants as lockable
 use Rattle.srcp_rules.specs.declared.command.Command.{Command}
 use Rattle.srcp_rules.specs.declared.command.Command.TheVariants.{SetPower, CheckPower, SetGl, CheckGl, SetGa, CheckGa, SetFb, CheckFb, SetLock, CheckLock}
 use Rattle.srcp_rules.specs.State.{State, Update, AddsNoRow, IsRising, IsWhole, row_at, is_there, key_at, session_device, device_in, lock_on, updated, updated_all}
 use Rattle.srcp_rules.specs.Command.{IsCommandOf}
-use Rattle.srcp_rules.specs.Effect.{Effect, effect, is_locked}
-use Rattle.srcp_rules.specs.Due.{due, freed, began}
+use Rattle.srcp_rules.specs.Effect.{Effect, effect, is_locked, row_put, port_end, lock_end, moment_after}
+use Rattle.srcp_rules.specs.Due.{due, freed, began, is_due}
 
 -- ---- what happens to a whole registry
 
@@ -141,3 +148,60 @@ pub record IsKept (group : Lockable) (bus address : ℕ) (before after : State) 
 abbrev pub LocksHold : Type 0
 LocksHold = (state : State) (session moment : ℕ) (command : Command) (group : Lockable) (bus address : ℕ) → IsTrue (is_locked state session group bus address)
     → IsKept group bus address state (updated_all (effect state session moment command).updates state)
+
+-- ---- moments that are due
+
+-- a lock that is due is gone, a port that is due is 0
+abbrev pub fallen : (moment : ℕ) → Key → Value → Option Row
+fallen moment key (value.Lock seconds session) = None
+fallen moment key other = Some (row_put moment key (value.GaPort false) None)
+
+-- what a moment makes of a row: one that is due falls, and any other stays
+abbrev pub comes_to : (moment : ℕ) → Row → Option Row
+comes_to moment row = if is_due moment row then fallen moment row.shown.key row.shown.value else Some row
+
+-- a moment makes this of the row at each key, whoever holds what locked
+abbrev pub MomentsCarryOut : Type 0
+MomentsCarryOut = (buses : List Bus) (state : State) (moment : ℕ) (key : Key) → IsMomentOf buses state moment
+    → row_at key (updated_all (due state moment) state) ≡ option_map_or (comes_to moment) (row_at key state) None
+
+abbrev pub port_key : (bus address port : ℕ) → Key
+port_key bus address port = key_at (device_in lockable.Ga bus address) (1 + port)
+
+-- after a SET that is accepted the port has its due moment or none, whatever it had
+abbrev pub PortsAreSet : Type 0
+PortsAreSet = (state : State) (session moment bus address port : ℕ) (on : Bool) (time : Option ℕ) → (effect state session moment (SetGa bus address port on time)).reply ≡ Accepted
+    → row_at (port_key bus address port) (updated_all (effect state session moment (SetGa bus address port on time)).updates state)
+    ≡ Some (row_put moment (port_key bus address port) (value.GaPort on) (port_end moment on time))
+
+-- and so has a lock
+abbrev pub LocksAreSet : Type 0
+LocksAreSet = (state : State) (session moment : ℕ) (group : Lockable) (bus address seconds : ℕ) → (effect state session moment (SetLock bus group address seconds)).reply ≡ Accepted
+    → row_at (first_key (lock_on group bus address)) (updated_all (effect state session moment (SetLock bus group address seconds)).updates state)
+    ≡ Some (row_put moment (first_key (lock_on group bus address)) (value.Lock seconds session) (lock_end moment seconds))
+
+-- a port that was set to 1 for some milliseconds is 1 at each moment before their end, and 0 at each from it on
+abbrev pub PortsFallBack : Type 0
+PortsFallBack = (buses : List Bus) (state : State) (session moment later bus address port milliseconds : ℕ) → IsGiven buses state session moment (SetGa bus address port true (Some milliseconds)) → IsMoment later
+    → 0 < milliseconds → (effect state session moment (SetGa bus address port true (Some milliseconds))).reply ≡ Accepted
+    → (after : State) → after ≡ updated_all (effect state session moment (SetGa bus address port true (Some milliseconds))).updates state
+    → row_at (port_key bus address port) (updated_all (due after later) after)
+    ≡ (if nat_le (moment_after moment milliseconds) later then Some (row_put later (port_key bus address port) (value.GaPort false) None)
+    else Some (row_put moment (port_key bus address port) (value.GaPort true) (Some (moment_after moment milliseconds))))
+
+-- a lock that was set for some seconds is there at each moment before their end, and gone at each from it on
+abbrev pub LocksRunOut : Type 0
+LocksRunOut = (buses : List Bus) (state : State) (session moment later : ℕ) (group : Lockable) (bus address seconds : ℕ) → IsGiven buses state session moment (SetLock bus group address seconds) → IsMoment later
+    → 0 < seconds → (effect state session moment (SetLock bus group address seconds)).reply ≡ Accepted
+    → (after : State) → after ≡ updated_all (effect state session moment (SetLock bus group address seconds)).updates state
+    → row_at (first_key (lock_on group bus address)) (updated_all (due after later) after)
+    ≡ (if nat_le (moment_after moment (1000 * seconds)) later then None
+    else Some (row_put moment (first_key (lock_on group bus address)) (value.Lock seconds session) (Some (moment_after moment (1000 * seconds)))))
+
+-- so many milliseconds later, as long as there is such a moment, and else the greatest one
+pub record EndsInTime (moment milliseconds : ℕ) : Type 0 where
+  pub within : moment + milliseconds < 2 ^ 64 → moment_after moment milliseconds ≡ moment + milliseconds
+  pub beyond : 2 ^ 64 ≤ moment + milliseconds → moment_after moment milliseconds + 1 ≡ 2 ^ 64
+
+abbrev pub MomentsEnd : Type 0
+MomentsEnd = (moment milliseconds : ℕ) → EndsInTime moment milliseconds

@@ -5,6 +5,7 @@ ghost use Rattle.srcp_rules.specs.Laws.{UpdatesKeepRising, CommandsKeepWhole, Mo
 ghost use Rattle.srcp_rules.specs.Laws.{CommandsAddNoRow, MomentsAddNoRow, EndsAddNoRow, BeginningsAddNoRow, CommandsChangeLittle};
 ghost use Rattle.srcp_rules.specs.Laws.{CommandsCanBeTold, MomentsCanBeTold, EndsCanBeTold, BeginningsCanBeTold};
 ghost use Rattle.srcp_rules.specs.Laws.{RefusalsChangeNothing, ChecksAnswerAsSets, LocksHold};
+ghost use Rattle.srcp_rules.specs.Laws.{MomentsCarryOut, PortsAreSet, LocksAreSet, PortsFallBack, LocksRunOut, MomentsEnd};
 
 /// Each update leaves the keys rising.
 pub fn updates_keep_rising()
@@ -89,4 +90,37 @@ pub fn checks_answer_as_sets()
 /// No command of a session changes a device, or its lock, that another session has locked.
 pub fn locks_hold()
     ensures { LocksHold }
+{}
+
+/// Of the row at each key a moment makes what is due: a lock is gone, a port is 0, whoever holds
+/// what locked. All other rows stay.
+pub fn moments_carry_out()
+    ensures { MomentsCarryOut }
+{}
+
+/// After a SET of a port that is accepted, the port has its due moment or none, whatever it had.
+pub fn ports_are_set()
+    ensures { PortsAreSet }
+{}
+
+/// So has a lock after its SET.
+pub fn locks_are_set()
+    ensures { LocksAreSet }
+{}
+
+/// A port that was set to 1 for a time is 1 at each moment before its end, and 0 at each from it
+/// on.
+pub fn ports_fall_back()
+    ensures { PortsFallBack }
+{}
+
+/// A lock that was set for a time is there at each moment before its end, and gone at each from it
+/// on.
+pub fn locks_run_out()
+    ensures { LocksRunOut }
+{}
+
+/// A moment past the greatest is the greatest.
+pub fn moments_end()
+    ensures { MomentsEnd }
 {}
