@@ -5,11 +5,11 @@ use Rattle.std.specs.List.{AllByRecursion}
 use Rattle.srcp_info.specs.declared.change.Row.{Row}
 use Rattle.srcp_info.specs.Key.{device_of}
 use Rattle.srcp_info.specs.WellFormed.{IsMoment}
+use Rattle.srcp_info.proofs.ClientLaws.{all_append}
 use Rattle.srcp_rules.specs.declared.layout.Bus.{Bus}
 use Rattle.srcp_rules.specs.State.{State, Update, AddsNoRow, IsWhole, is_there, session_device, updated, updated_all}
 use Rattle.srcp_rules.specs.Effect.{gone_at, removal}
 use Rattle.srcp_rules.specs.Due.{due, freed, is_held_by}
-use Rattle.srcp_rules.proofs.FindLaws.{each-append}
 use Rattle.srcp_rules.proofs.DueStepLaws.{due_later}
 use Rattle.srcp_rules.proofs.FreedStepLaws.{freed_later}
 
@@ -51,5 +51,5 @@ own_adds state session moment false = tt
 
 pub freed_adds : (state : State) (session moment : ℕ) → AllByRecursion (λ update. AddsNoRow state update.change) (freed state session moment)
 freed_adds state session moment =
-    each-append (λ update. AddsNoRow state update.change) (map (λ row. gone_at moment (device_of row.shown.key)) (filter (is_held_by session) state))
+    all_append (λ update. AddsNoRow state update.change) (map (λ row. gone_at moment (device_of row.shown.key)) (filter (is_held_by session) state))
     (removal state moment (session_device session)) (gone_adds state moment (filter (is_held_by session) state)) (own_adds state session moment (is_there (session_device session) state))

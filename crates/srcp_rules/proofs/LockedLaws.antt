@@ -11,6 +11,8 @@ use Rattle.srcp_info.specs.declared.change.Change.TheVariants.{Put, Gone}
 use Rattle.srcp_info.specs.declared.change.Code.TheVariants.{C414, C415, C416, C418}
 use Rattle.srcp_info.specs.declared.change.Reply.TheVariants.{Accepted}
 use Rattle.srcp_info.specs.Key.{group_place, first_key, key_of, owns}
+use Rattle.srcp_info.proofs.KeyLaws.{owns-device_of}
+use Rattle.srcp_info.proofs.ClientLaws.{all_append}
 use Rattle.srcp_rules.specs.declared.command.Lockable.{Lockable}
 use Rattle.srcp_rules.specs.declared.command.Lockable.TheVariants as lockable
 use Rattle.srcp_rules.specs.declared.command.Command.{Command}
@@ -19,8 +21,7 @@ use Rattle.srcp_rules.specs.State.{State, Update, row_at, is_there, key_at, sess
 use Rattle.srcp_rules.specs.Command.{kept_v}
 use Rattle.srcp_rules.specs.Effect.{effect, refused, done, refusals, is_locked, put_at, gone_at, removal, removals, lock_end, port_end, set_gl, set_ga, set_lock, fresh_gl, fresh_ga, init_device, has_init, functions_after, term_device, term_session}
 use Rattle.srcp_rules.specs.Laws.{IsKept}
-use Rattle.srcp_rules.proofs.KeyLaws.{same_key, same_key-true, owns-true, owns-own}
-use Rattle.srcp_rules.proofs.FindLaws.{each-append}
+use Rattle.srcp_rules.proofs.KeyLaws.{same_key, same_key-true, owns-true}
 use Rattle.srcp_rules.proofs.StateLaws.{row_at-put_other, row_at-without}
 use Rattle.srcp_rules.proofs.StepLaws.{device_group-injective}
 use Rattle.srcp_rules.proofs.EffectLaws.{accepted_updates, checked_updates, showing_updates, choice_updates}
@@ -31,13 +32,13 @@ abbrev AreApart : Device → List Update → Type 0
 AreApart device updates = AllByRecursion (λ update. owns device (key_of update.change) ≡ false) updates
 
 put_apart : (device : Device) (key : Key) (port : ℕ) → owns device key ≡ false → (b : Bool) → same_key key (key_at device port) ≡ b → b ≡ false
-put_apart device key port h true e = absurd (true≢false (sym (owns-own (key_at device port)) ∙ sym (ap (owns device) (same_key-true key (key_at device port) e)) ∙ h))
+put_apart device key port h true e = absurd (true≢false (sym (owns-device_of (key_at device port)) ∙ sym (ap (owns device) (same_key-true key (key_at device port) e)) ∙ h))
 put_apart device key port h false e = refl
 
 gone_apart : (device other : Device) (port : ℕ) → owns device (first_key other) ≡ false → (b : Bool) → owns other (key_at device port) ≡ b → b ≡ false
 gone_apart device other port h true e =
     let same : device ≡ other = owns-true other (key_at device port) e in
-    absurd (true≢false (sym (owns-own (first_key device)) ∙ ap (λ d. owns device (first_key d)) same ∙ h))
+    absurd (true≢false (sym (owns-device_of (first_key device)) ∙ ap (λ d. owns device (first_key d)) same ∙ h))
 gone_apart device other port h false e = refl
 
 apart_by : (device : Device) (port : ℕ) (change : Change) (due : Option ℕ) (state : State) → owns device (key_of change) ≡ false → row_at (key_at device port) (updated_by change due state) ≡ row_at (key_at device port) state
@@ -136,7 +137,7 @@ module _ (state : State) (session moment : ℕ) (g : Lockable) (bus address : �
 
   removals_apart : (h : Lockable) (b a : ℕ) → IsOther h b a → AllApart (removals state moment h b a)
   removals_apart h b a other =
-      each-append IsApart (removal state moment (lock_on h b a)) (removal state moment (device_in h b a))
+      all_append IsApart (removal state moment (lock_on h b a)) (removal state moment (device_in h b a))
       (removal_apart (lock_on h b a) (lock_apart h b a other) (is_there (lock_on h b a) state)) (removal_apart (device_in h b a) (row_apart h b a 0 other) (is_there (device_in h b a) state))
 
   ports_apart : (b a first n : ℕ) → IsOther lockable.Ga b a → AllApart (map (λ port. put_at moment (key_at (device_in lockable.Ga b a) port) (value.GaPort false) None) (range_with_len first n))
@@ -147,7 +148,7 @@ module _ (state : State) (session moment : ℕ) (g : Lockable) (bus address : �
   init_apart h b a init fresh made =
       accepted_updates AllApart tt ((is_locked state session h b a, C414) ∷ []) (cond (has_init state h b a init) [] (removals state moment h b a ++ fresh))
       (λ none. choice_updates AllApart tt (has_init state h b a init) [] (removals state moment h b a ++ fresh) tt
-      (each-append IsApart (removals state moment h b a) fresh (removals_apart h b a (other_device h b a none.0)) (made (other_device h b a none.0))))
+      (all_append IsApart (removals state moment h b a) fresh (removals_apart h b a (other_device h b a none.0)) (made (other_device h b a none.0))))
 
   term_apart : (h : Lockable) (b a : ℕ) → AllApart (done (term_device state session moment h b a)).updates
   term_apart h b a =
