@@ -16,7 +16,8 @@ use Rattle.srcp_rules.specs.declared.command.Lockable.{Lockable}
 use Rattle.srcp_rules.specs.declared.command.Lockable.TheVariants as lockable
 use Rattle.srcp_rules.specs.declared.command.Command.{Command}
 use Rattle.srcp_rules.specs.declared.command.Command.TheVariants.{SetPower, CheckPower, SetGl, CheckGl, SetGa, CheckGa, SetFb, CheckFb, SetLock, CheckLock}
-use Rattle.srcp_rules.specs.State.{State, Update, AddsNoRow, IsRising, IsWhole, row_at, is_there, key_at, session_device, device_in, lock_on, updated, updated_all}
+use Rattle.srcp_rules.specs.Layout.{IsLayout}
+use Rattle.srcp_rules.specs.State.{State, Update, AddsNoRow, IsRising, IsWhole, opening, row_at, is_there, key_at, session_device, device_in, lock_on, updated, updated_all}
 use Rattle.srcp_rules.specs.Command.{IsCommandOf}
 use Rattle.srcp_rules.specs.Effect.{Effect, effect, is_locked, row_put, port_end, lock_end, moment_after}
 use Rattle.srcp_rules.specs.Due.{due, freed, began, is_due}
@@ -36,6 +37,10 @@ pub record IsMomentOf (buses : List Bus) (state : State) (moment : ℕ) : Type 0
   pub now : IsMoment moment
 
 -- ---- whole registries
+
+-- the registry of a layout begins whole
+abbrev pub OpeningsAreWhole : Type 0
+OpeningsAreWhole = (buses : List Bus) (moment : ℕ) → IsLayout buses → IsMoment moment → IsWhole buses (opening buses moment)
 
 -- an update leaves the keys rising
 abbrev pub UpdatesKeepRising : Type 0

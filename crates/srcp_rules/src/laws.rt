@@ -1,11 +1,16 @@
 //! What holds of every command, every moment, and every session's beginning and end. Each function
 //! does nothing: what it ensures is a law.
 
-ghost use Rattle.srcp_rules.specs.Laws.{UpdatesKeepRising, CommandsKeepWhole, MomentsKeepWhole, EndsKeepWhole, BeginningsKeepWhole};
+ghost use Rattle.srcp_rules.specs.Laws.{OpeningsAreWhole, UpdatesKeepRising, CommandsKeepWhole, MomentsKeepWhole, EndsKeepWhole, BeginningsKeepWhole};
 ghost use Rattle.srcp_rules.specs.Laws.{CommandsAddNoRow, MomentsAddNoRow, EndsAddNoRow, BeginningsAddNoRow, CommandsChangeLittle};
 ghost use Rattle.srcp_rules.specs.Laws.{CommandsCanBeTold, MomentsCanBeTold, EndsCanBeTold, BeginningsCanBeTold};
 ghost use Rattle.srcp_rules.specs.Laws.{RefusalsChangeNothing, ChecksAnswerAsSets, LocksHold};
 ghost use Rattle.srcp_rules.specs.Laws.{MomentsCarryOut, PortsAreSet, LocksAreSet, PortsFallBack, LocksRunOut, MomentsEnd};
+
+/// The registry of a layout begins whole.
+pub fn openings_are_whole()
+    ensures { OpeningsAreWhole }
+{}
 
 /// Each update leaves the keys rising.
 pub fn updates_keep_rising()
