@@ -9,9 +9,10 @@ use Rattle.std.specs.declared.cmp.Ordering.TheVariants.{Less}
 use Rattle.std.proofs.lemmas.Bool.{ltb-true, ltb-false, lt-ltb, le-ltb, eqb-false}
 use Rattle.std.proofs.lemmas.List.Folds.{list_any_at}
 use Rattle.std.proofs.lemmas.Map.Keys.{sorted_from_strictly_increasing, IsStrictlyIncreasing-from_sorted}
+use Rattle.srcp_info.proofs.ClientLaws.{all_append, all_filter, all_kept}
 use Rattle.srcp_rules.specs.declared.layout.Bus.{Bus}
 use Rattle.srcp_rules.specs.Layout.{IsBus, IsLayout, has_number, with_bus}
-use Rattle.srcp_rules.proofs.FindLaws.{each-append, each-filter, each_passing, each-weaken}
+use Rattle.srcp_rules.proofs.FindLaws.{each-weaken}
 use Rattle.srcp_rules.proofs.OpeningLaws.{Rising, rising_buses}
 use Rattle.srcp_rules.proofs.PlaceLaws.{front_each, back_each, filter_front, filter_back, Follows, partitioned}
 
@@ -41,13 +42,13 @@ rises_step false b bs a r = r
 
 rises-filter : (p : Bus → Bool) (bs : List Bus) → Rising bs → Rising (filter p bs)
 rises-filter p [] h = tt
-rises-filter p (b ∷ bs) h = rises_step (p b) b (filter p bs) (each-filter (λ other. b.number < other.number) p bs h.0) (rises-filter p bs h.1)
+rises-filter p (b ∷ bs) h = rises_step (p b) b (filter p bs) (all_filter (λ other. b.number < other.number) p bs h.0) (rises-filter p bs h.1)
 
 rises_join : (xs : List Bus) (b : Bus) (ys : List Bus) → Rising xs → AllByRecursion (λ x. x.number < b.number) xs → AllByRecursion (λ y. b.number < y.number) ys → Rising ys → Rising (xs ++ b ∷ ys)
 rises_join [] b ys r low high s = (high, s)
 rises_join (x ∷ xs) b ys r low high s =
     let first : x.number < b.number = low.0 in (
-      each-append (λ y. x.number < y.number) xs (b ∷ ys) r.0 (low.0, each-weaken {P = λ y. b.number < y.number} (λ y h. omega (arith, h, first)) ys high),
+      all_append (λ y. x.number < y.number) xs (b ∷ ys) r.0 (low.0, each-weaken {P = λ y. b.number < y.number} (λ y h. omega (arith, h, first)) ys high),
       rises_join xs b ys r.1 low.1 high s,
     )
 
@@ -95,11 +96,11 @@ module _ (bus : Bus) where
   IsLayout-with_bus buses layout fits =
       let rises = rising_buses buses (sorted_from_strictly_increasing (map (λ other. other.number) buses) layout.rising) in
       record {
-        each = each-append IsBus (filter below buses) (bus ∷ filter above buses) (each-filter IsBus below buses layout.each) (fits, each-filter IsBus above buses layout.each);
+        each = all_append IsBus (filter below buses) (bus ∷ filter above buses) (all_filter IsBus below buses layout.each) (fits, all_filter IsBus above buses layout.each);
         rising = IsStrictlyIncreasing-from_sorted (map (λ other. other.number) (with_bus bus buses))
             (rises_sorted (with_bus bus buses)
             (rises_join (filter below buses) bus (filter above buses) (rises-filter below buses rises)
-            (each_passing (λ x. x.number < bus.number) below (λ x e. ltb-true x.number bus.number e) buses)
-            (each_passing (λ y. bus.number < y.number) above (λ y e. ltb-true bus.number y.number e) buses)
+            (all_kept (λ x. x.number < bus.number) below (λ x e. ltb-true x.number bus.number e) buses)
+            (all_kept (λ y. bus.number < y.number) above (λ y e. ltb-true bus.number y.number e) buses)
             (rises-filter above buses rises)));
       }

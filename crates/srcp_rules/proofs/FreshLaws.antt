@@ -38,9 +38,9 @@ module _ (buses : List Bus) (state : State) (session moment : ℕ) (now : IsMome
         keys = ap (λ n. map (key_at device) (range_with_len 0 n)) (sym count);
         few = omega arith;
         each = (
-          IsRowOf-put buses may.laid_out (key_at device 0) moment (value.GlInit letter version steps functions) None some now fits tt,
+          IsRowOf-put buses may.whole.laid_out (key_at device 0) moment (value.GlInit letter version steps functions) None some now fits tt,
           (
-            IsRowOf-put buses may.laid_out (key_at device 1) moment (value.GlState 1 0 0 (replicate functions false)) None (omega (arith, count)) now
+            IsRowOf-put buses may.whole.laid_out (key_at device 1) moment (value.GlState 1 0 0 (replicate functions false)) None (omega (arith, count)) now
                 (refl, refl, (omega arith, omega arith, omega arith, refl, λ e. absurd (omega (arith, e))), omega (arith, most, long)) tt,
             tt,
           ),
@@ -85,7 +85,7 @@ module _ (buses : List Bus) (state : State) (session moment : ℕ) (now : IsMome
       let device = device_in lockable.Ga bus address in
       let count : row_count buses device ≡ 1 + ports = may.of.0 in
       let few : ports ≤ 8 = may.of.1 in (
-        IsRowOf-put buses may.laid_out (key_at device first) moment (value.GaPort false) None (omega (arith, count)) now (refl, (low, omega arith)) tt,
+        IsRowOf-put buses may.whole.laid_out (key_at device first) moment (value.GaPort false) None (omega (arith, count)) now (refl, (low, omega arith)) tt,
         each_port bus address letter ports may (first + 1) n (omega arith) (omega arith),
       )
 
@@ -101,7 +101,7 @@ module _ (buses : List Bus) (state : State) (session moment : ℕ) (now : IsMome
         keys = ap (λ keys. key_at device 0 ∷ keys) (keys-ports device 1 ports) ∙ ap (λ n. map (key_at device) (range_with_len 0 n)) (sym more);
         few = omega (arith, few, long);
         each = (
-          IsRowOf-put buses may.laid_out (key_at device 0) moment (value.GaInit letter) None (omega (arith, count)) now (refl, refl) tt,
+          IsRowOf-put buses may.whole.laid_out (key_at device 0) moment (value.GaInit letter) None (omega (arith, count)) now (refl, refl) tt,
           each_port bus address letter ports may 1 ports (omega arith) (omega arith),
         );
       }

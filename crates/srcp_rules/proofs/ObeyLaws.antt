@@ -64,8 +64,8 @@ module _ (buses : List Bus) (state : State) (session moment : ℕ) (now : IsMome
   pub lock_row : (g : Lockable) (bus address seconds : ℕ) → MayObey buses state session (SetLock bus g address seconds)
       → IsRowOf buses (row_put moment (first_key (lock_on g bus address)) (value.Lock seconds session) (lock_end moment seconds))
   lock_row g bus address seconds may =
-      IsRowOf-put buses may.laid_out (first_key (lock_on g bus address)) moment (value.Lock seconds session) (lock_end moment seconds) may.of.0 now
-      (lock_value buses may.laid_out state may.whole session moment may.begun now g seconds may.of.1) (lock_end_fits moment seconds session)
+      IsRowOf-put buses may.whole.laid_out (first_key (lock_on g bus address)) moment (value.Lock seconds session) (lock_end moment seconds) may.of.0 now
+      (lock_value buses may.whole.laid_out state may.whole session moment may.begun now g seconds may.of.1) (lock_end_fits moment seconds session)
 
   -- all rows of a device that is there are there
   pub port_there : (device : Device) → IsWhole buses state → is_there device state ≡ true → (port : ℕ) → IsKeyOf buses (key_at device port) → has_row (key_at device port) state ≡ true
@@ -75,7 +75,7 @@ module _ (buses : List Bus) (state : State) (session moment : ℕ) (now : IsMome
   pub ga_row : (bus address port : ℕ) (on : Bool) (time : Option ℕ) → MayObey buses state session (SetGa bus address port on time)
       → IsRowOf buses (row_put moment (key_at (device_in lockable.Ga bus address) (1 + port)) (value.GaPort on) (port_end moment on time))
   ga_row bus address port on time may =
-      IsRowOf-put buses may.laid_out (key_at (device_in lockable.Ga bus address) (1 + port)) moment (value.GaPort on) (port_end moment on time) may.of.0.0 now may.of.0.1 (port_end_fits moment on time)
+      IsRowOf-put buses may.whole.laid_out (key_at (device_in lockable.Ga bus address) (1 + port)) moment (value.GaPort on) (port_end moment on time) may.of.0.0 now may.of.0.1 (port_end_fits moment on time)
 
   -- a device that may be set is there
   pub set_there : (device : Device) (others : List (Bool × Code)) → None ≡ first_refusal ((not (is_there device state), C416) ∷ others) → is_there device state ≡ true
@@ -88,14 +88,14 @@ module _ (buses : List Bus) (state : State) (session moment : ℕ) (now : IsMome
       let device = device_in lockable.Gl bus address in
       let before = functions_of bus address state in
       let after = functions_after functions before in
-      let same : length after ≡ length before = as_many buses may.laid_out state may.whole session moment may.begun now functions before short in
-      let most : length before ≤ 29 = found_few buses may.laid_out state may.whole session moment may.begun now (key_at device 1) (row_at (key_at device 1) state) refl in
+      let same : length after ≡ length before = as_many buses may.whole.laid_out state may.whole session moment may.begun now functions before short in
+      let most : length before ≤ 29 = found_few buses may.whole.laid_out state may.whole session moment may.begun now (key_at device 1) (row_at (key_at device 1) state) refl in
       let few : length after ≤ 29 = omega (arith, most, same) in
       let fits = may.of.1 in
-      IsRowOf-put buses may.laid_out (key_at device 1) moment (value.GlState mode (kept_v mode v) vmax after) None may.of.0 now (fits.0, fits.1, fits.2, few) tt
+      IsRowOf-put buses may.whole.laid_out (key_at device 1) moment (value.GlState mode (kept_v mode v) vmax after) None may.of.0 now (fits.0, fits.1, fits.2, few) tt
 
   pub power_row : (bus : ℕ) (on : Bool) (text : List ℕ) → MayObey buses state session (SetPower bus on text) → IsRowOf buses (row_put moment (first_key (power_device bus)) (value.Power on text) None)
-  power_row bus on text may = IsRowOf-put buses may.laid_out (first_key (power_device bus)) moment (value.Power on text) None may.of.0 now may.of.1 tt
+  power_row bus on text may = IsRowOf-put buses may.whole.laid_out (first_key (power_device bus)) moment (value.Power on text) None may.of.0 now may.of.1 tt
 
   pub fb_row : (bus port : ℕ) (on : Bool) → MayObey buses state session (SetFb bus port on) → IsRowOf buses (row_put moment (first_key (fb_device bus port)) (value.Fb on) None)
-  fb_row bus port on may = IsRowOf-put buses may.laid_out (first_key (fb_device bus port)) moment (value.Fb on) None may.of now (refl, refl) tt
+  fb_row bus port on may = IsRowOf-put buses may.whole.laid_out (first_key (fb_device bus port)) moment (value.Fb on) None may.of now (refl, refl) tt

@@ -8,13 +8,15 @@ use Rattle.srcp_info.specs.declared.key.Key.{Key}
 use Rattle.srcp_info.specs.declared.key.Device.{Device}
 use Rattle.srcp_info.specs.declared.change.Row.{Row}
 use Rattle.srcp_info.specs.Key.{key_cmp, device_of, first_key, owns}
+use Rattle.srcp_info.proofs.KeyLaws.{key_cmp_total}
+use Rattle.srcp_info.proofs.ClientLaws.{rising_put, rising_filter}
 use Rattle.srcp_rules.specs.declared.layout.Bus.{Bus}
 use Rattle.srcp_rules.specs.Layout.{row_count}
 use Rattle.srcp_rules.specs.State.{State, IsRising, IsWhole, IsRowOf, row_at, has_row, is_there, key_at, put_row, put_of, without, updated_all}
 use Rattle.srcp_rules.specs.Rows.{AreRowsOf, put_rows}
-use Rattle.srcp_rules.proofs.KeyLaws.{same_key, same_key-itself, same_key-true, key_cmp-total, owns-true}
+use Rattle.srcp_rules.proofs.KeyLaws.{same_key, same_key-itself, same_key-true, owns-true}
 use Rattle.srcp_rules.proofs.FindLaws.{found_holds}
-use Rattle.srcp_rules.proofs.StateLaws.{row_key, row_at_key, row_at-first, row_at-put_row, row_at-without, rising-put_by, rising-filter, has_row-put_row}
+use Rattle.srcp_rules.proofs.StateLaws.{row_key, row_at_key, row_at-first, row_at-put_row, row_at-without, has_row-put_row}
 use Rattle.srcp_rules.proofs.OpeningLaws.{each_unmapped, each_and}
 
 -- ---- two registries with the same rows
@@ -34,7 +36,7 @@ first_or_above row other state rising key e false s =
     found_holds (λ later. key_cmp row.shown.key later.shown.key ≡ Less) (λ later. same_key later.shown.key key) state rising.0 other (sym (ap (λ b. cond b (Some row) (row_at key state)) s) ∙ e)
 
 below_both : (a b : Key) → key_cmp a b ≡ Less → key_cmp b a ≡ Less → ⊥
-below_both a b e f = let bad : Less ≡ Greater = sym e ∙ key_cmp-total.antisymm a b ∙ ap ordering_reverse f in cc
+below_both a b e f = let bad : Less ≡ Greater = sym e ∙ key_cmp_total.antisymm a b ∙ ap ordering_reverse f in cc
 
 -- the first rows of two registries with the same rows are one
 same_first : (x y : Row) (xs ys : State) → IsRising (x ∷ xs) → IsRising (y ∷ ys) → ((key : Key) → row_at key (x ∷ xs) ≡ row_at key (y ∷ ys)) → x ≡ y
@@ -82,7 +84,7 @@ updated_all-puts (row ∷ rows) state = updated_all-puts rows (put_row row state
 
 pub rising-put_rows : (rows : List Row) (state : State) → IsRising state → IsRising (put_rows rows state)
 rising-put_rows [] state h = h
-rising-put_rows (row ∷ rows) state h = rising-put_rows rows (put_row row state) (rising-put_by row_key row state h)
+rising-put_rows (row ∷ rows) state h = rising-put_rows rows (put_row row state) (rising_put row_key row state h)
 
 pub has_row-put_rows : (key : Key) (rows : List Row) (state : State) → has_row key state ≡ true → has_row key (put_rows rows state) ≡ true
 has_row-put_rows key [] state h = h
@@ -167,5 +169,5 @@ module _ (buses : List Bus) (device : Device) (rows : List Row) (all : AreRowsOf
   pub put_rows-without : put_rows rows (without device state) ≡ put_rows rows state
   put_rows-without =
       same_rows (put_rows rows (without device state)) (put_rows rows state)
-      (rising-put_rows rows (without device state) (rising-filter row_key (λ row. not (owns device row.shown.key)) state whole.rising))
+      (rising-put_rows rows (without device state) (rising_filter row_key (λ row. not (owns device row.shown.key)) state whole.rising))
       (rising-put_rows rows state whole.rising) (λ key. look key (puts_at key rows) refl)

@@ -13,11 +13,11 @@ use Rattle.srcp_info.specs.declared.key.Key.{Key}
 use Rattle.srcp_info.specs.declared.change.Row.{Row}
 use Rattle.srcp_info.specs.declared.change.Cursor.{Cursor}
 use Rattle.srcp_info.specs.Key.{key_cmp, is_after, has_reached}
-use Rattle.srcp_info.proofs.KeyLaws.{key_tie}
+use Rattle.srcp_info.proofs.KeyLaws.{key_tie, key_cmp_total}
 use Rattle.srcp_info.proofs.ClientLaws.{put_between, put_over, reached_below}
 use Rattle.srcp_rules.specs.State.{State, IsRising, row_at, put_row}
 use Rattle.srcp_rules.specs.Rows.{IsAt, IsGap}
-use Rattle.srcp_rules.proofs.KeyLaws.{same_key, key_cmp-total}
+use Rattle.srcp_rules.proofs.KeyLaws.{same_key}
 use Rattle.srcp_rules.proofs.FindLaws.{each-weaken}
 use Rattle.srcp_rules.proofs.StateLaws.{row_key, row_at-first, row_at-later}
 use Rattle.srcp_rules.proofs.PlaceLaws.{front_each, back_each, each_at, Follows, partitioned, non_decreasing}
@@ -37,12 +37,12 @@ greatest Equal = omega arith
 greatest Greater = omega arith
 
 index_step : (key a b : Key) → key_cmp a b ≡ Less → (q : Ordering) → key_cmp b key ≡ q → ordering_index (key_cmp a key) ≤ ordering_index q
-index_step key a b less Less e = subst (λ r. ordering_index r ≤ ordering_index Less) (sym (key_cmp-total.trans a b key less e)) (omega arith)
+index_step key a b less Less e = subst (λ r. ordering_index r ≤ ordering_index Less) (sym (key_cmp_total.trans a b key less e)) (omega arith)
 index_step key a b less Equal e = subst (λ r. ordering_index r ≤ ordering_index Equal) (sym (ap (key_cmp a) (sym (key_tie b key e)) ∙ less)) (omega arith)
 index_step key a b less Greater e = greatest (key_cmp a key)
 
 turned : (a b : Key) → key_cmp a b ≡ Greater → key_cmp b a ≡ Less
-turned a b e = key_cmp-total.antisymm b a ∙ ap ordering_reverse e
+turned a b e = key_cmp_total.antisymm b a ∙ ap ordering_reverse e
 
 module _ (state : State) (rising : IsRising state) (key : Key) where
   compared : IsNonDecreasingBy (λ row. ordering_index (key_cmp row.shown.key key)) state
@@ -81,7 +81,7 @@ row_at-gap state key place gap =
     ∙ find-append (λ row. same_key row.shown.key key) (take place state) (drop place state)
     ∙ (λ i. option_or (none_tie (λ row. same_key row.shown.key key) (take place state) (each-weaken {P = λ row. key_cmp row.shown.key key ≡ Less} (λ row h. ap is_eq h) (take place state) gap.below) i)
     (none_tie (λ row. same_key row.shown.key key) (drop place state)
-    (each-weaken {P = λ row. key_cmp key row.shown.key ≡ Less} (λ row h. ap is_eq (key_cmp-total.antisymm row.shown.key key ∙ ap ordering_reverse h)) (drop place state) gap.above) i))
+    (each-weaken {P = λ row. key_cmp key row.shown.key ≡ Less} (λ row h. ap is_eq (key_cmp_total.antisymm row.shown.key key ∙ ap ordering_reverse h)) (drop place state) gap.above) i))
 
 -- ---- writing
 

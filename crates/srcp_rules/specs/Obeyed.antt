@@ -5,7 +5,6 @@ use Rattle.srcp_info.specs.declared.change.Code.TheVariants.{C500}
 use Rattle.srcp_rules.specs.declared.obeyed.Obeyed.{Obeyed}
 use Rattle.srcp_rules.specs.declared.command.Command.{Command}
 use Rattle.srcp_rules.specs.declared.layout.Bus.{Bus}
-use Rattle.srcp_rules.specs.Layout.{IsLayout}
 use Rattle.srcp_rules.specs.Command.{IsCommandOf}
 use Rattle.srcp_rules.specs.State.{State, IsWhole, is_there, session_device, updated_all}
 use Rattle.srcp_rules.specs.Effect.{Effect, effect, adds_rows, refused, accepted}
@@ -36,7 +35,6 @@ IsObeyed before after session moment command obeyed = TookUnless (adds_rows befo
 
 -- what a command may be obeyed under: the registry is whole, the session has begun, the command is one of the layout
 pub record MayObey (buses : List Bus) (state : State) (session : ℕ) (command : Command) : Type 0 where
-  pub laid_out : IsLayout buses
   pub whole : IsWhole buses state
   pub begun : IsTrue (is_there (session_device session) state)
   pub of : IsCommandOf buses command

@@ -4,11 +4,11 @@ ghost use Rattle.srcp_info.specs.Key.{first_key};
 ghost use Rattle.srcp_info.specs.WellFormed.{IsWellFormed, IsWellFormedReply};
 ghost use Rattle.srcp_info.specs.declared.value.Value.TheVariants as value;
 ghost use Rattle.srcp_rules.specs.Command.{IsCommandOf, named_of};
+ghost use Rattle.srcp_rules.specs.declared.command.Lockable.TheVariants as lockable;
 ghost use Rattle.srcp_rules.specs.declared.command.Named.TheVariants as named;
-ghost use Rattle.srcp_rules.specs.Effect.{accepted, done, put_at, term_session};
-ghost use Rattle.srcp_rules.specs.Layout.{IsLayout};
+ghost use Rattle.srcp_rules.specs.Effect.{accepted, put_at, shown_at, term_session};
 ghost use Rattle.srcp_rules.specs.Obeyed.{IsObeyed, IsTold, MayObey, Took};
-ghost use Rattle.srcp_rules.specs.State.{IsWhole, fb_device, is_there, power_device, session_device};
+ghost use Rattle.srcp_rules.specs.State.{IsWhole, device_in, fb_device, is_there, key_at, power_device, session_device};
 
 use crate::command::{Command, Lockable, Named};
 use crate::device::{device_in, fb_device, key_at, lock_on, power_device, session_device};
@@ -94,6 +94,13 @@ fn answer_power<R: Rows>(rows: &mut R, session: u32, moment: u64, command: &Comm
     }
 }
 
+/// GET of a locomotive: its state.
+fn show_gl<R: Rows>(rows: &R, bus: u8, address: u32) -> Obeyed
+    ensures { Took (shown_at (key_at (device_in lockable.Gl bus address) 1) (R.state rows.now)) (R.state rows.now) (R.state rows.now) result }
+{
+    show(rows, &key_at(device_in(Lockable::Gl, bus, address), 1))
+}
+
 /// Answers a command of a locomotive.
 fn answer_gl<R: Rows>(rows: &mut R, session: u32, moment: u64, command: &Command) -> Obeyed
     requires may { MayObey (R.buses rows.old) (R.state rows.old) session command.now }
@@ -102,9 +109,7 @@ fn answer_gl<R: Rows>(rows: &mut R, session: u32, moment: u64, command: &Command
     ensures layout { R.buses rows.new ≡ R.buses rows.old }
 {
     match *command {
-        Command::GetGl { bus, address } => {
-            show(rows, &key_at(device_in(Lockable::Gl, bus, address), 1))
-        }
+        Command::GetGl { bus, address } => show_gl(rows, bus, address),
         Command::SetGl {
             bus,
             address,
@@ -246,7 +251,6 @@ fn answer<R: Rows>(rows: &mut R, session: u32, moment: u64, command: &Command) -
 /// there, SET of a lock where there is none) and memory is refused for them, the reply is 500 and
 /// nothing has changed; nothing else takes memory.
 pub fn obey<R: Rows>(rows: &mut R, session: u32, moment: u64, command: &Command) -> Obeyed
-    requires laid_out { IsLayout (R.buses rows.old) }
     requires whole { IsWhole (R.buses rows.old) (R.state rows.old) }
     requires begun { IsTrue (is_there (session_device session) (R.state rows.old)) }
     requires command { IsCommandOf (R.buses rows.old) command.now }

@@ -1,4 +1,4 @@
-ghost use Rattle.std.specs.Prelude.{◌≡◌, ◌∷◌, false, map, None};
+ghost use Rattle.std.specs.Prelude.{◌≡◌, ◌≤◌, [], ◌∷◌, false, map, replicate, None};
 ghost use Rattle.std.specs.List.{range_with_len};
 ghost use Rattle.srcp_info.specs.declared.value.Value.TheVariants as value;
 ghost use Rattle.srcp_rules.specs.Effect.{row_put};
@@ -12,6 +12,23 @@ use crate::obeyed::Obeyed;
 use crate::registry::row_put;
 use crate::rows::Rows;
 use srcp_info::{Bits, Device, Letter, Row, Value};
+
+/// The rows of a locomotive that is made: it goes forward at rest, with all functions off.
+fn resting_rows(moment: u64, device: Device, init: &Value, functions: u32) -> [Row; 2]
+    requires { functions ≤ 29 }
+    ensures { result ≡ row_put moment (key_at device 0) init.now None ∷ row_put moment (key_at device 1) (value.GlState 1 0 0 (replicate functions false)) None ∷ [] }
+{
+    let resting = Value::GlState {
+        mode: 1,
+        v: 0,
+        vmax: 0,
+        functions: Bits::all_false(functions as usize),
+    };
+    [
+        row_put(moment, key_at(device, 0), *init, None),
+        row_put(moment, key_at(device, 1), resting, None),
+    ]
+}
 
 /// INIT of a locomotive: it goes forward at rest, with all functions off.
 pub(crate) fn init_gl<R: Rows>(
@@ -29,24 +46,18 @@ pub(crate) fn init_gl<R: Rows>(
     ensures obeyed { IsObeyed (R.state rows.old) (R.state rows.new) session moment (Command.InitGl bus address letter version steps functions) result }
     ensures layout { R.buses rows.new ≡ R.buses rows.old }
 {
-    let device = device_in(Lockable::Gl, bus, address);
     let init = Value::GlInit {
         letter,
         version,
         steps,
         functions,
     };
-    let resting = Value::GlState {
-        mode: 1,
-        v: 0,
-        vmax: 0,
-        functions: Bits::all_false(functions as usize),
-    };
-    let fresh = [
-        row_put(moment, key_at(device, 0), init, None),
-        row_put(moment, key_at(device, 1), resting, None),
-    ];
-    let init = fresh[0].shown.value;
+    let fresh = resting_rows(
+        moment,
+        device_in(Lockable::Gl, bus, address),
+        &init,
+        functions,
+    );
     init_device(
         rows,
         session,

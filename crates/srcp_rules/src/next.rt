@@ -1,8 +1,7 @@
 ghost use Rattle.std.specs.Prelude.{◌≡◌, ◌≤◌, IfSome, option_copied, option_map, slice_get};
 ghost use Rattle.srcp_info.specs.WellFormed.{IsWellFormed};
 ghost use Rattle.srcp_rules.specs.Due.{due_after, due_change, freed, is_sought, sought_after};
-ghost use Rattle.srcp_rules.specs.Layout.{IsLayout};
-ghost use Rattle.srcp_rules.specs.State.{AddsNoRow, IsRising, IsRowOf, IsWhole, MayBeDue, row_at, updated, updated_if};
+ghost use Rattle.srcp_rules.specs.State.{AddsNoRow, IsRising, IsWhole, MayBeDue, row_at, updated, updated_if};
 
 use crate::device::session_device;
 use crate::registry::{is_there, put, remove};
@@ -12,7 +11,6 @@ use srcp_info::{Change, Cursor, Row, Value};
 /// Carries out the first of the changes that the moment brings beyond the cursor, in key order: a
 /// lock that has run out ends, and a port that has been on for its time becomes 0.
 pub fn due_next<R: Rows>(rows: &mut R, moment: u64, cursor: Cursor) -> Option<Change>
-    requires laid_out { IsLayout (R.buses rows.old) }
     requires whole { IsWhole (R.buses rows.old) (R.state rows.old) }
     ensures change { result ≡ option_map (λ update. update.change) (due_after (R.state rows.old) moment cursor) }
     ensures rows { R.state rows.new ≡ updated_if (due_after (R.state rows.old) moment cursor) (R.state rows.old) }
@@ -30,9 +28,8 @@ pub fn due_next<R: Rows>(rows: &mut R, moment: u64, cursor: Cursor) -> Option<Ch
 
 /// Carries out what a row brings once its due moment has come.
 fn carry_out<R: Rows>(rows: &mut R, moment: u64, row: &Row) -> Change
-    requires laid_out { IsLayout (R.buses rows.old) }
+    requires whole { IsWhole (R.buses rows.old) (R.state rows.old) }
     requires there { row_at row.now.shown.key (R.state rows.old) ≡ Some row.now }
-    requires fits { IsRowOf (R.buses rows.old) row.now }
     requires may { MayBeDue row.now.shown.value }
     ensures change { result ≡ (due_change moment row.now.shown.key row.now.shown.value).change }
     ensures rows { R.state rows.new ≡ updated (due_change moment row.now.shown.key row.now.shown.value) (R.state rows.old) }
@@ -48,7 +45,6 @@ fn carry_out<R: Rows>(rows: &mut R, moment: u64, row: &Row) -> Change
 /// Carries out the first of the changes that the end of a session brings: its locks are taken out
 /// in key order, and its own row last.
 pub fn free_next<R: Rows>(rows: &mut R, session: u32, moment: u64) -> Option<Change>
-    requires laid_out { IsLayout (R.buses rows.old) }
     requires whole { IsWhole (R.buses rows.old) (R.state rows.old) }
     ensures change { result ≡ option_map (λ update. update.change) (slice_get (freed (R.state rows.old) session moment) 0) }
     ensures rows { R.state rows.new ≡ updated_if (slice_get (freed (R.state rows.old) session moment) 0) (R.state rows.old) }

@@ -1,7 +1,6 @@
 ghost use Rattle.std.specs.Prelude.{◌≡◌, ◌≤◌, false, IfOk, OnOk, OnErr};
 ghost use Rattle.srcp_info.specs.WellFormed.{IsWellFormed};
 ghost use Rattle.srcp_rules.specs.Due.{began};
-ghost use Rattle.srcp_rules.specs.Layout.{IsLayout};
 ghost use Rattle.srcp_rules.specs.State.{AddsNoRow, IsWhole, is_there, session_device, updated};
 
 use crate::device::session_device;
@@ -18,7 +17,6 @@ pub fn begin_session<R: Rows>(
     moment: u64,
     mode: Mode,
 ) -> Result<Change, Memory>
-    requires laid_out { IsLayout (R.buses rows.old) }
     requires whole { IsWhole (R.buses rows.old) (R.state rows.old) }
     requires session { 1 ≤ session }
     requires free { is_there (session_device session) (R.state rows.old) ≡ false }

@@ -7,7 +7,7 @@ returns g c =
     let buses = g.R.Rows.buses c.args.rows.now in
     let state = g.R.Rows.state c.args.rows.now in
     let after = g.R.Rows.state c.answer.new.rows in
-    let may : MayObey buses state c.args.session c.args.command.now = record { laid_out = c.requires.laid_out; whole = c.requires.whole; begun = c.requires.begun; of = c.requires.command } in
+    let may : MayObey buses state c.args.session c.args.command.now = record { whole = c.requires.whole; begun = c.requires.begun; of = c.requires.command } in
     let did = c.answer.ensures.obeyed in
     record {
       obeyed = did;

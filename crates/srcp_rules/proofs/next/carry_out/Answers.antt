@@ -14,17 +14,17 @@ use Rattle.srcp_rules.proofs.next.carry_out.Goals as goal
 pub remove-requires : goal.remove-requires
 remove-requires g c =
     let key = c.args.row.now.shown.key in
-    let fits = subst (λ (shows : Value). IsValueAt key.group key.port shows) c.in-Lock.is c.requires.fits.shown.value in
+    let fits = subst (λ (shows : Value). IsValueAt key.group key.port shows) c.in-Lock.is (c.requires.whole.rows key c.args.row.now c.requires.there).shown.value in
     ap (λ (device : Device). can_go device.group) c.device.ensures ∙ (lock_goes key.group fits.0).0
 
 pub put-requires : goal.put-requires
 put-requires g c =
     let key = c.args.row.now.shown.key in
     let port = port_value c.args.row.now.shown.value c.requires.may c.in_default.not-Lock in
-    let fits = subst (λ (shows : Value). IsValueAt key.group key.port shows) port.1 c.requires.fits.shown.value in
+    let fits = subst (λ (shows : Value). IsValueAt key.group key.port shows) port.1 (c.requires.whole.rows key c.args.row.now c.requires.there).shown.value in
     record {
       there = ap is_some c.requires.there;
-      fits = IsRowOf-put (g.R.Rows.buses c.args.rows.now) c.requires.laid_out key c.args.moment (value.GaPort false) None c.requires.fits.place c.ranges.moment.fits fits tt;
+      fits = IsRowOf-put (g.R.Rows.buses c.args.rows.now) c.requires.whole.laid_out key c.args.moment (value.GaPort false) None (c.requires.whole.rows key c.args.row.now c.requires.there).place c.ranges.moment.fits fits tt;
     }
 
 pub returns-in-Lock-clause-change : goal.returns-in-Lock-clause-change

@@ -1,7 +1,8 @@
 use Rattle.std.proofs.Common.{sym, subst, ◌∙◌, arith}
 use Rattle.std.proofs.lemmas.List.Sums.{fold_more}
+use Rattle.srcp_info.proofs.ClientLaws.{rising_put}
 use Rattle.srcp_rules.specs.State.{IsRising, put_row}
-use Rattle.srcp_rules.proofs.StateLaws.{row_key, rising-put_by}
+use Rattle.srcp_rules.proofs.StateLaws.{row_key}
 use Rattle.srcp_rules.proofs.flat.FlatRows.add.Goals as goal
 
 pub loop-row-preserved : goal.loop-row-preserved
@@ -12,6 +13,6 @@ loop-row-preserved c =
       layout = c.loop-row.invariant.layout;
       rows = c.put.ensures.rows ∙ (λ i. put_row (c.row-item.is i) (c.loop-row.invariant.rows i))
           ∙ sym (fold_more (λ state other. put_row other state) c.args.self.now.state c.args.added.now c.loop-row.row-index row c.loop-row-test.true);
-      rising = subst IsRising (sym c.put.ensures.rows) (rising-put_by row_key row before c.loop-row.invariant.rising);
+      rising = subst IsRising (sym c.put.ensures.rows) (rising_put row_key row before c.loop-row.invariant.rising);
       room = omega arith;
     }

@@ -1,7 +1,8 @@
 use Rattle.std.proofs.Common.{is_some, sym, ap, subst, ◌∙◌, true≢false}
+use Rattle.srcp_info.proofs.ClientLaws.{rising_put}
 use Rattle.srcp_rules.specs.State.{IsRising, row_at, put_row}
 use Rattle.srcp_rules.specs.Rows.{Kept, IsAt}
-use Rattle.srcp_rules.proofs.StateLaws.{row_key, rising-put_by}
+use Rattle.srcp_rules.proofs.StateLaws.{row_key}
 use Rattle.srcp_rules.proofs.RowPlaceLaws.{set-put_row, row_at-gap}
 use Rattle.srcp_rules.proofs.flat.FlatRows.set.Goals as goal
 
@@ -9,7 +10,7 @@ pub invariant_of-self : goal.invariant_of-self
 invariant_of-self c =
     let items = c.self.inside.rows.items in
     let at : IsAt items c.args.row.shown.key c.in-Ok.place = subst (λ state. IsAt state c.args.row.shown.key c.in-Ok.place) c.deref.ensures.value c.in-Ok.ensures.at in
-    subst IsRising (sym (set-put_row items c.self.invariant c.args.row c.in-Ok.place at)) (rising-put_by row_key c.args.row items c.self.invariant)
+    subst IsRising (sym (set-put_row items c.self.invariant c.args.row c.in-Ok.place at)) (rising_put row_key c.args.row items c.self.invariant)
 
 pub returns-in-Ok-clause-rows : goal.returns-in-Ok-clause-rows
 returns-in-Ok-clause-rows c =

@@ -1,0 +1,85 @@
+-- What a refusal does, and what a CHECK answers.
+use Rattle.std.specs.Prelude.{◌≡◌, ℕ, ◌+◌, Bool, true, false, cond, ◌==◌, List, [], Option, Some, None, IfSome, Result, Ok, Err}
+use Rattle.std.proofs.Common.{refl}
+use Rattle.srcp_info.specs.declared.change.Code.{Code}
+use Rattle.srcp_info.specs.declared.change.Code.TheVariants.{C415}
+use Rattle.srcp_info.specs.declared.change.Reply.TheVariants.{Accepted, Refused}
+use Rattle.srcp_info.specs.declared.change.Row.{Row}
+use Rattle.srcp_info.specs.declared.value.Value.TheVariants as value
+use Rattle.srcp_info.specs.Key.{first_key}
+use Rattle.srcp_rules.specs.declared.command.Lockable.TheVariants as lockable
+use Rattle.srcp_rules.specs.declared.command.Command.{Command}
+use Rattle.srcp_rules.specs.declared.command.Command.TheVariants.{GetSession, TermSession, GetPower, SetPower, CheckPower, InitPower, GetGl, SetGl, CheckGl, InitGl, TermGl, GetGa, SetGa, CheckGa, InitGa, TermGa, GetFb, SetFb, CheckFb, InitFb, GetLock, SetLock, CheckLock, TermLock}
+use Rattle.srcp_rules.specs.State.{State, Update, row_at, key_at, session_device, power_device, fb_device, device_in, lock_on}
+use Rattle.srcp_rules.specs.Effect.{Effect, effect, accepted, refused, showing, done, checked, set_gl, set_ga, set_lock, term_lock, term_device, init_device, fresh_gl, fresh_ga, term_session}
+use Rattle.srcp_rules.specs.Laws.{ChangesNothing, AnswersAs, set_of}
+
+-- a refusal changes nothing
+abbrev Calm : Effect → Type 0
+Calm did = (code : Code) → did.reply ≡ Refused code → ChangesNothing did
+
+calm_accepted : (updates : List Update) → Calm (accepted updates)
+calm_accepted updates code e = cc
+
+calm_showing : (o : Option Row) → Calm (showing o)
+calm_showing None code e = record { updates = refl; ends = refl }
+calm_showing (Some row) code e = cc
+
+calm_done : (r : Result (List Update) Code) → Calm (done r)
+calm_done (Ok updates) code e = cc
+calm_done (Err why) code e = record { updates = refl; ends = refl }
+
+calm_checked : (r : Result (List Update) Code) → Calm (checked r)
+calm_checked (Ok updates) code e = cc
+calm_checked (Err why) code e = record { updates = refl; ends = refl }
+
+abbrev ended : Effect
+ended = record { reply = Accepted; updates = []; ends = true }
+
+calm_own : (b : Bool) → Calm (cond b ended (refused C415))
+calm_own true code e = cc
+calm_own false code e = record { updates = refl; ends = refl }
+
+calm_end : (session : ℕ) (id : Option ℕ) → Calm (term_session session id)
+calm_end session None = calm_own true
+calm_end session (Some id) = calm_own (id == session)
+
+pub refused_calm : (state : State) (session moment : ℕ) (command : Command) → Calm (effect state session moment command)
+refused_calm state session moment (GetSession id) = calm_showing (row_at (first_key (session_device id)) state)
+refused_calm state session moment (TermSession id) = calm_end session id
+refused_calm state session moment (GetPower bus) = calm_showing (row_at (first_key (power_device bus)) state)
+refused_calm state session moment (SetPower bus on text) = calm_accepted (effect state session moment (SetPower bus on text)).updates
+refused_calm state session moment (CheckPower bus on text) = calm_accepted []
+refused_calm state session moment (InitPower bus) = calm_accepted []
+refused_calm state session moment (GetGl bus address) = calm_showing (row_at (key_at (device_in lockable.Gl bus address) 1) state)
+refused_calm state session moment (SetGl bus address mode v vmax functions) = calm_done (set_gl state session moment bus address mode v vmax functions)
+refused_calm state session moment (CheckGl bus address mode v vmax functions) = calm_checked (set_gl state session moment bus address mode v vmax functions)
+refused_calm state session moment (InitGl bus address letter version steps functions) =
+    calm_done (init_device state session moment lockable.Gl bus address (value.GlInit letter version steps functions) (fresh_gl moment bus address letter version steps functions))
+refused_calm state session moment (TermGl bus address) = calm_done (term_device state session moment lockable.Gl bus address)
+refused_calm state session moment (GetGa bus address port) = calm_showing (row_at (key_at (device_in lockable.Ga bus address) (1 + port)) state)
+refused_calm state session moment (SetGa bus address port on time) = calm_done (set_ga state session moment bus address port on time)
+refused_calm state session moment (CheckGa bus address port on time) = calm_checked (set_ga state session moment bus address port on time)
+refused_calm state session moment (InitGa bus address letter ports) = calm_done (init_device state session moment lockable.Ga bus address (value.GaInit letter) (fresh_ga moment bus address letter ports))
+refused_calm state session moment (TermGa bus address) = calm_done (term_device state session moment lockable.Ga bus address)
+refused_calm state session moment (GetFb bus port) = calm_showing (row_at (first_key (fb_device bus port)) state)
+refused_calm state session moment (SetFb bus port on) = calm_accepted (effect state session moment (SetFb bus port on)).updates
+refused_calm state session moment (CheckFb bus port on) = calm_accepted []
+refused_calm state session moment (InitFb bus) = calm_accepted []
+refused_calm state session moment (GetLock bus g address) = calm_showing (row_at (first_key (lock_on g bus address)) state)
+refused_calm state session moment (SetLock bus g address seconds) = calm_done (set_lock state session moment g bus address seconds)
+refused_calm state session moment (CheckLock bus g address seconds) = calm_checked (set_lock state session moment g bus address seconds)
+refused_calm state session moment (TermLock bus g address) = calm_done (term_lock state session moment g bus address)
+
+-- what is checked is answered as what is done
+pub checked_as_done : (r : Result (List Update) Code) → AnswersAs (checked r) (done r)
+checked_as_done (Ok updates) = record { reply = refl; nothing = record { updates = refl; ends = refl } }
+checked_as_done (Err code) = record { reply = refl; nothing = record { updates = refl; ends = refl } }
+
+pub check_as_set : (state : State) (session moment : ℕ) (command : Command) → IfSome (set_of command) (λ set. AnswersAs (effect state session moment command) (effect state session moment set))
+check_as_set state session moment (CheckPower bus on text) = record { reply = refl; nothing = record { updates = refl; ends = refl } }
+check_as_set state session moment (CheckGl bus address mode v vmax functions) = checked_as_done (set_gl state session moment bus address mode v vmax functions)
+check_as_set state session moment (CheckGa bus address port on time) = checked_as_done (set_ga state session moment bus address port on time)
+check_as_set state session moment (CheckFb bus port on) = record { reply = refl; nothing = record { updates = refl; ends = refl } }
+check_as_set state session moment (CheckLock bus g address seconds) = checked_as_done (set_lock state session moment g bus address seconds)
+check_as_set state session moment other = tt

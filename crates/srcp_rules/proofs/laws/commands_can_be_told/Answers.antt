@@ -1,0 +1,8 @@
+use Rattle.srcp_rules.proofs.ToldLaws.{effect_told, reply_told}
+use Rattle.srcp_rules.proofs.laws.commands_can_be_told.Goals as goal
+
+pub returns : goal.returns
+returns c = λ buses state session moment command h. (
+  effect_told buses h.whole.laid_out state h.whole session moment h.begun h.now command h.of,
+  reply_told buses h.whole.laid_out state h.whole session moment h.begun h.now command,
+)

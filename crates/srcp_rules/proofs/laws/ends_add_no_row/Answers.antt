@@ -1,0 +1,5 @@
+use Rattle.srcp_rules.proofs.FrontLaws.{freed_adds}
+use Rattle.srcp_rules.proofs.laws.ends_add_no_row.Goals as goal
+
+pub returns : goal.returns
+returns c = freed_adds

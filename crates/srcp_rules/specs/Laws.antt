@@ -1,0 +1,212 @@
+-- What holds of every command, every moment, and every session's beginning and end.
+use Rattle.std.specs.Prelude.{◌≡◌, ℕ, ◌+◌, ◌*◌, ◌≤◌, ◌<◌, ◌^◌, Bool, true, false, nat_le, if◌then◌else◌, List, [], take, drop, length, IsTrue, Option, Some, None, IfSome}
+use Rattle.std.specs.List.{AllByRecursion}
+use Rattle.std.specs.Option.{option_map_or}
+use Rattle.srcp_info.specs.declared.key.Key.{Key}
+use Rattle.srcp_info.specs.declared.value.Value.{Value}
+use Rattle.srcp_info.specs.declared.value.Value.TheVariants as value
+use Rattle.srcp_info.specs.declared.change.Row.{Row}
+use Rattle.srcp_info.specs.Key.{first_key}
+use Rattle.srcp_info.specs.declared.change.Code.{Code}
+use Rattle.srcp_info.specs.declared.change.Reply.TheVariants.{Accepted, Refused}
+use Rattle.srcp_info.specs.declared.value.Mode.{Mode}
+use Rattle.srcp_info.specs.WellFormed.{IsMoment, IsWellFormed, IsWellFormedReply}
+use Rattle.srcp_rules.specs.declared.layout.Bus.{Bus}
+use Rattle.srcp_rules.specs.declared.command.Lockable.{Lockable}
+use Rattle.srcp_rules.specs.declared.command.Lockable.TheVariants as lockable
+use Rattle.srcp_rules.specs.declared.command.Command.{Command}
+use Rattle.srcp_rules.specs.declared.command.Command.TheVariants.{SetPower, CheckPower, SetGl, CheckGl, SetGa, CheckGa, SetFb, CheckFb, SetLock, CheckLock}
+use Rattle.srcp_rules.specs.Layout.{IsLayout}
+use Rattle.srcp_rules.specs.State.{State, Update, AddsNoRow, IsRising, IsWhole, opening, row_at, is_there, key_at, session_device, device_in, lock_on, updated, updated_all}
+use Rattle.srcp_rules.specs.Command.{IsCommandOf}
+use Rattle.srcp_rules.specs.Effect.{Effect, effect, is_locked, row_put, port_end, lock_end, moment_after}
+use Rattle.srcp_rules.specs.Due.{due, freed, began, is_due}
+
+-- ---- what happens to a whole registry
+
+-- a session that has begun gives a whole registry a command of its layout
+pub record IsGiven (buses : List Bus) (state : State) (session moment : ℕ) (command : Command) : Type 0 where
+  pub whole : IsWhole buses state
+  pub begun : IsTrue (is_there (session_device session) state)
+  pub of : IsCommandOf buses command
+  pub now : IsMoment moment
+
+-- a moment comes to a whole registry
+pub record IsMomentOf (buses : List Bus) (state : State) (moment : ℕ) : Type 0 where
+  pub whole : IsWhole buses state
+  pub now : IsMoment moment
+
+-- ---- whole registries
+
+-- the registry of a layout begins whole
+abbrev pub OpeningsAreWhole : Type 0
+OpeningsAreWhole = (buses : List Bus) (moment : ℕ) → IsLayout buses → IsMoment moment → IsWhole buses (opening buses moment)
+
+-- an update leaves the keys rising
+abbrev pub UpdatesKeepRising : Type 0
+UpdatesKeepRising = (update : Update) (state : State) → IsRising state → IsRising (updated update state)
+
+-- the updates of a command, taken together, leave the registry whole
+abbrev pub CommandsKeepWhole : Type 0
+CommandsKeepWhole = (buses : List Bus) (state : State) (session moment : ℕ) (command : Command) → IsGiven buses state session moment command
+    → IsWhole buses (updated_all (effect state session moment command).updates state)
+
+-- those of a moment do so one by one: after the first k of them it is whole, and the others are still to come
+abbrev pub MomentsKeepWhole : Type 0
+MomentsKeepWhole = (buses : List Bus) (state : State) (moment k : ℕ) → IsMomentOf buses state moment
+    → IsWhole buses (updated_all (take k (due state moment)) state) × (due (updated_all (take k (due state moment)) state) moment ≡ drop k (due state moment))
+
+-- and those of a session's end
+abbrev pub EndsKeepWhole : Type 0
+EndsKeepWhole = (buses : List Bus) (state : State) (session moment k : ℕ) → IsMomentOf buses state moment
+    → IsWhole buses (updated_all (take k (freed state session moment)) state)
+    × (freed (updated_all (take k (freed state session moment)) state) session moment ≡ drop k (freed state session moment))
+
+-- and a session's beginning
+abbrev pub BeginningsKeepWhole : Type 0
+BeginningsKeepWhole = (buses : List Bus) (state : State) (session moment : ℕ) (mode : Mode) → IsMomentOf buses state moment → 1 ≤ session → session < 2 ^ 32
+    → IsWhole buses (updated (began session moment mode) state)
+
+-- ---- the rows of a device come and go together
+
+-- no Put gives a row to a device that has rows
+abbrev pub AddNoRow : State → List Update → Type 0
+AddNoRow state updates = AllByRecursion (λ update. AddsNoRow state update.change) updates
+
+abbrev pub CommandsAddNoRow : Type 0
+CommandsAddNoRow = (buses : List Bus) (state : State) (session moment : ℕ) (command : Command) → IsWhole buses state → IsCommandOf buses command
+    → AddNoRow state (effect state session moment command).updates
+
+abbrev pub MomentsAddNoRow : Type 0
+MomentsAddNoRow = (buses : List Bus) (state : State) (moment : ℕ) → IsWhole buses state → AddNoRow state (due state moment)
+
+abbrev pub EndsAddNoRow : Type 0
+EndsAddNoRow = (state : State) (session moment : ℕ) → AddNoRow state (freed state session moment)
+
+abbrev pub BeginningsAddNoRow : Type 0
+BeginningsAddNoRow = (buses : List Bus) (state : State) (session moment : ℕ) (mode : Mode) → IsWhole buses state → 1 ≤ session → session < 2 ^ 32
+    → AddsNoRow state (began session moment mode).change
+
+-- ---- what is told
+
+-- a command makes at most 11 changes
+abbrev pub CommandsChangeLittle : Type 0
+CommandsChangeLittle = (buses : List Bus) (state : State) (session moment : ℕ) (command : Command) → IsCommandOf buses command
+    → length (effect state session moment command).updates ≤ 11
+
+-- each of the changes can be written as a line
+abbrev pub CanBeTold : List Update → Type 0
+CanBeTold updates = AllByRecursion (λ update. IsWellFormed update.change) updates
+
+-- the changes of a command can be told, and so can its reply
+abbrev pub CommandsCanBeTold : Type 0
+CommandsCanBeTold = (buses : List Bus) (state : State) (session moment : ℕ) (command : Command) → IsGiven buses state session moment command
+    → CanBeTold (effect state session moment command).updates × IsWellFormedReply (effect state session moment command).reply
+
+abbrev pub MomentsCanBeTold : Type 0
+MomentsCanBeTold = (buses : List Bus) (state : State) (moment : ℕ) → IsMomentOf buses state moment → CanBeTold (due state moment)
+
+abbrev pub EndsCanBeTold : Type 0
+EndsCanBeTold = (buses : List Bus) (state : State) (session moment : ℕ) → IsMomentOf buses state moment → CanBeTold (freed state session moment)
+
+abbrev pub BeginningsCanBeTold : Type 0
+BeginningsCanBeTold = (session moment : ℕ) (mode : Mode) → IsMoment moment → 1 ≤ session → session < 2 ^ 32 → IsWellFormed (began session moment mode).change
+
+-- ---- what a command does not do
+
+-- a refusal changes nothing and ends nothing
+pub record ChangesNothing (did : Effect) : Type 0 where
+  pub updates : did.updates ≡ []
+  pub ends : did.ends ≡ false
+
+abbrev pub RefusalsChangeNothing : Type 0
+RefusalsChangeNothing = (state : State) (session moment : ℕ) (command : Command) (code : Code) → (effect state session moment command).reply ≡ Refused code
+    → ChangesNothing (effect state session moment command)
+
+-- the SET that a CHECK is about
+abbrev pub set_of : Command → Option Command
+set_of (CheckPower bus on text) = Some (SetPower bus on text)
+set_of (CheckGl bus address mode v vmax functions) = Some (SetGl bus address mode v vmax functions)
+set_of (CheckGa bus address port on time) = Some (SetGa bus address port on time)
+set_of (CheckFb bus port on) = Some (SetFb bus port on)
+set_of (CheckLock bus group address seconds) = Some (SetLock bus group address seconds)
+set_of other = None
+
+-- the one command answers as the other, and changes nothing
+pub record AnswersAs (check set : Effect) : Type 0 where
+  pub reply : check.reply ≡ set.reply
+  pub nothing : ChangesNothing check
+
+-- CHECK answers what SET would, and changes nothing
+abbrev pub ChecksAnswerAsSets : Type 0
+ChecksAnswerAsSets = (state : State) (session moment : ℕ) (command : Command)
+    → IfSome (set_of command) (λ set. AnswersAs (effect state session moment command) (effect state session moment set))
+
+-- ---- locks
+
+-- the rows of the device, and of its lock, are as before
+pub record IsKept (group : Lockable) (bus address : ℕ) (before after : State) : Type 0 where
+  pub device : (port : ℕ) → row_at (key_at (device_in group bus address) port) after ≡ row_at (key_at (device_in group bus address) port) before
+  pub lock : (port : ℕ) → row_at (key_at (lock_on group bus address) port) after ≡ row_at (key_at (lock_on group bus address) port) before
+
+-- no command of a session changes a device, or its lock, that another session has locked
+abbrev pub LocksHold : Type 0
+LocksHold = (state : State) (session moment : ℕ) (command : Command) (group : Lockable) (bus address : ℕ) → IsTrue (is_locked state session group bus address)
+    → IsKept group bus address state (updated_all (effect state session moment command).updates state)
+
+-- ---- moments that are due
+
+-- a lock that is due is gone, a port that is due is 0
+abbrev pub fallen : (moment : ℕ) → Key → Value → Option Row
+fallen moment key (value.Lock seconds session) = None
+fallen moment key other = Some (row_put moment key (value.GaPort false) None)
+
+-- what a moment makes of a row: one that is due falls, and any other stays
+abbrev pub comes_to : (moment : ℕ) → Row → Option Row
+comes_to moment row = if is_due moment row then fallen moment row.shown.key row.shown.value else Some row
+
+-- a moment makes this of the row at each key, whoever holds what locked
+abbrev pub MomentsCarryOut : Type 0
+MomentsCarryOut = (buses : List Bus) (state : State) (moment : ℕ) (key : Key) → IsMomentOf buses state moment
+    → row_at key (updated_all (due state moment) state) ≡ option_map_or (comes_to moment) (row_at key state) None
+
+abbrev pub port_key : (bus address port : ℕ) → Key
+port_key bus address port = key_at (device_in lockable.Ga bus address) (1 + port)
+
+-- after a SET that is accepted the port has its due moment or none, whatever it had
+abbrev pub PortsAreSet : Type 0
+PortsAreSet = (state : State) (session moment bus address port : ℕ) (on : Bool) (time : Option ℕ) → (effect state session moment (SetGa bus address port on time)).reply ≡ Accepted
+    → row_at (port_key bus address port) (updated_all (effect state session moment (SetGa bus address port on time)).updates state)
+    ≡ Some (row_put moment (port_key bus address port) (value.GaPort on) (port_end moment on time))
+
+-- and so has a lock
+abbrev pub LocksAreSet : Type 0
+LocksAreSet = (state : State) (session moment : ℕ) (group : Lockable) (bus address seconds : ℕ) → (effect state session moment (SetLock bus group address seconds)).reply ≡ Accepted
+    → row_at (first_key (lock_on group bus address)) (updated_all (effect state session moment (SetLock bus group address seconds)).updates state)
+    ≡ Some (row_put moment (first_key (lock_on group bus address)) (value.Lock seconds session) (lock_end moment seconds))
+
+-- a port that was set to 1 for some milliseconds is 1 at each moment before their end, and 0 at each from it on
+abbrev pub PortsFallBack : Type 0
+PortsFallBack = (buses : List Bus) (state : State) (session moment later bus address port milliseconds : ℕ) → IsGiven buses state session moment (SetGa bus address port true (Some milliseconds)) → IsMoment later
+    → 0 < milliseconds → (effect state session moment (SetGa bus address port true (Some milliseconds))).reply ≡ Accepted
+    → (after : State) → after ≡ updated_all (effect state session moment (SetGa bus address port true (Some milliseconds))).updates state
+    → row_at (port_key bus address port) (updated_all (due after later) after)
+    ≡ (if nat_le (moment_after moment milliseconds) later then Some (row_put later (port_key bus address port) (value.GaPort false) None)
+    else Some (row_put moment (port_key bus address port) (value.GaPort true) (Some (moment_after moment milliseconds))))
+
+-- a lock that was set for some seconds is there at each moment before their end, and gone at each from it on
+abbrev pub LocksRunOut : Type 0
+LocksRunOut = (buses : List Bus) (state : State) (session moment later : ℕ) (group : Lockable) (bus address seconds : ℕ) → IsGiven buses state session moment (SetLock bus group address seconds) → IsMoment later
+    → 0 < seconds → (effect state session moment (SetLock bus group address seconds)).reply ≡ Accepted
+    → (after : State) → after ≡ updated_all (effect state session moment (SetLock bus group address seconds)).updates state
+    → row_at (first_key (lock_on group bus address)) (updated_all (due after later) after)
+    ≡ (if nat_le (moment_after moment (1000 * seconds)) later then None
+    else Some (row_put moment (first_key (lock_on group bus address)) (value.Lock seconds session) (Some (moment_after moment (1000 * seconds)))))
+
+-- so many milliseconds later, as long as there is such a moment, and else the greatest one
+pub record EndsInTime (moment milliseconds : ℕ) : Type 0 where
+  pub within : moment + milliseconds < 2 ^ 64 → moment_after moment milliseconds ≡ moment + milliseconds
+  pub beyond : 2 ^ 64 ≤ moment + milliseconds → moment_after moment milliseconds + 1 ≡ 2 ^ 64
+
+abbrev pub MomentsEnd : Type 0
+MomentsEnd = (moment milliseconds : ℕ) → EndsInTime moment milliseconds

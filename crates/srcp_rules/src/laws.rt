@@ -1,0 +1,131 @@
+//! What holds of every command, every moment, and every session's beginning and end. Each function
+//! does nothing: what it ensures is a law.
+
+ghost use Rattle.srcp_rules.specs.Laws.{OpeningsAreWhole, UpdatesKeepRising, CommandsKeepWhole, MomentsKeepWhole, EndsKeepWhole, BeginningsKeepWhole};
+ghost use Rattle.srcp_rules.specs.Laws.{CommandsAddNoRow, MomentsAddNoRow, EndsAddNoRow, BeginningsAddNoRow, CommandsChangeLittle};
+ghost use Rattle.srcp_rules.specs.Laws.{CommandsCanBeTold, MomentsCanBeTold, EndsCanBeTold, BeginningsCanBeTold};
+ghost use Rattle.srcp_rules.specs.Laws.{RefusalsChangeNothing, ChecksAnswerAsSets, LocksHold};
+ghost use Rattle.srcp_rules.specs.Laws.{MomentsCarryOut, PortsAreSet, LocksAreSet, PortsFallBack, LocksRunOut, MomentsEnd};
+
+/// The registry of a layout begins whole.
+pub fn openings_are_whole()
+    ensures { OpeningsAreWhole }
+{}
+
+/// Each update leaves the keys rising.
+pub fn updates_keep_rising()
+    ensures { UpdatesKeepRising }
+{}
+
+/// A command leaves a whole registry whole.
+pub fn commands_keep_whole()
+    ensures { CommandsKeepWhole }
+{}
+
+/// So does each change that a moment brings, and it leaves the later ones to come.
+pub fn moments_keep_whole()
+    ensures { MomentsKeepWhole }
+{}
+
+/// So does each change that the end of a session brings.
+pub fn ends_keep_whole()
+    ensures { EndsKeepWhole }
+{}
+
+/// So does the beginning of a session.
+pub fn beginnings_keep_whole()
+    ensures { BeginningsKeepWhole }
+{}
+
+/// No Put of a command gives a row to a device that has rows.
+pub fn commands_add_no_row()
+    ensures { CommandsAddNoRow }
+{}
+
+/// Nor does one of a moment.
+pub fn moments_add_no_row()
+    ensures { MomentsAddNoRow }
+{}
+
+/// Nor does one of a session's end.
+pub fn ends_add_no_row()
+    ensures { EndsAddNoRow }
+{}
+
+/// Nor does that of a session's beginning.
+pub fn beginnings_add_no_row()
+    ensures { BeginningsAddNoRow }
+{}
+
+/// A command makes at most 11 changes.
+pub fn commands_change_little()
+    ensures { CommandsChangeLittle }
+{}
+
+/// The changes of a command can be written as lines, and its reply too.
+pub fn commands_can_be_told()
+    ensures { CommandsCanBeTold }
+{}
+
+/// So can the changes of a moment.
+pub fn moments_can_be_told()
+    ensures { MomentsCanBeTold }
+{}
+
+/// So can those of a session's end.
+pub fn ends_can_be_told()
+    ensures { EndsCanBeTold }
+{}
+
+/// So can that of a session's beginning.
+pub fn beginnings_can_be_told()
+    ensures { BeginningsCanBeTold }
+{}
+
+/// A command that is refused changes nothing and ends nothing.
+pub fn refusals_change_nothing()
+    ensures { RefusalsChangeNothing }
+{}
+
+/// CHECK answers what SET would, and changes nothing.
+pub fn checks_answer_as_sets()
+    ensures { ChecksAnswerAsSets }
+{}
+
+/// No command of a session changes a device, or its lock, that another session has locked.
+pub fn locks_hold()
+    ensures { LocksHold }
+{}
+
+/// Of the row at each key a moment makes what is due: a lock is gone, a port is 0, whoever holds
+/// what locked. All other rows stay.
+pub fn moments_carry_out()
+    ensures { MomentsCarryOut }
+{}
+
+/// After a SET of a port that is accepted, the port has its due moment or none, whatever it had.
+pub fn ports_are_set()
+    ensures { PortsAreSet }
+{}
+
+/// So has a lock after its SET.
+pub fn locks_are_set()
+    ensures { LocksAreSet }
+{}
+
+/// A port that was set to 1 for a time is 1 at each moment before its end, and 0 at each from it
+/// on.
+pub fn ports_fall_back()
+    ensures { PortsFallBack }
+{}
+
+/// A lock that was set for a time is there at each moment before its end, and gone at each from it
+/// on.
+pub fn locks_run_out()
+    ensures { LocksRunOut }
+{}
+
+/// A moment past the greatest is the greatest.
+pub fn moments_end()
+    ensures { MomentsEnd }
+{}
