@@ -1,19 +1,27 @@
--- What a run tells of its information sessions has the laws of every course.
+-- What a run tells has the laws of every course.
 use Rattle.std.proofs.Common.{◌≡◌, ℕ, zero, suc, List, [], ◌∷◌, map, ◌+◌, ◌≤◌, length, take, refl, ap, sym, ◌∙◌, subst, arith}
 use Rattle.std.proofs.lemmas.List.{take_all}
 use Rattle.std.specs.List.{AllByRecursion}
-use Rattle.std.specs.Prelude.{Some, slice_get}
+use Rattle.std.specs.Prelude.{Some, slice_get, Result, Ok, Err, IfOk}
 use Rattle.srcp_rules.specs.declared.layout.Bus.{Bus}
 use Rattle.srcp_rules.specs.Layout.{IsLayout}
+use Rattle.srcp_rules.specs.State.{State, IsWhole, opening}
 use Rattle.srcp_core.specs.Connection.{Connection, recorded}
-use Rattle.srcp_core.specs.Course.{course, history, numbered}
-use Rattle.srcp_core.specs.Headline.{told_at, ToldSessions}
-use Rattle.srcp_core.specs.Laws.{IsRecordOf, IsSession, AllMoments, HasMoment, times_listed}
+use Rattle.srcp_core.specs.Course.{World, course, history, numbered, state, state_after}
+use Rattle.srcp_core.specs.Headline.{told_at, ToldSessions, ToldReplies, ToldRooms, IsToldRegistry}
+use Rattle.srcp_core.specs.Laws.{IsRecordOf, IsSession, IsPrefixOf, IsWholeWorld, AllMoments, HasMoment, times_listed, without_events}
 use Rattle.srcp_core.specs.declared.event.Event.{Event}
 use Rattle.srcp_core.specs.declared.record.ConnRecord.{ConnRecord}
 use Rattle.srcp_core.specs.declared.record.Record.{Record}
-use Rattle.srcp_core.proofs.Headline.{told_rightly}
+use Rattle.srcp_core.proofs.Headline.{told_rightly, served_rightly}
 use Rattle.srcp_core.proofs.Told.{all_front}
+
+-- the registry as it is
+whole_now : (buses : List Bus) (w : World) → IsWholeWorld buses w → IsWhole buses (state buses w)
+whole_now buses w whole = subst (λ steps. IsWhole buses (state_after (opening buses 0) steps)) (take_all (length w.steps) w.steps le_self) (whole.states (length w.steps))
+  where
+    le_self : length w.steps ≤ length w.steps
+    le_self = omega arith
 
 -- the connection that is told of
 record Told (f : Connection → ConnRecord) (number : ℕ) (conns : List Connection) (one : ConnRecord) : Type 0 where
@@ -43,7 +51,63 @@ told_sessions buses events told layout moments r number one e info =
           ap (λ (c : ConnRecord). times_listed key c.items) t.is
           ∙ laws.once layout first more number early t.conn begins (subst (λ (es : List Event). IsSession buses es number t.conn) whole session) (all_front HasMoment first more (subst AllMoments whole moments)) settled device there key own has;
       registry = λ settled. laws.registry layout events number t.conn session moments settled;
+      passed = laws.passed layout events number t.conn session;
+      rising = laws.rising layout events number t.conn session;
+      held = laws.held layout events number t.conn session;
+      lines = laws.lines layout events number t.conn session moments;
     }
+
+pub told_replies : (buses : List Bus) (events : List Event) (told : Record) → IsLayout buses → IsRecordOf buses events told → ToldReplies buses events told
+told_replies buses events told layout r number one e plain =
+    let w = course buses events in
+    let t = told_map (recorded (history buses w)) number w.connections one (ap (told_at number) (sym r.connections) ∙ e) in
+    let laws = served_rightly buses in
+    let replies = laws.replies layout events number t.conn t.there (sym (ap (λ (c : ConnRecord). c.info) t.is) ∙ plain) in
+    record {
+      conn = t.conn;
+      there = t.there;
+      is = t.is;
+      no_items = ap (λ (c : ConnRecord). c.items) t.is ∙ replies.no_items;
+      front = subst (λ bytes. IsPrefixOf bytes t.conn.out) (sym (ap (λ (c : ConnRecord). c.sent) t.is)) replies.front;
+      all = λ first bytes early whole there info up few.
+          let a = laws.all_replies layout first number bytes early t.conn there info up (subst (λ (es : List Event). numbered number (course buses es).connections ≡ Some t.conn) whole t.there) few in
+          ap (λ (c : ConnRecord). c.sent) t.is ∙ a.all ∙ sym a.replies;
+    }
+
+pub told_rooms : (buses : List Bus) (events : List Event) (told : Record) → IsLayout buses → IsRecordOf buses events told → ToldRooms buses events told
+told_rooms buses events told layout r number one e =
+    let w = course buses events in
+    let t = told_map (recorded (history buses w)) number w.connections one (ap (told_at number) (sym r.connections) ∙ e) in
+    let laws = served_rightly buses in
+    record {
+      conn = t.conn;
+      there = t.there;
+      is = t.is;
+      within = laws.within layout events number t.conn t.there;
+      settles = λ first bytes early whole session up still. laws.settles layout first number bytes early t.conn session up still (subst (λ (es : List Event). numbered number (course buses es).connections ≡ Some t.conn) whole t.there);
+      rooms = λ up. laws.rooms layout events number t.conn t.there up;
+      one_room = λ first a b early whole there up some. ap (λ (es : List Event). without_events (course buses es)) whole ∙ laws.one_room layout first number a b early there up some;
+      overruns = λ info up still changes. laws.overruns layout events number t.conn (record { there = t.there; info = info }) up still changes;
+      no_more = λ first more early whole there over.
+          let n = laws.no_more first more number early t.conn there (subst (λ (es : List Event). numbered number (course buses es).connections ≡ Some t.conn) whole t.there) over in
+          (ap (λ (c : ConnRecord). c.items) t.is ∙ n.items, ap (λ (c : ConnRecord). c.sent) t.is ∙ n.sent_bytes);
+    }
+
+pub told_registry : (buses : List Bus) (events : List Event) (told : Record) → IsLayout buses → AllMoments events → IsRecordOf buses events told → IsToldRegistry buses events told
+told_registry buses events told layout moments r =
+    let laws = served_rightly buses in
+    let world = laws.whole layout events moments in
+    record {
+      rows_whole = subst (λ (state : State). IsWhole buses state) (sym r.rows) (whole_now buses (course buses events) world);
+      world = world;
+      keys = laws.keys layout events moments;
+    }
+
+-- so it is of each record that is given
+pub promised : {E : Type 0} (buses : List Bus) (events : List Event) (Law : Record → Type 0) → (IsLayout buses → AllMoments events → (told : Record) → IsRecordOf buses events told → Law told) → (result : Result Record E)
+    → IfOk result (λ told. told.denied ≡ 0 → IsRecordOf buses events told) → IfOk result (λ _. AllMoments events) → IfOk result (λ _. IsLayout buses) → IfOk result (λ told. told.denied ≡ 0 → Law told)
+promised buses events Law law (Ok told) record_is moments layout = λ d. law layout moments told (record_is d)
+promised buses events Law law (Err fault) record_is moments layout = tt
 
 -- one moment more
 pub moments_more : (events : List Event) (index : ℕ) (event : Event) → slice_get events index ≡ Some event → HasMoment event → AllByRecursion HasMoment (take index events) → AllByRecursion HasMoment (take (index + 1) events)

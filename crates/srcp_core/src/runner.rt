@@ -2,8 +2,9 @@
 ghost use Rattle.std.specs.Prelude.{◌≡◌, ◌≤◌, IfOk, OnOk, Some, None};
 ghost use Rattle.std.specs.List.{AllByRecursion};
 ghost use Rattle.srcp_info.specs.WellFormed.{IsMoment, IsWellFormedShown};
-ghost use Rattle.srcp_core.specs.Headline.{ToldSessions};
-ghost use Rattle.srcp_core.specs.Laws.{HasMoment, IsRecordOf};
+ghost use Rattle.srcp_rules.specs.Layout.{IsLayout};
+ghost use Rattle.srcp_core.specs.Headline.{ToldSessions, ToldReplies, ToldRooms, IsToldRegistry};
+ghost use Rattle.srcp_core.specs.Laws.{AllMoments, HasMoment, IsRecordOf};
 ghost use Rattle.srcp_core.specs.Recording.{key_of};
 ghost use Rattle.srcp_core.specs.Run.{HappensAs, FollowsAs, count_at, taken_at, taking};
 
@@ -31,11 +32,28 @@ impl From<Memory> for RunFault {
 /// Carries out the events over the registry of the layout, from moment 0 on and with session ids from 1 on, and tells
 /// what came of them. An event that is refused changes nothing, and the run goes on. `Memory` where memory was
 /// refused to the core when it was made, or to the record; what was refused after that the record counts. Where it
-/// counts none, the record is that of the course of the events, and has the laws of its information sessions.
+/// counts none, the record is that of the course of the events (`record`). Then, of each information session, however
+/// its writes were cut: on a still registry it was sent its listing, each device that was there all the time is listed
+/// exactly once, and a client that applies all lines holds the registry once it is settled (`sessions`); every other
+/// connection was sent its replies alone (`replies`); rooms add up, and nothing is sent after an overrun (`rooms`); and
+/// the registry stayed whole (`registry`).
 pub fn run<R: Rows>(alloc: Global, layout: &Layout, events: &[Event]) -> Result<Record, RunFault>
     ensures well_formed { IfOk result (λ told. AllByRecursion (λ row. IsWellFormedShown row.shown) told.rows) }
     ensures record { IfOk result (λ told. told.denied ≡ 0 → IsRecordOf layout.now events.now told) }
     ensures sessions { IfOk result (λ told. told.denied ≡ 0 → ToldSessions layout.now events.now told) }
+    ensures replies { IfOk result (λ told. told.denied ≡ 0 → ToldReplies layout.now events.now told) }
+    ensures rooms { IfOk result (λ told. told.denied ≡ 0 → ToldRooms layout.now events.now told) }
+    ensures registry { IfOk result (λ told. told.denied ≡ 0 → IsToldRegistry layout.now events.now told) }
+{
+    carry_out::<R>(alloc, layout, events)
+}
+
+/// Carries out all events.
+fn carry_out<R: Rows>(alloc: Global, layout: &Layout, events: &[Event]) -> Result<Record, RunFault>
+    ensures well_formed { IfOk result (λ told. AllByRecursion (λ row. IsWellFormedShown row.shown) told.rows) }
+    ensures record { IfOk result (λ told. told.denied ≡ 0 → IsRecordOf layout.now events.now told) }
+    ensures moments { IfOk result (λ _. AllMoments events.now) }
+    ensures laid_out { IfOk result (λ _. IsLayout layout.now) }
 {
     // Asks for a layout's limits.
     let _ = layout.buses();

@@ -1,19 +1,23 @@
-use Rattle.std.proofs.Common.{◌≤◌, length, ◌∙◌, sym, arith}
-use Rattle.srcp_core.proofs.Promises.{told_sessions, moments_all}
-use Rattle.srcp_core.proofs.Recorded.{record_is, runs_all}
+use Rattle.srcp_core.specs.Headline.{ToldSessions, ToldReplies, ToldRooms, IsToldRegistry}
+use Rattle.srcp_core.proofs.Promises.{promised, told_sessions, told_replies, told_rooms, told_registry}
 use Rattle.srcp_core.proofs.runner.run.Goals as goal
 
-pub returns-clause-record : goal.returns-clause-record
-returns-clause-record g c = λ d.
-    let all : length c.args.events.now ≤ c.loop-index.index = omega (arith, c.loop-index-test.false) in
-    record_is c.args.layout.now c.args.events.now c.loop-index.recorder c.loop-index.core c.in_ok-record.field-0 c.buses.ensures.laid_out
-    (runs_all c.args.layout.now c.args.events.now c.loop-index.index c.loop-index.recorder c.loop-index.core all (c.loop-index.invariant.runs (sym c.in_ok-record.ensures.denied ∙ d)))
-    c.in_ok-record.ensures.steps c.in_ok-record.ensures.refused c.in_ok-record.ensures.connections c.in_ok-record.ensures.rows
-
 pub returns-clause-sessions : goal.returns-clause-sessions
-returns-clause-sessions g c = λ d.
-    let all : length c.args.events.now ≤ c.loop-index.index = omega (arith, c.loop-index-test.false) in
-    told_sessions c.args.layout.now c.args.events.now c.in_ok-record.field-0 c.buses.ensures.laid_out (moments_all c.args.events.now c.loop-index.index all c.loop-index.invariant.moments)
-    (record_is c.args.layout.now c.args.events.now c.loop-index.recorder c.loop-index.core c.in_ok-record.field-0 c.buses.ensures.laid_out
-    (runs_all c.args.layout.now c.args.events.now c.loop-index.index c.loop-index.recorder c.loop-index.core all (c.loop-index.invariant.runs (sym c.in_ok-record.ensures.denied ∙ d)))
-    c.in_ok-record.ensures.steps c.in_ok-record.ensures.refused c.in_ok-record.ensures.connections c.in_ok-record.ensures.rows)
+returns-clause-sessions g c =
+    promised c.args.layout.now c.args.events.now (ToldSessions c.args.layout.now c.args.events.now) (λ layout moments told is. told_sessions c.args.layout.now c.args.events.now told layout moments is)
+    c.carry_out.result c.carry_out.ensures.record c.carry_out.ensures.moments c.carry_out.ensures.laid_out
+
+pub returns-clause-replies : goal.returns-clause-replies
+returns-clause-replies g c =
+    promised c.args.layout.now c.args.events.now (ToldReplies c.args.layout.now c.args.events.now) (λ layout moments told is. told_replies c.args.layout.now c.args.events.now told layout is)
+    c.carry_out.result c.carry_out.ensures.record c.carry_out.ensures.moments c.carry_out.ensures.laid_out
+
+pub returns-clause-rooms : goal.returns-clause-rooms
+returns-clause-rooms g c =
+    promised c.args.layout.now c.args.events.now (ToldRooms c.args.layout.now c.args.events.now) (λ layout moments told is. told_rooms c.args.layout.now c.args.events.now told layout is)
+    c.carry_out.result c.carry_out.ensures.record c.carry_out.ensures.moments c.carry_out.ensures.laid_out
+
+pub returns-clause-registry : goal.returns-clause-registry
+returns-clause-registry g c =
+    promised c.args.layout.now c.args.events.now (IsToldRegistry c.args.layout.now c.args.events.now) (λ layout moments told is. told_registry c.args.layout.now c.args.events.now told layout moments is)
+    c.carry_out.result c.carry_out.ensures.record c.carry_out.ensures.moments c.carry_out.ensures.laid_out

@@ -3,7 +3,7 @@ use Rattle.std.specs.List.{AllByRecursion}
 use Rattle.srcp_core.specs.Course.{course}
 use Rattle.srcp_core.specs.Laws.{HasMoment}
 use Rattle.srcp_core.specs.Run.{Runs}
-use Rattle.srcp_core.proofs.runner.run.Given as goal
+use Rattle.srcp_core.proofs.runner.carry_out.Given as goal
 
 abbrev pub invariant-loop-index : goal.invariant-loop-index
 invariant-loop-index g l = record {
