@@ -1,7 +1,7 @@
 -- What holds of every command, every moment, and every session's beginning and end.
-use Rattle.std.specs.Prelude.{◌≡◌, ℕ, ◌+◌, ◌*◌, ◌≤◌, ◌<◌, ◌^◌, Bool, true, false, nat_le, if◌then◌else◌, List, [], take, drop, length, IsTrue, Option, Some, None, IfSome}
+use Rattle.std.specs.Prelude.{◌≡◌, ◌≢◌, ℕ, ◌+◌, ◌*◌, ◌≤◌, ◌<◌, ◌^◌, Bool, true, false, nat_le, if◌then◌else◌, List, [], take, drop, length, IsTrue, Option, Some, None, IfSome}
 use Rattle.std.specs.List.{AllByRecursion}
-use Rattle.std.specs.Option.{option_map_or}
+use Rattle.std.specs.Option.{option_map_or, ForSome}
 use Rattle.srcp_info.specs.declared.key.Key.{Key}
 use Rattle.srcp_info.specs.declared.value.Value.{Value}
 use Rattle.srcp_info.specs.declared.value.Value.TheVariants as value
@@ -20,7 +20,7 @@ use Rattle.srcp_rules.specs.Layout.{IsLayout}
 use Rattle.srcp_rules.specs.State.{State, Update, AddsNoRow, IsRising, IsWhole, opening, row_at, is_there, key_at, session_device, device_in, lock_on, updated, updated_all}
 use Rattle.srcp_rules.specs.Command.{IsCommandOf}
 use Rattle.srcp_rules.specs.Effect.{Effect, effect, is_locked, row_put, port_end, lock_end, moment_after}
-use Rattle.srcp_rules.specs.Due.{due, freed, began, is_due}
+use Rattle.srcp_rules.specs.Due.{due, freed, began, is_due, is_held_by}
 
 -- ---- what happens to a whole registry
 
@@ -153,6 +153,28 @@ pub record IsKept (group : Lockable) (bus address : ℕ) (before after : State) 
 abbrev pub LocksHold : Type 0
 LocksHold = (state : State) (session moment : ℕ) (command : Command) (group : Lockable) (bus address : ℕ) → IsTrue (is_locked state session group bus address)
     → IsKept group bus address state (updated_all (effect state session moment command).updates state)
+
+-- ---- sessions
+
+-- no command touches the row of a session
+abbrev pub CommandsKeepSessions : Type 0
+CommandsKeepSessions = (state : State) (session moment : ℕ) (command : Command) (id : ℕ)
+    → row_at (first_key (session_device id)) (updated_all (effect state session moment command).updates state) ≡ row_at (first_key (session_device id)) state
+
+-- nor does a moment
+abbrev pub MomentsKeepSessions : Type 0
+MomentsKeepSessions = (buses : List Bus) (state : State) (moment id : ℕ) → IsMomentOf buses state moment
+    → row_at (first_key (session_device id)) (updated_all (due state moment) state) ≡ row_at (first_key (session_device id)) state
+
+-- the session is gone with all its locks, and every other session is as before
+pub record IsFreed (session : ℕ) (before after : State) : Type 0 where
+  pub gone : is_there (session_device session) after ≡ false
+  pub locks : (key : Key) → ForSome (row_at key after) (λ row. is_held_by session row ≡ false)
+  pub others : (id : ℕ) → id ≢ session → row_at (first_key (session_device id)) after ≡ row_at (first_key (session_device id)) before
+
+-- the end of a session takes out its locks and its row, and no other session's row
+abbrev pub EndsFreeAll : Type 0
+EndsFreeAll = (buses : List Bus) (state : State) (session moment : ℕ) → IsMomentOf buses state moment → IsFreed session state (updated_all (freed state session moment) state)
 
 -- ---- moments that are due
 
