@@ -107,7 +107,7 @@ module _ (buses : List Bus) (moment : ℕ) (now : IsMoment moment) where
         let first : due_change moment row.shown.key row.shown.value ≡ update = cc in
         let of = k.0.0.0 in
         ap (λ u. fate (row_at key (updated u state))) (sym first)
-        ∙ step_by row k.0.0 k.0.1 row.shown.value refl (due_may buses whole.laid_out moment now row row.due refl of.due k.0.1) key
+        ∙ step_by row k.0.0 k.0.1 row.shown.value refl (due_may moment row row.due refl of.due k.0.1) key
 
     step : (update : Update) (updates : List Update) → due state moment ≡ update ∷ updates → (key : Key) → fate (row_at key (updated update state)) ≡ fate (row_at key state)
     step update updates e key = first_step (filter (is_due moment) state) update updates (each_filtered Known (is_due moment) state known) e key
@@ -132,7 +132,7 @@ module _ (buses : List Bus) (moment : ℕ) (now : IsMoment moment) where
   all_fates : (updates : List Update) (state : State) → IsWhole buses state → due state moment ≡ updates → (key : Key) → row_at key (updated_all updates state) ≡ fate (row_at key state)
   all_fates [] state whole e key = still_by state whole e key (row_at key state) refl
   all_fates (update ∷ updates) state whole e key =
-      let later = due_later buses whole.laid_out state whole moment now update updates e in
+      let later = due_later buses state whole moment now update updates e in
       all_fates updates (updated update state) later.0 later.1 key ∙ step state whole update updates e key
 
   -- a moment makes of each row what it comes to
@@ -185,7 +185,7 @@ pub port_falls : (buses : List Bus) (state : State) (session moment later bus ad
     else Some (row_put moment (key_at (device_in lockable.Ga bus address) (1 + port)) (value.GaPort true) (Some (moment_after moment milliseconds))))
 port_falls buses state session moment later bus address port milliseconds h now some e after is =
     let key = key_at (device_in lockable.Ga bus address) (1 + port) in
-    let whole : IsWhole buses after = subst (IsWhole buses) (sym is) (effect_kept buses h.whole.laid_out state h.whole session moment h.begun h.now (SetGa bus address port true (Some milliseconds)) h.of) in
+    let whole : IsWhole buses after = subst (IsWhole buses) (sym is) (effect_kept buses state h.whole session moment h.begun h.now (SetGa bus address port true (Some milliseconds)) h.of) in
     let there : row_at key after ≡ Some (row_put moment key (value.GaPort true) (Some (moment_after moment milliseconds))) =
     ap (row_at key) is ∙ port_set state session moment bus address port true (Some milliseconds) e ∙ ap (λ ends. Some (row_put moment key (value.GaPort true) ends)) (some_time moment milliseconds some) in
     due_rows buses later now after whole key ∙ ap (λ o. option_map_or (comes_to later) o None) there
@@ -198,7 +198,7 @@ pub lock_runs_out : (buses : List Bus) (state : State) (session moment later : �
     else Some (row_put moment (first_key (lock_on g bus address)) (value.Lock seconds session) (Some (moment_after moment (1000 * seconds)))))
 lock_runs_out buses state session moment later g bus address seconds h now some e after is =
     let key = first_key (lock_on g bus address) in
-    let whole : IsWhole buses after = subst (IsWhole buses) (sym is) (effect_kept buses h.whole.laid_out state h.whole session moment h.begun h.now (SetLock bus g address seconds) h.of) in
+    let whole : IsWhole buses after = subst (IsWhole buses) (sym is) (effect_kept buses state h.whole session moment h.begun h.now (SetLock bus g address seconds) h.of) in
     let there : row_at key after ≡ Some (row_put moment key (value.Lock seconds session) (Some (moment_after moment (1000 * seconds)))) =
     ap (row_at key) is ∙ lock_set state session moment g bus address seconds e ∙ ap (λ ends. Some (row_put moment key (value.Lock seconds session) ends)) (some_seconds moment seconds some) in
     due_rows buses later now after whole key ∙ ap (λ o. option_map_or (comes_to later) o None) there

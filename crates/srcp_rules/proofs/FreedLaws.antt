@@ -4,7 +4,6 @@ use Rattle.std.proofs.Common.{refl, sym, ap, ◌∙◌, true≢false, eqb-true}
 use Rattle.std.specs.Option.{option_map_or}
 use Rattle.srcp_info.specs.declared.key.Key.{Key}
 use Rattle.srcp_info.specs.declared.change.Row.{Row}
-use Rattle.srcp_info.specs.WellFormed.{IsMoment}
 use Rattle.srcp_rules.specs.declared.layout.Bus.{Bus}
 use Rattle.srcp_rules.specs.State.{State, IsWhole, row_at, is_there, session_device, holder_of, updated_all}
 use Rattle.srcp_rules.specs.Due.{freed}
@@ -24,12 +23,12 @@ unheld buses state session whole absent key row h (Some holder) e = by (holder =
         absurd (true≢false (sym there ∙ ap (λ n. is_there (session_device n) state) (eqb-true holder session same) ∙ absent))
     by false same = refl
 
-pub all_freed : (buses : List Bus) (state : State) (session moment : ℕ) → IsWhole buses state → IsMoment moment → IsFreed session state (updated_all (freed state session moment) state)
-all_freed buses state session moment whole now =
+pub all_freed : (buses : List Bus) (state : State) (session moment : ℕ) → IsWhole buses state → IsFreed session state (updated_all (freed state session moment) state)
+all_freed buses state session moment whole =
     let after = updated_all (freed state session moment) state in
-    let gone = freed_own buses whole.laid_out state whole moment now session in
+    let gone = freed_own buses state whole moment session in
     record {
       gone = gone;
-      locks = λ key row h. unheld buses after session (freed_kept buses whole.laid_out moment now state whole session) gone key row h (holder_of row) refl;
-      others = λ id apart. freed_others buses whole.laid_out state whole moment now session id apart;
+      locks = λ key row h. unheld buses after session (freed_kept buses moment state whole session) gone key row h (holder_of row) refl;
+      others = λ id apart. freed_others buses state whole moment session id apart;
     }

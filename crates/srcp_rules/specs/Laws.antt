@@ -58,7 +58,7 @@ MomentsKeepWhole = (buses : List Bus) (state : State) (moment k : ℕ) → IsMom
 
 -- and those of a session's end
 abbrev pub EndsKeepWhole : Type 0
-EndsKeepWhole = (buses : List Bus) (state : State) (session moment k : ℕ) → IsMomentOf buses state moment
+EndsKeepWhole = (buses : List Bus) (state : State) (session moment k : ℕ) → IsWhole buses state
     → IsWhole buses (updated_all (take k (freed state session moment)) state)
     × (freed (updated_all (take k (freed state session moment)) state) session moment ≡ drop k (freed state session moment))
 
@@ -163,7 +163,7 @@ CommandsKeepSessions = (state : State) (session moment : ℕ) (command : Command
 
 -- nor does a moment
 abbrev pub MomentsKeepSessions : Type 0
-MomentsKeepSessions = (buses : List Bus) (state : State) (moment id : ℕ) → IsMomentOf buses state moment
+MomentsKeepSessions = (buses : List Bus) (state : State) (moment id : ℕ) → IsWhole buses state
     → row_at (first_key (session_device id)) (updated_all (due state moment) state) ≡ row_at (first_key (session_device id)) state
 
 -- the session is gone with all its locks, and every other session is as before
@@ -174,7 +174,7 @@ pub record IsFreed (session : ℕ) (before after : State) : Type 0 where
 
 -- the end of a session takes out its locks and its row, and no other session's row
 abbrev pub EndsFreeAll : Type 0
-EndsFreeAll = (buses : List Bus) (state : State) (session moment : ℕ) → IsMomentOf buses state moment → IsFreed session state (updated_all (freed state session moment) state)
+EndsFreeAll = (buses : List Bus) (state : State) (session moment : ℕ) → IsWhole buses state → IsFreed session state (updated_all (freed state session moment) state)
 
 -- ---- moments that are due
 

@@ -3,6 +3,6 @@ use Rattle.srcp_rules.proofs.laws.commands_can_be_told.Goals as goal
 
 pub returns : goal.returns
 returns c = λ buses state session moment command h. (
-  effect_told buses h.whole.laid_out state h.whole session moment h.begun h.now command h.of,
-  reply_told buses h.whole.laid_out state h.whole session moment h.begun h.now command,
+  effect_told buses state h.whole session moment h.begun h.now command h.of,
+  reply_told buses state h.whole session moment h.begun h.now command,
 )
