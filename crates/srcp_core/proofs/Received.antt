@@ -152,4 +152,4 @@ answered_gains granted key asked held p mark there is s = by asked is granted (a
             let own : p.session ≡ q.session = sym (ap (λ (r : Place). r.session) same) in
             let row : is_there (session_device q.session) held.rows ≡ true = subst (λ n. is_there (session_device n) held.rows ≡ true) own (s.sessions.there key p there a.live) in
             obeyed_gains key q.session (effect held.rows q.session held.moment command) held s.moment
-            (reply_told held.buses s.layout held.rows s.whole q.session held.moment row s.moment command)
+            (reply_told held.buses held.rows s.whole q.session held.moment row s.moment command)

@@ -97,13 +97,13 @@ sound_carried updates held whole same s =
 pub sound_obeyed : (session moment : ℕ) (command : Command) (held : Held) → IsMoment moment → IsCommandOf held.buses command → is_there (session_device session) held.rows ≡ true → IsSound held
     → IsSound (carried (effect held.rows session moment command).updates held)
 sound_obeyed session moment command held now of begun s =
-    sound_carried (effect held.rows session moment command).updates held (effect_kept held.buses s.layout held.rows s.whole session moment begun now command of)
+    sound_carried (effect held.rows session moment command).updates held (effect_kept held.buses held.rows s.whole session moment begun now command of)
     (λ id. ap is_some (session_row-updated_all (effect held.rows session moment command).updates held.rows id (effect_elsewhere held.rows session moment command))) s
 
 pub sound_due : (moment : ℕ) (held : Held) → IsMoment moment → IsSound held → IsSound (carried (due held.rows moment) held)
 sound_due moment held now s =
-    sound_carried (due held.rows moment) held (due_kept held.buses s.layout moment now held.rows s.whole)
-    (λ id. ap is_some (session_row-updated_all (due held.rows moment) held.rows id (due_elsewhere held.buses s.layout held.rows s.whole moment now))) s
+    sound_carried (due held.rows moment) held (due_kept held.buses moment now held.rows s.whole)
+    (λ id. ap is_some (session_row-updated_all (due held.rows moment) held.rows id (due_elsewhere held.buses held.rows s.whole moment))) s
 
 -- no session that goes on has this id
 abbrev pub IsOver : ℕ → List (Option Place) → Type 0
@@ -116,12 +116,12 @@ sound_freed session held now known over s =
     let covers = covers_told_each (map change_in updates) held.places in
     let a = sessions_covered held.last_id held.rows held.places places covers s.sessions in
     let others : (id : ℕ) → id ≢ session → is_there (session_device id) (updated_all updates held.rows) ≡ is_there (session_device id) held.rows =
-    λ id apart. ap is_some (freed_others held.buses s.layout held.rows s.whole held.moment now session id apart) in
+    λ id apart. ap is_some (freed_others held.buses held.rows s.whole held.moment session id apart) in
     record {
       layout = s.layout;
       moment = s.moment;
       few = let c = told_each_count (map change_in updates) held.places in omega (arith, c, s.few);
-      whole = freed_kept held.buses s.layout held.moment now held.rows s.whole session;
+      whole = freed_kept held.buses held.moment held.rows s.whole session;
       sessions = record {
         ids = a.ids;
         apart = a.apart;
@@ -214,7 +214,7 @@ sound_begun key id mode held now next high s =
       layout = s.layout;
       moment = s.moment;
       few = omega (arith, s.few, told, count);
-      whole = began_kept held.buses s.layout held.moment now id mode held.rows (session_place held.buses id (omega (arith, next)) high) s.whole;
+      whole = began_kept held.buses held.moment now id mode held.rows (session_place held.buses id (omega (arith, next)) high) s.whole;
       sessions = sessions_begun held.last_id id key held.rows mid.rows mid.places (changed_places key (entered_place id mode) mid.places) next (λ other apart. other_row id other held.moment mode held.rows apart) (own_row id held.moment mode held.rows) (entered_from mid.places key id mode) covered;
     }
 

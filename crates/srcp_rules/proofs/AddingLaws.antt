@@ -10,7 +10,7 @@ use Rattle.srcp_info.specs.declared.value.Value.TheVariants as value
 use Rattle.srcp_info.specs.Key.{first_key}
 use Rattle.srcp_info.specs.WellFormed.{IsMoment}
 use Rattle.srcp_rules.specs.declared.layout.Bus.{Bus}
-use Rattle.srcp_rules.specs.Layout.{IsLayout, row_count, rows_if, is_within}
+use Rattle.srcp_rules.specs.Layout.{row_count, rows_if, is_within}
 use Rattle.srcp_rules.specs.State.{State, IsWhole, IsRowOf, has_row, is_there, key_at, session_device}
 use Rattle.srcp_rules.specs.Effect.{row_put}
 use Rattle.srcp_rules.specs.Rows.{AreNewRowsOf}
@@ -34,16 +34,16 @@ pub session_rows : (buses : List Bus) (session : ℕ) → 1 ≤ session → sess
 session_rows buses session low high = ap (λ b. rows_if (0 == 0 && b) 1) (within 1 4294967295 session low high)
 
 -- the row of a session that begins may be added
-pub session_added : (buses : List Bus) (state : State) → IsLayout buses → IsWhole buses state → (session moment : ℕ) (mode : Mode) → 1 ≤ session → session ≤ 4294967295 → IsMoment moment
+pub session_added : (buses : List Bus) (state : State) → IsWhole buses state → (session moment : ℕ) (mode : Mode) → 1 ≤ session → session ≤ 4294967295 → IsMoment moment
     → is_there (session_device session) state ≡ false → AreNewRowsOf buses state (session_device session) (row_put moment (first_key (session_device session)) (value.Session mode) None ∷ [])
-session_added buses state layout whole session moment mode low high now absent =
+session_added buses state whole session moment mode low high now absent =
     let count = session_rows buses session low high in
     let some : 0 < row_count buses (session_device session) = omega (arith, count) in
     record {
       all = record {
         keys = ap (λ n. map (key_at (session_device session)) (range_with_len 0 n)) (sym count);
         few = omega arith;
-        each = (IsRowOf-put buses layout (first_key (session_device session)) moment (value.Session mode) None some now (refl, refl) tt, tt);
+        each = (IsRowOf-put buses whole.laid_out (first_key (session_device session)) moment (value.Session mode) None some now (refl, refl) tt, tt);
       };
       free = none_there buses state whole (session_device session) absent some;
     }

@@ -20,7 +20,8 @@ use Rattle.srcp_rules.specs.declared.command.Command.TheVariants.{SetGa, SetLock
 use Rattle.srcp_rules.specs.State.{State, Update, IsWhole, IsRowOf, MayBeDue, row_at, key_at, device_in, lock_on, updated, updated_all}
 use Rattle.srcp_rules.specs.Effect.{effect, done, unless_refused, refusals, put_at, row_put, port_end, lock_end, moment_after}
 use Rattle.srcp_rules.specs.Due.{due, due_change, is_due}
-use Rattle.srcp_rules.specs.Laws.{IsGiven, EndsInTime, comes_to, fallen}
+use Rattle.srcp_rules.specs.Obeyed.{MayObey}
+use Rattle.srcp_rules.specs.Laws.{EndsInTime, comes_to, fallen}
 use Rattle.srcp_rules.proofs.KeyLaws.{same_key, same_key-true, owns-true}
 use Rattle.srcp_rules.proofs.FindLaws.{each_filtered, each_unfiltered, found_holds}
 use Rattle.srcp_rules.proofs.StateLaws.{row_at-put_row, row_at-put_same, row_at-without, row_at_key, each_found}
@@ -107,7 +108,7 @@ module _ (buses : List Bus) (moment : ℕ) (now : IsMoment moment) where
         let first : due_change moment row.shown.key row.shown.value ≡ update = cc in
         let of = k.0.0.0 in
         ap (λ u. fate (row_at key (updated u state))) (sym first)
-        ∙ step_by row k.0.0 k.0.1 row.shown.value refl (due_may buses whole.laid_out moment now row row.due refl of.due k.0.1) key
+        ∙ step_by row k.0.0 k.0.1 row.shown.value refl (due_may moment row row.due refl of.due k.0.1) key
 
     step : (update : Update) (updates : List Update) → due state moment ≡ update ∷ updates → (key : Key) → fate (row_at key (updated update state)) ≡ fate (row_at key state)
     step update updates e key = first_step (filter (is_due moment) state) update updates (each_filtered Known (is_due moment) state known) e key
@@ -132,7 +133,7 @@ module _ (buses : List Bus) (moment : ℕ) (now : IsMoment moment) where
   all_fates : (updates : List Update) (state : State) → IsWhole buses state → due state moment ≡ updates → (key : Key) → row_at key (updated_all updates state) ≡ fate (row_at key state)
   all_fates [] state whole e key = still_by state whole e key (row_at key state) refl
   all_fates (update ∷ updates) state whole e key =
-      let later = due_later buses whole.laid_out state whole moment now update updates e in
+      let later = due_later buses state whole moment now update updates e in
       all_fates updates (updated update state) later.0 later.1 key ∙ step state whole update updates e key
 
   -- a moment makes of each row what it comes to
@@ -177,28 +178,28 @@ some_time moment n some = ap (λ b. cond b (Some (moment_after moment n)) None) 
 some_seconds : (moment n : ℕ) → 0 < n → lock_end moment n ≡ Some (moment_after moment (1000 * n))
 some_seconds moment n some = ap (λ b. cond b (Some (moment_after moment (1000 * n))) None) (lt-ltb 0 n some)
 
-pub port_falls : (buses : List Bus) (state : State) (session moment later bus address port milliseconds : ℕ) → IsGiven buses state session moment (SetGa bus address port true (Some milliseconds)) → IsMoment later
+pub port_falls : (buses : List Bus) (state : State) (session moment later bus address port milliseconds : ℕ) → MayObey buses state session (SetGa bus address port true (Some milliseconds)) → IsMoment moment → IsMoment later
     → 0 < milliseconds → (effect state session moment (SetGa bus address port true (Some milliseconds))).reply ≡ Accepted
     → (after : State) → after ≡ updated_all (effect state session moment (SetGa bus address port true (Some milliseconds))).updates state
     → row_at (key_at (device_in lockable.Ga bus address) (1 + port)) (updated_all (due after later) after)
     ≡ (if nat_le (moment_after moment milliseconds) later then Some (row_put later (key_at (device_in lockable.Ga bus address) (1 + port)) (value.GaPort false) None)
     else Some (row_put moment (key_at (device_in lockable.Ga bus address) (1 + port)) (value.GaPort true) (Some (moment_after moment milliseconds))))
-port_falls buses state session moment later bus address port milliseconds h now some e after is =
+port_falls buses state session moment later bus address port milliseconds may begins now some e after is =
     let key = key_at (device_in lockable.Ga bus address) (1 + port) in
-    let whole : IsWhole buses after = subst (IsWhole buses) (sym is) (effect_kept buses h.whole.laid_out state h.whole session moment h.begun h.now (SetGa bus address port true (Some milliseconds)) h.of) in
+    let whole : IsWhole buses after = subst (IsWhole buses) (sym is) (effect_kept buses state may.whole session moment may.begun begins (SetGa bus address port true (Some milliseconds)) may.of) in
     let there : row_at key after ≡ Some (row_put moment key (value.GaPort true) (Some (moment_after moment milliseconds))) =
     ap (row_at key) is ∙ port_set state session moment bus address port true (Some milliseconds) e ∙ ap (λ ends. Some (row_put moment key (value.GaPort true) ends)) (some_time moment milliseconds some) in
     due_rows buses later now after whole key ∙ ap (λ o. option_map_or (comes_to later) o None) there
 
-pub lock_runs_out : (buses : List Bus) (state : State) (session moment later : ℕ) (g : Lockable) (bus address seconds : ℕ) → IsGiven buses state session moment (SetLock bus g address seconds) → IsMoment later
+pub lock_runs_out : (buses : List Bus) (state : State) (session moment later : ℕ) (g : Lockable) (bus address seconds : ℕ) → MayObey buses state session (SetLock bus g address seconds) → IsMoment moment → IsMoment later
     → 0 < seconds → (effect state session moment (SetLock bus g address seconds)).reply ≡ Accepted
     → (after : State) → after ≡ updated_all (effect state session moment (SetLock bus g address seconds)).updates state
     → row_at (first_key (lock_on g bus address)) (updated_all (due after later) after)
     ≡ (if nat_le (moment_after moment (1000 * seconds)) later then None
     else Some (row_put moment (first_key (lock_on g bus address)) (value.Lock seconds session) (Some (moment_after moment (1000 * seconds)))))
-lock_runs_out buses state session moment later g bus address seconds h now some e after is =
+lock_runs_out buses state session moment later g bus address seconds may begins now some e after is =
     let key = first_key (lock_on g bus address) in
-    let whole : IsWhole buses after = subst (IsWhole buses) (sym is) (effect_kept buses h.whole.laid_out state h.whole session moment h.begun h.now (SetLock bus g address seconds) h.of) in
+    let whole : IsWhole buses after = subst (IsWhole buses) (sym is) (effect_kept buses state may.whole session moment may.begun begins (SetLock bus g address seconds) may.of) in
     let there : row_at key after ≡ Some (row_put moment key (value.Lock seconds session) (Some (moment_after moment (1000 * seconds)))) =
     ap (row_at key) is ∙ lock_set state session moment g bus address seconds e ∙ ap (λ ends. Some (row_put moment key (value.Lock seconds session) ends)) (some_seconds moment seconds some) in
     due_rows buses later now after whole key ∙ ap (λ o. option_map_or (comes_to later) o None) there

@@ -32,13 +32,13 @@ module _ (buses : List Bus) (brings : State → List Update)
 -- after the first k changes of a moment the others are still to come
 pub due_front : (buses : List Bus) (state : State) (moment k : ℕ) → IsWhole buses state → IsMoment moment
     → IsWhole buses (updated_all (take k (due state moment)) state) × (due (updated_all (take k (due state moment)) state) moment ≡ drop k (due state moment))
-due_front buses state moment k whole now = front buses (λ s. due s moment) (λ s w. due_later buses w.laid_out s w moment now) k state whole
+due_front buses state moment k whole now = front buses (λ s. due s moment) (λ s w. due_later buses s w moment now) k state whole
 
 -- and of a session's end
-pub freed_front : (buses : List Bus) (state : State) (session moment k : ℕ) → IsWhole buses state → IsMoment moment
+pub freed_front : (buses : List Bus) (state : State) (session moment k : ℕ) → IsWhole buses state
     → IsWhole buses (updated_all (take k (freed state session moment)) state)
     × (freed (updated_all (take k (freed state session moment)) state) session moment ≡ drop k (freed state session moment))
-freed_front buses state session moment k whole now = front buses (λ s. freed s session moment) (λ s w. freed_later buses w.laid_out s w moment now session) k state whole
+freed_front buses state session moment k whole = front buses (λ s. freed s session moment) (λ s w. freed_later buses s w moment session) k state whole
 
 -- what only takes out adds nothing
 gone_adds : (state : State) (moment : ℕ) (rows : List Row) → AllByRecursion (λ update. AddsNoRow state update.change) (map (λ row. gone_at moment (device_of row.shown.key)) rows)

@@ -13,7 +13,6 @@ use Rattle.srcp_info.specs.Key.{device_of, first_key, key_of, has_reached}
 use Rattle.srcp_info.specs.WellFormed.{IsMoment, IsValueAt, IsWellFormed}
 use Rattle.srcp_rules.specs.declared.layout.Bus.{Bus}
 use Rattle.srcp_rules.specs.declared.next.Sought.TheVariants as sought
-use Rattle.srcp_rules.specs.Layout.{IsLayout}
 use Rattle.srcp_rules.specs.State.{State, Update, AddsNoRow, IsWhole, IsRowOf, MayBeDue, row_at, is_there, session_device, updated}
 use Rattle.srcp_rules.specs.Effect.{gone_at}
 use Rattle.srcp_rules.specs.Due.{due_after, due_change, is_due, is_held_by, freed, sought_after}
@@ -53,7 +52,7 @@ change_key moment key (value.GaPort on) may fits = refl
 change_key moment key (value.Fb on) may fits = absurd may
 change_key moment key (value.Lock seconds session) may fits = lock_key key fits.1
 
-module _ (buses : List Bus) (layout : IsLayout buses) (state : State) (whole : IsWhole buses state) (moment : ℕ) (now : IsMoment moment) where
+module _ (buses : List Bus) (state : State) (whole : IsWhole buses state) (moment : ℕ) (now : IsMoment moment) where
   -- what is known of each row
   abbrev Known : Row → Type 0
   Known row = IsRowOf buses row × (row_at row.shown.key state ≡ Some row)
@@ -65,7 +64,7 @@ module _ (buses : List Bus) (layout : IsLayout buses) (state : State) (whole : I
   brings row = due_change moment row.shown.key row.shown.value
 
   due_key : (row : Row) → Known row → is_due moment row ≡ true → key_of (brings row).change ≡ row.shown.key
-  due_key row k e = change_key moment row.shown.key row.shown.value (due_may buses layout moment now row row.due refl k.0.due e) k.0.shown.value
+  due_key row k e = change_key moment row.shown.key row.shown.value (due_may moment row row.due refl k.0.due e) k.0.shown.value
 
   module _ (cursor : Cursor) where
     test_same : (row : Row) → Known row → (is_due moment row && not (has_reached cursor (key_of (brings row).change))) ≡ (not (has_reached cursor row.shown.key) && is_due moment row)
@@ -103,14 +102,14 @@ module _ (buses : List Bus) (layout : IsLayout buses) (state : State) (whole : I
       row_due = second_so (not (has_reached cursor row.shown.key)) (is_due moment row) (find_passes Test state row found)
 
       pub row_may : MayBeDue row.shown.value
-      row_may = due_may buses layout moment now row row.due refl row_known.0.due row_due
+      row_may = due_may moment row row.due refl row_known.0.due row_due
 
       -- it is there, and the registry is whole after its change
       pub due_whole : IsWhole buses (updated (brings row) state)
-      due_whole = due_step buses layout moment now row.shown.key row.shown.value state row_known.0.place row_known.0.shown.value row_may (λ other. ap is_some row_known.1) whole
+      due_whole = due_step buses moment now row.shown.key row.shown.value state row_known.0.place row_known.0.shown.value row_may (λ other. ap is_some row_known.1) whole
 
       pub due_well_formed : IsWellFormed (brings row).change
-      due_well_formed = change_told buses layout state whole moment now row.shown.key row.shown.value row_known.0.shown.address row_known.0.shown.value row_may
+      due_well_formed = change_told buses state whole moment now row.shown.key row.shown.value row_known.0.shown.address row_known.0.shown.value row_may
 
       pub due_adds_no_row : AddsNoRow state (brings row).change
       due_adds_no_row = AddsNoRow-from_put buses state whole (brings row).change (due_put buses moment row.shown.key row.shown.value row_known.0.place)
@@ -152,11 +151,11 @@ module _ (state : State) (session moment : ℕ) where
   freed_own there found e = ap (λ rows. gone_rows rows ++ own (is_there (session_device session) state)) (found_none (is_held_by session) state found) ∙ ap own e
 
   -- the registry is whole after the first change, which can be told
-  pub freed_step : (buses : List Bus) → IsLayout buses → IsWhole buses state → IsMoment moment → (update : Update) (later : List Update) → freed state session moment ≡ update ∷ later
+  pub freed_step : (buses : List Bus) → IsWhole buses state → IsMoment moment → (update : Update) (later : List Update) → freed state session moment ≡ update ∷ later
       → IsWhole buses (updated update state) × IsWellFormed update.change
-  freed_step buses layout whole now update later e = (
-    (freed_later buses layout state whole moment now session update later e).0,
-    (subst AreTold e (freed_told buses layout state whole moment now session)).0,
+  freed_step buses whole now update later e = (
+    (freed_later buses state whole moment session update later e).0,
+    (subst AreTold e (freed_told buses state whole moment now session)).0,
   )
 
 -- a value that may be due and is no lock is a port

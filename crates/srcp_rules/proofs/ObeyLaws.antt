@@ -65,7 +65,7 @@ module _ (buses : List Bus) (state : State) (session moment : ℕ) (now : IsMome
       → IsRowOf buses (row_put moment (first_key (lock_on g bus address)) (value.Lock seconds session) (lock_end moment seconds))
   lock_row g bus address seconds may =
       IsRowOf-put buses may.whole.laid_out (first_key (lock_on g bus address)) moment (value.Lock seconds session) (lock_end moment seconds) may.of.0 now
-      (lock_value buses may.whole.laid_out state may.whole session moment may.begun now g seconds may.of.1) (lock_end_fits moment seconds session)
+      (lock_value buses state may.whole session moment may.begun now g seconds may.of.1) (lock_end_fits moment seconds session)
 
   -- all rows of a device that is there are there
   pub port_there : (device : Device) → IsWhole buses state → is_there device state ≡ true → (port : ℕ) → IsKeyOf buses (key_at device port) → has_row (key_at device port) state ≡ true
@@ -88,8 +88,8 @@ module _ (buses : List Bus) (state : State) (session moment : ℕ) (now : IsMome
       let device = device_in lockable.Gl bus address in
       let before = functions_of bus address state in
       let after = functions_after functions before in
-      let same : length after ≡ length before = as_many buses may.whole.laid_out state may.whole session moment may.begun now functions before short in
-      let most : length before ≤ 29 = found_few buses may.whole.laid_out state may.whole session moment may.begun now (key_at device 1) (row_at (key_at device 1) state) refl in
+      let same : length after ≡ length before = as_many buses state may.whole session moment may.begun now functions before short in
+      let most : length before ≤ 29 = found_few buses state may.whole session moment may.begun now (key_at device 1) (row_at (key_at device 1) state) refl in
       let few : length after ≤ 29 = omega (arith, most, same) in
       let fits = may.of.1 in
       IsRowOf-put buses may.whole.laid_out (key_at device 1) moment (value.GlState mode (kept_v mode v) vmax after) None may.of.0 now (fits.0, fits.1, fits.2, few) tt

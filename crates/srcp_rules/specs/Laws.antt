@@ -1,7 +1,7 @@
 -- What holds of every command, every moment, and every session's beginning and end.
-use Rattle.std.specs.Prelude.{◌≡◌, ℕ, ◌+◌, ◌*◌, ◌≤◌, ◌<◌, ◌^◌, Bool, true, false, nat_le, if◌then◌else◌, List, [], take, drop, length, IsTrue, Option, Some, None, IfSome}
+use Rattle.std.specs.Prelude.{◌≡◌, ◌≢◌, ℕ, ◌+◌, ◌*◌, ◌≤◌, ◌<◌, ◌^◌, Bool, true, false, nat_le, if◌then◌else◌, List, [], take, drop, length, IsTrue, Option, Some, None, IfSome}
 use Rattle.std.specs.List.{AllByRecursion}
-use Rattle.std.specs.Option.{option_map_or}
+use Rattle.std.specs.Option.{option_map_or, ForSome}
 use Rattle.srcp_info.specs.declared.key.Key.{Key}
 use Rattle.srcp_info.specs.declared.value.Value.{Value}
 use Rattle.srcp_info.specs.declared.value.Value.TheVariants as value
@@ -20,21 +20,8 @@ use Rattle.srcp_rules.specs.Layout.{IsLayout}
 use Rattle.srcp_rules.specs.State.{State, Update, AddsNoRow, IsRising, IsWhole, opening, row_at, is_there, key_at, session_device, device_in, lock_on, updated, updated_all}
 use Rattle.srcp_rules.specs.Command.{IsCommandOf}
 use Rattle.srcp_rules.specs.Effect.{Effect, effect, is_locked, row_put, port_end, lock_end, moment_after}
-use Rattle.srcp_rules.specs.Due.{due, freed, began, is_due}
-
--- ---- what happens to a whole registry
-
--- a session that has begun gives a whole registry a command of its layout
-pub record IsGiven (buses : List Bus) (state : State) (session moment : ℕ) (command : Command) : Type 0 where
-  pub whole : IsWhole buses state
-  pub begun : IsTrue (is_there (session_device session) state)
-  pub of : IsCommandOf buses command
-  pub now : IsMoment moment
-
--- a moment comes to a whole registry
-pub record IsMomentOf (buses : List Bus) (state : State) (moment : ℕ) : Type 0 where
-  pub whole : IsWhole buses state
-  pub now : IsMoment moment
+use Rattle.srcp_rules.specs.Obeyed.{MayObey}
+use Rattle.srcp_rules.specs.Due.{due, freed, began, is_due, is_held_by}
 
 -- ---- whole registries
 
@@ -48,41 +35,45 @@ UpdatesKeepRising = (update : Update) (state : State) → IsRising state → IsR
 
 -- the updates of a command, taken together, leave the registry whole
 abbrev pub CommandsKeepWhole : Type 0
-CommandsKeepWhole = (buses : List Bus) (state : State) (session moment : ℕ) (command : Command) → IsGiven buses state session moment command
+CommandsKeepWhole = (buses : List Bus) (state : State) (session moment : ℕ) (command : Command) → MayObey buses state session command → IsMoment moment
     → IsWhole buses (updated_all (effect state session moment command).updates state)
 
 -- those of a moment do so one by one: after the first k of them it is whole, and the others are still to come
 abbrev pub MomentsKeepWhole : Type 0
-MomentsKeepWhole = (buses : List Bus) (state : State) (moment k : ℕ) → IsMomentOf buses state moment
+MomentsKeepWhole = (buses : List Bus) (state : State) (moment k : ℕ) → IsWhole buses state → IsMoment moment
     → IsWhole buses (updated_all (take k (due state moment)) state) × (due (updated_all (take k (due state moment)) state) moment ≡ drop k (due state moment))
 
 -- and those of a session's end
 abbrev pub EndsKeepWhole : Type 0
-EndsKeepWhole = (buses : List Bus) (state : State) (session moment k : ℕ) → IsMomentOf buses state moment
+EndsKeepWhole = (buses : List Bus) (state : State) (session moment k : ℕ) → IsWhole buses state
     → IsWhole buses (updated_all (take k (freed state session moment)) state)
     × (freed (updated_all (take k (freed state session moment)) state) session moment ≡ drop k (freed state session moment))
 
 -- and a session's beginning
 abbrev pub BeginningsKeepWhole : Type 0
-BeginningsKeepWhole = (buses : List Bus) (state : State) (session moment : ℕ) (mode : Mode) → IsMomentOf buses state moment → 1 ≤ session → session < 2 ^ 32
+BeginningsKeepWhole = (buses : List Bus) (state : State) (session moment : ℕ) (mode : Mode) → IsWhole buses state → IsMoment moment → 1 ≤ session → session < 2 ^ 32
     → IsWhole buses (updated (began session moment mode) state)
 
 -- ---- the rows of a device come and go together
 
--- no Put gives a row to a device that has rows
+-- no Put of these gives a row to a device that has rows
 abbrev pub AddNoRow : State → List Update → Type 0
 AddNoRow state updates = AllByRecursion (λ update. AddsNoRow state update.change) updates
 
+-- no Put of a command does so
 abbrev pub CommandsAddNoRow : Type 0
 CommandsAddNoRow = (buses : List Bus) (state : State) (session moment : ℕ) (command : Command) → IsWhole buses state → IsCommandOf buses command
     → AddNoRow state (effect state session moment command).updates
 
+-- nor one of a moment
 abbrev pub MomentsAddNoRow : Type 0
 MomentsAddNoRow = (buses : List Bus) (state : State) (moment : ℕ) → IsWhole buses state → AddNoRow state (due state moment)
 
+-- nor one of a session's end, which has none
 abbrev pub EndsAddNoRow : Type 0
 EndsAddNoRow = (state : State) (session moment : ℕ) → AddNoRow state (freed state session moment)
 
+-- nor that of a session's beginning
 abbrev pub BeginningsAddNoRow : Type 0
 BeginningsAddNoRow = (buses : List Bus) (state : State) (session moment : ℕ) (mode : Mode) → IsWhole buses state → 1 ≤ session → session < 2 ^ 32
     → AddsNoRow state (began session moment mode).change
@@ -100,15 +91,18 @@ CanBeTold updates = AllByRecursion (λ update. IsWellFormed update.change) updat
 
 -- the changes of a command can be told, and so can its reply
 abbrev pub CommandsCanBeTold : Type 0
-CommandsCanBeTold = (buses : List Bus) (state : State) (session moment : ℕ) (command : Command) → IsGiven buses state session moment command
+CommandsCanBeTold = (buses : List Bus) (state : State) (session moment : ℕ) (command : Command) → MayObey buses state session command → IsMoment moment
     → CanBeTold (effect state session moment command).updates × IsWellFormedReply (effect state session moment command).reply
 
+-- so can those of a moment
 abbrev pub MomentsCanBeTold : Type 0
-MomentsCanBeTold = (buses : List Bus) (state : State) (moment : ℕ) → IsMomentOf buses state moment → CanBeTold (due state moment)
+MomentsCanBeTold = (buses : List Bus) (state : State) (moment : ℕ) → IsWhole buses state → IsMoment moment → CanBeTold (due state moment)
 
+-- and those of a session's end
 abbrev pub EndsCanBeTold : Type 0
-EndsCanBeTold = (buses : List Bus) (state : State) (session moment : ℕ) → IsMomentOf buses state moment → CanBeTold (freed state session moment)
+EndsCanBeTold = (buses : List Bus) (state : State) (session moment : ℕ) → IsWhole buses state → IsMoment moment → CanBeTold (freed state session moment)
 
+-- and that of a session's beginning
 abbrev pub BeginningsCanBeTold : Type 0
 BeginningsCanBeTold = (session moment : ℕ) (mode : Mode) → IsMoment moment → 1 ≤ session → session < 2 ^ 32 → IsWellFormed (began session moment mode).change
 
@@ -119,6 +113,7 @@ pub record ChangesNothing (did : Effect) : Type 0 where
   pub updates : did.updates ≡ []
   pub ends : did.ends ≡ false
 
+-- a command that is refused does so
 abbrev pub RefusalsChangeNothing : Type 0
 RefusalsChangeNothing = (state : State) (session moment : ℕ) (command : Command) (code : Code) → (effect state session moment command).reply ≡ Refused code
     → ChangesNothing (effect state session moment command)
@@ -154,6 +149,28 @@ abbrev pub LocksHold : Type 0
 LocksHold = (state : State) (session moment : ℕ) (command : Command) (group : Lockable) (bus address : ℕ) → IsTrue (is_locked state session group bus address)
     → IsKept group bus address state (updated_all (effect state session moment command).updates state)
 
+-- ---- sessions
+
+-- no command touches the row of a session
+abbrev pub CommandsKeepSessions : Type 0
+CommandsKeepSessions = (state : State) (session moment : ℕ) (command : Command) (id : ℕ)
+    → row_at (first_key (session_device id)) (updated_all (effect state session moment command).updates state) ≡ row_at (first_key (session_device id)) state
+
+-- nor does a moment
+abbrev pub MomentsKeepSessions : Type 0
+MomentsKeepSessions = (buses : List Bus) (state : State) (moment id : ℕ) → IsWhole buses state
+    → row_at (first_key (session_device id)) (updated_all (due state moment) state) ≡ row_at (first_key (session_device id)) state
+
+-- the session is gone with all its locks, and every other session is as before
+pub record IsFreed (session : ℕ) (before after : State) : Type 0 where
+  pub gone : is_there (session_device session) after ≡ false
+  pub locks : (key : Key) → ForSome (row_at key after) (λ row. is_held_by session row ≡ false)
+  pub others : (id : ℕ) → id ≢ session → row_at (first_key (session_device id)) after ≡ row_at (first_key (session_device id)) before
+
+-- the end of a session takes out its locks and its row, and no other session's row
+abbrev pub EndsFreeAll : Type 0
+EndsFreeAll = (buses : List Bus) (state : State) (session moment : ℕ) → IsWhole buses state → IsFreed session state (updated_all (freed state session moment) state)
+
 -- ---- moments that are due
 
 -- a lock that is due is gone, a port that is due is 0
@@ -167,9 +184,10 @@ comes_to moment row = if is_due moment row then fallen moment row.shown.key row.
 
 -- a moment makes this of the row at each key, whoever holds what locked
 abbrev pub MomentsCarryOut : Type 0
-MomentsCarryOut = (buses : List Bus) (state : State) (moment : ℕ) (key : Key) → IsMomentOf buses state moment
+MomentsCarryOut = (buses : List Bus) (state : State) (moment : ℕ) (key : Key) → IsWhole buses state → IsMoment moment
     → row_at key (updated_all (due state moment) state) ≡ option_map_or (comes_to moment) (row_at key state) None
 
+-- the key of an accessory's port, the first of which is 0
 abbrev pub port_key : (bus address port : ℕ) → Key
 port_key bus address port = key_at (device_in lockable.Ga bus address) (1 + port)
 
@@ -187,7 +205,7 @@ LocksAreSet = (state : State) (session moment : ℕ) (group : Lockable) (bus add
 
 -- a port that was set to 1 for some milliseconds is 1 at each moment before their end, and 0 at each from it on
 abbrev pub PortsFallBack : Type 0
-PortsFallBack = (buses : List Bus) (state : State) (session moment later bus address port milliseconds : ℕ) → IsGiven buses state session moment (SetGa bus address port true (Some milliseconds)) → IsMoment later
+PortsFallBack = (buses : List Bus) (state : State) (session moment later bus address port milliseconds : ℕ) → MayObey buses state session (SetGa bus address port true (Some milliseconds)) → IsMoment moment → IsMoment later
     → 0 < milliseconds → (effect state session moment (SetGa bus address port true (Some milliseconds))).reply ≡ Accepted
     → (after : State) → after ≡ updated_all (effect state session moment (SetGa bus address port true (Some milliseconds))).updates state
     → row_at (port_key bus address port) (updated_all (due after later) after)
@@ -196,7 +214,7 @@ PortsFallBack = (buses : List Bus) (state : State) (session moment later bus add
 
 -- a lock that was set for some seconds is there at each moment before their end, and gone at each from it on
 abbrev pub LocksRunOut : Type 0
-LocksRunOut = (buses : List Bus) (state : State) (session moment later : ℕ) (group : Lockable) (bus address seconds : ℕ) → IsGiven buses state session moment (SetLock bus group address seconds) → IsMoment later
+LocksRunOut = (buses : List Bus) (state : State) (session moment later : ℕ) (group : Lockable) (bus address seconds : ℕ) → MayObey buses state session (SetLock bus group address seconds) → IsMoment moment → IsMoment later
     → 0 < seconds → (effect state session moment (SetLock bus group address seconds)).reply ≡ Accepted
     → (after : State) → after ≡ updated_all (effect state session moment (SetLock bus group address seconds)).updates state
     → row_at (first_key (lock_on group bus address)) (updated_all (due after later) after)
@@ -208,5 +226,6 @@ pub record EndsInTime (moment milliseconds : ℕ) : Type 0 where
   pub within : moment + milliseconds < 2 ^ 64 → moment_after moment milliseconds ≡ moment + milliseconds
   pub beyond : 2 ^ 64 ≤ moment + milliseconds → moment_after moment milliseconds + 1 ≡ 2 ^ 64
 
+-- every time ends so
 abbrev pub MomentsEnd : Type 0
 MomentsEnd = (moment milliseconds : ℕ) → EndsInTime moment milliseconds

@@ -4,7 +4,7 @@
 ghost use Rattle.srcp_rules.specs.Laws.{OpeningsAreWhole, UpdatesKeepRising, CommandsKeepWhole, MomentsKeepWhole, EndsKeepWhole, BeginningsKeepWhole};
 ghost use Rattle.srcp_rules.specs.Laws.{CommandsAddNoRow, MomentsAddNoRow, EndsAddNoRow, BeginningsAddNoRow, CommandsChangeLittle};
 ghost use Rattle.srcp_rules.specs.Laws.{CommandsCanBeTold, MomentsCanBeTold, EndsCanBeTold, BeginningsCanBeTold};
-ghost use Rattle.srcp_rules.specs.Laws.{RefusalsChangeNothing, ChecksAnswerAsSets, LocksHold};
+ghost use Rattle.srcp_rules.specs.Laws.{RefusalsChangeNothing, ChecksAnswerAsSets, LocksHold, CommandsKeepSessions, MomentsKeepSessions, EndsFreeAll};
 ghost use Rattle.srcp_rules.specs.Laws.{MomentsCarryOut, PortsAreSet, LocksAreSet, PortsFallBack, LocksRunOut, MomentsEnd};
 
 /// The registry of a layout begins whole.
@@ -95,6 +95,21 @@ pub fn checks_answer_as_sets()
 /// No command of a session changes a device, or its lock, that another session has locked.
 pub fn locks_hold()
     ensures { LocksHold }
+{}
+
+/// No command touches the row of a session.
+pub fn commands_keep_sessions()
+    ensures { CommandsKeepSessions }
+{}
+
+/// Nor does a moment.
+pub fn moments_keep_sessions()
+    ensures { MomentsKeepSessions }
+{}
+
+/// The end of a session takes out its locks and its row, and no other session's row.
+pub fn ends_free_all()
+    ensures { EndsFreeAll }
 {}
 
 /// Of the row at each key a moment makes what is due: a lock is gone, a port is 0, whoever holds

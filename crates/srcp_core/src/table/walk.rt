@@ -3,7 +3,6 @@ ghost use Rattle.std.specs.Prelude.{◌≡◌, map};
 ghost use Rattle.std.specs.List.{AllByRecursion};
 ghost use Rattle.srcp_info.specs.WellFormed.{IsWellFormed, IsMoment};
 ghost use Rattle.srcp_rules.specs.Due.{due, freed};
-ghost use Rattle.srcp_rules.specs.Layout.{IsLayout};
 ghost use Rattle.srcp_rules.specs.State.{IsWhole, updated_all};
 ghost use Rattle.srcp_core.specs.Machine.{told_all, told_each};
 
@@ -43,7 +42,6 @@ pub(crate) fn free_all<R: Rows>(
     session: u32,
     moment: u64,
 )
-    requires layout { IsLayout (R.buses rows.old) }
     requires whole { IsWhole (R.buses rows.old) (R.state rows.old) }
     ensures layout { R.buses rows.new ≡ R.buses rows.old }
     ensures rows { R.state rows.new ≡ updated_all (freed (R.state rows.old) session moment) (R.state rows.old) }
@@ -57,7 +55,6 @@ pub(crate) fn free_all<R: Rows>(
 
 /// What is due at the moment is carried out, and every connection is told.
 pub(crate) fn carry_out_due<R: Rows>(rows: &mut R, connections: &mut Slab<Connection>, moment: u64)
-    requires layout { IsLayout (R.buses rows.old) }
     requires whole { IsWhole (R.buses rows.old) (R.state rows.old) }
     ensures layout { R.buses rows.new ≡ R.buses rows.old }
     ensures rows { R.state rows.new ≡ updated_all (due (R.state rows.old) moment) (R.state rows.old) }

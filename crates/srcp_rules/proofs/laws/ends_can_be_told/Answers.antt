@@ -2,4 +2,4 @@ use Rattle.srcp_rules.proofs.ToldLaws.{freed_told}
 use Rattle.srcp_rules.proofs.laws.ends_can_be_told.Goals as goal
 
 pub returns : goal.returns
-returns c = λ buses state session moment h. freed_told buses h.whole.laid_out state h.whole moment h.now session
+returns c = λ buses state session moment whole now. freed_told buses state whole moment now session

@@ -20,7 +20,7 @@ pub remove-requires : goal.remove-requires
 remove-requires g c =
     let state = g.R.Rows.state c.args.rows.now in
     let held = freed_held state c.args.session c.args.moment c.in-Some.row.now (sym c.in-Some.ensures) in
-    let step = freed_step state c.args.session c.args.moment (g.R.Rows.buses c.args.rows.now) c.requires.whole.laid_out c.requires.whole c.ranges.moment.fits _ held.0 held.1 in
+    let step = freed_step state c.args.session c.args.moment (g.R.Rows.buses c.args.rows.now) c.requires.whole c.ranges.moment.fits _ held.0 held.1 in
     ap (λ (device : Device). can_go device.group) c.device-lock.ensures ∙ step.1.2
 
 pub returns-in-Some-clause-change : goal.returns-in-Some-clause-change
@@ -38,14 +38,14 @@ pub returns-in-Some-clause-whole : goal.returns-in-Some-clause-whole
 returns-in-Some-clause-whole g c =
     let state = g.R.Rows.state c.args.rows.now in
     let held = freed_held state c.args.session c.args.moment c.in-Some.row.now (sym c.in-Some.ensures) in
-    let step = freed_step state c.args.session c.args.moment (g.R.Rows.buses c.args.rows.now) c.requires.whole.laid_out c.requires.whole c.ranges.moment.fits _ held.0 held.1 in
+    let step = freed_step state c.args.session c.args.moment (g.R.Rows.buses c.args.rows.now) c.requires.whole c.ranges.moment.fits _ held.0 held.1 in
     rw (c.remove.ensures.layout, c.remove.ensures.rows, c.device-lock.ensures) step.0
 
 pub returns-in-Some-clause-well_formed : goal.returns-in-Some-clause-well_formed
 returns-in-Some-clause-well_formed g c =
     let state = g.R.Rows.state c.args.rows.now in
     let held = freed_held state c.args.session c.args.moment c.in-Some.row.now (sym c.in-Some.ensures) in
-    let step = freed_step state c.args.session c.args.moment (g.R.Rows.buses c.args.rows.now) c.requires.whole.laid_out c.requires.whole c.ranges.moment.fits _ held.0 held.1 in
+    let step = freed_step state c.args.session c.args.moment (g.R.Rows.buses c.args.rows.now) c.requires.whole c.ranges.moment.fits _ held.0 held.1 in
     rw (c.remove.ensures.change, c.device-lock.ensures) step.1
 
 -- ---- nothing
@@ -82,7 +82,7 @@ pub returns-clause-whole : goal.returns-clause-whole
 returns-clause-whole g c =
     let state = g.R.Rows.state c.args.rows.now in
     let there = sym (c.is_there.ensures ∙ ap (λ (device : Device). is_there device state) c.session_device-own.ensures) ∙ c.if-not-is_there.false in
-    let step = freed_step state c.args.session c.args.moment (g.R.Rows.buses c.args.rows.now) c.requires.whole.laid_out c.requires.whole c.ranges.moment.fits (gone_at c.args.moment (session_device c.args.session)) []
+    let step = freed_step state c.args.session c.args.moment (g.R.Rows.buses c.args.rows.now) c.requires.whole c.ranges.moment.fits (gone_at c.args.moment (session_device c.args.session)) []
     (freed_own state c.args.session c.args.moment true (sym c.in_default.ensures) there) in
     rw (c.remove-2.ensures.layout, c.remove-2.ensures.rows, c.session_device-own.ensures) step.0
 
@@ -90,6 +90,6 @@ pub returns-clause-well_formed : goal.returns-clause-well_formed
 returns-clause-well_formed g c =
     let state = g.R.Rows.state c.args.rows.now in
     let there = sym (c.is_there.ensures ∙ ap (λ (device : Device). is_there device state) c.session_device-own.ensures) ∙ c.if-not-is_there.false in
-    let step = freed_step state c.args.session c.args.moment (g.R.Rows.buses c.args.rows.now) c.requires.whole.laid_out c.requires.whole c.ranges.moment.fits (gone_at c.args.moment (session_device c.args.session)) []
+    let step = freed_step state c.args.session c.args.moment (g.R.Rows.buses c.args.rows.now) c.requires.whole c.ranges.moment.fits (gone_at c.args.moment (session_device c.args.session)) []
     (freed_own state c.args.session c.args.moment true (sym c.in_default.ensures) there) in
     rw (c.remove-2.ensures.change, c.session_device-own.ensures) step.1

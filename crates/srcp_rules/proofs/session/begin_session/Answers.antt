@@ -12,7 +12,7 @@ add-requires g c =
     let buses = g.R.Rows.buses c.args.rows.now in
     let state = g.R.Rows.state c.args.rows.now in
     let most : session ≤ 4294967295 = omega arith in
-    (session_device session, rw (c.row_put-row.ensures, c.first_key-key.ensures, c.session_device.ensures) (session_added buses state c.requires.whole.laid_out c.requires.whole session c.args.moment c.args.mode c.requires.session most c.ranges.moment.fits c.requires.free))
+    (session_device session, rw (c.row_put-row.ensures, c.first_key-key.ensures, c.session_device.ensures) (session_added buses state c.requires.whole session c.args.moment c.args.mode c.requires.session most c.ranges.moment.fits c.requires.free))
 
 pub returns-clause-whole : goal.returns-clause-whole
 returns-clause-whole g c =
@@ -23,7 +23,7 @@ returns-clause-whole g c =
     let count = session_rows buses session c.requires.session most in
     let some : 0 < row_count buses (session_device session) = omega (arith, count) in
     rw (c.in_ok-add.ensures.layout, c.in_ok-add.ensures.ok, c.row_put-row.ensures, c.first_key-key.ensures, c.session_device.ensures)
-    (began_kept buses c.requires.whole.laid_out c.args.moment c.ranges.moment.fits session c.args.mode state some c.requires.whole)
+    (began_kept buses c.args.moment c.ranges.moment.fits session c.args.mode state some c.requires.whole)
 
 pub returns-clause-adds_no_row : goal.returns-clause-adds_no_row
 returns-clause-adds_no_row g c =

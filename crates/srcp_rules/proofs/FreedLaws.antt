@@ -1,0 +1,34 @@
+-- What the end of a session leaves.
+use Rattle.std.specs.Prelude.{◌≡◌, ℕ, Bool, true, false, ◌==◌, List, Option, Some, None}
+use Rattle.std.proofs.Common.{refl, sym, ap, ◌∙◌, true≢false, eqb-true}
+use Rattle.std.specs.Option.{option_map_or}
+use Rattle.srcp_info.specs.declared.key.Key.{Key}
+use Rattle.srcp_info.specs.declared.change.Row.{Row}
+use Rattle.srcp_rules.specs.declared.layout.Bus.{Bus}
+use Rattle.srcp_rules.specs.State.{State, IsWhole, row_at, is_there, session_device, holder_of, updated_all}
+use Rattle.srcp_rules.specs.Due.{freed}
+use Rattle.srcp_rules.specs.Laws.{IsFreed}
+use Rattle.srcp_rules.proofs.DueLaws.{freed_kept}
+use Rattle.srcp_rules.proofs.SessionLaws.{freed_own, freed_others}
+
+-- a session that is not there holds nothing
+unheld : (buses : List Bus) (state : State) (session : ℕ) → IsWhole buses state → is_there (session_device session) state ≡ false → (key : Key) (row : Row) → row_at key state ≡ Some row
+    → (o : Option ℕ) → holder_of row ≡ o → option_map_or (λ holder. holder == session) o false ≡ false
+unheld buses state session whole absent key row h None e = refl
+unheld buses state session whole absent key row h (Some holder) e = by (holder == session) refl
+  where
+    by : (b : Bool) → (holder == session) ≡ b → b ≡ false
+    by true same =
+        let there : is_there (session_device holder) state ≡ true = whole.held key row h holder e in
+        absurd (true≢false (sym there ∙ ap (λ n. is_there (session_device n) state) (eqb-true holder session same) ∙ absent))
+    by false same = refl
+
+pub all_freed : (buses : List Bus) (state : State) (session moment : ℕ) → IsWhole buses state → IsFreed session state (updated_all (freed state session moment) state)
+all_freed buses state session moment whole =
+    let after = updated_all (freed state session moment) state in
+    let gone = freed_own buses state whole moment session in
+    record {
+      gone = gone;
+      locks = λ key row h. unheld buses after session (freed_kept buses moment state whole session) gone key row h (holder_of row) refl;
+      others = λ id apart. freed_others buses state whole moment session id apart;
+    }
