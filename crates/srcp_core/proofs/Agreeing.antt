@@ -1,5 +1,5 @@
 -- What the answers of a core's calls say of the course that it stands for.
-use Rattle.std.proofs.Common.{◌≡◌, ◌≢◌, ℕ, suc, ◌+◌, ◌<◌, ◌≤◌, Bool, true, false, List, [], ◌∷◌, ◌++◌, length, refl, ap, sym, ◌∙◌, subst, arith, ◌⊎◌, inl, inr}
+use Rattle.std.proofs.Common.{◌≡◌, ◌≢◌, ℕ, suc, ◌+◌, Bool, true, false, List, [], ◌∷◌, ◌++◌, length, refl, ap, sym, ◌∙◌, arith, ◌⊎◌, inl, inr}
 use Rattle.std.proofs.lemmas.Bool.Decides.{nat_tests}
 use Rattle.std.specs.List.{filter}
 use Rattle.std.specs.Option.{option_map_or}
@@ -8,7 +8,7 @@ use Rattle.srcp_rules.specs.declared.layout.Bus.{Bus}
 use Rattle.srcp_rules.specs.Layout.{IsLayout}
 use Rattle.srcp_rules.specs.State.{opening, shown_rows}
 use Rattle.srcp_core.specs.Agrees.{OfCourse, OfConnection, NamesNewest, IsWhyNotOpened, CountsOpen, TakesPieces, is_last, closes, lent_of, lent}
-use Rattle.srcp_core.specs.Connection.{Connection, History, is_open, is_nil, overran, unsent, finish}
+use Rattle.srcp_core.specs.Connection.{Connection, is_open, is_nil, overran, unsent, finish}
 use Rattle.srcp_core.specs.Course.{World, course, fault, absent_fault, bytes_fault as course_fault, history, open_connection}
 use Rattle.srcp_core.specs.Held.{Place, Held, at, open_count}
 use Rattle.srcp_core.specs.Machine.{IsAdmitted, bytes_fault, is_closing, is_closing_from, unsent_at, unsent_of, let_out}
