@@ -1,13 +1,15 @@
 -- What the answers of a core's calls say of the course that it stands for.
-use Rattle.std.proofs.Common.{◌≡◌, ◌≢◌, ℕ, suc, ◌+◌, ◌<◌, Bool, true, false, List, [], ◌∷◌, ◌++◌, length, refl, ap, sym, ◌∙◌, subst, arith, ◌⊎◌, inl, inr}
+use Rattle.std.proofs.Common.{◌≡◌, ◌≢◌, ℕ, suc, ◌+◌, Bool, true, false, List, [], ◌∷◌, ◌++◌, length, refl, ap, sym, ◌∙◌, arith, ◌⊎◌, inl, inr}
+use Rattle.std.proofs.lemmas.Bool.Decides.{nat_tests}
+use Rattle.std.specs.List.{filter}
 use Rattle.std.specs.Option.{option_map_or}
-use Rattle.std.specs.Prelude.{Option, Some, None, is_none, not, ◌&&◌, ◌||◌, if◌then◌else◌, Result, Ok, Err, MatchResult, IfOk, IfErr, IsErr, IsErrOf, IsSome, ◌↔◌}
+use Rattle.std.specs.Prelude.{Option, Some, None, is_none, is_some, count_by, nat_lt, slice_get, slice_index_or, not, ◌&&◌, ◌||◌, if◌then◌else◌, Result, Ok, Err, MatchResult, IfOk, IfErr, IsErr, IsErrOf, IsSome, ◌↔◌}
 use Rattle.srcp_rules.specs.declared.layout.Bus.{Bus}
 use Rattle.srcp_rules.specs.Layout.{IsLayout}
 use Rattle.srcp_rules.specs.State.{opening, shown_rows}
-use Rattle.srcp_core.specs.Agrees.{OfCourse, OfConnection, NamesNewest, IsWhyNotOpened, is_last, closes, lent_of, lent}
-use Rattle.srcp_core.specs.Connection.{Connection, History, is_open, is_nil, overran, unsent, finish}
-use Rattle.srcp_core.specs.Course.{World, course, fault, absent_fault, history, open_connection}
+use Rattle.srcp_core.specs.Agrees.{OfCourse, OfConnection, NamesNewest, IsWhyNotOpened, CountsOpen, TakesPieces, is_last, closes, lent_of, lent}
+use Rattle.srcp_core.specs.Connection.{Connection, is_open, is_nil, overran, unsent, finish}
+use Rattle.srcp_core.specs.Course.{World, course, fault, absent_fault, bytes_fault as course_fault, history, open_connection}
 use Rattle.srcp_core.specs.Held.{Place, Held, at, open_count}
 use Rattle.srcp_core.specs.Machine.{IsAdmitted, bytes_fault, is_closing, is_closing_from, unsent_at, unsent_of, let_out}
 use Rattle.srcp_core.specs.Recording.{key_of}
@@ -20,10 +22,11 @@ use Rattle.srcp_core.specs.declared.record.Finish.TheVariants.{Live, Closing, Ov
 use Rattle.srcp_core.proofs.Answering.{IsFine}
 use Rattle.srcp_core.proofs.Calling.{over_is, fault_same, full_fault, free_fault}
 use Rattle.srcp_core.proofs.Leading.{out_stands}
-use Rattle.srcp_core.proofs.Numbers.{key_push_last}
+use Rattle.srcp_core.proofs.Numbers.{key_push_last, opens_cons}
 use Rattle.srcp_core.proofs.Placing.{is_over_place, place_ended, place_overran, place_unsent, place_given_up}
 use Rattle.srcp_core.proofs.SessionLaws.{anything, at_number, opening_in_order}
 use Rattle.srcp_core.proofs.Standing.{Anything, Fine, Found, found_at}
+use Rattle.srcp_core.proofs.Telling.{count_by_cons}
 use Rattle.srcp_core.proofs.Worlds.{sound}
 
 none_some : {A : Type 0} (x : A) → None ≡ Some x → ⊥
@@ -59,6 +62,23 @@ names_newest : (key : ℕ) (held : Held) → NamesNewest key held
 names_newest key held buses events keys s =
     let last : length (course buses events).connections + 1 ≡ suc (length keys) = omega (arith, s.long) in
     ap (λ k. key_of k (keys ++ Some key ∷ [])) last ∙ key_push_last keys (Some key)
+
+-- keys and connections side by side
+count_keys : (keys : List (Option ℕ)) (conns : List Connection) → length keys ≡ length conns → ((k : ℕ) (conn : Connection) → slice_get conns k ≡ Some conn → is_some (slice_index_or keys k None) ≡ is_open conn) → count_by is_some keys ≡ length (filter is_open conns)
+count_keys [] [] l law = refl
+count_keys [] (conn ∷ conns) l law = absurd (omega (arith, l))
+count_keys (key ∷ keys) [] l law = absurd (omega (arith, l))
+count_keys (key ∷ keys) (conn ∷ conns) l law =
+    let less : length keys ≡ length conns = omega (arith, l) in
+    let more = count_keys keys conns less (λ k other e. law (suc k) other e) in
+    count_by_cons is_some key keys ∙ ap (λ n. (if is_some key then 1 else 0) + n) more ∙ ap (λ t. (if t then 1 else 0) + length (filter is_open conns)) (law 0 conn refl) ∙ sym (opens_cons conn conns)
+
+pub counts_open : (held : Held) → CountsOpen held
+counts_open held buses events keys s = count_keys keys (course buses events).connections s.long (λ k conn e. by k conn e (is_open conn) refl) ∙ sym s.count
+  where
+    by : (k : ℕ) (conn : Connection) → slice_get (course buses events).connections k ≡ Some conn → (o : Bool) → is_open conn ≡ o → is_some (key_of (suc k) keys) ≡ is_open conn
+    by k conn e true o = ap is_some (s.opens (suc k) conn e o).named ∙ sym o
+    by k conn e false o = ap is_some (s.closed (suc k) conn e o) ∙ sym o
 
 pub connect_named : (held : Held) (result : Result ℕ CoreFault) → IfOk result (λ key. NamesNewest key held)
 connect_named held (Ok key) = names_newest key held
@@ -131,6 +151,24 @@ module _ (buses : List Bus) (layout : IsLayout buses) (events : List Event) (key
 
 pub ready_agrees : (key : ℕ) (held : Held) (answer : Bool) → answer ≡ is_none (bytes_fault key [] held) → OfConnection key held (λ buses events n. answer ≡ is_none (fault buses (course buses events) (Bytes n [])))
 ready_agrees key held answer is buses events keys n layout named s = is ∙ ap is_none (fault_is buses layout events keys n key named held s [])
+
+-- where a piece of no bytes is accepted, so is any of at most 256
+pub ready_takes : (key : ℕ) (held : Held) (answer : Bool) → answer ≡ is_none (bytes_fault key [] held) → OfConnection key held (λ buses events n. answer ≡ true → TakesPieces buses (course buses events) n)
+ready_takes key held answer is buses events keys n layout named s accepts piece few =
+    from (open_connection (course buses events) n) (sym (ready_agrees key held answer is buses events keys n layout named s) ∙ accepts)
+  where
+    short : nat_lt 256 (length piece) ≡ false
+    short = grind (arith, nat_tests)
+
+    from : (o : Option Connection) → is_none (course_fault buses (course buses events) o []) ≡ true → course_fault buses (course buses events) o piece ≡ None
+    from None e = cc
+    from (Some conn) e = by (conn.ended || overran conn (history buses (course buses events))) (is_nil (unsent conn)) e
+      where
+        by : (over idle : Bool) → is_none (if over then Some ClosingFault else (if not idle then Some Busy else None)) ≡ true
+            → (if over then Some ClosingFault else (if not idle then Some Busy else (if nat_lt 256 (length piece) then Some PieceTooLong else None))) ≡ None
+        by true idle e = cc
+        by false false e = cc
+        by false true e = ap (λ t. if t then Some PieceTooLong else None) short
 
 pub closing_agrees : (key : ℕ) (held : Held) (answer : Bool) → answer ≡ is_closing key held → OfConnection key held (λ buses events n. answer ≡ closes buses (course buses events) n)
 closing_agrees key held answer is buses events keys n layout named s = is ∙ closing_is buses layout events keys n key named held s

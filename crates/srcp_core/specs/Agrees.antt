@@ -1,14 +1,15 @@
 -- What the answers of a core's calls say of the course that it stands for.
-use Rattle.std.specs.Prelude.{⊤, ◌≡◌, ℕ, ◌+◌, Bool, true, false, if◌then◌else◌, List, [], ◌∷◌, ◌++◌, length, Option, Some, None}
+use Rattle.std.specs.Prelude.{⊤, ◌≡◌, ℕ, ◌+◌, ◌≤◌, Bool, true, false, if◌then◌else◌, List, [], ◌∷◌, ◌++◌, length, Option, Some, None, is_some, count_by}
 use Rattle.std.specs.Option.{option_map_or}
 use Rattle.srcp_rules.specs.declared.layout.Bus.{Bus}
 use Rattle.srcp_rules.specs.Layout.{IsLayout}
 use Rattle.srcp_core.specs.Connection.{Connection, overran, unsent, finish}
-use Rattle.srcp_core.specs.Course.{World, course, history, open_connection}
-use Rattle.srcp_core.specs.Held.{Held}
+use Rattle.srcp_core.specs.Course.{World, course, fault, history, open_connection}
+use Rattle.srcp_core.specs.Held.{Held, open_count}
 use Rattle.srcp_core.specs.Recording.{key_of}
 use Rattle.srcp_core.specs.Stands.{StandsFor}
 use Rattle.srcp_core.specs.declared.event.Event.{Event}
+use Rattle.srcp_core.specs.declared.event.Event.TheVariants.{Bytes}
 use Rattle.srcp_core.specs.declared.record.CoreFault.{CoreFault}
 use Rattle.srcp_core.specs.declared.record.CoreFault.TheVariants.{Memory as MemoryFault}
 use Rattle.srcp_core.specs.declared.record.Finish.{Finish}
@@ -26,6 +27,10 @@ OfConnection key held Fact = (buses : List Bus) (events : List Event) (keys : Li
 abbrev pub NamesNewest : ℕ → Held → Type 0
 NamesNewest key held = (buses : List Bus) (events : List Event) (keys : List (Option ℕ)) → StandsFor buses keys held (course buses events) → key_of (length (course buses events).connections + 1) (keys ++ Some key ∷ []) ≡ Some key
 
+-- as many numbers have keys as connections are open
+abbrev pub CountsOpen : Held → Type 0
+CountsOpen held = (buses : List Bus) (events : List Event) (keys : List (Option ℕ)) → StandsFor buses keys held (course buses events) → count_by is_some keys ≡ open_count held
+
 -- why a connection is not opened: the course says so, unless memory was refused
 abbrev pub IsWhyNotOpened : CoreFault → Option CoreFault → Type 0
 IsWhyNotOpened MemoryFault cause = ⊤
@@ -42,6 +47,10 @@ module _ (buses : List Bus) where
   -- the open connection of that number is to be closed: it overran, or it ended and all its replies are taken
   abbrev pub closes : World → ℕ → Bool
   closes w n = option_map_or (λ conn. is_last (finish conn (history buses w))) (open_connection w n) false
+
+  -- every piece of at most 256 bytes is accepted of the connection
+  abbrev pub TakesPieces : World → ℕ → Type 0
+  TakesPieces w n = (piece : List ℕ) → length piece ≤ 256 → fault buses w (Bytes n piece) ≡ None
 
   -- what a connection lends: what is unsent of it, and nothing where it overran
   abbrev pub lent_of : World → Connection → List ℕ

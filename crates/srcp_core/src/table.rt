@@ -3,11 +3,10 @@ ghost use Rattle.std.specs.Prelude.{◌⊎◌, ◌≡◌, ◌≢◌, ◌+◌, �
 ghost use Rattle.srcp_core.specs.Connection.{is_nil};
 ghost use Rattle.srcp_core.specs.Held.{at, open_count};
 ghost use Rattle.srcp_core.specs.Machine.{IsAdmitted, refused_connect, is_closing, one_denied, unsent_at, bytes_fault};
-ghost use Rattle.srcp_core.specs.Agrees.{OfCourse, OfConnection, IsWhyNotOpened, NamesNewest, closes};
+ghost use Rattle.srcp_core.specs.Agrees.{OfCourse, OfConnection, IsWhyNotOpened, NamesNewest, CountsOpen, TakesPieces, closes};
 ghost use Rattle.srcp_core.specs.Course.{course, fault};
 ghost use Rattle.srcp_core.specs.Run.{LeadsTo, LeadsToOpen};
 ghost use Rattle.srcp_core.specs.declared.event.Event.TheVariants.{Open, Bytes};
-ghost use Rattle.srcp_rules.specs.Layout.{IsLayout};
 ghost use Rattle.srcp_core.specs.Stands.{StandsFor};
 ghost use Rattle.srcp_rules.specs.State.{opening};
 
@@ -95,14 +94,6 @@ impl<'a, R: Rows> Core<'a, R> {
         })
     }
 
-    /// How many growths were refused since `new`. The count stays at the greatest u64.
-    pub fn denied(&self) -> u64
-        ensures count { result ≡ self.now.denied }
-        ensures laid_out { IsLayout self.now.buses }
-    {
-        self.denied
-    }
-
     /// Opens a connection, and answers the key of its place. The memory of its reply buffer is taken whole, before
     /// anything changes; the welcome line stands in it. `Full` where 64 connections are open; `Memory` where the
     /// growth was refused, which is counted. Either leaves all else as it is.
@@ -114,6 +105,7 @@ impl<'a, R: Rows> Core<'a, R> {
         ensures denied { self.new.denied ≡ 0 → self.old.denied ≡ 0 }
         ensures course { OfCourse self.old (λ buses events. MatchResult result (λ _. fault buses (course buses events) Open ≡ None) (λ cause. IsWhyNotOpened cause (fault buses (course buses events) Open))) }
         ensures named { IfOk result (λ key. NamesNewest key self.old) }
+        ensures counted { CountsOpen self.old }
         ensures stands { MatchResult result (λ key. LeadsToOpen key self.old self.new) (λ _. LeadsTo Open self.old self.new) }
     {
         self.admit()
@@ -142,6 +134,7 @@ impl<'a, R: Rows> Core<'a, R> {
     pub fn ready(&self, conn: usize) -> bool
         ensures fault { result ≡ is_none (bytes_fault conn [] self.now) }
         ensures course { OfConnection conn self.now (λ buses events n. result ≡ is_none (fault buses (course buses events) (Bytes n []))) }
+        ensures takes { OfConnection conn self.now (λ buses events n. result ≡ true → TakesPieces buses (course buses events) n) }
     {
         self.is_ready(conn)
     }

@@ -1,7 +1,8 @@
-//! What is told of the core at the end of a run.
+//! What is told of the core as it stands.
 ghost use Rattle.std.specs.Prelude.{◌≡◌, OnOk, IfOk};
 ghost use Rattle.std.specs.List.{AllByRecursion};
 ghost use Rattle.srcp_info.specs.WellFormed.{IsWellFormedShown};
+ghost use Rattle.srcp_rules.specs.Layout.{IsLayout};
 ghost use Rattle.srcp_rules.specs.State.{IsRising};
 ghost use Rattle.srcp_core.specs.Machine.{finish_at, live_session};
 
@@ -13,6 +14,14 @@ use srcp_rules::{Memory, Rows};
 use std::alloc::Global;
 
 impl<'a, R: Rows> Core<'a, R> {
+    /// How many growths were refused since `new`. The count stays at the greatest u64.
+    pub fn denied(&self) -> u64
+        ensures count { result ≡ self.now.denied }
+        ensures laid_out { IsLayout self.now.buses }
+    {
+        self.denied
+    }
+
     /// The moment that was taken last, in milliseconds.
     pub(crate) fn moment(&self) -> u64
         ensures { result ≡ self.now.moment }
