@@ -1,32 +1,36 @@
 -- Each call of the core leads from the course of any events to that with its event.
-use Rattle.std.proofs.Common.{◌≡◌, ℕ, ◌+◌, ◌<◌, ◌≤◌, List, [], ◌∷◌, ◌++◌, map, length, refl, ap, sym, ◌∙◌, subst}
-use Rattle.std.specs.Prelude.{Option, Some, None, Result, Ok, Err, IfOk}
+use Rattle.std.proofs.Common.{◌≡◌, ℕ, ◌+◌, ◌<◌, ◌≤◌, List, [], ◌∷◌, ◌++◌, map, length, min, ◌-◌, refl, ap, sym, ◌∙◌, subst, arith, ◌⊎◌, inl, inr}
+use Rattle.std.specs.Prelude.{Option, Some, None, Result, Ok, Err, IfOk, IfErr, IsErrOf, MatchResult, ◌↔◌}
 use Rattle.srcp_rules.specs.declared.layout.Bus.{Bus}
 use Rattle.srcp_rules.specs.Layout.{IsLayout}
 use Rattle.srcp_rules.specs.State.{opening}
 use Rattle.srcp_core.specs.Course.{World, counted, fault, absent_fault, accepted, course}
-use Rattle.srcp_core.specs.Held.{Held, open_count}
-use Rattle.srcp_core.specs.Machine.{IsAdmitted, advanced, hung_up, let_out, unsent_at, changed_at, without_sent, live_session}
+use Rattle.srcp_core.specs.Held.{Place, Held, at, open_count}
+use Rattle.srcp_core.specs.Machine.{IsAdmitted, refused_connect, advanced, hung_up, let_out, unsent_at, changed_at, changed_in, without_sent, live_session}
 use Rattle.srcp_core.specs.Recording.{Recording, nothing_told, key_of, told_of, opened, stepped, shut}
-use Rattle.srcp_core.specs.Run.{Runs, LeadsTo, LeadsAt, LeadsToFree, LeadsToOpen}
+use Rattle.srcp_core.specs.Run.{Runs, count_at, taken_at, taking, LeadsTo, LeadsAt, LeadsToFree, LeadsToOpen}
 use Rattle.srcp_core.specs.Stands.{StandsFor}
 use Rattle.srcp_core.specs.declared.event.Event.{Event}
 use Rattle.srcp_core.specs.declared.event.Event.TheVariants.{Open, Room, At, Shut}
 use Rattle.srcp_core.specs.declared.record.CoreFault.{CoreFault}
-use Rattle.srcp_core.specs.declared.record.CoreFault.TheVariants.{Full}
+use Rattle.srcp_core.specs.declared.record.CoreFault.TheVariants.{Full, Memory as MemoryFault}
 use Rattle.srcp_core.specs.declared.record.Step.TheVariants.{Moment}
 use Rattle.srcp_core.proofs.Calling.{stands_counted}
+use Rattle.srcp_core.proofs.Pieces.{set_same}
 use Rattle.srcp_core.proofs.Recorded.{runs_on, runs_start}
-use Rattle.srcp_core.proofs.Running.{fine_course, open_happens, full_happens, at_happens, shut_happens, with_end, shut_keys}
+use Rattle.srcp_core.proofs.Running.{fine_course, open_happens, full_happens, at_happens, shut_happens, with_end, shut_keys, gives_first, room_happens, taking_keys}
 use Rattle.srcp_core.proofs.SessionLaws.{opening_in_order}
 use Rattle.srcp_core.proofs.Standing.{found_at}
 use Rattle.srcp_core.proofs.Taking.{filled_kept, taken_kept, Kept}
 
+counts : (k : ℕ) → min (k + 1) 18446744073709551615 ≡ 0 → ⊥
+counts k e = omega (arith, e)
+
 -- what a run would have told of the course
-abbrev telling : List (Option ℕ) → World → Recording
+abbrev pub telling : List (Option ℕ) → World → Recording
 telling keys w = record { keys = keys; steps = w.steps; connections = map told_of w.connections; refused = w.refused }
 
-runs_telling : (buses : List Bus) (keys : List (Option ℕ)) (held : Held) (w : World) → StandsFor buses keys held w → Runs buses (telling keys w) held w
+pub runs_telling : (buses : List Bus) (keys : List (Option ℕ)) (held : Held) (w : World) → StandsFor buses keys held w → Runs buses (telling keys w) held w
 runs_telling buses keys held w s = record { stands = s; tells = record { steps = refl; refused = refl; connections = refl } }
 
 pub at_leads : (moment : ℕ) (old new : Held) → new ≡ advanced moment old → LeadsTo (At moment) old new
@@ -40,10 +44,6 @@ open_leads key old new a buses events keys layout d s =
     let w = course buses events in
     let h = open_happens key (telling keys w) old new a buses events layout d (runs_telling buses keys old w s) in
     (runs_on buses events Open None (length events + 1) (opened key (telling keys w)) new refl h).stands
-
-pub opens_or_not : (old new : Held) (result : Result ℕ CoreFault) → IfOk result (λ key. IsAdmitted key old new) → IfOk result (λ key. LeadsToOpen key old new)
-opens_or_not old new (Ok key) a = open_leads key old new a
-opens_or_not old new (Err fault) a = tt
 
 -- before all events
 pub stands_first : {E : Type 0} (buses : List Bus) (moment last_id : ℕ) (result : Result Held E) → IfOk result (λ core. core ≡ record { buses = buses; rows = opening buses 0; moment = moment; last_id = last_id; places = []; denied = 0 })
@@ -60,6 +60,25 @@ full_leads old new full same buses events keys layout d s =
     let w = course buses events in
     let h = full_happens (telling keys w) old new full same buses events layout d (runs_telling buses keys old w s) in
     (runs_on buses events Open (Some Full) (length events + 1) (telling keys w) new refl h).stands
+
+-- a connection is opened, or there are 64, or memory was refused
+pub opens_or_not : (old new : Held) (result : Result ℕ CoreFault) → IsErrOf result Full ↔ (open_count old ≡ 64) → IfOk result (λ key. IsAdmitted key old new) → IfErr result (λ cause. new ≡ refused_connect cause old) → IfErr result (λ cause. (cause ≡ Full) ⊎ (cause ≡ MemoryFault))
+    → MatchResult result (λ key. LeadsToOpen key old new) (λ _. LeadsTo Open old new)
+opens_or_not old new (Ok key) full a refused causes = open_leads key old new a
+opens_or_not old new (Err cause) full a refused causes = by causes
+  where
+    by : (cause ≡ Full) ⊎ (cause ≡ MemoryFault) → LeadsTo Open old new
+    by (inl e) = full_leads old new (full.0 (ap (λ (c : CoreFault). let r : Result ℕ CoreFault = Err c in r) e)) (refused ∙ ap (λ (c : CoreFault). refused_connect c old) e)
+    by (inr e) = λ buses events keys layout d s. absurd (counts old.denied (sym (ap (λ (x : Held). x.denied) (refused ∙ ap (λ (c : CoreFault). refused_connect c old) e)) ∙ d))
+
+pub opens_denied : (old new : Held) (result : Result ℕ CoreFault) → IfOk result (λ key. IsAdmitted key old new) → IfErr result (λ cause. new ≡ refused_connect cause old) → IfErr result (λ cause. (cause ≡ Full) ⊎ (cause ≡ MemoryFault))
+    → new.denied ≡ 0 → old.denied ≡ 0
+opens_denied old new (Ok key) a refused causes d = sym (ap (λ (x : Held). x.denied) a.rest) ∙ d
+opens_denied old new (Err cause) a refused causes d = by causes
+  where
+    by : (cause ≡ Full) ⊎ (cause ≡ MemoryFault) → old.denied ≡ 0
+    by (inl e) = sym (ap (λ (x : Held). x.denied) (refused ∙ ap (λ (c : CoreFault). refused_connect c old) e)) ∙ d
+    by (inr e) = absurd (counts old.denied (sym (ap (λ (x : Held). x.denied) (refused ∙ ap (λ (c : CoreFault). refused_connect c old) e)) ∙ d))
 
 pub shut_leads : (key : ℕ) (old new : Held) → new ≡ hung_up key old → LeadsToFree key old new
 shut_leads key old new is buses events keys n layout d named s =
@@ -84,12 +103,38 @@ room_leads buses events keys n bytes new free s =
     let w = accepted buses (Room n bytes) (counted (course buses events)) in
     (runs_on buses events (Room n bytes) None (length events + 1) (telling keys w) new refl (free, runs_telling buses keys new w s)).stands
 
-pub out_leads : (key : ℕ) (old : Held) → LeadsAt key (λ n. Room n 0) old (let_out key old)
-out_leads key old buses events keys n layout d named s =
+-- room for no bytes, whatever memory was refused before
+pub out_stands : (key : ℕ) (old : Held) (buses : List Bus) (events : List Event) (keys : List (Option ℕ)) (n : ℕ) → IsLayout buses → key_of n keys ≡ Some key → StandsFor buses keys old (course buses events) → StandsFor buses keys (let_out key old) (course buses (events ++ Room n 0 ∷ []))
+out_stands key old buses events keys n layout named s =
     let k = filled_kept buses layout (opening_in_order buses layout) keys n key named (telling keys (course buses events)) old (counted (course buses events)) (kept_of buses layout events keys n key named old s) in
     room_leads buses events keys n 0 (let_out key old) (room_free buses events keys n key 0 old named s) k.stands
+
+pub out_leads : (key : ℕ) (old : Held) → LeadsAt key (λ n. Room n 0) old (let_out key old)
+out_leads key old buses events keys n layout d named s = out_stands key old buses events keys n layout named s
 
 pub sent_leads : (key count : ℕ) (old new : Held) → count ≤ length (unsent_at key old) → new ≡ changed_at key (without_sent count) old → 0 < count → LeadsAt key (λ n. Room n count) old new
 sent_leads key count old new few is some buses events keys n layout d named s =
     let k = taken_kept buses layout (opening_in_order buses layout) keys n key named (telling keys (course buses events)) old (counted (course buses events)) count some few (kept_of buses layout events keys n key named old s) in
     room_leads buses events keys n count new (room_free buses events keys n key count old named s) (subst (λ (x : Held). StandsFor buses keys x (accepted buses (Room n count) (counted (course buses events)))) (sym is) k.stands)
+
+-- ---- bytes that were lent, and then sent
+
+pub sent_none : (key count : ℕ) (old new : Held) → new ≡ changed_at key (without_sent count) old → count ≡ 0 → new ≡ old
+sent_none key count old new is none = is ∙ ap (λ k. changed_at key (without_sent k) old) none ∙ by (at old key) refl
+  where
+    by : (o : Option Place) → at old key ≡ o → record old { places = changed_in key (without_sent 0) old.places o } ≡ old
+    by None e = refl
+    by (Some p) e = ap (λ places. record old { places = places }) (set_same old.places key p e)
+
+pub lent_leads : (key count : ℕ) (old new held : Held) → count ≤ length (unsent_at key old) → new ≡ changed_at key (without_sent count) old → old ≡ let_out key held → LeadsAt key (λ n. Room n count) held new
+lent_leads key count old new held few is lent buses events keys n layout d named s =
+    let w = course buses events in
+    let first_r = telling keys w in
+    let now : min (length (unsent_at key (let_out key held))) count ≡ count = let most = subst (λ (x : Held). count ≤ length (unsent_at key x)) lent few in omega (arith, most) in
+    let taken : new ≡ taken_at key count held = is ∙ ap (changed_at key (without_sent count)) lent ∙ ap (λ k. changed_at key (without_sent k) (let_out key held)) (sym now) in
+    let all : count - count_at key count held ≡ 0 = omega (arith, now) in
+    let denied : (taken_at key count held).denied ≡ 0 = ap (λ (x : Held). x.denied) (sym taken) ∙ d in
+    let h = room_happens n key count first_r held count first_r held (inl all) (gives_first n key count first_r held named) buses events layout denied (runs_telling buses keys held w s) in
+    subst (λ (x : Held). StandsFor buses keys x (course buses (events ++ Room n count ∷ []))) (sym taken)
+    (subst (λ (ks : List (Option ℕ)). StandsFor buses ks (taken_at key count held) (course buses (events ++ Room n count ∷ []))) (taking_keys n key count held first_r)
+    (runs_on buses events (Room n count) None (length events + 1) (taking n key count held first_r) (taken_at key count held) refl h).stands)

@@ -202,6 +202,9 @@ module _ (reader : Reading) (history : History) (conn : Connection) where
   pub place_unsent : is_over_place history conn ≡ false → (place_of reader history conn).unsent ≡ unsent conn
   place_unsent e = rw e refl
 
+  pub place_given_up : is_over_place history conn ≡ true → (place_of reader history conn).unsent ≡ []
+  place_given_up e = rw e refl
+
   -- a reply to one that did not overrun
   pub replied_still : (line : List ℕ) → is_over_place history conn ≡ false → conn.items ≡ [] → conn.taken ≤ length (given conn)
       → with_unsent line (place_of reader history conn) ≡ place_of reader history (record conn { out = conn.out ++ line })

@@ -243,7 +243,7 @@ reads_first n key piece r held named free buses events layout d s =
       tells = subst (λ (v : World). Tells r v) (sym b.1) (tells_same r w n (λ c. record c { fed = c.fed ++ piece }) (λ conn e. refl) c.tells);
     }
 
-noted_keys : (n : ℕ) (steps : List Step) (r : Recording) → (noted n steps r).keys ≡ r.keys
+pub noted_keys : (n : ℕ) (steps : List Step) (r : Recording) → (noted n steps r).keys ≡ r.keys
 noted_keys n [] r = refl
 noted_keys n (Obeyed session moment command ∷ []) r = refl
 noted_keys n (Began session moment mode ∷ []) r = refl
@@ -269,7 +269,7 @@ reads_more n key piece first_r first start stop granted steps r held new onward 
       tells = subst (λ (steps : List Step). Tells (noted n steps r) (world_upto buses order first_r.keys n key i.named i.conn.fed piece (accepting n piece w) stop)) (sym steps_are) l.tells;
     }
 
-heard_denied : (key : ℕ) (piece : List ℕ) (from : ℕ) (held : Held) (o : Option Place) → (heard_in key piece from held o).1.denied ≡ held.denied
+pub heard_denied : (key : ℕ) (piece : List ℕ) (from : ℕ) (held : Held) (o : Option Place) → (heard_in key piece from held o).1.denied ≡ held.denied
 heard_denied key piece from held None = refl
 heard_denied key piece from held (Some p) = refl
 
@@ -325,7 +325,7 @@ gives_first n key bytes r held named buses events layout d s =
       rooming = record { now = w; kept = record { fine = fine_course buses layout events; stands = c.stands; tells = c.tells }; to_come = refl };
     }
 
-taking_keys : (n key most : ℕ) (held : Held) (r : Recording) → (taking n key most held r).keys ≡ r.keys
+pub taking_keys : (n key most : ℕ) (held : Held) (r : Recording) → (taking n key most held r).keys ≡ r.keys
 taking_keys n key most held r = by (item_at key held)
   where
     by : (item : Option Next) → (gave n item r).keys ≡ r.keys

@@ -3,8 +3,11 @@ ghost use Rattle.std.specs.Prelude.{◌⊎◌, ◌≡◌, ◌≢◌, ◌+◌, �
 ghost use Rattle.srcp_core.specs.Connection.{is_nil};
 ghost use Rattle.srcp_core.specs.Held.{at, open_count};
 ghost use Rattle.srcp_core.specs.Machine.{IsAdmitted, refused_connect, is_closing, one_denied, unsent_at, bytes_fault};
-ghost use Rattle.srcp_core.specs.Course.{course};
-ghost use Rattle.srcp_core.specs.Run.{LeadsToOpen};
+ghost use Rattle.srcp_core.specs.Agrees.{OfCourse, OfConnection, IsWhyNotOpened, NamesNewest, closes};
+ghost use Rattle.srcp_core.specs.Course.{course, fault};
+ghost use Rattle.srcp_core.specs.Run.{LeadsTo, LeadsToOpen};
+ghost use Rattle.srcp_core.specs.declared.event.Event.TheVariants.{Open, Bytes};
+ghost use Rattle.srcp_rules.specs.Layout.{IsLayout};
 ghost use Rattle.srcp_core.specs.Stands.{StandsFor};
 ghost use Rattle.srcp_rules.specs.State.{opening};
 
@@ -94,7 +97,8 @@ impl<'a, R: Rows> Core<'a, R> {
 
     /// How many growths were refused since `new`. The count stays at the greatest u64.
     pub fn denied(&self) -> u64
-        ensures { result ≡ self.now.denied }
+        ensures count { result ≡ self.now.denied }
+        ensures laid_out { IsLayout self.now.buses }
     {
         self.denied
     }
@@ -107,7 +111,10 @@ impl<'a, R: Rows> Core<'a, R> {
         ensures admitted { IfOk result (λ key. IsAdmitted key self.old self.new) }
         ensures refused { IfErr result (λ fault. self.new ≡ refused_connect fault self.old) }
         ensures causes { IfErr result (λ fault. (fault ≡ CoreFault.Full) ⊎ (fault ≡ CoreFault.Memory)) }
-        ensures stands { IfOk result (λ key. LeadsToOpen key self.old self.new) }
+        ensures denied { self.new.denied ≡ 0 → self.old.denied ≡ 0 }
+        ensures course { OfCourse self.old (λ buses events. MatchResult result (λ _. fault buses (course buses events) Open ≡ None) (λ cause. IsWhyNotOpened cause (fault buses (course buses events) Open))) }
+        ensures named { IfOk result (λ key. NamesNewest key self.old) }
+        ensures stands { MatchResult result (λ key. LeadsToOpen key self.old self.new) (λ _. LeadsTo Open self.old self.new) }
     {
         self.admit()
     }
@@ -133,6 +140,13 @@ impl<'a, R: Rows> Core<'a, R> {
 
     /// Whether `receive` would take a piece of at most 256 bytes.
     pub fn ready(&self, conn: usize) -> bool
+        ensures fault { result ≡ is_none (bytes_fault conn [] self.now) }
+        ensures course { OfConnection conn self.now (λ buses events n. result ≡ is_none (fault buses (course buses events) (Bytes n []))) }
+    {
+        self.is_ready(conn)
+    }
+
+    fn is_ready(&self, conn: usize) -> bool
         ensures { result ≡ is_none (bytes_fault conn [] self.now) }
     {
         match self.connections.get(conn) {
@@ -144,6 +158,13 @@ impl<'a, R: Rows> Core<'a, R> {
     /// Whether the connection is to be closed: it overran, or its session ended by its own command and all replies
     /// are taken. False where there is no such connection.
     pub fn closing(&self, conn: usize) -> bool
+        ensures place { result ≡ is_closing conn self.now }
+        ensures course { OfConnection conn self.now (λ buses events n. result ≡ closes buses (course buses events) n) }
+    {
+        self.is_closing(conn)
+    }
+
+    fn is_closing(&self, conn: usize) -> bool
         ensures { result ≡ is_closing conn self.now }
     {
         match self.connections.get(conn) {

@@ -3,10 +3,12 @@ ghost use Rattle.std.specs.Prelude.{◌≡◌, ℕ, ◌+◌, ◌*◌, ◌≤◌,
 ghost use Rattle.srcp_rules.specs.Command.{IsCommandOf};
 ghost use Rattle.srcp_rules.specs.State.{is_there, session_device};
 ghost use Rattle.srcp_text.specs.Marks.{Mark};
+ghost use Rattle.srcp_core.specs.Agrees.{OfConnection};
+ghost use Rattle.srcp_core.specs.Course.{course, fault};
 ghost use Rattle.srcp_core.specs.Held.{Place, IsSessionAt, at};
 ghost use Rattle.srcp_core.specs.Machine.{asked_of, answered, commanded, longest_answer, unsent_at, bytes_fault, hung_up, advanced, changed_at, without_sent};
 ghost use Rattle.srcp_core.specs.Run.{LeadsTo, LeadsToFree};
-ghost use Rattle.srcp_core.specs.declared.event.Event.TheVariants.{At};
+ghost use Rattle.srcp_core.specs.declared.event.Event.TheVariants.{At, Shut};
 
 use super::Core;
 use super::walk::{carry_out_due, free_all};
@@ -18,6 +20,7 @@ impl<'a, R: Rows> Core<'a, R> {
     /// is due then, in key order.
     pub fn advance(&mut self, moment: u64)
         ensures core { self.new ≡ advanced moment self.old }
+        ensures denied { self.new.denied ≡ self.old.denied }
         ensures stands { LeadsTo (At moment) self.old self.new }
     {
         self.pass(moment);
@@ -36,6 +39,8 @@ impl<'a, R: Rows> Core<'a, R> {
     pub fn hangup(&mut self, conn: usize) -> Result<(), CoreFault>
         ensures absent { MatchResult result (λ _. IsSome (at self.old conn)) (λ fault. (fault ≡ CoreFault.NoSuch) × (at self.old conn ≡ None)) }
         ensures core { self.new ≡ hung_up conn self.old }
+        ensures denied { self.new.denied ≡ self.old.denied }
+        ensures course { OfConnection conn self.old (λ buses events n. MatchResult result (λ _. fault buses (course buses events) (Shut n) ≡ None) (λ _. ⊥)) }
         ensures stands { LeadsToFree conn self.old self.new }
     {
         self.take_out(conn)

@@ -1,6 +1,8 @@
 //! Bytes that go out.
-ghost use Rattle.std.specs.Prelude.{◌≡◌, ◌≤◌, ◌<◌, length, Some, None, IsErr, IsSome, IfOk, IfErr, ◌↔◌};
-ghost use Rattle.srcp_core.specs.Held.{at};
+ghost use Rattle.std.specs.Prelude.{◌≡◌, ◌≤◌, ◌<◌, [], ◌∷◌, ◌++◌, length, Some, None, IsErr, IsSome, IfOk, IfErr, MatchResult, ◌↔◌};
+ghost use Rattle.srcp_core.specs.Agrees.{OfConnection, lent};
+ghost use Rattle.srcp_core.specs.Course.{course};
+ghost use Rattle.srcp_core.specs.Held.{Held, at};
 ghost use Rattle.srcp_core.specs.Machine.{changed_at, without_sent, unsent_at, let_out, item_at};
 ghost use Rattle.srcp_core.specs.Run.{LeadsAt};
 ghost use Rattle.srcp_core.specs.declared.event.Event.TheVariants.{Room};
@@ -18,6 +20,18 @@ impl<'a, R: Rows> Core<'a, R> {
     /// information session's buffer is empty, its next line is put in first. `NoSuch` where there is no such
     /// connection.
     pub fn outgoing(&mut self, conn: usize) -> Result<&[u8], CoreFault>
+        ensures* ends { sem 𝓛 (EndsAs R.row R.Rows self.entry (let_out conn self.old)) }
+        ensures absent { IsErr result ↔ (at self.old conn ≡ None) }
+        ensures bytes { IfOk result (λ bytes. bytes.now ≡ unsent_at conn (let_out conn self.old)) }
+        ensures course { OfConnection conn self.old (λ buses events n. MatchResult result (λ bytes. bytes.now ≡ lent buses (course buses (events ++ Room n 0 ∷ [])) n) (λ _. ⊥)) }
+        ensures denied { (let_out conn self.old).denied ≡ self.old.denied }
+        ensures stands { LeadsAt conn (λ n. Room n 0) self.old (let_out conn self.old) }
+    {
+        self.lend(conn)
+    }
+
+    /// Lends the bytes that are to be sent, after the next line is put in.
+    fn lend(&mut self, conn: usize) -> Result<&[u8], CoreFault>
         ensures* ends { sem 𝓛 (EndsAs R.row R.Rows self.entry (let_out conn self.old)) }
         ensures absent { IsErr result ↔ (at self.old conn ≡ None) }
         ensures bytes { IfOk result (λ bytes. bytes.now ≡ unsent_at conn (let_out conn self.old)) }
@@ -54,7 +68,10 @@ impl<'a, R: Rows> Core<'a, R> {
         requires open { IsSome (at self.old conn) }
         requires unsent { count ≤ length (unsent_at conn self.old) }
         ensures core { self.new ≡ changed_at conn (without_sent count) self.old }
+        ensures denied { self.new.denied ≡ self.old.denied }
         ensures stands { 0 < count → LeadsAt conn (λ n. Room n count) self.old self.new }
+        ensures none { count ≡ 0 → self.new ≡ self.old }
+        ensures lent { (held : Held) → self.old ≡ let_out conn held → LeadsAt conn (λ n. Room n count) held self.new }
     {
         self.drop_sent(conn, count);
     }

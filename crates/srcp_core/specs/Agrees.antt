@@ -1,0 +1,51 @@
+-- What the answers of a core's calls say of the course that it stands for.
+use Rattle.std.specs.Prelude.{⊤, ◌≡◌, ℕ, ◌+◌, Bool, true, false, if◌then◌else◌, List, [], ◌∷◌, ◌++◌, length, Option, Some, None}
+use Rattle.std.specs.Option.{option_map_or}
+use Rattle.srcp_rules.specs.declared.layout.Bus.{Bus}
+use Rattle.srcp_rules.specs.Layout.{IsLayout}
+use Rattle.srcp_core.specs.Connection.{Connection, overran, unsent, finish}
+use Rattle.srcp_core.specs.Course.{World, course, history, open_connection}
+use Rattle.srcp_core.specs.Held.{Held}
+use Rattle.srcp_core.specs.Recording.{key_of}
+use Rattle.srcp_core.specs.Stands.{StandsFor}
+use Rattle.srcp_core.specs.declared.event.Event.{Event}
+use Rattle.srcp_core.specs.declared.record.CoreFault.{CoreFault}
+use Rattle.srcp_core.specs.declared.record.CoreFault.TheVariants.{Memory as MemoryFault}
+use Rattle.srcp_core.specs.declared.record.Finish.{Finish}
+use Rattle.srcp_core.specs.declared.record.Finish.TheVariants as finish
+
+-- this holds of the course of any events that the core stands for
+abbrev pub OfCourse : Held → (List Bus → List Event → Type 0) → Type 0
+OfCourse held Fact = (buses : List Bus) (events : List Event) (keys : List (Option ℕ)) → IsLayout buses → StandsFor buses keys held (course buses events) → Fact buses events
+
+-- and this of the connection that has the key, by its number
+abbrev pub OfConnection : ℕ → Held → (List Bus → List Event → ℕ → Type 0) → Type 0
+OfConnection key held Fact = (buses : List Bus) (events : List Event) (keys : List (Option ℕ)) (n : ℕ) → IsLayout buses → key_of n keys ≡ Some key → StandsFor buses keys held (course buses events) → Fact buses events n
+
+-- the key of a connection that was opened is that of the newest number
+abbrev pub NamesNewest : ℕ → Held → Type 0
+NamesNewest key held = (buses : List Bus) (events : List Event) (keys : List (Option ℕ)) → StandsFor buses keys held (course buses events) → key_of (length (course buses events).connections + 1) (keys ++ Some key ∷ []) ≡ Some key
+
+-- why a connection is not opened: the course says so, unless memory was refused
+abbrev pub IsWhyNotOpened : CoreFault → Option CoreFault → Type 0
+IsWhyNotOpened MemoryFault cause = ⊤
+IsWhyNotOpened other cause = cause ≡ Some other
+
+-- a connection that stands so is to be closed
+abbrev pub is_last : Finish → Bool
+is_last finish.Live = false
+is_last finish.Closing = true
+is_last finish.Overrun = true
+is_last finish.Shut = false
+
+module _ (buses : List Bus) where
+  -- the open connection of that number is to be closed: it overran, or it ended and all its replies are taken
+  abbrev pub closes : World → ℕ → Bool
+  closes w n = option_map_or (λ conn. is_last (finish conn (history buses w))) (open_connection w n) false
+
+  -- what a connection lends: what is unsent of it, and nothing where it overran
+  abbrev pub lent_of : World → Connection → List ℕ
+  lent_of w conn = if overran conn (history buses w) then [] else unsent conn
+
+  abbrev pub lent : World → ℕ → List ℕ
+  lent w n = option_map_or (lent_of w) (open_connection w n) []
