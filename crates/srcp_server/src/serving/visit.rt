@@ -2,6 +2,7 @@
 
 ghost use Rattle.std.specs.Prelude.{◌≡◌, ◌<◌, ◌≤◌, ◌+◌};
 ghost use Rattle.srcp_server.specs.Tally.{CountsFaults};
+ghost use Rattle.srcp_server.specs.Turns.{AsksPeers};
 ghost use Rattle.srcp_server.specs.Visits.{Closes, Exchanges, Keeps, LetsGo, ReadsIn, Visits, WritesOnce, WritesOut};
 
 use super::tally::Tally;
@@ -43,6 +44,7 @@ pub(super) fn visit<R: Rows, D: Door>(
 ) -> bool
     requires { tally.old.faults ≤ D.faults door.old }
     ensures faults { CountsFaults tally.old.faults (D.faults door.old) tally.new.faults (D.faults door.new) }
+    ensures asks { AsksPeers (D.told door.old) (D.told door.new) }
     ensures keeps { Keeps core.old (D.told door.old) core.new (D.told door.new) }
     ensures told { Visits seat.now.peer seat.now.key core.old (D.told door.old) core.new (D.told door.new) result }
 {
@@ -66,6 +68,7 @@ fn exchange<R: Rows, D: Door>(
 ) -> bool
     requires { tally.old.faults ≤ D.faults door.old }
     ensures faults { CountsFaults tally.old.faults (D.faults door.old) tally.new.faults (D.faults door.new) }
+    ensures asks { AsksPeers (D.told door.old) (D.told door.new) }
     ensures keeps { Keeps core.old (D.told door.old) core.new (D.told door.new) }
     ensures told { Exchanges seat.now.peer seat.now.key core.old (D.told door.old) core.new (D.told door.new) result }
 {
@@ -79,6 +82,7 @@ fn exchange<R: Rows, D: Door>(
 fn let_go<R: Rows, D: Door>(core: &mut Core<'_, R>, door: &mut D, seat: &Seat, tally: &mut Tally)
     requires { tally.old.faults ≤ D.faults door.old }
     ensures faults { CountsFaults tally.old.faults (D.faults door.old) tally.new.faults (D.faults door.new) }
+    ensures asks { AsksPeers (D.told door.old) (D.told door.new) }
     ensures keeps { Keeps core.old (D.told door.old) core.new (D.told door.new) }
     ensures told { LetsGo seat.now.peer seat.now.key core.old (D.told door.old) core.new (D.told door.new) }
 {
@@ -90,6 +94,7 @@ fn let_go<R: Rows, D: Door>(core: &mut Core<'_, R>, door: &mut D, seat: &Seat, t
 pub(super) fn close<D: Door>(door: &mut D, peer: u32, tally: &mut Tally)
     requires { tally.old.faults ≤ D.faults door.old }
     ensures faults { CountsFaults tally.old.faults (D.faults door.old) tally.new.faults (D.faults door.new) }
+    ensures asks { AsksPeers (D.told door.old) (D.told door.new) }
     ensures told { Closes peer (D.told door.old) (D.told door.new) }
 {
     match door.close(peer) {
@@ -107,6 +112,7 @@ fn read_in<R: Rows, D: Door>(
 ) -> bool
     requires { tally.old.faults ≤ D.faults door.old }
     ensures faults { CountsFaults tally.old.faults (D.faults door.old) tally.new.faults (D.faults door.new) }
+    ensures asks { AsksPeers (D.told door.old) (D.told door.new) }
     ensures keeps { Keeps core.old (D.told door.old) core.new (D.told door.new) }
     ensures told { ReadsIn seat.now.peer seat.now.key core.old (D.told door.old) core.new (D.told door.new) result }
 {
@@ -134,6 +140,7 @@ fn write_out<R: Rows, D: Door>(
 ) -> bool
     requires { tally.old.faults ≤ D.faults door.old }
     ensures faults { CountsFaults tally.old.faults (D.faults door.old) tally.new.faults (D.faults door.new) }
+    ensures asks { AsksPeers (D.told door.old) (D.told door.new) }
     ensures keeps { Keeps core.old (D.told door.old) core.new (D.told door.new) }
     ensures told { WritesOut seat.now.peer seat.now.key core.old (D.told door.old) core.new (D.told door.new) result }
 {
@@ -155,6 +162,7 @@ fn write_once<R: Rows, D: Door>(
 ) -> Wrote
     requires { tally.old.faults ≤ D.faults door.old }
     ensures faults { CountsFaults tally.old.faults (D.faults door.old) tally.new.faults (D.faults door.new) }
+    ensures asks { AsksPeers (D.told door.old) (D.told door.new) }
     ensures keeps { Keeps core.old (D.told door.old) core.new (D.told door.new) }
     ensures told { WritesOnce seat.now.peer seat.now.key core.old (D.told door.old) core.new (D.told door.new) result }
 {

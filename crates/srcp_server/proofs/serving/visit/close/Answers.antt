@@ -2,6 +2,8 @@ use Rattle.std.proofs.Common.{ap}
 use Rattle.srcp_server.specs.declared.serving.tally.Tally.{Tally}
 use Rattle.srcp_server.proofs.Tallies.{one_failed}
 use Rattle.srcp_server.proofs.Telling.{closes_by}
+use Rattle.std.proofs.Common.{refl}
+use Rattle.srcp_server.proofs.Turning.{asks_one}
 use Rattle.srcp_server.proofs.serving.visit.close.Goals as goal
 
 pub returns-in-Ok-clause-told : goal.returns-in-Ok-clause-told
@@ -12,3 +14,9 @@ returns-in-Err-clause-faults g c = one_failed c.args.tally.now.faults (g.D.Door.
 
 pub returns-in-Err-clause-told : goal.returns-in-Err-clause-told
 returns-in-Err-clause-told g c = closes_by _ _ _ _ c.close.ensures.told
+
+pub returns-in-Ok-clause-asks : goal.returns-in-Ok-clause-asks
+returns-in-Ok-clause-asks g c = asks_one _ _ _ refl c.close.ensures.told
+
+pub returns-in-Err-clause-asks : goal.returns-in-Err-clause-asks
+returns-in-Err-clause-asks g c = asks_one _ _ _ refl c.close.ensures.told

@@ -5,6 +5,7 @@ use Rattle.srcp_server.specs.Serving.{loses_reading, piece_of}
 use Rattle.srcp_server.specs.declared.door.Got.{Got}
 use Rattle.srcp_server.proofs.Reading.{read_not, read_other, read_bytes}
 use Rattle.srcp_server.proofs.Tallies.{one_failed}
+use Rattle.srcp_server.proofs.Turning.{asks_none, asks_one}
 use Rattle.srcp_server.proofs.serving.visit.read_in.Goals as goal
 
 pub returns-then-not-ready-clause-told : goal.returns-then-not-ready-clause-told
@@ -32,3 +33,18 @@ pub returns-in-Err-clause-told : goal.returns-in-Err-clause-told
 returns-in-Err-clause-told g c =
     let full : length c.read.new.buf ≡ 256 = omega (arith, c.read.auto.buf) in
     read_other _ _ _ _ _ c.ready.ensures.course (Err c.in-Err.field-0) c.read.new.buf _ c.if-not-ready.false full c.in-Err.ensures.told _ refl refl
+
+pub returns-then-not-ready-clause-asks : goal.returns-then-not-ready-clause-asks
+returns-then-not-ready-clause-asks g c = asks_none _
+
+pub returns-in-Ok-Bytes-clause-asks : goal.returns-in-Ok-Bytes-clause-asks
+returns-in-Ok-Bytes-clause-asks g c = asks_one _ _ _ refl c.read.ensures.told
+
+pub returns-in-Ok-Nothing-clause-asks : goal.returns-in-Ok-Nothing-clause-asks
+returns-in-Ok-Nothing-clause-asks g c = asks_one _ _ _ refl c.read.ensures.told
+
+pub returns-in-Ok-Ended-clause-asks : goal.returns-in-Ok-Ended-clause-asks
+returns-in-Ok-Ended-clause-asks g c = asks_one _ _ _ refl c.read.ensures.told
+
+pub returns-in-Err-clause-asks : goal.returns-in-Err-clause-asks
+returns-in-Err-clause-asks g c = asks_one _ _ _ refl c.read.ensures.told

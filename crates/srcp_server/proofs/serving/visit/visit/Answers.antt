@@ -1,5 +1,6 @@
 use Rattle.srcp_server.proofs.Telling.{keeps_then}
 use Rattle.srcp_server.proofs.Visiting.{visit_closed, visit_lost, visit_stays}
+use Rattle.srcp_server.proofs.Turning.{asks_then}
 use Rattle.srcp_server.proofs.serving.visit.visit.Goals as goal
 
 pub returns-then-not-exchange-clause-keeps : goal.returns-then-not-exchange-clause-keeps
@@ -21,3 +22,9 @@ returns-then-closing-clause-told g c =
 pub returns-clause-told : goal.returns-clause-told
 returns-clause-told g c =
     visit_stays c.args.seat.now.peer c.args.seat.now.key c.args.core.now c.exchange.new.core (g.D.Door.told c.args.door.now) (g.D.Door.told c.exchange.new.door) c.closing.result c.if-not-exchange.ensures.told c.closing.ensures.course c.if-closing.false
+
+pub returns-then-not-exchange-clause-asks : goal.returns-then-not-exchange-clause-asks
+returns-then-not-exchange-clause-asks g c = asks_then (g.D.Door.told c.args.door.now) (g.D.Door.told c.exchange.new.door) (g.D.Door.told c.let_go.new.door) c.exchange.ensures.asks c.let_go.ensures.asks
+
+pub returns-then-closing-clause-asks : goal.returns-then-closing-clause-asks
+returns-then-closing-clause-asks g c = asks_then (g.D.Door.told c.args.door.now) (g.D.Door.told c.exchange.new.door) (g.D.Door.told c.let_go-then-closing.new.door) c.exchange.ensures.asks c.let_go-then-closing.ensures.asks

@@ -4,6 +4,8 @@ use Rattle.srcp_server.specs.declared.serving.visit.Wrote.TheVariants.{Less}
 use Rattle.srcp_server.proofs.Tallies.{one_failed}
 use Rattle.srcp_server.proofs.Telling.{keeps_call, keeps_quiet}
 use Rattle.srcp_server.proofs.Writing.{out_denied, wrote_absent, wrote_none, wrote_less, wrote_all, wrote_failed}
+use Rattle.std.proofs.Common.{refl}
+use Rattle.srcp_server.proofs.Turning.{asks_none, asks_one}
 use Rattle.srcp_server.proofs.serving.visit.write_once.Goals as goal
 
 pub returns-in_default-clause-told : goal.returns-in_default-clause-told
@@ -40,3 +42,18 @@ returns-then-count-handed-clause-keeps g c = keeps_call c.args.core.now c.sent.n
 
 pub returns-else-count-handed-clause-keeps : goal.returns-else-count-handed-clause-keeps
 returns-else-count-handed-clause-keeps g c = keeps_call c.args.core.now c.sent.new.self _ _ _ (λ d. out_denied c.args.seat.now.key c.args.core.now c.outgoing.follows.lender-at-none c.outgoing.follows.holds-at-none (sym c.sent.ensures.denied ∙ d)) c.write.ensures.told
+
+pub returns-in_default-clause-asks : goal.returns-in_default-clause-asks
+returns-in_default-clause-asks g c = asks_none _
+
+pub returns-then-is_empty-clause-asks : goal.returns-then-is_empty-clause-asks
+returns-then-is_empty-clause-asks g c = asks_none _
+
+pub returns-then-count-handed-clause-asks : goal.returns-then-count-handed-clause-asks
+returns-then-count-handed-clause-asks g c = asks_one _ _ _ refl c.write.ensures.told
+
+pub returns-else-count-handed-clause-asks : goal.returns-else-count-handed-clause-asks
+returns-else-count-handed-clause-asks g c = asks_one _ _ _ refl c.write.ensures.told
+
+pub returns-in_default-write-clause-asks : goal.returns-in_default-write-clause-asks
+returns-in_default-write-clause-asks g c = asks_one _ _ _ refl c.write.ensures.told
