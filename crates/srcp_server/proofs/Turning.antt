@@ -1,5 +1,5 @@
 -- What is asked of a door, function by function.
-use Rattle.std.proofs.Common.{◌≡◌, ◌∙◌, ℕ, ◌+◌, Bool, true, false, not, List, [], ◌∷◌, ◌++◌, length, Option, Some, None, Result, refl, ap, sym, subst, append_assoc, append-nil, length-append}
+use Rattle.std.proofs.Common.{◌≡◌, ◌∙◌, ℕ, ◌+◌, Bool, true, false, not, List, [], ◌∷◌, ◌++◌, length, Option, Result, refl, ap, sym, subst, append-nil, length-append}
 use Rattle.std.proofs.lemmas.Grind.{flat_map-append}
 use Rattle.std.proofs.lemmas.Option.{same_Some}
 use Rattle.std.specs.List.{list_all, AllByRecursion}
@@ -7,7 +7,7 @@ use Rattle.std.specs.Prelude.{◌&&◌, flat_map}
 use Rattle.srcp_server.specs.Calls.{Call, Tells, NowCall, AcceptCall, ReadCall, WriteCall, CloseCall}
 use Rattle.srcp_server.specs.Serving.{is_now, turns}
 use Rattle.srcp_server.specs.Turns.{AreTurns, AsksMoment, AsksNewcomer, AsksPeers, AsksTurn, AsksTurns, IsTurn, is_of_peer}
-use Rattle.srcp_server.specs.Visits.{Adds, Closes}
+use Rattle.srcp_server.specs.Visits.{Closes}
 use Rattle.srcp_server.specs.declared.door.DoorFault.{DoorFault}
 use Rattle.srcp_server.proofs.ServingLaws.{one_turn, turns-append}
 use Rattle.srcp_server.proofs.Telling.{adds_none, adds_one, adds_more}

@@ -1,7 +1,7 @@
 use Rattle.std.proofs.Common.{◌≡◌, arith, subst, ℕ}
 use Rattle.srcp_server.specs.Turns.{AsksTurns}
 use Rattle.srcp_server.proofs.Tallies.{counts_then}
-use Rattle.srcp_server.proofs.Turning.{turns_none, turns_on}
+use Rattle.srcp_server.proofs.Turning.{turns_on}
 use Rattle.srcp_server.proofs.serving.serve.Goals as goal
 
 pub loop-preserved : goal.loop-preserved
