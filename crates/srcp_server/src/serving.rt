@@ -2,6 +2,7 @@
 
 ghost use Rattle.std.specs.Prelude.{◌≡◌, ◌<◌, ◌≤◌, ◌+◌};
 ghost use Rattle.srcp_server.specs.Tally.{CountsFaults};
+ghost use Rattle.srcp_server.specs.Turns.{AsksMoment, AsksNewcomer, AsksPeers, AsksTurn, AsksTurns};
 
 mod tally;
 mod visit;
@@ -22,6 +23,7 @@ const PLACES: usize = 64;
 pub fn serve<R: Rows, D: Door>(core: &mut Core<'_, R>, door: &mut D, turns: u64) -> Served
     ensures turns { result.turns ≡ turns }
     ensures faults { D.faults door.new < 18446744073709551615 → D.faults door.old + result.faults ≡ D.faults door.new }
+    ensures told { AsksTurns turns (D.told door.old) (D.told door.new) }
 {
     let mut places = [None; PLACES];
     let mut tally = Tally::new();
@@ -42,23 +44,42 @@ fn turn<R: Rows, D: Door>(
     tally: &mut Tally,
 )
     requires { tally.old.faults ≤ D.faults door.old }
-    ensures { CountsFaults tally.old.faults (D.faults door.old) tally.new.faults (D.faults door.new) }
+    ensures faults { CountsFaults tally.old.faults (D.faults door.old) tally.new.faults (D.faults door.new) }
+    ensures told { AsksTurn (D.told door.old) (D.told door.new) }
 {
     take_moment(core, door, tally);
     let_in(core, door, places, tally);
     for place in 0..PLACES {
-        if let Some(seat) = places[place] {
-            if !visit(core, door, &seat, tally) {
-                places[place] = None;
-            }
-        }
+        visit_place(core, door, places, place, tally);
+    }
+}
+
+/// Visits the peer that has the place, if one does. The place is free where it is let go.
+fn visit_place<R: Rows, D: Door>(
+    core: &mut Core<'_, R>,
+    door: &mut D,
+    places: &mut [Option<Seat>; PLACES],
+    place: usize,
+    tally: &mut Tally,
+)
+    requires counted { tally.old.faults ≤ D.faults door.old }
+    requires within { place < 64 }
+    ensures faults { CountsFaults tally.old.faults (D.faults door.old) tally.new.faults (D.faults door.new) }
+    ensures told { AsksPeers (D.told door.old) (D.told door.new) }
+{
+    let Some(seat) = places[place] else {
+        return;
+    };
+    if !visit(core, door, &seat, tally) {
+        places[place] = None;
     }
 }
 
 /// Takes the present moment; where the door fails to tell it, the core keeps the one before.
 fn take_moment<R: Rows, D: Door>(core: &mut Core<'_, R>, door: &mut D, tally: &mut Tally)
     requires { tally.old.faults ≤ D.faults door.old }
-    ensures { CountsFaults tally.old.faults (D.faults door.old) tally.new.faults (D.faults door.new) }
+    ensures faults { CountsFaults tally.old.faults (D.faults door.old) tally.new.faults (D.faults door.new) }
+    ensures told { AsksMoment (D.told door.old) (D.told door.new) }
 {
     match door.now() {
         Ok(moment) => core.advance(moment),
@@ -74,7 +95,8 @@ fn let_in<R: Rows, D: Door>(
     tally: &mut Tally,
 )
     requires { tally.old.faults ≤ D.faults door.old }
-    ensures { CountsFaults tally.old.faults (D.faults door.old) tally.new.faults (D.faults door.new) }
+    ensures faults { CountsFaults tally.old.faults (D.faults door.old) tally.new.faults (D.faults door.new) }
+    ensures told { AsksNewcomer (D.told door.old) (D.told door.new) }
 {
     match door.accept() {
         Ok(None) => (),
@@ -91,7 +113,8 @@ fn seat<R: Rows, D: Door>(
     tally: &mut Tally,
 )
     requires { tally.old.faults ≤ D.faults door.old }
-    ensures { CountsFaults tally.old.faults (D.faults door.old) tally.new.faults (D.faults door.new) }
+    ensures faults { CountsFaults tally.old.faults (D.faults door.old) tally.new.faults (D.faults door.new) }
+    ensures told { AsksPeers (D.told door.old) (D.told door.new) }
 {
     let Some(free) = places.iter().position(|place| place.is_none()) else {
         return close(door, peer, tally);

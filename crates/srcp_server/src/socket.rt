@@ -1,6 +1,6 @@
 //! A door over the system's sockets.
 
-ghost use Rattle.std.specs.Prelude.{◌≡◌};
+ghost use Rattle.std.specs.Prelude.{◌≡◌, IfOk, IfErr};
 ghost use Rattle.srcp_server.specs.Calls.{one_more};
 
 mod peer;
@@ -36,7 +36,10 @@ impl<C: Clock + Drop> SocketDoor<C> {
         alloc: Global,
         port: u16,
         clock: C,
-    ) -> Result<SocketDoor<C>, ToolFault> {
+    ) -> Result<SocketDoor<C>, ToolFault>
+        ensures opened { IfOk result (λ door. door.faults ≡ 0) }
+        ensures refused { IfErr result (λ fault. fault ≡ ToolFault.Listen) }
+    {
         match open(net, alloc, port) {
             Ok(sockets) => Ok(SocketDoor {
                 sockets,
@@ -45,6 +48,11 @@ impl<C: Clock + Drop> SocketDoor<C> {
             }),
             Err(_) => Err(ToolFault::Listen),
         }
+    }
+
+    /// The port that it listens on.
+    pub fn port(&self) -> io::Result<u16> {
+        self.sockets.port()
     }
 
     fn count_fault(&mut self)

@@ -2,6 +2,8 @@
 
 ghost use Rattle.std.specs.Prelude.{◌≡◌, ◌<◌, ◌≤◌, ◌+◌};
 ghost use Rattle.srcp_server.specs.Tally.{CountsFaults};
+ghost use Rattle.srcp_server.specs.Turns.{AsksPeers};
+ghost use Rattle.srcp_server.specs.Visits.{Closes, Exchanges, Keeps, LetsGo, ReadsIn, Visits, WritesOnce, WritesOut};
 
 use super::tally::Tally;
 use crate::door::{Door, Got};
@@ -41,22 +43,59 @@ pub(super) fn visit<R: Rows, D: Door>(
     tally: &mut Tally,
 ) -> bool
     requires { tally.old.faults ≤ D.faults door.old }
-    ensures { CountsFaults tally.old.faults (D.faults door.old) tally.new.faults (D.faults door.new) }
+    ensures faults { CountsFaults tally.old.faults (D.faults door.old) tally.new.faults (D.faults door.new) }
+    ensures asks { AsksPeers (D.told door.old) (D.told door.new) }
+    ensures keeps { Keeps core.old (D.told door.old) core.new (D.told door.new) }
+    ensures told { Visits seat.now.peer seat.now.key core.old (D.told door.old) core.new (D.told door.new) result }
 {
-    let goes_on = read_in(core, door, seat, tally)
-        && write_out(core, door, seat, tally)
-        && !core.closing(seat.key);
-    if !goes_on {
-        let _ = core.hangup(seat.key);
-        close(door, seat.peer, tally);
+    if !exchange(core, door, seat, tally) {
+        let_go(core, door, seat, tally);
+        return false;
     }
-    goes_on
+    if core.closing(seat.key) {
+        let_go(core, door, seat, tally);
+        return false;
+    }
+    true
+}
+
+/// Reads from the peer and writes to it. False where it is lost.
+fn exchange<R: Rows, D: Door>(
+    core: &mut Core<'_, R>,
+    door: &mut D,
+    seat: &Seat,
+    tally: &mut Tally,
+) -> bool
+    requires { tally.old.faults ≤ D.faults door.old }
+    ensures faults { CountsFaults tally.old.faults (D.faults door.old) tally.new.faults (D.faults door.new) }
+    ensures asks { AsksPeers (D.told door.old) (D.told door.new) }
+    ensures keeps { Keeps core.old (D.told door.old) core.new (D.told door.new) }
+    ensures told { Exchanges seat.now.peer seat.now.key core.old (D.told door.old) core.new (D.told door.new) result }
+{
+    if !read_in(core, door, seat, tally) {
+        return false;
+    }
+    write_out(core, door, seat, tally)
+}
+
+/// Shuts the connection of a peer and lets the peer go.
+fn let_go<R: Rows, D: Door>(core: &mut Core<'_, R>, door: &mut D, seat: &Seat, tally: &mut Tally)
+    requires { tally.old.faults ≤ D.faults door.old }
+    ensures faults { CountsFaults tally.old.faults (D.faults door.old) tally.new.faults (D.faults door.new) }
+    ensures asks { AsksPeers (D.told door.old) (D.told door.new) }
+    ensures keeps { Keeps core.old (D.told door.old) core.new (D.told door.new) }
+    ensures told { LetsGo seat.now.peer seat.now.key core.old (D.told door.old) core.new (D.told door.new) }
+{
+    let _ = core.hangup(seat.key);
+    close(door, seat.peer, tally);
 }
 
 /// Lets a peer go. One whose closing fails is given up.
 pub(super) fn close<D: Door>(door: &mut D, peer: u32, tally: &mut Tally)
     requires { tally.old.faults ≤ D.faults door.old }
-    ensures { CountsFaults tally.old.faults (D.faults door.old) tally.new.faults (D.faults door.new) }
+    ensures faults { CountsFaults tally.old.faults (D.faults door.old) tally.new.faults (D.faults door.new) }
+    ensures asks { AsksPeers (D.told door.old) (D.told door.new) }
+    ensures told { Closes peer (D.told door.old) (D.told door.new) }
 {
     match door.close(peer) {
         Ok(()) => (),
@@ -72,7 +111,10 @@ fn read_in<R: Rows, D: Door>(
     tally: &mut Tally,
 ) -> bool
     requires { tally.old.faults ≤ D.faults door.old }
-    ensures { CountsFaults tally.old.faults (D.faults door.old) tally.new.faults (D.faults door.new) }
+    ensures faults { CountsFaults tally.old.faults (D.faults door.old) tally.new.faults (D.faults door.new) }
+    ensures asks { AsksPeers (D.told door.old) (D.told door.new) }
+    ensures keeps { Keeps core.old (D.told door.old) core.new (D.told door.new) }
+    ensures told { ReadsIn seat.now.peer seat.now.key core.old (D.told door.old) core.new (D.told door.new) result }
 {
     if !core.ready(seat.key) {
         return true;
@@ -97,7 +139,10 @@ fn write_out<R: Rows, D: Door>(
     tally: &mut Tally,
 ) -> bool
     requires { tally.old.faults ≤ D.faults door.old }
-    ensures { CountsFaults tally.old.faults (D.faults door.old) tally.new.faults (D.faults door.new) }
+    ensures faults { CountsFaults tally.old.faults (D.faults door.old) tally.new.faults (D.faults door.new) }
+    ensures asks { AsksPeers (D.told door.old) (D.told door.new) }
+    ensures keeps { Keeps core.old (D.told door.old) core.new (D.told door.new) }
+    ensures told { WritesOut seat.now.peer seat.now.key core.old (D.told door.old) core.new (D.told door.new) result }
 {
     for _ in 0..MOST_WRITES {
         match write_once(core, door, seat, tally) {
@@ -116,7 +161,10 @@ fn write_once<R: Rows, D: Door>(
     tally: &mut Tally,
 ) -> Wrote
     requires { tally.old.faults ≤ D.faults door.old }
-    ensures { CountsFaults tally.old.faults (D.faults door.old) tally.new.faults (D.faults door.new) }
+    ensures faults { CountsFaults tally.old.faults (D.faults door.old) tally.new.faults (D.faults door.new) }
+    ensures asks { AsksPeers (D.told door.old) (D.told door.new) }
+    ensures keeps { Keeps core.old (D.told door.old) core.new (D.told door.new) }
+    ensures told { WritesOnce seat.now.peer seat.now.key core.old (D.told door.old) core.new (D.told door.new) result }
 {
     let Ok(lent) = core.outgoing(seat.key) else {
         return Wrote::Less;

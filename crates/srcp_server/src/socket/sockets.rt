@@ -52,6 +52,11 @@ impl Sockets {
         })
     }
 
+    /// The port of the listener.
+    pub(super) fn port(&self) -> io::Result<u16> {
+        Ok(self.listener.local_addr()?.port())
+    }
+
     /// Hands every socket what was gathered for it. Where nothing happened since the last time, waits until something
     /// does, a few milliseconds at most.
     pub(super) fn pause(&mut self) {

@@ -1,6 +1,6 @@
 use super::script_door::{ScriptDoor, ScriptPeer};
-use crate::{Served, serve};
-use srcp_core::Core;
+use crate::{Served, ToolFault, read_script, serve};
+use srcp_core::{Core, run};
 use srcp_rules::{Flat, Layout};
 use std::test::Fail;
 
@@ -105,5 +105,53 @@ fn lets_64_peers_in(rt: HostRuntime) -> Result<(), Fail> {
     }
     assert_eq!(rt; door.written(64), NOTHING);
     assert_eq!(rt; door.closes(64), 1);
+    Ok(())
+}
+
+/// The events that the answers of a door make, and what its peer was written.
+const EVENTS: [(&[u8], &[u8]); 6] = [
+    // Three turns.
+    (
+        b"at 0\nopen\nroom 1 45\nroom 1 0\nat 0\nbytes 1 GO\\n\nroom 1 18\nroom 1 0\nat 0\nshut 1\n",
+        AT_0,
+    ),
+    // The second call fails, so that nobody comes in before the second turn.
+    (
+        b"at 1000\nat 2000\nopen\nroom 1 45\nroom 1 0\nat 3000\nbytes 1 GO\\n\nroom 1 18\nroom 1 0\nat 4000\nshut 1\n",
+        AT_3,
+    ),
+    // The clock fails in the second turn.
+    (
+        b"at 1000\nopen\nroom 1 45\nroom 1 0\nbytes 1 GO\\n\nroom 1 18\nroom 1 0\nat 3000\nshut 1\n",
+        AT_1,
+    ),
+    // The first read fails.
+    (
+        b"at 1000\nopen\nroom 1 45\nroom 1 0\nat 2000\nshut 1\n",
+        WELCOME,
+    ),
+    // The write of the reply fails.
+    (
+        b"at 1000\nopen\nroom 1 45\nroom 1 0\nat 2000\nbytes 1 GO\\n\nroom 1 0\nshut 1\n",
+        WELCOME,
+    ),
+    // The close fails.
+    (
+        b"at 1000\nopen\nroom 1 45\nroom 1 0\nat 2000\nbytes 1 GO\\n\nroom 1 18\nroom 1 0\nat 3000\nshut 1\n",
+        AT_2,
+    ),
+];
+
+#[test]
+fn a_run_of_its_events_sends_the_same(rt: HostRuntime) -> Result<(), Fail> {
+    for (script, wanted) in EVENTS {
+        let layout = Layout::new(rt.alloc());
+        let events = read_script(rt.alloc(), script).map_err(ToolFault::from)?;
+        let told = run::<Flat>(rt.alloc(), &layout, &events).map_err(ToolFault::from)?;
+        match told.connections.as_slice() {
+            [conn] => assert_eq!(rt; conn.sent.as_slice(), wanted),
+            _ => assert!(rt; false),
+        }
+    }
     Ok(())
 }
