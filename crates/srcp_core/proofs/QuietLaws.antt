@@ -1,6 +1,7 @@
 -- Until which moment no row is due, through the calls of a keeper and from row to row.
 use Rattle.std.specs.Prelude.{◌≡◌, ℕ, ◌≤◌, ◌<◌, Bool, true, false, not, cond, nat_le, map, List, [], ◌∷◌, Option, Some, None, IfSome}
-use Rattle.std.proofs.Common.{refl, sym, ap, subst, arith}
+use Rattle.std.proofs.Common.{refl, sym, ap, arith}
+use Rattle.std.proofs.Math.Nat.{min-le_left, min-le_right}
 use Rattle.std.proofs.lemmas.Bool.{lt-leb}
 use Rattle.std.specs.List.{range_with_len}
 use Rattle.std.specs.Option.{option_map_or}
@@ -17,7 +18,7 @@ use Rattle.srcp_rules.specs.Rows.{put_rows}
 use Rattle.srcp_rules.specs.State.{State, IsRising, first_row, fb_device, opening, opening_on, power_device, put_row, row_after, without}
 use Rattle.srcp_rules.proofs.SoughtLaws.{beyond, beyond-next, beyond-none}
 use Rattle.srcp_rules.proofs.StateLaws.{row_key}
-use Rattle.srcp_core.specs.Quiet.{IsQuietUntil}
+use Rattle.srcp_core.specs.Quiet.{IsQuietUntil, sooner, soonest}
 
 -- the row is not due before the moment
 abbrev IsNotDueBefore : (moment : ℕ) → Row → Type 0
@@ -75,18 +76,41 @@ module _ (moment until : ℕ) (before : moment < until) where
       ap (map (λ (row : Row). due_change moment row.shown.key row.shown.value))
       (filter_no_one (is_due moment) state (all_weaker (IsNotDueBefore until) (λ row. is_due moment row ≡ false) (λ row k. none_due row.due k) state h))
 
--- ---- the walk over all rows
+-- ---- the soonest due moment
 
--- what is quiet until no later than the moment beyond the cursor is so as a whole
-abbrev pub IsQuietUpTo : (moment : ℕ) → Cursor → State → Type 0
-IsQuietUpTo moment at state = (until : ℕ) → until ≤ moment → IsQuietUntil until (beyond at state) → IsQuietUntil until state
+sooner_below : (moment : ℕ) (due : Option ℕ) → sooner moment due ≤ moment
+sooner_below moment None = omega arith
+sooner_below moment (Some due) = min-le_left moment due
 
-module _ (moment : ℕ) (at : Cursor) (state : State) (upto : IsQuietUpTo moment at state) where
-  -- the row that is found is passed
-  pub quiet_on : (sooner : ℕ) (row : Row) → IsRising state → row_after at state ≡ Some row → sooner ≤ moment → IfSome row.due (λ due. sooner ≤ due) → IsQuietUpTo sooner (After row.shown.key) state
-  quiet_on sooner row rising next below here until within rest =
-      upto until (omega (arith, within, below)) (subst (IsQuietUntil until) (sym (beyond-next at row state rising next)) (not_sooner sooner until within row.due here, rest))
+sooner_due : (moment : ℕ) (due : Option ℕ) → IfSome due (λ other. sooner moment due ≤ other)
+sooner_due moment None = tt
+sooner_due moment (Some due) = min-le_right moment due
 
-  -- and where none is found, all are
-  pub quiet_all : row_after at state ≡ None → IsQuietUntil moment state
-  quiet_all none = upto moment (let same : moment ≤ moment = omega arith in same) (subst (IsQuietUntil moment) (sym (beyond-none at state none)) tt)
+pub soonest_below : (moment : ℕ) (rows : State) → soonest moment rows ≤ moment
+soonest_below moment [] = omega arith
+soonest_below moment (row ∷ rows) = omega (arith, soonest_below (sooner moment row.due) rows, sooner_below moment row.due)
+
+-- no row is due before the soonest of their due moments
+pub quiet_soonest : (moment : ℕ) (rows : State) → IsQuietUntil (soonest moment rows) rows
+quiet_soonest moment [] = tt
+quiet_soonest moment (row ∷ rows) = (
+  not_sooner (sooner moment row.due) (soonest (sooner moment row.due) rows) (soonest_below (sooner moment row.due) rows) row.due (sooner_due moment row.due),
+  quiet_soonest (sooner moment row.due) rows,
+)
+
+module _ (until : ℕ) (state : State) (quiet : IsQuietUntil until state) where
+  -- a row is set
+  pub quiet_set : (row : Row) → IsQuietUntil (sooner until row.due) (put_row row state)
+  quiet_set row = quiet_put (sooner until row.due) row state (sooner_due until row.due) (quiet_sooner until (sooner until row.due) (sooner_below until row.due) state quiet)
+
+  -- rows are added
+  pub quiet_add : (rows : State) → IsQuietUntil (soonest until rows) (put_rows rows state)
+  quiet_add rows = quiet_put_rows (soonest until rows) rows state (quiet_soonest until rows) (quiet_sooner until (soonest until rows) (soonest_below until rows) state quiet)
+
+-- the row that is found is the next
+pub soonest_on : (moment : ℕ) (at : Cursor) (state : State) (row : Row) → IsRising state → row_after at state ≡ Some row → soonest (sooner moment row.due) (beyond (After row.shown.key) state) ≡ soonest moment (beyond at state)
+soonest_on moment at state row rising next = ap (soonest moment) (sym (beyond-next at row state rising next))
+
+-- and where none is found, none is left
+pub soonest_all : (moment : ℕ) (at : Cursor) (state : State) → row_after at state ≡ None → moment ≡ soonest moment (beyond at state)
+soonest_all moment at state none = ap (soonest moment) (sym (beyond-none at state none))

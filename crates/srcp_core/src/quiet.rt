@@ -1,6 +1,6 @@
 //! The rows of a registry with a moment before which no row is due, so that until then they need not be walked.
-ghost use Rattle.std.specs.Prelude.{◌≡◌, ◌≤◌, true, [], IfSome};
-ghost use Rattle.srcp_core.specs.Quiet.{IsQuietUntil};
+ghost use Rattle.std.specs.Prelude.{◌≡◌, true, []};
+ghost use Rattle.srcp_core.specs.Quiet.{sooner, soonest};
 ghost use Rattle.srcp_rules.specs.Due.{due};
 ghost use Rattle.srcp_rules.specs.State.{IsRising};
 
@@ -82,8 +82,7 @@ impl<R: Rows> Timed<R> {
 
 /// The sooner of two moments.
 fn sooner(moment: u64, due: Option<u64>) -> u64
-    ensures moment { result ≤ moment }
-    ensures due { IfSome due (λ due. result ≤ due) }
+    ensures { result ≡ sooner moment due }
 {
     match due {
         Some(due) => moment.min(due),
@@ -93,8 +92,7 @@ fn sooner(moment: u64, due: Option<u64>) -> u64
 
 /// The soonest of a moment and the due moments of rows.
 fn sooner_of_all(moment: u64, rows: &[Row]) -> u64
-    ensures moment { result ≤ moment }
-    ensures due { IsQuietUntil result rows.now }
+    ensures { result ≡ soonest moment rows.now }
 {
     let mut soonest = moment;
     for row in rows {
@@ -106,7 +104,7 @@ fn sooner_of_all(moment: u64, rows: &[Row]) -> u64
 /// The least due moment of all rows; the greatest moment where none is ever due.
 fn soonest_due<R: Rows>(rows: &R) -> u64
     requires { IsRising (R.state rows.now) }
-    ensures { IsQuietUntil result (R.state rows.now) }
+    ensures { result ≡ soonest 18446744073709551615 (R.state rows.now) }
 {
     let mut soonest = u64::MAX;
     let mut at = Cursor::Start;
