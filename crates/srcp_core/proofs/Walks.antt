@@ -1,12 +1,9 @@
 -- Changes that are carried out and told one by one are those of the whole step.
 use Rattle.std.proofs.Common.{◌≡◌, ◌<◌, List, [], ◌∷◌, map, length, refl, ap, sym, ◌∙◌, subst, arith}
-use Rattle.std.specs.List.{find}
 use Rattle.std.specs.Option.{option_map, option_map_or}
-use Rattle.std.specs.Prelude.{Option, Some, None, slice_get, not}
-use Rattle.srcp_info.specs.Key.{key_of, has_reached}
+use Rattle.std.specs.Prelude.{Option, Some, None, slice_get}
 use Rattle.srcp_info.specs.WellFormed.{IsWellFormed}
 use Rattle.srcp_info.specs.declared.change.Change.{Change}
-use Rattle.srcp_info.specs.declared.change.Cursor.TheVariants.{Start}
 use Rattle.srcp_rules.specs.declared.layout.Bus.{Bus}
 use Rattle.srcp_rules.specs.State.{State, Update, IsWhole, updated, updated_all}
 use Rattle.srcp_rules.proofs.ToldLaws.{AreTold}
@@ -15,11 +12,6 @@ use Rattle.srcp_core.specs.Machine.{told_all, told_each}
 
 abbrev pub change_in : Update → Change
 change_in update = update.change
-
--- the first change is due, or none is
-pub first_due : (updates : List Update) → find (λ update. not (has_reached Start (key_of update.change))) updates ≡ slice_get updates 0
-first_due [] = refl
-first_due (update ∷ updates) = refl
 
 module _ (buses : List Bus) (brings : State → List Update)
     (later : (state : State) → IsWhole buses state → (update : Update) (updates : List Update) → brings state ≡ update ∷ updates → IsWhole buses (updated update state) × (brings (updated update state) ≡ updates))

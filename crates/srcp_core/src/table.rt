@@ -19,6 +19,7 @@ mod receive;
 mod walk;
 
 use crate::connection::Connection;
+use crate::quiet::Timed;
 use crate::record::CoreFault;
 use slab::Slab;
 use srcp_rules::{Layout, Memory, Rows};
@@ -36,7 +37,7 @@ const MOST_IN_PIECE: usize = 256;
 pub struct Core<'a, R: Rows> {
     alloc: Global,
     layout: &'a Layout,
-    rows: R,
+    rows: Timed<R>,
     moment: u64,
     last_id: u32,
     connections: Slab<Connection>,
@@ -81,7 +82,7 @@ impl<'a, R: Rows> Core<'a, R> {
     {
         // Asks for a layout's limits.
         let _ = layout.buses();
-        let rows = R::empty(alloc, layout)?;
+        let rows = Timed::empty(alloc, layout)?;
         let connections = Slab::with_capacity(alloc, MOST_CONNECTIONS)?;
         Ok(Core {
             alloc,

@@ -14,6 +14,8 @@ mod last_id;
 #[cfg(test)]
 mod mirrors;
 #[cfg(test)]
+mod moments;
+#[cfg(test)]
 mod panels;
 #[cfg(test)]
 mod pieces;
