@@ -1,2 +1,4 @@
 pub mod PutLaws
 pub mod ListedLaws
+pub mod NumberLaws
+pub mod DeviceLaws

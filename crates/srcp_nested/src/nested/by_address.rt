@@ -65,10 +65,10 @@ impl Devices {
     {
         let address = first.shown.key.address;
         let device = DeviceRows::of(first, added);
-        if self.by_address.insert(address, device).is_err() {
-            return Err(Memory);
+        match self.by_address.insert(address, device) {
+            Ok(_) => Ok(()),
+            Err(_) => Err(Memory),
         }
-        Ok(())
     }
 
     /// Sets a row that is there.

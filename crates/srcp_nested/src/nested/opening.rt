@@ -50,10 +50,10 @@ fn add_devices(
 
 /// Adds a part after all others.
 fn add_part(parts: &mut BTreeMap<u32, Part>, number: u32, part: Part) -> Result<(), Memory> {
-    if parts.insert(number, part).is_err() {
-        return Err(Memory);
+    match parts.insert(number, part) {
+        Ok(_) => Ok(()),
+        Err(_) => Err(Memory),
     }
-    Ok(())
 }
 
 /// The power row of a bus, if it has one, off.
