@@ -24,7 +24,7 @@ use Rattle.srcp_nested.proofs.NumberLaws.{address_order, owns-other_address, own
 use Rattle.srcp_nested.proofs.PutLaws.{put_row-before, put_row-past, put_rows-before, put_rows-past, put_rows-new, without-before, without-past, without-all}
 use Rattle.srcp_nested.proofs.ListedLaws.{IsTagged, Above, Below, entry_holds, row_at-listed, row_after-listed, listed-set_value, listed-insert_entry, listed-remove_entry}
 
-abbrev whole : State → State
+abbrev pub whole : State → State
 whole rows = rows
 
 abbrev address_of : Key → ℕ

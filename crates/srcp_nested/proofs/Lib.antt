@@ -2,3 +2,4 @@ pub mod PutLaws
 pub mod ListedLaws
 pub mod NumberLaws
 pub mod DeviceLaws
+pub mod PartLaws

@@ -7,7 +7,8 @@ use Rattle.std.proofs.lemmas.Option.{none-some, same_Some}
 use Rattle.std.specs.List.{AllByRecursion, flat_map}
 use Rattle.std.specs.List.Sorted.{IsStrictlySortedBy}
 use Rattle.std.specs.Map.{keys_of, lookup, set_value, remove_entry}
-use Rattle.std.specs.Option.{option_map_or}
+use Rattle.std.specs.Option.{option_map_or, option_or}
+use Rattle.std.proofs.lemmas.List.Folds.{find-append}
 use Rattle.std.specs.Ordering.{nat_cmp, is_eq, is_le, match_ordering}
 use Rattle.std.specs.BTreeMap.{is_at, insert_entry}
 use Rattle.std.specs.BTreeMap.Range.{entries_between, range_contains}
@@ -21,7 +22,7 @@ use Rattle.srcp_info.specs.declared.change.Cursor.{Cursor}
 use Rattle.srcp_info.specs.Key.{has_reached}
 use Rattle.srcp_rules.specs.State.{State, row_at, row_after}
 use Rattle.srcp_rules.proofs.KeyLaws.{same_key, same_key-true}
-use Rattle.srcp_rules.proofs.FindLaws.{each-append, each-weaken}
+use Rattle.srcp_rules.proofs.FindLaws.{each-append, each-filter, each-weaken}
 use Rattle.srcp_nested.specs.Nested.{listed, AreSorted, entry_at}
 use Rattle.srcp_nested.proofs.PutLaws.{find_past, find_before, find_behind}
 
@@ -266,3 +267,29 @@ module _ {X : Type 0} where
   pub has-set_value : (m n : ℕ) (w : X) (es : List (ℕ × X)) → is_some (entry_at m es) ≡ true → is_some (entry_at m (set_value (is_at (nat_cmp n)) es w)) ≡ true
   has-set_value m n w [] h = h
   has-set_value m n w (e ∷ es) h = keeps_step m n w e es (has-set_value m n w es) (is_at (nat_cmp n) e.0) (is_at (nat_cmp m) e.0) refl h
+
+-- ---- walking along entries
+
+module _ {X : Type 0} (rows : X → State) (cursor : Cursor) where
+  -- the first entry has the row
+  pub first_has : (es rest : List (ℕ × X)) (e : ℕ × X) → es ≡ e ∷ rest → (row : Row) → Some row ≡ row_after cursor (rows e.1) → Some row ≡ row_after cursor (listed rows es)
+  first_has es rest e is row h =
+      ap (λ o. option_or o (row_after cursor (listed rows rest))) h
+      ∙ sym (find-append (λ row. not (has_reached cursor row.shown.key)) (rows e.1) (listed rows rest))
+      ∙ ap (λ fs. row_after cursor (listed rows fs)) (sym is)
+
+  -- the first entry has none
+  pub first_has_none : (es rest : List (ℕ × X)) (e : ℕ × X) → es ≡ e ∷ rest → None ≡ row_after cursor (rows e.1) → row_after cursor (listed rows es) ≡ row_after cursor (listed rows rest)
+  first_has_none es rest e is h =
+      ap (λ fs. row_after cursor (listed rows fs)) is
+      ∙ find-append (λ row. not (has_reached cursor row.shown.key)) (rows e.1) (listed rows rest)
+      ∙ ap (λ o. option_or o (row_after cursor (listed rows rest))) (sym h)
+
+-- what holds of the rows of each entry holds of all
+pub each-listed : {X : Type 0} (rows : X → State) (Q : Row → Type 0) (es : List (ℕ × X)) → AllByRecursion (λ e. AllByRecursion Q (rows e.1)) es → AllByRecursion Q (listed rows es)
+each-listed rows Q [] a = tt
+each-listed rows Q (e ∷ es) a = each-append Q (rows e.1) (listed rows es) a.0 (each-listed rows Q es a.1)
+
+-- entries between bounds are entries
+pub each-between : {X : Type 0} (Q : ℕ × X → Type 0) (n : ℕ) (es : List (ℕ × X)) → AllByRecursion Q es → AllByRecursion Q (entries_between nat_cmp (Included n) Unbounded es)
+each-between Q n es a = each-filter Q (λ e. range_contains nat_cmp (Included n) Unbounded e.0) es a
