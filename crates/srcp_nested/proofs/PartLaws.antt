@@ -1,7 +1,8 @@
 -- The parts of a keeper by number: look-ups and changes.
-use Rattle.std.specs.Prelude.{◌≡◌, ℕ, zero, suc, ◌+◌, ◌<◌, ◌≤◌, Bool, true, false, is_some, List, [], ◌∷◌, ◌++◌, length, map, drop, slice_index_or, Option, Some, None, IsTrue, IsSome, Result, Ok, Err, OnOk, OnErr, not}
+use Rattle.std.specs.Prelude.{◌≡◌, ℕ, zero, suc, ◌+◌, ◌<◌, ◌≤◌, Bool, true, false, is_some, List, [], ◌∷◌, ◌++◌, length, map, drop, slice_get, slice_index_or, Option, Some, None, IsTrue, IsSome, Result, Ok, Err, OnOk, OnErr, not}
 use Rattle.std.proofs.Common.{refl, sym, ap, subst, ◌∙◌, arith, true≢false}
 use Rattle.std.proofs.lemmas.Cmp.{nat_cmp_total, by_ranked, ranked, tied_itself}
+use Rattle.std.proofs.lemmas.Option.{none-some, same_Some}
 use Rattle.std.specs.List.{AllByRecursion, range_with_len}
 use Rattle.std.specs.Map.{set_value}
 use Rattle.std.specs.Option.{option_map_or}
@@ -14,7 +15,7 @@ use Rattle.srcp_info.specs.declared.key.Key.{Key}
 use Rattle.srcp_info.specs.declared.key.Device.{Device}
 use Rattle.srcp_info.specs.declared.change.Row.{Row}
 use Rattle.srcp_info.specs.declared.change.Cursor.{Cursor}
-use Rattle.srcp_info.specs.Key.{key_cmp, device_of, has_reached, owns}
+use Rattle.srcp_info.specs.Key.{group_place, key_cmp, device_of, has_reached, owns}
 use Rattle.srcp_rules.specs.declared.layout.Bus.{Bus}
 use Rattle.srcp_rules.specs.Layout.{row_count}
 use Rattle.srcp_rules.specs.State.{State, IsRising, has_row, key_at, put_row, row_at, row_after, without}
@@ -63,8 +64,8 @@ none_left x xs e = let n : length (x ∷ xs) ≡ 0 = ap length e in omega (arith
 
 port_order : (device : Device) (p q : ℕ) → p < q → key_cmp (key_at device p) (key_at device q) ≡ Less
 port_order device p q h =
-    ap (λ o. ordering_then o (ordering_then (nat_cmp _ _) (ordering_then (nat_cmp device.address device.address) (nat_cmp p q)))) (tied_itself nat_cmp_total device.bus)
-    ∙ ap (λ o. ordering_then o (ordering_then (nat_cmp device.address device.address) (nat_cmp p q))) (tied_itself nat_cmp_total _)
+    ap (λ o. ordering_then o (ordering_then (nat_cmp (group_place device.group) (group_place device.group)) (ordering_then (nat_cmp device.address device.address) (nat_cmp p q)))) (tied_itself nat_cmp_total device.bus)
+    ∙ ap (λ o. ordering_then o (ordering_then (nat_cmp device.address device.address) (nat_cmp p q))) (tied_itself nat_cmp_total (group_place device.group))
     ∙ ap (λ o. ordering_then o (nat_cmp p q)) (tied_itself nat_cmp_total device.address)
     ∙ by_ranked (p < q) (p ≡ q) (q < p) (nat_cmp p q) (ranked p q (nat_cmp p q) refl) (λ o lt. o) (λ o eq. absurd (omega (arith, h, eq))) (λ o gt. absurd (omega (arith, h, gt)))
 
@@ -108,9 +109,17 @@ module _ (device : Device) where
     some = some;
   }
 
-  pub first_device : (buses : List Bus) (row : Row) (rows : State) → AreRowsOf buses device (row ∷ rows) → (0 < row_count buses device) × (device_of row.shown.key ≡ device)
-  first_device buses row rows h =
-      (counted row rows (row_count buses device) h.keys, ap device_of (ports_from (row ∷ rows) 0 (row_count buses device) h.keys).0.2)
+  first_row_device : (buses : List Bus) (row first : Row) (rows : State) → row ≡ first → AreRowsOf buses device (row ∷ rows) → (0 < length (row ∷ rows)) × (0 < row_count buses device) × (device_of first.shown.key ≡ device)
+  first_row_device buses row first rows e h = (
+    omega arith,
+    counted row rows (row_count buses device) h.keys,
+    ap (λ (other : Row). device_of other.shown.key) (sym e) ∙ ap device_of (ports_from (row ∷ rows) 0 (row_count buses device) h.keys).0.2,
+  )
+
+  -- where there is a first row, it is the device's, and the layout has the device
+  pub first_device : (buses : List Bus) (rows : State) (first : Row) → Some first ≡ slice_get rows 0 → AreRowsOf buses device rows → (0 < length rows) × (0 < row_count buses device) × (device_of first.shown.key ≡ device)
+  first_device buses [] first e h = absurd (none-some first (sym e))
+  first_device buses (row ∷ rows) first e h = first_row_device buses row first rows (same_Some row first (sym e)) h
 
 -- ---- all parts
 
@@ -215,3 +224,12 @@ module _ (buses : List Bus) (es : List (ℕ × Part)) (parts : AreParts buses es
   -- where the rows of a part are as before, so are all
   pub parts-same : (number : ℕ) (part after : Part) → Some part ≡ entry_at number es → part_rows after ≡ part_rows part → all_rows (set_value (is_at (nat_cmp number)) es after) ≡ all_rows es
   parts-same number part after e is = listed-set_value part_rows number_of Anywhere number (λ rows. rows) (λ xs ys h. refl) (λ xs ys h. refl) es tagged parts.sorted part after (sym e) is
+
+-- what follows where a call succeeds, or fails
+pub on_ok : {T E A B : Type 0} → (A → B) → (r : Result T E) → OnOk r A → OnOk r B
+on_ok f (Ok x) a = f a
+on_ok f (Err e) a = tt
+
+pub on_err : {T E A B : Type 0} → (A → B) → (r : Result T E) → OnErr r A → OnErr r B
+on_err f (Ok x) a = tt
+on_err f (Err e) a = f a
