@@ -4,10 +4,10 @@ use Rattle.srcp_rules.specs.State.{row_after}
 use Rattle.srcp_nested.specs.Nested.{IsPart, all_rows}
 use Rattle.srcp_nested.proofs.nested.NestedRows.row_after.Given as goal
 
-abbrev pub invariant-loop-part : goal.invariant-loop-part
-invariant-loop-part l = record {
-  can : (goal.iterator-loop-part).can_next l.part-iterator;
-  finite : (goal.iterator-loop-part).is_finite l.part-iterator;
-  each : AllByRecursion (λ e. IsPart e.0 e.1) l.part-iterator;
-  rest : row_after l.cursor l.self.state ≡ row_after l.cursor (all_rows l.part-iterator);
+abbrev pub invariant-loop-number : goal.invariant-loop-number
+invariant-loop-number l = record {
+  can : (goal.iterator-loop-number).can_next l.number-iterator;
+  finite : (goal.iterator-loop-number).is_finite l.number-iterator;
+  each : AllByRecursion (λ e. IsPart e.0 e.1) l.number-iterator;
+  rest : row_after l.cursor l.self.state ≡ row_after l.cursor (all_rows l.number-iterator);
 }
