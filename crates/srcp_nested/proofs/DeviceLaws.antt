@@ -1,7 +1,6 @@
 -- The rows of devices of one part, by address: look-ups and changes.
-use Rattle.std.specs.Prelude.{◌≡◌, ℕ, ◌+◌, ◌<◌, Bool, true, false, is_some, List, [], ◌∷◌, ◌++◌, length, filter, Option, Some, None, IsTrue}
-use Rattle.std.proofs.Common.{refl, sym, ap, subst, ◌∙◌, arith, true≢false, length-append}
-use Rattle.std.proofs.lemmas.Option.{none-some}
+use Rattle.std.specs.Prelude.{◌≡◌, ℕ, ◌<◌, true, false, is_some, List, [], ◌∷◌, ◌++◌, length, filter, Option, Some, None}
+use Rattle.std.proofs.Common.{refl, sym, ap, ◌∙◌, arith, true≢false}
 use Rattle.std.specs.List.{AllByRecursion}
 use Rattle.std.specs.Map.{set_value, remove_entry}
 use Rattle.std.specs.Option.{option_map_or}
@@ -9,17 +8,16 @@ use Rattle.std.specs.Ordering.{nat_cmp}
 use Rattle.std.specs.BTreeMap.{is_at, insert_entry}
 use Rattle.std.specs.BTreeMap.Range.{entries_between}
 use Rattle.std.specs.declared.ops.Bound.TheVariants.{Included, Unbounded}
-use Rattle.std.specs.declared.cmp.Ordering.TheVariants.{Less}
 use Rattle.srcp_info.specs.declared.key.Key.{Key}
 use Rattle.srcp_info.specs.declared.key.Device.{Device}
 use Rattle.srcp_info.specs.declared.change.Row.{Row}
 use Rattle.srcp_info.specs.declared.change.Cursor.{Cursor}
-use Rattle.srcp_info.specs.Key.{key_cmp, is_after, device_of, has_reached, owns}
-use Rattle.srcp_rules.specs.State.{State, IsRising, has_row, key_at, put_row, row_at, row_after, without}
+use Rattle.srcp_info.specs.Key.{is_after, device_of, has_reached}
+use Rattle.srcp_rules.specs.State.{State, has_row, key_at, put_row, row_at, row_after, without}
 use Rattle.srcp_rules.specs.Rows.{put_rows}
 use Rattle.srcp_rules.proofs.FindLaws.{each-append, each-filter, each-weaken}
 use Rattle.srcp_rules.proofs.StateLaws.{row_key, rising-put_by, row_at-first}
-use Rattle.srcp_nested.specs.Nested.{AreDevices, AreOfDevice, device_rows, entry_at, number_in, number_of, AreSorted}
+use Rattle.srcp_nested.specs.Nested.{AreDevices, AreOfDevice, device_rows, entry_at, number_in, number_of}
 use Rattle.srcp_nested.proofs.NumberLaws.{address_order, owns-other_address, owns-own_address, device_from}
 use Rattle.srcp_nested.proofs.PutLaws.{put_row-before, put_row-past, put_rows-before, put_rows-past, put_rows-new, without-before, without-past, without-all}
 use Rattle.srcp_nested.proofs.ListedLaws.{IsTagged, Above, Below, entry_holds, row_at-listed, row_after-listed, listed-set_value, listed-insert_entry, listed-remove_entry}

@@ -3,3 +3,4 @@ pub mod ListedLaws
 pub mod NumberLaws
 pub mod DeviceLaws
 pub mod PartLaws
+pub mod OpeningPartLaws

@@ -1,6 +1,6 @@
 -- The parts of a keeper by number: look-ups and changes.
-use Rattle.std.specs.Prelude.{◌≡◌, ℕ, zero, suc, ◌+◌, ◌<◌, ◌≤◌, Bool, true, false, is_some, List, [], ◌∷◌, ◌++◌, length, map, drop, slice_get, slice_index_or, Option, Some, None, IsTrue, IsSome, Result, Ok, Err, OnOk, OnErr, not}
-use Rattle.std.proofs.Common.{refl, sym, ap, subst, ◌∙◌, arith, true≢false}
+use Rattle.std.specs.Prelude.{◌≡◌, ℕ, zero, suc, ◌+◌, ◌<◌, ◌≤◌, true, is_some, List, [], ◌∷◌, ◌++◌, length, map, drop, slice_get, slice_index_or, Some, None, Result, Ok, Err, OnOk, OnErr, not}
+use Rattle.std.proofs.Common.{refl, sym, ap, subst, ◌∙◌, arith}
 use Rattle.std.proofs.lemmas.Cmp.{nat_cmp_total, by_ranked, ranked, tied_itself}
 use Rattle.std.proofs.lemmas.Option.{none-some, same_Some}
 use Rattle.std.specs.List.{AllByRecursion, range_with_len}
@@ -18,9 +18,9 @@ use Rattle.srcp_info.specs.declared.change.Cursor.{Cursor}
 use Rattle.srcp_info.specs.Key.{group_place, key_cmp, device_of, has_reached, owns}
 use Rattle.srcp_rules.specs.declared.layout.Bus.{Bus}
 use Rattle.srcp_rules.specs.Layout.{row_count}
-use Rattle.srcp_rules.specs.State.{State, IsRising, has_row, key_at, put_row, row_at, row_after, without}
-use Rattle.srcp_rules.specs.Rows.{AreRowsOf, AreNewRowsOf, put_rows}
-use Rattle.srcp_rules.proofs.FindLaws.{each-append, each-filter, each-weaken}
+use Rattle.srcp_rules.specs.State.{State, IsRising, key_at, put_row, row_at, row_after, without}
+use Rattle.srcp_rules.specs.Rows.{AreRowsOf, put_rows}
+use Rattle.srcp_rules.proofs.FindLaws.{each-filter, each-weaken}
 use Rattle.srcp_rules.proofs.StateLaws.{row_key, rising-filter, rising-put_by}
 use Rattle.srcp_nested.specs.declared.nested.part.Part.{Part}
 use Rattle.srcp_nested.specs.declared.nested.part.Part.TheVariants.{Fixed, ComeAndGo}

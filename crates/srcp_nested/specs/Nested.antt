@@ -1,5 +1,5 @@
 -- How a keeper lays out rows: by bus and group, and the devices that come and go by address.
-use Rattle.std.specs.Prelude.{◌≡◌, ℕ, ◌+◌, ◌*◌, ◌<◌, List, length, flat_map, Option, IsSome}
+use Rattle.std.specs.Prelude.{◌≡◌, ℕ, ◌+◌, ◌*◌, ◌<◌, List, ◌++◌, length, flat_map, Option, IsSome}
 use Rattle.std.specs.List.{AllByRecursion}
 use Rattle.std.specs.List.Sorted.{IsStrictlySortedBy}
 use Rattle.std.specs.Map.{keys_of, lookup}
@@ -74,3 +74,19 @@ pub record AreParts (buses : List Bus) (parts : List (ℕ × Part)) : Type 0 whe
   pub each : AllByRecursion (λ e. IsPart e.0 e.1) parts
   pub sorted : AreSorted parts
   pub has : (device : Device) → 0 < row_count buses device → IsSome (entry_at (number_in device.bus device.group) parts)
+
+-- these are parts whose numbers are below the limit
+pub record AreUpTo (limit : ℕ) (parts : List (ℕ × Part)) : Type 0 where
+  pub each : AllByRecursion (λ e. IsPart e.0 e.1) parts
+  pub sorted : AreSorted parts
+  pub below : AllByRecursion (λ e. e.0 < limit) parts
+
+-- the parts have these rows more, and their numbers are below the limit
+pub record AreGrown (limit : ℕ) (more : State) (before after : List (ℕ × Part)) : Type 0 where
+  pub upto : AreUpTo limit after
+  pub rows : all_rows after ≡ all_rows before ++ more
+  pub kept : (number : ℕ) → IsSome (entry_at number before) → IsSome (entry_at number after)
+
+-- the bus has a part for each group but sessions
+abbrev pub HasGroups : (bus : ℕ) → List (ℕ × Part) → Type 0
+HasGroups bus parts = (group : Group) → 0 < group_place group → IsSome (entry_at (number_in bus group) parts)

@@ -9,7 +9,7 @@ use Rattle.srcp_rules.specs.Layout.{row_count}
 use Rattle.srcp_rules.specs.State.{has_row, key_at}
 use Rattle.srcp_rules.specs.Rows.{Kept, put_rows}
 use Rattle.srcp_rules.proofs.FindLaws.{each-weaken}
-use Rattle.srcp_nested.specs.Nested.{AreOfDevice, AreParts, all_rows, entry_at, number_in, number_of}
+use Rattle.srcp_nested.specs.Nested.{AreOfDevice, all_rows, entry_at, number_in, number_of}
 use Rattle.srcp_nested.proofs.PartLaws.{first_device, found_part, new_device, on_ok, on_err, parts-add, parts-same, parts-set, row_at-part}
 use Rattle.srcp_nested.proofs.nested.NestedRows.add.Goals as goal
 

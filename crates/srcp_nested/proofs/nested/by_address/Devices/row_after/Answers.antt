@@ -1,9 +1,9 @@
-use Rattle.std.proofs.Common.{◌≡◌, ℕ, List, refl, sym, ap, subst, ◌∙◌}
+use Rattle.std.proofs.Common.{◌≡◌, sym, ap, subst, ◌∙◌}
 use Rattle.std.specs.List.{AllByRecursion}
 use Rattle.std.specs.Ordering.{nat_cmp}
 use Rattle.std.specs.BTreeMap.Range.{entries_between}
 use Rattle.std.specs.declared.ops.Bound.TheVariants.{Included, Unbounded}
-use Rattle.srcp_rules.specs.State.{State, IsRising, row_after}
+use Rattle.srcp_rules.specs.State.{IsRising, row_after}
 use Rattle.srcp_nested.specs.Nested.{AreOfDevice, device_rows}
 use Rattle.srcp_nested.proofs.ListedLaws.{each-between, first_has, first_has_none}
 use Rattle.srcp_nested.proofs.DeviceLaws.{whole, row_after-devices}

@@ -1,5 +1,4 @@
 use Rattle.std.proofs.Common.{refl, is_some, sym, ap, subst, ◌∙◌, true≢false}
-use Rattle.srcp_rules.specs.State.{IsRising, row_at}
 use Rattle.srcp_nested.specs.Nested.{AreOfDevice, device_rows, number_of}
 use Rattle.std.specs.List.{AllByRecursion}
 use Rattle.srcp_nested.proofs.ListedLaws.{each-set_value}

@@ -1,6 +1,5 @@
-use Rattle.std.proofs.Common.{◌≡◌, refl, ℕ, zero, suc, ◌≤◌, ◌<◌, length, take, slice_set, is_some, sym, ap, subst, ◌∙◌, arith, true≢false}
-use Rattle.srcp_info.specs.declared.change.Row.{Row}
-use Rattle.srcp_rules.specs.State.{State, IsRising, has_row, put_row, row_at}
+use Rattle.std.proofs.Common.{◌<◌, length, take, slice_set, is_some, sym, ap, subst, ◌∙◌, true≢false}
+use Rattle.srcp_rules.specs.State.{State, row_at}
 use Rattle.srcp_rules.specs.Rows.{IsAt}
 use Rattle.srcp_rules.proofs.RowPlaceLaws.{set-put_row, row_at-gap}
 use Rattle.srcp_nested.proofs.PutLaws.{take-set}
