@@ -1,0 +1,6 @@
+pub mod PutLaws
+pub mod ListedLaws
+pub mod NumberLaws
+pub mod DeviceLaws
+pub mod PartLaws
+pub mod OpeningPartLaws
