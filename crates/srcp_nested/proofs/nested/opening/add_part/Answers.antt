@@ -1,6 +1,0 @@
-use Rattle.std.proofs.Common.{◌∙◌}
-use Rattle.srcp_nested.proofs.OpeningPartLaws.{insert_entry-last}
-use Rattle.srcp_nested.proofs.nested.opening.add_part.Goals as goal
-
-pub returns-in-Ok : goal.returns-in-Ok
-returns-in-Ok c = c.in-Ok.ensures.entries ∙ insert_entry-last c.args.number c.args.part c.args.parts.now.entries c.requires.below

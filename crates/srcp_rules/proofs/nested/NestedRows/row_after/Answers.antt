@@ -1,0 +1,45 @@
+use Rattle.std.proofs.Common.{◌≡◌, sym, ap, subst, ◌∙◌}
+use Rattle.std.specs.List.{AllByRecursion}
+use Rattle.std.specs.Ordering.{nat_cmp}
+use Rattle.std.specs.BTreeMap.Range.{entries_between}
+use Rattle.std.specs.declared.ops.Bound.TheVariants.{Included, Unbounded}
+use Rattle.srcp_rules.specs.State.{row_after}
+use Rattle.srcp_rules.specs.Rows.{Kept}
+use Rattle.srcp_rules.specs.Nested.{IsPart, all_rows, part_rows}
+use Rattle.srcp_rules.proofs.ListedLaws.{each-between, first_has, first_has_none}
+use Rattle.srcp_rules.proofs.PartLaws.{row_after-parts}
+use Rattle.srcp_rules.proofs.nested.NestedRows.row_after.Goals as goal
+
+pub loop-number-init : goal.loop-number-init
+loop-number-init c =
+    let buses = c.self.inside.buses.items in
+    let entries = c.self.inside.parts.entries in
+    let from = c.first_part.result in
+    let cursor = c.args.cursor in
+    let lent = c.into_iter-number-iterator.result in
+    let gives = c.into_iter-number-iterator.ensures.into_iter_gives in
+    let between = c.range-number-items.ensures.between tt in
+    let is : lent ≡ entries_between nat_cmp (Included from) Unbounded entries = cc in
+    record {
+      can = tt;
+      finite = tt;
+      each = subst (AllByRecursion (λ e. IsPart e.0 e.1)) (sym is) (each-between (λ e. IsPart e.0 e.1) from entries c.self.invariant.each);
+      rest = sym (ap (λ (kept : Kept). row_after cursor kept.state) c.self.view_is) ∙ row_after-parts buses entries c.self.invariant cursor from c.first_part.ensures ∙ ap (λ es. row_after cursor (all_rows es)) (sym is);
+    }
+
+pub row_after-requires : goal.row_after-requires
+row_after-requires c = (subst (AllByRecursion (λ e. IsPart e.0 e.1)) c.in-Some.ensures.steps c.loop-number.invariant.each).0
+
+pub returns-in-Some-row_after : goal.returns-in-Some-row_after
+returns-in-Some-row_after c =
+    first_has part_rows c.args.cursor c.loop-number.number-iterator c.next.new.self (c.in-Some.number.now, c.in-Some.part.now) c.in-Some.ensures.steps c.in-Some-row_after.row.now c.in-Some-row_after.ensures
+    ∙ sym c.loop-number.invariant.rest
+
+pub loop-number-preserved : goal.loop-number-preserved
+loop-number-preserved c = record {
+  can = tt;
+  finite = tt;
+  each = (subst (AllByRecursion (λ e. IsPart e.0 e.1)) c.in-Some.ensures.steps c.loop-number.invariant.each).1;
+  rest = c.loop-number.invariant.rest
+      ∙ first_has_none part_rows c.args.cursor c.loop-number.number-iterator c.next.new.self (c.in-Some.number.now, c.in-Some.part.now) c.in-Some.ensures.steps c.in_default.ensures;
+}

@@ -1,0 +1,13 @@
+use Rattle.std.proofs.Common.{◌≡◌}
+use Rattle.std.specs.List.{AllByRecursion}
+use Rattle.srcp_rules.specs.State.{row_after}
+use Rattle.srcp_rules.specs.Nested.{IsPart, all_rows}
+use Rattle.srcp_rules.proofs.nested.NestedRows.row_after.Given as goal
+
+abbrev pub invariant-loop-number : goal.invariant-loop-number
+invariant-loop-number l = record {
+  can : (goal.iterator-loop-number).can_next l.number-iterator;
+  finite : (goal.iterator-loop-number).is_finite l.number-iterator;
+  each : AllByRecursion (λ e. IsPart e.0 e.1) l.number-iterator;
+  rest : row_after l.cursor l.self.state ≡ row_after l.cursor (all_rows l.number-iterator);
+}
