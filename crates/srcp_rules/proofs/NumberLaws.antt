@@ -21,7 +21,7 @@ less m n h = by_ranked (m < n) (m ≡ n) (n < m) (nat_cmp m n) (ranked m n (nat_
 same : (m n : ℕ) → m ≡ n → nat_cmp m n ≡ Equal
 same m n e = ap (nat_cmp m) (sym e) ∙ tied_itself nat_cmp_total m
 
-place_small : (g : Group) → group_place g ≤ 6
+pub place_small : (g : Group) → group_place g ≤ 6
 place_small group.Session = omega arith
 place_small group.Power = omega arith
 place_small group.Gl = omega arith

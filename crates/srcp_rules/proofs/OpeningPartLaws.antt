@@ -25,8 +25,9 @@ use Rattle.srcp_rules.proofs.FindLaws.{each-weaken, find_passes, found_holds}
 use Rattle.srcp_rules.proofs.LayoutLaws.{between, within_step}
 use Rattle.srcp_rules.proofs.OpeningLaws.{Rising}
 use Rattle.srcp_rules.proofs.PlaceLaws.{each_at}
+use Rattle.srcp_rules.specs.declared.nested.bus_group.BusGroup.{BusGroup}
 use Rattle.srcp_rules.specs.declared.nested.part.Part.{Part}
-use Rattle.srcp_rules.specs.Nested.{AreDevices, AreGrown, AreInPart, AreSorted, AreUpTo, HasGroups, IsPart, all_rows, entry_at, number_in, number_of, part_rows}
+use Rattle.srcp_rules.specs.Nested.{AreDevices, AreGrown, AreInPart, AreSorted, AreUpTo, HasGroups, IsPart, all_rows, by_rank, entry_at, number_in, number_of, part_rows}
 use Rattle.srcp_rules.proofs.NumberLaws.{address_order}
 
 -- ---- appending a part
@@ -78,6 +79,11 @@ upto_more l m es h a = each-weaken {P = λ e. e.0 < l} (λ e f. further e.0 l m 
   where
     further : (k l m : ℕ) → k < l → l ≤ m → k < m
     further k l m f h = omega (arith, f, h)
+
+-- no parts are below any limit
+pub upto-none : (n : ℕ) (es : List (BusGroup × Part)) → es ≡ [] → AreUpTo n (by_rank es)
+unfolding IsStrictlySortedBy
+upto-none n es e = subst (λ fs. AreUpTo n (by_rank fs)) (sym e) (record { each = tt; sorted = tt; below = tt })
 
 -- parts below a limit are below a greater one
 pub upto-more : (l m : ℕ) (es : List (ℕ × Part)) → l ≤ m → AreUpTo l es → AreUpTo m es

@@ -1,5 +1,5 @@
 -- How a keeper lays out rows: by bus and group, and the devices that come and go by address.
-use Rattle.std.specs.Prelude.{◌≡◌, ℕ, ◌+◌, ◌*◌, ◌<◌, List, ◌++◌, length, flat_map, Option, IsSome}
+use Rattle.std.specs.Prelude.{◌≡◌, ℕ, ◌+◌, ◌*◌, ◌<◌, List, ◌++◌, length, map, flat_map, Option, IsSome}
 use Rattle.std.specs.List.{AllByRecursion}
 use Rattle.std.specs.List.Sorted.{IsStrictlySortedBy}
 use Rattle.std.specs.Map.{keys_of, lookup}
@@ -12,6 +12,7 @@ use Rattle.srcp_info.specs.Key.{group_place}
 use Rattle.srcp_rules.specs.declared.layout.Bus.{Bus}
 use Rattle.srcp_rules.specs.Layout.{row_count}
 use Rattle.srcp_rules.specs.State.{State, IsRising}
+use Rattle.srcp_rules.specs.declared.nested.bus_group.BusGroup.{BusGroup}
 use Rattle.srcp_rules.specs.declared.nested.part.Part.{Part}
 use Rattle.srcp_rules.specs.declared.nested.part.Part.TheVariants.{Fixed, ComeAndGo}
 
@@ -22,6 +23,14 @@ number_in bus group = 8 * bus + group_place group
 -- the number of the part that has the row at the key
 abbrev pub number_of : Key → ℕ
 number_of key = number_in key.bus key.group
+
+-- where the group of the bus stands among those of all buses
+abbrev pub rank : BusGroup → ℕ
+rank place = number_in place.bus place.group
+
+-- entries by the ranks of their groups
+abbrev pub by_rank : {X : Type 0} → List (BusGroup × X) → List (ℕ × X)
+by_rank entries = map (λ e. (rank e.0, e.1)) entries
 
 -- the rows of all entries, one after another
 abbrev pub listed : {X : Type 0} → (X → State) → List (ℕ × X) → State

@@ -1,11 +1,11 @@
+mod bus_group;
 mod by_address;
 mod device_rows;
-mod number;
 mod opening;
 mod part;
 
 use crate::layout::{Bus, Layout};
-use crate::nested::number::{first_part, part_number, part_of};
+use crate::nested::bus_group::BusGroup;
 use crate::nested::opening::opening_parts;
 use crate::nested::part::Part;
 use crate::obeyed::Memory;
@@ -19,7 +19,7 @@ use std::marker::Model;
 #[derive(Drop)]
 pub struct Nested {
     buses: Vec<Bus>,
-    parts: BTreeMap<u32, Part>,
+    parts: BTreeMap<BusGroup, Part>,
 }
 
 impl Model for Nested {
@@ -27,11 +27,11 @@ impl Model for Nested {
 
     ghost Value = { Kept };
 
-    ghost use Rattle.srcp_rules.specs.Nested.{all_rows, AreParts};
+    ghost use Rattle.srcp_rules.specs.Nested.{all_rows, by_rank, AreParts};
 
-    ghost view = { λ n. record { buses = n.buses.items; state = all_rows n.parts.entries } };
+    ghost view = { λ n. record { buses = n.buses.items; state = all_rows (by_rank n.parts.entries) } };
 
-    ghost invariant = { λ n. AreParts n.buses.items n.parts.entries };
+    ghost invariant = { λ n. AreParts n.buses.items (by_rank n.parts.entries) };
 }
 
 impl Rows for Nested {
@@ -46,15 +46,15 @@ impl Rows for Nested {
     }
 
     fn row(&self, key: &Key) -> Option<&Row> {
-        match self.parts.get(&part_of(key)) {
+        match self.parts.get(&BusGroup::of(key)) {
             Some(part) => part.row(key),
             None => None,
         }
     }
 
     fn row_after(&self, cursor: Cursor) -> Option<&Row> {
-        for (number, part) in self.parts.range(first_part(cursor)..) {
-            if let Some(row) = part.row_after(*number, cursor) {
+        for (place, part) in self.parts.range(BusGroup::first(cursor)..) {
+            if let Some(row) = part.row_after(*place, cursor) {
                 return Some(row);
             }
         }
@@ -63,7 +63,7 @@ impl Rows for Nested {
 
     fn add(&mut self, added: &[Row]) -> Result<(), Memory> {
         if let Some(first) = added.first() {
-            if let Some(part) = self.parts.get_mut(&part_of(&first.shown.key)) {
+            if let Some(part) = self.parts.get_mut(&BusGroup::of(&first.shown.key)) {
                 return part.add(first, added);
             }
         }
@@ -71,14 +71,13 @@ impl Rows for Nested {
     }
 
     fn set(&mut self, row: Row) {
-        if let Some(part) = self.parts.get_mut(&part_of(&row.shown.key)) {
+        if let Some(part) = self.parts.get_mut(&BusGroup::of(&row.shown.key)) {
             part.set(row);
         }
     }
 
     fn drop_device(&mut self, device: Device) {
-        let number = part_number(device.bus, device.group);
-        if let Some(part) = self.parts.get_mut(&number) {
+        if let Some(part) = self.parts.get_mut(&BusGroup::of_device(device)) {
             part.drop_device(device);
         }
     }

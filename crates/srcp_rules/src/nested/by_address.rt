@@ -2,10 +2,10 @@ ghost use Rattle.std.specs.Prelude.{◌≡◌, ◌≤◌, ℕ, [], false, IsTrue
 ghost use Rattle.srcp_rules.specs.Rows.{put_rows};
 ghost use Rattle.srcp_rules.specs.State.{has_row, key_at, put_row, row_after, row_at, without};
 ghost use Rattle.srcp_info.specs.Key.{device_of};
-ghost use Rattle.srcp_rules.specs.Nested.{AreDevices, AreOfDevice, device_rows, number_in, number_of};
+ghost use Rattle.srcp_rules.specs.Nested.{AreDevices, AreOfDevice, device_rows, number_in, number_of, rank};
 
+use crate::nested::bus_group::BusGroup;
 use crate::nested::device_rows::DeviceRows;
-use crate::nested::number::first_address;
 use crate::obeyed::Memory;
 use crate::sorted_rows::{row_after_in, row_in};
 use srcp_info::{Cursor, Device, Key, Row};
@@ -39,12 +39,12 @@ impl Devices {
         }
     }
 
-    /// The row with the least key beyond the cursor, in the part of this number.
-    pub(crate) fn row_after(&self, number: u32, cursor: Cursor) -> Option<&Row>
-        requires { AreDevices number self.now.by_address.entries }
+    /// The row with the least key beyond the cursor, in the part of this group.
+    pub(crate) fn row_after(&self, place: BusGroup, cursor: Cursor) -> Option<&Row>
+        requires { AreDevices (rank place) self.now.by_address.entries }
         ensures { option_copied result ≡ row_after cursor (device_rows self.now.by_address.entries) }
     {
-        let from = first_address(number, cursor);
+        let from = place.first_address(cursor);
         for (_, device) in self.by_address.range(from..) {
             if let Some(row) = row_after_in(device.as_slice(), cursor) {
                 return Some(row);

@@ -2,12 +2,12 @@ ghost use Rattle.std.specs.Prelude.{◌≡◌, ◌+◌, ◌*◌, [], ◌∷◌, 
 ghost use Rattle.std.specs.List.{range_with_len};
 ghost use Rattle.srcp_info.specs.declared.value.Value.TheVariants as value;
 ghost use Rattle.srcp_rules.specs.State.{fb_device, first_row, opening, opening_on, power_device};
-ghost use Rattle.srcp_rules.specs.Nested.{AreGrown, AreInPart, AreParts, AreUpTo, HasGroups, IsPart, all_rows, entry_at, number_in};
+ghost use Rattle.srcp_rules.specs.Nested.{AreGrown, AreInPart, AreParts, AreUpTo, HasGroups, IsPart, all_rows, by_rank, entry_at, number_in, rank};
 
 use crate::first_rows::{push_ports, push_power};
 use crate::layout::{Bus, Layout};
+use crate::nested::bus_group::BusGroup;
 use crate::nested::by_address::Devices;
-use crate::nested::number::part_number;
 use crate::nested::part::Part;
 use crate::obeyed::Memory;
 use srcp_info::{Group, Row};
@@ -15,9 +15,12 @@ use std::alloc::Global;
 use std::collections::BTreeMap;
 
 /// The parts of a layout at the moment 0: one for sessions, and six for each bus.
-pub(crate) fn opening_parts(alloc: Global, layout: &Layout) -> Result<BTreeMap<u32, Part>, Memory>
-    ensures parts { IfOk result (λ parts. AreParts layout.now parts.entries) }
-    ensures rows { IfOk result (λ parts. all_rows parts.entries ≡ opening layout.now 0) }
+pub(crate) fn opening_parts(
+    alloc: Global,
+    layout: &Layout,
+) -> Result<BTreeMap<BusGroup, Part>, Memory>
+    ensures parts { IfOk result (λ parts. AreParts layout.now (by_rank parts.entries)) }
+    ensures rows { IfOk result (λ parts. all_rows (by_rank parts.entries) ≡ opening layout.now 0) }
 {
     let mut parts = BTreeMap::new(alloc);
     add_devices(alloc, &mut parts, 0, Group::Session)?;
@@ -28,10 +31,10 @@ pub(crate) fn opening_parts(alloc: Global, layout: &Layout) -> Result<BTreeMap<u
 }
 
 /// Adds the parts of a bus.
-fn add_bus(alloc: Global, parts: &mut BTreeMap<u32, Part>, bus: &Bus) -> Result<(), Memory>
-    requires { AreUpTo (8 * bus.now.number) parts.old.entries }
-    ensures grown { OnOk result (AreGrown (8 * bus.now.number + 8) (opening_on 0 bus.now) parts.old.entries parts.new.entries) }
-    ensures groups { OnOk result (HasGroups bus.now.number parts.new.entries) }
+fn add_bus(alloc: Global, parts: &mut BTreeMap<BusGroup, Part>, bus: &Bus) -> Result<(), Memory>
+    requires { AreUpTo (8 * bus.now.number) (by_rank parts.old.entries) }
+    ensures grown { OnOk result (AreGrown (8 * bus.now.number + 8) (opening_on 0 bus.now) (by_rank parts.old.entries) (by_rank parts.new.entries)) }
+    ensures groups { OnOk result (HasGroups bus.now.number (by_rank parts.new.entries)) }
 {
     let number = bus.number;
     add_fixed(parts, number, Group::Power, power_rows(alloc, bus)?)?;
@@ -44,40 +47,40 @@ fn add_bus(alloc: Global, parts: &mut BTreeMap<u32, Part>, bus: &Bus) -> Result<
 
 /// Adds a part of rows that begin with the registry.
 fn add_fixed(
-    parts: &mut BTreeMap<u32, Part>,
+    parts: &mut BTreeMap<BusGroup, Part>,
     bus: u8,
     group: Group,
     rows: Vec<Row>,
 ) -> Result<(), Memory>
-    requires above { AreUpTo (number_in bus group) parts.old.entries }
+    requires above { AreUpTo (number_in bus group) (by_rank parts.old.entries) }
     requires part { AreInPart (number_in bus group) rows.items }
-    ensures grown { OnOk result (AreGrown (number_in bus group + 1) rows.items parts.old.entries parts.new.entries) }
-    ensures here { OnOk result (IsSome (entry_at (number_in bus group) parts.new.entries)) }
+    ensures grown { OnOk result (AreGrown (number_in bus group + 1) rows.items (by_rank parts.old.entries) (by_rank parts.new.entries)) }
+    ensures here { OnOk result (IsSome (entry_at (number_in bus group) (by_rank parts.new.entries))) }
 {
-    add_part(parts, part_number(bus, group), Part::Fixed(rows))
+    add_part(parts, BusGroup { bus, group }, Part::Fixed(rows))
 }
 
 /// Adds a part with no device yet.
 fn add_devices(
     alloc: Global,
-    parts: &mut BTreeMap<u32, Part>,
+    parts: &mut BTreeMap<BusGroup, Part>,
     bus: u8,
     group: Group,
 ) -> Result<(), Memory>
-    requires { AreUpTo (number_in bus group) parts.old.entries }
-    ensures grown { OnOk result (AreGrown (number_in bus group + 1) [] parts.old.entries parts.new.entries) }
-    ensures here { OnOk result (IsSome (entry_at (number_in bus group) parts.new.entries)) }
+    requires { AreUpTo (number_in bus group) (by_rank parts.old.entries) }
+    ensures grown { OnOk result (AreGrown (number_in bus group + 1) [] (by_rank parts.old.entries) (by_rank parts.new.entries)) }
+    ensures here { OnOk result (IsSome (entry_at (number_in bus group) (by_rank parts.new.entries))) }
 {
     let devices = Devices::new(alloc);
-    add_part(parts, part_number(bus, group), Part::ComeAndGo(devices))
+    add_part(parts, BusGroup { bus, group }, Part::ComeAndGo(devices))
 }
 
 /// Adds a part after all others.
-fn add_part(parts: &mut BTreeMap<u32, Part>, number: u32, part: Part) -> Result<(), Memory>
-    requires { AreUpTo number parts.old.entries }
-    ensures { OnOk result (parts.new.entries ≡ parts.old.entries ++ (number, part) ∷ []) }
+fn add_part(parts: &mut BTreeMap<BusGroup, Part>, place: BusGroup, part: Part) -> Result<(), Memory>
+    requires { AreUpTo (rank place) (by_rank parts.old.entries) }
+    ensures { OnOk result (by_rank parts.new.entries ≡ by_rank parts.old.entries ++ (rank place, part) ∷ []) }
 {
-    match parts.insert(number, part) {
+    match parts.insert(place, part) {
         Ok(_) => Ok(()),
         Err(_) => Err(Memory),
     }

@@ -3,6 +3,7 @@ ghost use Rattle.srcp_rules.specs.Rows.{put_rows};
 ghost use Rattle.srcp_rules.specs.State.{has_row, key_at, put_row, row_after, row_at, without};
 ghost use Rattle.srcp_info.specs.Key.{device_of};
 
+use crate::nested::bus_group::BusGroup;
 use crate::nested::by_address::Devices;
 use crate::obeyed::Memory;
 use crate::sorted_rows::{add_all, drop_in, row_after_in, row_in, set_in};
@@ -18,7 +19,7 @@ pub(crate) enum Part {
 }
 
 impl Part {
-    ghost use Rattle.srcp_rules.specs.Nested.{AreOfDevice, IsPart, number_in, number_of, part_rows};
+    ghost use Rattle.srcp_rules.specs.Nested.{AreOfDevice, IsPart, number_in, number_of, part_rows, rank};
 
     /// The row at the key.
     pub(crate) fn row(&self, key: &Key) -> Option<&Row>
@@ -31,14 +32,14 @@ impl Part {
         }
     }
 
-    /// The row with the least key beyond the cursor, in the part of this number.
-    pub(crate) fn row_after(&self, number: u32, cursor: Cursor) -> Option<&Row>
-        requires { IsPart number self.now }
+    /// The row with the least key beyond the cursor, in the part of this group.
+    pub(crate) fn row_after(&self, place: BusGroup, cursor: Cursor) -> Option<&Row>
+        requires { IsPart (rank place) self.now }
         ensures { option_copied result ≡ row_after cursor (part_rows self.now) }
     {
         match self {
             Part::Fixed(rows) => row_after_in(rows, cursor),
-            Part::ComeAndGo(devices) => devices.row_after(number, cursor),
+            Part::ComeAndGo(devices) => devices.row_after(place, cursor),
         }
     }
 

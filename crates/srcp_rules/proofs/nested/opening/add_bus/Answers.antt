@@ -1,7 +1,7 @@
 use Rattle.std.proofs.Common.{◌≡◌, ◌+◌, ◌*◌, ◌++◌, sym, subst, arith}
 use Rattle.srcp_info.specs.declared.key.Group.TheVariants as group
 use Rattle.srcp_rules.specs.State.{State, opening_on}
-use Rattle.srcp_rules.specs.Nested.{AreGrown, AreInPart, number_in}
+use Rattle.srcp_rules.specs.Nested.{AreGrown, AreInPart, by_rank, number_in}
 use Rattle.srcp_rules.proofs.OpeningPartLaws.{fb_in_part, grown-then, grown-then_none, upto-more}
 use Rattle.srcp_rules.proofs.PartLaws.{on_ok}
 use Rattle.srcp_rules.proofs.nested.opening.add_bus.Goals as goal
@@ -15,13 +15,13 @@ returns-clause-grown c =
     let n = bus.number in
     let power = c.in_ok-power_rows.field-0.items in
     let fb = c.in_ok-fb_rows.field-0.items in
-    let s0 = c.args.parts.now.entries in
-    let s1 = c.add_fixed.new.parts.entries in
-    let s2 = c.add_devices.new.parts.entries in
-    let s3 = c.add_devices-2.new.parts.entries in
-    let s4 = c.add_fixed-2.new.parts.entries in
-    let s5 = c.add_devices-3.new.parts.entries in
-    let s6 = c.add_devices-4.new.parts.entries in
+    let s0 = by_rank c.args.parts.now.entries in
+    let s1 = by_rank c.add_fixed.new.parts.entries in
+    let s2 = by_rank c.add_devices.new.parts.entries in
+    let s3 = by_rank c.add_devices-2.new.parts.entries in
+    let s4 = by_rank c.add_fixed-2.new.parts.entries in
+    let s5 = by_rank c.add_devices-3.new.parts.entries in
+    let s6 = by_rank c.add_devices-4.new.parts.entries in
     let gl = grown-then_none _ _ power s0 s1 s2 c.in_ok-add_fixed.ensures.grown c.in_ok-add_devices.ensures.grown in
     let ga = grown-then_none _ _ power s0 s2 s3 gl c.in_ok-add_devices-2.ensures.grown in
     let both = grown-then _ _ power fb s0 s3 s4 ga c.in_ok-add_fixed-2.ensures.grown in

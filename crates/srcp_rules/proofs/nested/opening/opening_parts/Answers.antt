@@ -9,8 +9,10 @@ use Rattle.srcp_rules.specs.State.{State, opening_on}
 use Rattle.srcp_rules.proofs.FindLaws.{each-weaken}
 use Rattle.srcp_rules.proofs.OpeningLaws.{Rising, rising_buses}
 use Rattle.srcp_rules.proofs.PlaceLaws.{each_at}
-use Rattle.srcp_rules.specs.Nested.{HasGroups, number_in}
-use Rattle.srcp_rules.proofs.OpeningPartLaws.{before_rising, each_last, flat_map_last, has_part, upto-more}
+use Rattle.srcp_rules.specs.declared.nested.bus_group.BusGroup.{BusGroup}
+use Rattle.srcp_rules.specs.declared.nested.part.Part.{Part}
+use Rattle.srcp_rules.specs.Nested.{HasGroups, all_rows, by_rank, number_in}
+use Rattle.srcp_rules.proofs.OpeningPartLaws.{before_rising, each_last, flat_map_last, has_part, upto-more, upto-none}
 use Rattle.srcp_rules.proofs.nested.opening.opening_parts.Goals as goal
 
 abbrev any : Bus
@@ -30,6 +32,24 @@ add_bus-requires c =
     let bus = slice_index_or items place any in
     c.loop-bus.invariant.upto bus.number (positive bus.number (each_at IsBus items layout.each place any c.loop-bus-test.true).number.0) (before_rising items (rises items layout) place any c.loop-bus-test.true)
 
+some_room : (n : ℕ) → 0 < n → 1 ≤ 8 * n
+some_room n h = omega (arith, h)
+
+pub add_devices-requires : goal.add_devices-requires
+add_devices-requires c = upto-none 0 c.new-parts.result.entries c.new-parts.ensures.empty
+
+pub loop-bus-init : goal.loop-bus-init
+loop-bus-init c =
+    let grown = c.in_ok-add_devices.ensures.grown in
+    record {
+      each = grown.upto.each;
+      sorted = grown.upto.sorted;
+      upto = λ n positive below. upto-more 1 (8 * n) (by_rank c.add_devices.new.parts.entries) (some_room n positive) grown.upto;
+      rows = grown.rows ∙ ap (λ (es : List (BusGroup × Part)). all_rows (by_rank es) ++ []) c.new-parts.ensures.empty;
+      sessions = c.in_ok-add_devices.ensures.here;
+      groups = tt;
+    }
+
 room : (b n : ℕ) → b < n → 8 * b + 8 ≤ 8 * n
 room b n h = omega (arith, h)
 
@@ -40,7 +60,7 @@ loop-bus-preserved c =
     let bus = slice_index_or items place any in
     let more : take (place + 1) items ≡ take place items ++ bus ∷ [] = take_more items place any c.loop-bus-test.true in
     let grown = c.in_ok-add_bus.ensures.grown in
-    let after = c.add_bus.new.parts.entries in
+    let after = by_rank c.add_bus.new.parts.entries in
     record {
       each = grown.upto.each;
       sorted = grown.upto.sorted;
@@ -49,13 +69,13 @@ loop-bus-preserved c =
       sessions = grown.kept 0 c.loop-bus.invariant.sessions;
       groups = subst (AllByRecursion (λ (b : Bus). HasGroups b.number after)) (sym more)
           (all_append (λ (b : Bus). HasGroups b.number after) (take place items) (bus ∷ [])
-          (each-weaken {P = λ (b : Bus). HasGroups b.number c.loop-bus.parts.entries} (λ b has group placed. grown.kept (number_in b.number group) (has group placed)) (take place items) c.loop-bus.invariant.groups) (c.in_ok-add_bus.ensures.groups, tt));
+          (each-weaken {P = λ (b : Bus). HasGroups b.number (by_rank c.loop-bus.parts.entries)} (λ b has group placed. grown.kept (number_in b.number group) (has group placed)) (take place items) c.loop-bus.invariant.groups) (c.in_ok-add_bus.ensures.groups, tt));
     }
 
 pub returns-clause-parts : goal.returns-clause-parts
 returns-clause-parts c =
     let whole = take_all c.loop-bus.bus-index c.buses-bus-items.result.now c.loop-bus-test.false ∙ c.buses-bus-items.ensures.all in
-    let parts = c.loop-bus.parts.entries in
+    let parts = by_rank c.loop-bus.parts.entries in
     record {
       each = c.loop-bus.invariant.each;
       sorted = c.loop-bus.invariant.sorted;
