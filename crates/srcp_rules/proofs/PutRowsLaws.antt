@@ -1,5 +1,5 @@
 -- Several rows that are put one after another, and a device that is made afresh in place.
-use Rattle.std.specs.Prelude.{◌≡◌, ℕ, zero, suc, ◌+◌, ◌<◌, ◌≤◌, Bool, true, false, not, ◌||◌, cond, List, [], ◌∷◌, map, Option, Some, None}
+use Rattle.std.specs.Prelude.{◌≡◌, ℕ, zero, suc, ◌+◌, ◌<◌, ◌≤◌, Bool, true, false, not, ◌||◌, cond, List, [], ◌∷◌, map, Option, Some, None, Result, Ok, Err, OnOk, OnErr}
 use Rattle.std.proofs.Common.{refl, sym, ap, subst, ◌∙◌, true≢false, arith}
 use Rattle.std.specs.List.{AllByRecursion, list_any, range_with_len}
 use Rattle.std.specs.Ordering.{ordering_reverse}
@@ -85,6 +85,11 @@ updated_all-puts (row ∷ rows) state = updated_all-puts rows (put_row row state
 pub rising-put_rows : (rows : List Row) (state : State) → IsRising state → IsRising (put_rows rows state)
 rising-put_rows [] state h = h
 rising-put_rows (row ∷ rows) state h = rising-put_rows rows (put_row row state) (rising_put row_key row state h)
+
+-- and where they are added or not
+pub rising-added : {E : Type 0} (added before after : State) (r : Result (Unit {0}) E) → OnOk r (after ≡ put_rows added before) → OnErr r (after ≡ before) → IsRising before → IsRising after
+rising-added added before after (Ok u) e f h = subst IsRising (sym e) (rising-put_rows added before h)
+rising-added added before after (Err x) e f h = subst IsRising (sym f) h
 
 pub has_row-put_rows : (key : Key) (rows : List Row) (state : State) → has_row key state ≡ true → has_row key (put_rows rows state) ≡ true
 has_row-put_rows key [] state h = h

@@ -1,14 +1,12 @@
-ghost use Rattle.std.specs.Prelude.{◌≡◌, ◌+◌, ◌<◌, ◌≤◌, [], ◌∷◌, ◌++◌, IfOk, IfErr, OnOk, OnErr, false, map, option_copied, vec_len, vec_capacity};
-ghost use Rattle.std.specs.List.{range_with_len};
-ghost use Rattle.srcp_info.specs.declared.value.Value.TheVariants as value;
-ghost use Rattle.srcp_rules.specs.Rows.{IsAt, IsGap};
-ghost use Rattle.srcp_rules.specs.State.{IsRising, fb_device, first_row, opening, opening_on, put_row};
+ghost use Rattle.std.specs.Prelude.{◌≡◌, ◌++◌, IfOk, OnOk};
+ghost use Rattle.srcp_rules.specs.State.{IsRising, opening, opening_on};
 
-use crate::device::{fb_device, power_device};
+use crate::first_rows::{push_ports, push_power};
 use crate::layout::{Bus, Layout};
 use crate::obeyed::Memory;
 use crate::rows::Rows;
-use srcp_info::{Cursor, Device, Key, Row, Shown, Text, Value, compare};
+use crate::sorted_rows::{add_all, drop_in, row_after_in, row_in, set_in};
+use srcp_info::{Cursor, Device, Key, Row};
 use std::alloc::Global;
 use std::marker::Model;
 
@@ -43,60 +41,23 @@ impl Rows for Flat {
     }
 
     fn row(&self, key: &Key) -> Option<&Row> {
-        match place_of(&self.rows, key) {
-            Ok(place) => Some(&self.rows[place]),
-            Err(_) => None,
-        }
+        row_in(&self.rows, key)
     }
 
     fn row_after(&self, cursor: Cursor) -> Option<&Row> {
-        let place = self
-            .rows
-            .partition_point(|row| cursor.has_reached(&row.shown.key));
-        self.rows.get(place)
+        row_after_in(&self.rows, cursor)
     }
 
     fn add(&mut self, added: &[Row]) -> Result<(), Memory> {
-        self.rows.reserve(added.len())?;
-        for row in added {
-            put(&mut self.rows, *row);
-        }
-        Ok(())
+        add_all(&mut self.rows, added)
     }
 
     fn set(&mut self, row: Row) {
-        if let Ok(place) = place_of(&self.rows, &row.shown.key) {
-            self.rows[place] = row;
-        }
+        set_in(&mut self.rows, row);
     }
 
     fn drop_device(&mut self, device: Device) {
-        self.rows.retain(|row| !device.owns(&row.shown.key));
-    }
-}
-
-/// Where the key is among rows by rising key, or else where it would go.
-fn place_of(rows: &[Row], key: &Key) -> Result<usize, usize>
-    requires { IsRising rows.now }
-    ensures at { IfOk result (IsAt rows.now key.now) }
-    ensures gap { IfErr result (IsGap rows.now key.now) }
-{
-    rows.binary_search_by(|row| compare(&row.shown.key, key))
-}
-
-/// Sets the row at its key, where there is room for one more row.
-fn put(rows: &mut Vec<Row>, row: Row)
-    requires rising { IsRising rows.old.items }
-    requires room { vec_len rows.old < vec_capacity rows.old }
-    ensures rows { rows.new.items ≡ put_row row rows.old.items }
-    ensures len { vec_len rows.new ≤ vec_len rows.old + 1 }
-    ensures capacity { vec_capacity rows.old ≤ vec_capacity rows.new }
-{
-    match place_of(rows, &row.shown.key) {
-        Ok(place) => rows[place] = row,
-        Err(place) => {
-            let _ = rows.insert(place, row);
-        }
+        drop_in(&mut self.rows, device);
     }
 }
 
@@ -116,35 +77,6 @@ fn opening_rows(alloc: Global, layout: &Layout) -> Result<Vec<Row>, Memory>
 fn push_opening(rows: &mut Vec<Row>, bus: &Bus) -> Result<(), Memory>
     ensures { OnOk result (rows.new.items ≡ rows.old.items ++ opening_on 0 bus.now) }
 {
-    if bus.power {
-        let off = Value::Power {
-            on: false,
-            text: Text::new(),
-        };
-        push_first(rows, power_device(bus.number), off)?;
-    }
+    push_power(rows, bus)?;
     push_ports(rows, bus.number, bus.fb_ports)
-}
-
-/// Appends the opening rows of a bus's feedback ports.
-fn push_ports(rows: &mut Vec<Row>, bus: u8, ports: u32) -> Result<(), Memory>
-    ensures { OnOk result (rows.new.items ≡ rows.old.items ++ map (λ port. first_row 0 (fb_device bus port) (value.Fb false)) (range_with_len 1 ports)) }
-{
-    for below in 0..ports {
-        push_first(rows, fb_device(bus, below + 1), Value::Fb { on: false })?;
-    }
-    Ok(())
-}
-
-/// Appends the first row of a device that begins with the registry.
-fn push_first(rows: &mut Vec<Row>, device: Device, value: Value) -> Result<(), Memory>
-    ensures { OnOk result (rows.new.items ≡ rows.old.items ++ first_row 0 device value ∷ []) }
-{
-    let shown = Shown {
-        key: device.first_key(),
-        stamp: 0,
-        value,
-    };
-    rows.push(Row { shown, due: None })?;
-    Ok(())
 }

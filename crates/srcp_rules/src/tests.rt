@@ -1,4 +1,5 @@
 mod inits;
+mod keepers;
 mod layouts;
 mod locked;
 mod moments;

@@ -32,7 +32,7 @@ pub(super) fn bus(number: u8) -> Bus {
 }
 
 /// Appends the line of a reply.
-fn push_reply(said: &mut Vec<u8>, moment: u64, reply: &Reply) -> Result<(), Fail>
+pub(super) fn push_reply(said: &mut Vec<u8>, moment: u64, reply: &Reply) -> Result<(), Fail>
     requires { IsWellFormedReply reply.now }
 {
     let mut line = LineBuf::new();
@@ -42,7 +42,7 @@ fn push_reply(said: &mut Vec<u8>, moment: u64, reply: &Reply) -> Result<(), Fail
 }
 
 /// Appends the line of a change.
-fn push_change(said: &mut Vec<u8>, change: &Change) -> Result<(), Fail>
+pub(super) fn push_change(said: &mut Vec<u8>, change: &Change) -> Result<(), Fail>
     requires { IsWellFormed change.now }
 {
     let mut line = LineBuf::new();
@@ -52,7 +52,7 @@ fn push_change(said: &mut Vec<u8>, change: &Change) -> Result<(), Fail>
 }
 
 /// Appends the lines of changes.
-fn push_changes(said: &mut Vec<u8>, changes: &[Change]) -> Result<(), Fail>
+pub(super) fn push_changes(said: &mut Vec<u8>, changes: &[Change]) -> Result<(), Fail>
     requires { AllByRecursion IsWellFormed changes.now }
 {
     for change in changes {

@@ -1,0 +1,44 @@
+use Rattle.std.proofs.Common.{◌≡◌, sym, ap, subst, ◌∙◌}
+use Rattle.std.specs.List.{AllByRecursion}
+use Rattle.std.specs.Ordering.{nat_cmp}
+use Rattle.std.specs.BTreeMap.Range.{entries_between}
+use Rattle.std.specs.declared.ops.Bound.TheVariants.{Included, Unbounded}
+use Rattle.srcp_rules.specs.State.{IsRising, row_after}
+use Rattle.srcp_rules.specs.Nested.{AreOfDevice, device_rows, rank}
+use Rattle.srcp_rules.proofs.ListedLaws.{each-between, first_has, first_has_none}
+use Rattle.srcp_rules.proofs.DeviceLaws.{whole, row_after-devices}
+use Rattle.srcp_rules.proofs.nested.by_address.Devices.row_after.Goals as goal
+
+pub loop-device-init : goal.loop-device-init
+loop-device-init c =
+    let number = rank c.args.place in
+    let entries = c.args.self.now.by_address.entries in
+    let from = c.first_address-from.result in
+    let lent = c.into_iter-device-iterator.result in
+    let gives = c.into_iter-device-iterator.ensures.into_iter_gives in
+    let between = c.range-device-items.ensures.between tt in
+    let is : lent ≡ entries_between nat_cmp (Included from) Unbounded entries = cc in
+    record {
+      can = tt;
+      finite = tt;
+      each = subst (AllByRecursion (λ e. AreOfDevice number e.0 e.1)) (sym is) (each-between (λ e. AreOfDevice number e.0 e.1) from entries c.requires.each);
+      rest = row_after-devices number entries c.requires c.args.cursor from c.first_address-from.ensures ∙ ap (λ es. row_after c.args.cursor (device_rows es)) (sym is);
+    }
+
+pub row_after_in-requires : goal.row_after_in-requires
+row_after_in-requires c = subst IsRising (sym c.as_slice.ensures) (subst (AllByRecursion (λ e. AreOfDevice (rank c.args.place) e.0 e.1)) c.in-Some.ensures.steps c.loop-device.invariant.each).0.rising
+
+pub returns-in-Some-row_after_in : goal.returns-in-Some-row_after_in
+returns-in-Some-row_after_in c =
+    first_has whole c.args.cursor c.loop-device.device-iterator c.next.new.self (c.in-Some.field-0-0.now, c.in-Some.device.now) c.in-Some.ensures.steps c.in-Some-row_after_in.row.now
+    (c.in-Some-row_after_in.ensures ∙ ap (row_after c.args.cursor) c.as_slice.ensures)
+    ∙ sym c.loop-device.invariant.rest
+
+pub loop-device-preserved : goal.loop-device-preserved
+loop-device-preserved c = record {
+  can = tt;
+  finite = tt;
+  each = (subst (AllByRecursion (λ e. AreOfDevice (rank c.args.place) e.0 e.1)) c.in-Some.ensures.steps c.loop-device.invariant.each).1;
+  rest = c.loop-device.invariant.rest
+      ∙ first_has_none whole c.args.cursor c.loop-device.device-iterator c.next.new.self (c.in-Some.field-0-0.now, c.in-Some.device.now) c.in-Some.ensures.steps (c.in_default.ensures ∙ ap (row_after c.args.cursor) c.as_slice.ensures);
+}

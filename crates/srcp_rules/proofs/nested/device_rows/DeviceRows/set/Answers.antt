@@ -1,0 +1,25 @@
+use Rattle.std.proofs.Common.{◌<◌, length, take, slice_set, is_some, sym, ap, subst, ◌∙◌, true≢false}
+use Rattle.srcp_rules.specs.State.{State, row_at}
+use Rattle.srcp_rules.specs.Rows.{IsAt}
+use Rattle.srcp_rules.proofs.RowPlaceLaws.{set-put_row, row_at-gap}
+use Rattle.srcp_rules.proofs.PutLaws.{take-set}
+use Rattle.srcp_rules.proofs.nested.device_rows.DeviceRows.set.Goals as goal
+
+pub returns-in-Ok : goal.returns-in-Ok
+returns-in-Ok c =
+    let place = c.in-Ok.place in
+    let row = c.args.row in
+    let inside = c.self.inside in
+    let kept = c.args.self.now in
+    let at : IsAt kept row.shown.key place = subst (λ state. IsAt state row.shown.key place) c.as_slice.ensures c.in-Ok.ensures.at in
+    let within : place < length (take inside.count inside.rows) = subst (λ (state : State). place < length state) (sym c.self.view_is) at.within in
+    take-set inside.count inside.rows place row within
+    ∙ ap (λ (state : State). slice_set state place row) c.self.view_is
+    ∙ set-put_row kept c.requires.rising row place at
+
+-- the key is there, so it has a place
+pub returns-in_default : goal.returns-in_default
+returns-in_default c =
+    let key = c.args.row.shown.key in
+    let none = ap (row_at key) (sym c.as_slice.ensures) ∙ row_at-gap c.as_slice.result.now key c.in_default.field-0 c.in_default.ensures.gap in
+    absurd (true≢false (sym c.requires.there ∙ ap is_some none))

@@ -1,0 +1,58 @@
+ghost use Rattle.std.specs.Prelude.{◌≡◌, ◌≤◌, IsTrue, length, option_copied};
+ghost use Rattle.srcp_rules.specs.State.{IsRising, has_row, put_row};
+
+use crate::sorted_rows::place_of;
+use srcp_info::Row;
+use std::marker::Model;
+
+/// The rows of one device by rising port: at most 9, which stand in the value itself. Contracts see
+/// it as the list of them.
+#[derive(Drop)]
+pub(crate) struct DeviceRows {
+    rows: [Row; 9],
+    count: usize,
+}
+
+impl Model for DeviceRows {
+    ghost use Rattle.std.specs.Prelude.{◌≡◌, ◌≤◌, length, take};
+    ghost use Rattle.srcp_rules.specs.State.{State};
+
+    ghost Value = { State };
+
+    ghost view = { λ d. take d.count d.rows };
+
+    ghost invariant = { λ d. (d.count ≤ 9) × (length d.rows ≡ 9) };
+}
+
+impl DeviceRows {
+    /// These rows, of which the first is one.
+    pub(crate) fn of(first: &Row, rows: &[Row]) -> DeviceRows
+        requires { length rows.now ≤ 9 }
+        ensures { result ≡ rows.now }
+    {
+        let mut places = [*first; 9];
+        places[..rows.len()].copy_from_slice(rows);
+        DeviceRows {
+            rows: places,
+            count: rows.len(),
+        }
+    }
+
+    /// The rows.
+    pub(crate) fn as_slice(&self) -> &[Row]
+        ensures { result.now ≡ self.now }
+    {
+        &self.rows[..self.count]
+    }
+
+    /// Sets a row that is there.
+    pub(crate) fn set(&mut self, row: Row)
+        requires rising { IsRising self.old }
+        requires there { IsTrue (has_row row.shown.key self.old) }
+        ensures { self.new ≡ put_row row self.old }
+    {
+        if let Ok(place) = place_of(self.as_slice(), &row.shown.key) {
+            self.rows[place] = row;
+        }
+    }
+}

@@ -1,0 +1,84 @@
+//! Rows in one list, by rising key.
+
+ghost use Rattle.std.specs.Prelude.{◌≡◌, ◌+◌, ◌<◌, ◌≤◌, IsTrue, IfOk, IfErr, OnOk, OnErr, option_copied, vec_len, vec_capacity};
+ghost use Rattle.srcp_rules.specs.Rows.{IsAt, IsGap, put_rows};
+ghost use Rattle.srcp_rules.specs.State.{IsRising, has_row, put_row, row_after, row_at, without};
+
+use crate::obeyed::Memory;
+use srcp_info::{Cursor, Device, Key, Row, compare};
+
+/// Where the key is among rows by rising key, or else where it would go.
+pub(crate) fn place_of(rows: &[Row], key: &Key) -> Result<usize, usize>
+    requires { IsRising rows.now }
+    ensures at { IfOk result (IsAt rows.now key.now) }
+    ensures gap { IfErr result (IsGap rows.now key.now) }
+{
+    rows.binary_search_by(|row| compare(&row.shown.key, key))
+}
+
+/// The row at the key.
+pub(crate) fn row_in<'a>(rows: &'a [Row], key: &Key) -> Option<&'a Row>
+    requires { IsRising rows.now }
+    ensures { option_copied result ≡ row_at key.now rows.now }
+{
+    match place_of(rows, key) {
+        Ok(place) => Some(&rows[place]),
+        Err(_) => None,
+    }
+}
+
+/// The row with the least key beyond the cursor.
+pub(crate) fn row_after_in(rows: &[Row], cursor: Cursor) -> Option<&Row>
+    requires { IsRising rows.now }
+    ensures { option_copied result ≡ row_after cursor rows.now }
+{
+    let place = rows.partition_point(|row| cursor.has_reached(&row.shown.key));
+    rows.get(place)
+}
+
+/// Sets the row at its key, where there is room for one more row.
+fn put(rows: &mut Vec<Row>, row: Row)
+    requires rising { IsRising rows.old.items }
+    requires room { vec_len rows.old < vec_capacity rows.old }
+    ensures rows { rows.new.items ≡ put_row row rows.old.items }
+    ensures len { vec_len rows.new ≤ vec_len rows.old + 1 }
+    ensures capacity { vec_capacity rows.old ≤ vec_capacity rows.new }
+{
+    match place_of(rows, &row.shown.key) {
+        Ok(place) => rows[place] = row,
+        Err(place) => {
+            let _ = rows.insert(place, row);
+        }
+    }
+}
+
+/// Adds rows, each at its key.
+pub(crate) fn add_all(rows: &mut Vec<Row>, added: &[Row]) -> Result<(), Memory>
+    requires { IsRising rows.old.items }
+    ensures ok { OnOk result (rows.new.items ≡ put_rows added.now rows.old.items) }
+    ensures err { OnErr result (rows.new.items ≡ rows.old.items) }
+{
+    rows.reserve(added.len())?;
+    for row in added {
+        put(rows, *row);
+    }
+    Ok(())
+}
+
+/// Sets a row that is there.
+pub(crate) fn set_in(rows: &mut Vec<Row>, row: Row)
+    requires rising { IsRising rows.old.items }
+    requires there { IsTrue (has_row row.shown.key rows.old.items) }
+    ensures { rows.new.items ≡ put_row row rows.old.items }
+{
+    if let Ok(place) = place_of(rows, &row.shown.key) {
+        rows[place] = row;
+    }
+}
+
+/// Takes out the rows of a device.
+pub(crate) fn drop_in(rows: &mut Vec<Row>, device: Device)
+    ensures { rows.new.items ≡ without device rows.old.items }
+{
+    rows.retain(|row| !device.owns(&row.shown.key));
+}
