@@ -3,7 +3,7 @@
 
 use clap::error::ErrorKind;
 use srcp_core::Core;
-use srcp_rules::{Bus, Flat, Layout};
+use srcp_rules::{Bus, Layout, Nested};
 use srcp_server::{
     SocketDoor, Tool, ToolFault, check, mirror, read_config, read_layout, read_words, replay, serve,
 };
@@ -117,7 +117,7 @@ fn serve_layout<R: Files + AllocGlobal + Net + Clock>(
 ) -> Result<(), ToolFault> {
     let config = read_layout(rt.alloc(), &read_config_file(rt, path)?)?;
     let mut door = SocketDoor::listen(rt, rt.alloc(), config.port, rt)?;
-    let Ok(mut core) = Core::<Flat>::new(rt.alloc(), &config.layout, 0, 0) else {
+    let Ok(mut core) = Core::<Nested>::new(rt.alloc(), &config.layout, 0, 0) else {
         return Err(ToolFault::Memory);
     };
     serve(&mut core, &mut door, turns);

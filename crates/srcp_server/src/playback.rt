@@ -12,7 +12,7 @@ use crate::output::write_whole;
 use crate::print::print;
 use crate::script::read_script;
 use srcp_core::{Event, Record, run};
-use srcp_rules::{Flat, Layout};
+use srcp_rules::{Layout, Nested};
 use std::alloc::Global;
 use std::io::{Read, Write};
 use std::vec::Vec;
@@ -37,7 +37,7 @@ pub fn replay<R: Read, W: Write>(
         result (W.contents writer.old) (W.contents writer.new) }
 {
     let events = read_events(alloc, reader)?;
-    let told = run::<Flat>(alloc, layout, &events)?;
+    let told = run::<Nested>(alloc, layout, &events)?;
     write_run(alloc, &told, writer)
 }
 

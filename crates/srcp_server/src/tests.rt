@@ -1,6 +1,7 @@
 mod arguments;
 mod checking;
 mod document;
+mod keepers;
 mod loopback;
 mod script_door;
 mod serving;
