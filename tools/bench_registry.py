@@ -50,7 +50,7 @@ def listed(count):
 
 
 def replayed(program, room, events):
-    """The least seconds of processor that a script takes in five runs, and what is printed of it."""
+    """The least seconds of processor that a script takes in five runs, the most KiB that it holds, and what is printed of it."""
     taken = [replayed_once(program, room, events) for _ in range(5)]
     return min(taken)
 
@@ -66,7 +66,7 @@ def replayed_once(program, room, events):
     if status != 0:
         sys.exit(f"the replay ended with status {status}")
     with open(record, "rb") as file:
-        return usage.ru_utime + usage.ru_stime, file.read()
+        return usage.ru_utime + usage.ru_stime, usage.ru_maxrss, file.read()
 
 
 def main():
@@ -75,16 +75,16 @@ def main():
         with open(os.path.join(room, "layout.toml"), "wb") as file:
             file.write(CONFIG)
         for count in (1_000, 10_000, LOCOMOTIVES + ACCESSORIES):
-            driving, record = replayed(program, room, list(driven(count)))
+            driving, _, record = replayed(program, room, list(driven(count)))
             accepted = len(re.findall(rb"^\d+\.\d{3} 200 OK\n", record, re.M))
-            whole, record = replayed(program, room, list(driven(count)) + list(listed(count)))
+            whole, peak, record = replayed(program, room, list(driven(count)) + list(listed(count)))
             told = record.partition(b"\nconnection 2 ")[2].partition(b"\nrows ")[0]
             lines = len(re.findall(rb"^\d+\.\d{3} 10[01] INFO 1 ", told, re.M))
             wanted = sum(ROWS[group] + 1 for group, _ in devices(count))
             if accepted != 3 * count or lines != wanted:
                 sys.exit(f"{count} devices: {accepted} commands accepted of {3 * count}, {lines} rows listed of {wanted}")
             print(f"{count:,} devices: {3 * count:,} commands in {driving:.2f} s, {driving / count / 3 * 1e6:.1f} us each; "
-                  f"{lines:,} rows listed in {max(whole - driving, 0):.2f} s")
+                  f"{lines:,} rows listed in {max(whole - driving, 0):.2f} s; {peak} KiB at most")
 
 
 if __name__ == "__main__":

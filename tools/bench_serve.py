@@ -28,9 +28,13 @@ def processor_seconds(server):
     return (int(fields[11]) + int(fields[12])) / TICKS
 
 
-def idle(program):
+def idle(program, devices):
     with served(program) as (port, server):
         clients = [Client(port, "COMMAND") for _ in range(63)]
+        for address in range(1, devices + 1):
+            clients[0].asks(f"INIT 1 GL {address} N 1 28 0")
+        if devices:
+            clients[0].asks("SET 1 LOCK GL 1 3600")
         before, begun = processor_seconds(server), time.monotonic()
         time.sleep(IDLE_SECONDS)
         share = (processor_seconds(server) - before) / (time.monotonic() - begun)
@@ -41,7 +45,7 @@ def idle(program):
             begun = time.monotonic()
             throttle.asks("GET 1 POWER")
             took.append((time.monotonic() - begun) * 1000)
-        print(f"idle with {len(clients)} connections: {share * 100:.2f} % of a processor; a command is answered in "
+        print(f"idle with {len(clients)} connections and {devices:,} locomotives: {share * 100:.2f} % of a processor; a command is answered in "
               f"{statistics.median(took):.2f} ms (median), {max(took):.2f} ms (most)")
 
 
@@ -128,7 +132,8 @@ def write_costs():
 
 def main():
     program = str(Path(sys.argv[1]).resolve())
-    idle(program)
+    idle(program, 0)
+    idle(program, 10_000)
     switch_off(program)
     throughput(program, 1, 0)
     throughput(program, 32, 31)
