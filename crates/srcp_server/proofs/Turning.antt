@@ -67,7 +67,7 @@ turn_goes_on old mid new first second told is =
 
 -- ---- turn after turn
 
-not_now : (calls : List Call) → list_all is_of_peer calls ≡ true → list_all (λ call. not (is_now call)) calls ≡ true
+pub not_now : (calls : List Call) → list_all is_of_peer calls ≡ true → list_all (λ call. not (is_now call)) calls ≡ true
 not_now [] h = refl
 not_now (NowCall answer ∷ calls) h = cc
 not_now (AcceptCall answer ∷ calls) h = cc

@@ -1,8 +1,10 @@
 //! Serving: what a server asks of its door in each turn, and what it makes of the answers.
 
-ghost use Rattle.std.specs.Prelude.{◌≡◌, ◌<◌, ◌≤◌, ◌+◌};
+ghost use Rattle.std.specs.Prelude.{◌≡◌, ◌<◌, ◌≤◌, ◌+◌, is_none, position};
+ghost use Rattle.srcp_server.specs.Places.{LetsIn, MakesTurn, SeatsPeer, ServesCourse, TakesMoment, VisitsPlace, VisitsPlaces};
 ghost use Rattle.srcp_server.specs.Tally.{CountsFaults};
 ghost use Rattle.srcp_server.specs.Turns.{AsksMoment, AsksNewcomer, AsksPeers, AsksTurn, AsksTurns};
+ghost use Rattle.srcp_server.specs.Visits.{Keeps};
 
 mod tally;
 mod visit;
@@ -11,7 +13,7 @@ use crate::door::{Door, Served};
 use srcp_core::Core;
 use srcp_rules::Rows;
 use tally::Tally;
-use visit::{Seat, close, visit};
+use visit::{Seat, close, let_go, visit};
 
 /// How many peers may have a place at once.
 const PLACES: usize = 64;
@@ -24,6 +26,7 @@ pub fn serve<R: Rows, D: Door>(core: &mut Core<'_, R>, door: &mut D, turns: u64)
     ensures turns { result.turns ≡ turns }
     ensures faults { D.faults door.new < 18446744073709551615 → D.faults door.old + result.faults ≡ D.faults door.new }
     ensures told { AsksTurns turns (D.told door.old) (D.told door.new) }
+    ensures course { ServesCourse turns core.old (D.told door.old) core.new (D.told door.new) }
 {
     let mut places = [None; PLACES];
     let mut tally = Tally::new();
@@ -46,9 +49,27 @@ fn turn<R: Rows, D: Door>(
     requires { tally.old.faults ≤ D.faults door.old }
     ensures faults { CountsFaults tally.old.faults (D.faults door.old) tally.new.faults (D.faults door.new) }
     ensures told { AsksTurn (D.told door.old) (D.told door.new) }
+    ensures keeps { Keeps core.old (D.told door.old) core.new (D.told door.new) }
+    ensures course { MakesTurn core.old (D.told door.old) places.old core.new (D.told door.new) places.new }
 {
     take_moment(core, door, tally);
     let_in(core, door, places, tally);
+    visit_places(core, door, places, tally);
+}
+
+/// Visits the peers that have places, in the order of the places.
+fn visit_places<R: Rows, D: Door>(
+    core: &mut Core<'_, R>,
+    door: &mut D,
+    places: &mut [Option<Seat>; PLACES],
+    tally: &mut Tally,
+)
+    requires { tally.old.faults ≤ D.faults door.old }
+    ensures faults { CountsFaults tally.old.faults (D.faults door.old) tally.new.faults (D.faults door.new) }
+    ensures told { AsksPeers (D.told door.old) (D.told door.new) }
+    ensures keeps { Keeps core.old (D.told door.old) core.new (D.told door.new) }
+    ensures course { VisitsPlaces core.old (D.told door.old) places.old core.new (D.told door.new) places.new }
+{
     for place in 0..PLACES {
         visit_place(core, door, places, place, tally);
     }
@@ -66,6 +87,8 @@ fn visit_place<R: Rows, D: Door>(
     requires within { place < 64 }
     ensures faults { CountsFaults tally.old.faults (D.faults door.old) tally.new.faults (D.faults door.new) }
     ensures told { AsksPeers (D.told door.old) (D.told door.new) }
+    ensures keeps { Keeps core.old (D.told door.old) core.new (D.told door.new) }
+    ensures course { VisitsPlace place core.old (D.told door.old) places.old core.new (D.told door.new) places.new }
 {
     let Some(seat) = places[place] else {
         return;
@@ -80,6 +103,8 @@ fn take_moment<R: Rows, D: Door>(core: &mut Core<'_, R>, door: &mut D, tally: &m
     requires { tally.old.faults ≤ D.faults door.old }
     ensures faults { CountsFaults tally.old.faults (D.faults door.old) tally.new.faults (D.faults door.new) }
     ensures told { AsksMoment (D.told door.old) (D.told door.new) }
+    ensures keeps { Keeps core.old (D.told door.old) core.new (D.told door.new) }
+    ensures course { TakesMoment core.old (D.told door.old) core.new (D.told door.new) }
 {
     match door.now() {
         Ok(moment) => core.advance(moment),
@@ -97,6 +122,8 @@ fn let_in<R: Rows, D: Door>(
     requires { tally.old.faults ≤ D.faults door.old }
     ensures faults { CountsFaults tally.old.faults (D.faults door.old) tally.new.faults (D.faults door.new) }
     ensures told { AsksNewcomer (D.told door.old) (D.told door.new) }
+    ensures keeps { Keeps core.old (D.told door.old) core.new (D.told door.new) }
+    ensures course { LetsIn core.old (D.told door.old) places.old core.new (D.told door.new) places.new }
 {
     match door.accept() {
         Ok(None) => (),
@@ -105,6 +132,7 @@ fn let_in<R: Rows, D: Door>(
     }
 }
 
+/// Seats a peer in the first free place; it is let go where the core refuses it.
 fn seat<R: Rows, D: Door>(
     core: &mut Core<'_, R>,
     door: &mut D,
@@ -115,13 +143,23 @@ fn seat<R: Rows, D: Door>(
     requires { tally.old.faults ≤ D.faults door.old }
     ensures faults { CountsFaults tally.old.faults (D.faults door.old) tally.new.faults (D.faults door.new) }
     ensures told { AsksPeers (D.told door.old) (D.told door.new) }
+    ensures keeps { Keeps core.old (D.told door.old) core.new (D.told door.new) }
+    ensures course { SeatsPeer peer core.old (D.told door.old) places.old core.new (D.told door.new) places.new }
 {
-    let Some(free) = places.iter().position(|place| place.is_none()) else {
-        return close(door, peer, tally);
-    };
     let Ok(key) = core.connect() else {
         return close(door, peer, tally);
     };
+    let seat = Seat { peer, key };
+    // A core that lets one in has fewer connections than there are places.
+    let Some(free) = first_free(places) else {
+        return let_go(core, door, &seat, tally);
+    };
     tally.open();
-    places[free] = Some(Seat { peer, key });
+    places[free] = Some(seat);
+}
+
+fn first_free(places: &[Option<Seat>; PLACES]) -> Option<usize>
+    ensures { result ≡ position is_none places.now }
+{
+    places.iter().position(|place| place.is_none())
 }

@@ -79,7 +79,12 @@ fn exchange<R: Rows, D: Door>(
 }
 
 /// Shuts the connection of a peer and lets the peer go.
-fn let_go<R: Rows, D: Door>(core: &mut Core<'_, R>, door: &mut D, seat: &Seat, tally: &mut Tally)
+pub(super) fn let_go<R: Rows, D: Door>(
+    core: &mut Core<'_, R>,
+    door: &mut D,
+    seat: &Seat,
+    tally: &mut Tally,
+)
     requires { tally.old.faults ≤ D.faults door.old }
     ensures faults { CountsFaults tally.old.faults (D.faults door.old) tally.new.faults (D.faults door.new) }
     ensures asks { AsksPeers (D.told door.old) (D.told door.new) }
