@@ -7,3 +7,4 @@ mod pairs;
 mod ports;
 mod refusals;
 mod served;
+mod told;

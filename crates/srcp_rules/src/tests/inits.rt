@@ -6,8 +6,8 @@ use std::test::Fail;
 #[test]
 fn a_locomotive_is_made_again(rt: HostRuntime) -> Result<(), Fail> {
     let mut served = Served::open(rt.alloc(), &[bus(1)])?;
-    served.begin(1)?;
-    served.begin(2)?;
+    served.begin(rt.alloc(), 1)?;
+    served.begin(rt.alloc(), 2)?;
     served.says(
         &rt,
         rt.alloc(),
@@ -57,8 +57,8 @@ fn a_locomotive_is_made_again(rt: HostRuntime) -> Result<(), Fail> {
 #[test]
 fn an_accessory_is_made_again(rt: HostRuntime) -> Result<(), Fail> {
     let mut served = Served::open(rt.alloc(), &[bus(1)])?;
-    served.begin(1)?;
-    served.begin(2)?;
+    served.begin(rt.alloc(), 1)?;
+    served.begin(rt.alloc(), 2)?;
     served.says(
         &rt,
         rt.alloc(),

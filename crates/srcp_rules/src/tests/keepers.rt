@@ -1,156 +1,30 @@
-//! Keepers of rows, one against another.
+//! One keeper of rows against the other.
 
-ghost use Rattle.std.specs.Prelude.{◌≡◌};
-ghost use Rattle.srcp_rules.specs.Layout.{IsLayout};
-ghost use Rattle.srcp_rules.specs.State.{IsWhole};
-
-use super::served::{push_change, push_changes, push_reply};
-use crate::device::session_device;
-use crate::registry::is_there;
-use crate::{
-    Bus, Flat, Layout, Nested, Rows, begin_session, due_next, free_next, obey, parse_command,
-};
-use srcp_info::{Cursor, Mode, Reply, Row};
+use super::served::Served;
+use crate::Bus;
 use std::alloc::Global;
 use std::process::Abort;
 use std::test::Fail;
 
-/// Appends all rows, walked from the start to the end.
-fn push_rows<R: Rows>(walked: &mut Vec<Row>, rows: &R) -> Result<(), Fail> {
-    let mut cursor = Cursor::Start;
-    for _ in 0..1000 {
-        let Some(row) = rows.row_after(cursor) else {
-            break;
-        };
-        walked.extend_from_slice(&[*row])?;
-        cursor = Cursor::After(row.shown.key);
-    }
-    match rows.row_after(Cursor::Done) {
-        Some(_) => Err(Fail::from("a row after the end")),
-        None => Ok(()),
-    }
-}
-
-/// Appends the changes that a moment brings.
-fn push_due<R: Rows>(said: &mut Vec<u8>, rows: &mut R, moment: u64) -> Result<(), Fail>
-    requires laid_out { IsLayout (R.buses rows.old) }
-    requires whole { IsWhole (R.buses rows.old) (R.state rows.old) }
-    ensures layout { R.buses rows.new ≡ R.buses rows.old }
-    ensures whole { IsWhole (R.buses rows.new) (R.state rows.new) }
-{
-    let mut cursor = Cursor::Start;
-    for _ in 0..100 {
-        let Some(change) = due_next(rows, moment, cursor) else {
-            break;
-        };
-        push_change(said, &change)?;
-        cursor = Cursor::After(change.key());
-    }
-    Ok(())
-}
-
-/// Appends the changes that the end of a session brings.
-fn push_end<R: Rows>(
-    said: &mut Vec<u8>,
-    rows: &mut R,
-    session: u32,
-    moment: u64,
-) -> Result<(), Fail>
-    requires laid_out { IsLayout (R.buses rows.old) }
-    requires whole { IsWhole (R.buses rows.old) (R.state rows.old) }
-    ensures layout { R.buses rows.new ≡ R.buses rows.old }
-    ensures whole { IsWhole (R.buses rows.new) (R.state rows.new) }
-{
-    for _ in 0..100 {
-        let Some(change) = free_next(rows, session, moment) else {
-            break;
-        };
-        push_change(said, &change)?;
-    }
-    Ok(())
-}
-
-/// Appends what a session's line is told, after what the moment brings.
-fn push_line<R: Rows>(
-    said: &mut Vec<u8>,
-    layout: &Layout,
-    rows: &mut R,
-    line: &(u32, u64, &str),
-) -> Result<(), Fail>
-    requires same { R.buses rows.old ≡ layout.now }
-    requires laid_out { IsLayout (R.buses rows.old) }
-    requires whole { IsWhole (R.buses rows.old) (R.state rows.old) }
-    ensures layout { R.buses rows.new ≡ R.buses rows.old }
-    ensures whole { IsWhole (R.buses rows.new) (R.state rows.new) }
-{
-    let (session, moment, text) = *line;
-    push_due(said, rows, moment)?;
-    let begun = is_there(rows, session_device(session));
-    if text == "go" {
-        if begun || session == 0 {
-            return Err(Fail::from("a session that is there"));
-        }
-        match begin_session(rows, session, moment, Mode::Command) {
-            Ok(change) => push_change(said, &change)?,
-            Err(_) => return Err(Fail::from("no memory")),
-        }
-        return Ok(());
-    }
-    if text == "end" {
-        return push_end(said, rows, session, moment);
-    }
-    if !begun {
-        return Err(Fail::from("no such session"));
-    }
-    match parse_command(text.as_bytes(), layout) {
-        Ok(command) => {
-            let obeyed = obey(rows, session, moment, &command);
-            push_reply(said, moment, &obeyed.reply)?;
-            push_changes(said, obeyed.changes.as_slice())
-        }
-        Err(code) => push_reply(said, moment, &Reply::Refused(code)),
-    }
-}
-
-/// What lines were told, and all rows as they were before the first and after each.
-#[derive(Drop)]
-struct Heard {
-    said: Vec<u8>,
-    walked: Vec<Row>,
-}
-
-fn told<R: Rows>(alloc: Global, buses: &[Bus], lines: &[(u32, u64, &str)]) -> Result<Heard, Fail> {
-    let mut layout = Layout::new(alloc);
-    for bus in buses {
-        layout.add(*bus)?;
-    }
-    if layout.buses().len() != buses.len() {
-        return Err(Fail::from("a bus that was not taken"));
-    }
-    let mut rows = R::empty(alloc, &layout)?;
-    let mut said = Vec::new(alloc);
-    let mut walked = Vec::new(alloc);
-    push_rows(&mut walked, &rows)?;
-    for line in lines {
-        push_line(&mut said, &layout, &mut rows, line)?;
-        push_rows(&mut walked, &rows)?;
-    }
-    Ok(Heard { said, walked })
-}
-
-/// A keeper of each kind tells the same, and walks at least so many rows.
-fn tell_the_same(
+/// The keepers tell the same at each line, and before the first and after each of them they have the
+/// same rows, at least so many in all.
+fn keep_the_same(
     rt: &impl Abort,
     alloc: Global,
     buses: &[Bus],
     lines: &[(u32, u64, &str)],
     least: usize,
 ) -> Result<(), Fail> {
-    let flat = told::<Flat>(alloc, buses, lines)?;
-    let nested = told::<Nested>(alloc, buses, lines)?;
-    assert_eq!(rt; nested.said.as_slice(), flat.said.as_slice());
-    assert_eq!(rt; nested.walked.as_slice(), flat.walked.as_slice());
-    assert!(rt; nested.walked.len() >= least);
+    let mut served = Served::open(alloc, buses)?;
+    let mut flat = Vec::new(alloc);
+    let mut nested = Vec::new(alloc);
+    served.walk(&mut flat, &mut nested)?;
+    for line in lines {
+        served.take(alloc, line)?;
+        served.walk(&mut flat, &mut nested)?;
+    }
+    assert_eq!(rt; nested.as_slice(), flat.as_slice());
+    assert!(rt; nested.len() >= least);
     Ok(())
 }
 
@@ -207,7 +81,7 @@ fn small_buses_are_walked_alike(rt: HostRuntime) -> Result<(), Fail> {
         (5, 1005, "GET 1 LOCK GL 10"),
         (5, 1006, "end"),
     ];
-    tell_the_same(
+    keep_the_same(
         &rt,
         rt.alloc(),
         &[LOCOMOTIVES_ALONE, NO_GROUP, POWER_AND_A_PORT],
@@ -246,7 +120,7 @@ fn all_groups_are_walked_alike(rt: HostRuntime) -> Result<(), Fail> {
         (5, 5502, "GET 7 GL 10239"),
         (5, 5503, "end"),
     ];
-    tell_the_same(
+    keep_the_same(
         &rt,
         rt.alloc(),
         &[LOCOMOTIVES_ALONE, NO_GROUP, POWER_AND_A_PORT, EVERYTHING],

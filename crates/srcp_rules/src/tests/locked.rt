@@ -7,7 +7,7 @@ use std::test::Fail;
 #[test]
 fn the_values_before_an_absent_device(rt: HostRuntime) -> Result<(), Fail> {
     let mut served = Served::open(rt.alloc(), &[bus(1)])?;
-    served.begin(1)?;
+    served.begin(rt.alloc(), 1)?;
     served.refuses(
         &rt,
         rt.alloc(),
@@ -26,7 +26,7 @@ fn the_values_before_an_absent_device(rt: HostRuntime) -> Result<(), Fail> {
 #[test]
 fn an_absent_device_before_the_rest(rt: HostRuntime) -> Result<(), Fail> {
     let mut served = Served::open(rt.alloc(), &[bus(1)])?;
-    served.begin(1)?;
+    served.begin(rt.alloc(), 1)?;
     served.says(
         &rt,
         rt.alloc(),
@@ -68,8 +68,8 @@ fn an_absent_device_before_the_rest(rt: HostRuntime) -> Result<(), Fail> {
 #[test]
 fn the_number_of_functions_before_the_lock(rt: HostRuntime) -> Result<(), Fail> {
     let mut served = Served::open(rt.alloc(), &[bus(1)])?;
-    served.begin(1)?;
-    served.begin(2)?;
+    served.begin(rt.alloc(), 1)?;
+    served.begin(rt.alloc(), 2)?;
     served.says(
         &rt,
         rt.alloc(),
@@ -119,8 +119,8 @@ fn the_number_of_functions_before_the_lock(rt: HostRuntime) -> Result<(), Fail> 
 #[test]
 fn the_lock_of_an_accessory(rt: HostRuntime) -> Result<(), Fail> {
     let mut served = Served::open(rt.alloc(), &[bus(1)])?;
-    served.begin(1)?;
-    served.begin(2)?;
+    served.begin(rt.alloc(), 1)?;
+    served.begin(rt.alloc(), 2)?;
     served.says(
         &rt,
         rt.alloc(),
@@ -170,8 +170,8 @@ fn the_lock_of_an_accessory(rt: HostRuntime) -> Result<(), Fail> {
 #[test]
 fn sessions_end_themselves_alone(rt: HostRuntime) -> Result<(), Fail> {
     let mut served = Served::open(rt.alloc(), &[bus(1)])?;
-    served.begin(1)?;
-    served.begin(2)?;
+    served.begin(rt.alloc(), 1)?;
+    served.begin(rt.alloc(), 2)?;
     served.refuses(
         &rt,
         rt.alloc(),

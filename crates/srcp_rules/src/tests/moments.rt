@@ -6,7 +6,7 @@ use std::test::Fail;
 #[test]
 fn a_port_goes_back_at_its_moment(rt: HostRuntime) -> Result<(), Fail> {
     let mut served = Served::open(rt.alloc(), &[bus(1)])?;
-    served.begin(1)?;
+    served.begin(rt.alloc(), 1)?;
     served.says(
         &rt,
         rt.alloc(),
@@ -34,7 +34,7 @@ fn a_port_goes_back_at_its_moment(rt: HostRuntime) -> Result<(), Fail> {
 #[test]
 fn a_later_set_of_a_port_cancels_its_end(rt: HostRuntime) -> Result<(), Fail> {
     let mut served = Served::open(rt.alloc(), &[bus(1)])?;
-    served.begin(1)?;
+    served.begin(rt.alloc(), 1)?;
     served.says(
         &rt,
         rt.alloc(),
@@ -83,7 +83,7 @@ fn a_later_set_of_a_port_cancels_its_end(rt: HostRuntime) -> Result<(), Fail> {
 #[test]
 fn a_lock_ends_at_its_moment(rt: HostRuntime) -> Result<(), Fail> {
     let mut served = Served::open(rt.alloc(), &[bus(1)])?;
-    served.begin(1)?;
+    served.begin(rt.alloc(), 1)?;
     served.says(
         &rt,
         rt.alloc(),
@@ -115,7 +115,7 @@ fn a_lock_ends_at_its_moment(rt: HostRuntime) -> Result<(), Fail> {
 #[test]
 fn a_lock_that_is_set_again_ends_later(rt: HostRuntime) -> Result<(), Fail> {
     let mut served = Served::open(rt.alloc(), &[bus(1)])?;
-    served.begin(1)?;
+    served.begin(rt.alloc(), 1)?;
     served.says(
         &rt,
         rt.alloc(),
@@ -168,7 +168,7 @@ fn a_lock_that_is_set_again_ends_later(rt: HostRuntime) -> Result<(), Fail> {
 #[test]
 fn a_moment_brings_its_changes_in_key_order(rt: HostRuntime) -> Result<(), Fail> {
     let mut served = Served::open(rt.alloc(), &[bus(1)])?;
-    served.begin(1)?;
+    served.begin(rt.alloc(), 1)?;
     served.says(
         &rt,
         rt.alloc(),
@@ -223,7 +223,7 @@ fn a_moment_brings_its_changes_in_key_order(rt: HostRuntime) -> Result<(), Fail>
 #[test]
 fn no_end_lies_beyond_the_greatest_moment(rt: HostRuntime) -> Result<(), Fail> {
     let mut served = Served::open(rt.alloc(), &[bus(1)])?;
-    served.begin(1)?;
+    served.begin(rt.alloc(), 1)?;
     served.says(
         &rt,
         rt.alloc(),
@@ -273,8 +273,8 @@ fn no_end_lies_beyond_the_greatest_moment(rt: HostRuntime) -> Result<(), Fail> {
 #[test]
 fn the_end_of_a_session_frees_its_locks(rt: HostRuntime) -> Result<(), Fail> {
     let mut served = Served::open(rt.alloc(), &[bus(1)])?;
-    served.begin(1)?;
-    served.begin(2)?;
+    served.begin(rt.alloc(), 1)?;
+    served.begin(rt.alloc(), 2)?;
     served.says(
         &rt,
         rt.alloc(),

@@ -6,7 +6,7 @@ use std::test::Fail;
 #[test]
 fn sessions_power_and_feedback(rt: HostRuntime) -> Result<(), Fail> {
     let mut served = Served::open(rt.alloc(), &[bus(1)])?;
-    served.begin(1)?;
+    served.begin(rt.alloc(), 1)?;
     served.says(
         &rt,
         rt.alloc(),
@@ -55,7 +55,7 @@ fn sessions_power_and_feedback(rt: HostRuntime) -> Result<(), Fail> {
 #[test]
 fn locomotives(rt: HostRuntime) -> Result<(), Fail> {
     let mut served = Served::open(rt.alloc(), &[bus(1)])?;
-    served.begin(1)?;
+    served.begin(rt.alloc(), 1)?;
     served.says(
         &rt,
         rt.alloc(),
@@ -111,7 +111,7 @@ fn locomotives(rt: HostRuntime) -> Result<(), Fail> {
 #[test]
 fn accessories(rt: HostRuntime) -> Result<(), Fail> {
     let mut served = Served::open(rt.alloc(), &[bus(1)])?;
-    served.begin(1)?;
+    served.begin(rt.alloc(), 1)?;
     served.says(
         &rt,
         rt.alloc(),
@@ -145,7 +145,7 @@ fn accessories(rt: HostRuntime) -> Result<(), Fail> {
 #[test]
 fn locks(rt: HostRuntime) -> Result<(), Fail> {
     let mut served = Served::open(rt.alloc(), &[bus(1)])?;
-    served.begin(1)?;
+    served.begin(rt.alloc(), 1)?;
     served.says(
         &rt,
         rt.alloc(),

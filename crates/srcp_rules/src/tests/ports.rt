@@ -17,7 +17,7 @@ fn an_accessory_has_the_ports_of_its_bus(rt: HostRuntime) -> Result<(), Fail> {
         rt.alloc(),
         &[bus_of_ports(1, 2), bus_of_ports(2, 4), bus_of_ports(3, 8)],
     )?;
-    served.begin(1)?;
+    served.begin(rt.alloc(), 1)?;
     served.says(
         &rt,
         rt.alloc(),

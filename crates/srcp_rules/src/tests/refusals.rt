@@ -28,7 +28,7 @@ fn feedback(number: u8) -> Bus {
 #[test]
 fn the_operation_before_the_bus(rt: HostRuntime) -> Result<(), Fail> {
     let mut served = Served::open(rt.alloc(), &[bus(1)])?;
-    served.begin(1)?;
+    served.begin(rt.alloc(), 1)?;
     served.refuses(
         &rt,
         rt.alloc(),
@@ -45,7 +45,7 @@ fn the_operation_before_the_bus(rt: HostRuntime) -> Result<(), Fail> {
 #[test]
 fn the_bus_before_the_group(rt: HostRuntime) -> Result<(), Fail> {
     let mut served = Served::open(rt.alloc(), &[bus(1)])?;
-    served.begin(1)?;
+    served.begin(rt.alloc(), 1)?;
     served.refuses(
         &rt,
         rt.alloc(),
@@ -65,7 +65,7 @@ fn the_bus_before_the_group(rt: HostRuntime) -> Result<(), Fail> {
 #[test]
 fn the_group_before_the_operation(rt: HostRuntime) -> Result<(), Fail> {
     let mut served = Served::open(rt.alloc(), &[bus(1), accessories(2), feedback(4)])?;
-    served.begin(1)?;
+    served.begin(rt.alloc(), 1)?;
     served.refuses(
         &rt,
         rt.alloc(),
@@ -87,7 +87,7 @@ fn the_group_before_the_operation(rt: HostRuntime) -> Result<(), Fail> {
 #[test]
 fn the_operation_before_the_count(rt: HostRuntime) -> Result<(), Fail> {
     let mut served = Served::open(rt.alloc(), &[bus(1)])?;
-    served.begin(1)?;
+    served.begin(rt.alloc(), 1)?;
     served.refuses(
         &rt,
         rt.alloc(),
@@ -109,7 +109,7 @@ fn the_operation_before_the_count(rt: HostRuntime) -> Result<(), Fail> {
 #[test]
 fn the_count_before_the_values(rt: HostRuntime) -> Result<(), Fail> {
     let mut served = Served::open(rt.alloc(), &[bus(1)])?;
-    served.begin(1)?;
+    served.begin(rt.alloc(), 1)?;
     served.refuses(
         &rt,
         rt.alloc(),
@@ -142,7 +142,7 @@ fn the_count_before_the_values(rt: HostRuntime) -> Result<(), Fail> {
 #[test]
 fn the_values_of_a_locomotive_from_left_to_right(rt: HostRuntime) -> Result<(), Fail> {
     let mut served = Served::open(rt.alloc(), &[bus(1)])?;
-    served.begin(1)?;
+    served.begin(rt.alloc(), 1)?;
     served.refuses(
         &rt,
         rt.alloc(),
@@ -168,7 +168,7 @@ fn the_values_of_a_locomotive_from_left_to_right(rt: HostRuntime) -> Result<(), 
 #[test]
 fn the_other_values_from_left_to_right(rt: HostRuntime) -> Result<(), Fail> {
     let mut served = Served::open(rt.alloc(), &[bus(1), accessories(2)])?;
-    served.begin(1)?;
+    served.begin(rt.alloc(), 1)?;
     served.refuses(
         &rt,
         rt.alloc(),

@@ -1,19 +1,8 @@
-//! A registry for tests, and what it says to its sessions.
+//! A registry for tests, kept by both kinds of keepers, and what it says to its sessions.
 
-ghost use Rattle.std.specs.Prelude.{◌≡◌, IfSome, IsTrue};
-ghost use Rattle.std.specs.List.{AllByRecursion};
-ghost use Rattle.srcp_info.specs.WellFormed.{IsWellFormed, IsWellFormedReply};
-ghost use Rattle.srcp_rules.specs.Command.{IsCommandOf};
-ghost use Rattle.srcp_rules.specs.State.{is_there, session_device};
-
-use crate::device::session_device;
-use crate::registry::is_there;
-use crate::{
-    Bus, Command, Flat, Layout, Obeyed, Rows, begin_session, due_next, free_next, obey,
-    parse_command,
-};
-use srcp_info::{Change, Code, Cursor, Mode, Reply, write_change, write_reply};
-use srcp_text::LineBuf;
+use super::told::{push_begun, push_due, push_end, push_line, push_reply, push_rows};
+use crate::{Bus, Flat, Layout, Nested, Rows};
+use srcp_info::{Code, Reply, Row};
 use std::alloc::Global;
 use std::marker::Model;
 use std::process::Abort;
@@ -31,41 +20,21 @@ pub(super) fn bus(number: u8) -> Bus {
     }
 }
 
-/// Appends the line of a reply.
-pub(super) fn push_reply(said: &mut Vec<u8>, moment: u64, reply: &Reply) -> Result<(), Fail>
-    requires { IsWellFormedReply reply.now }
-{
-    let mut line = LineBuf::new();
-    write_reply(moment, reply, &mut line);
-    said.extend_from_slice(line.as_slice())?;
-    Ok(())
-}
-
-/// Appends the line of a change.
-pub(super) fn push_change(said: &mut Vec<u8>, change: &Change) -> Result<(), Fail>
-    requires { IsWellFormed change.now }
-{
-    let mut line = LineBuf::new();
-    write_change(change, &mut line);
-    said.extend_from_slice(line.as_slice())?;
-    Ok(())
-}
-
-/// Appends the lines of changes.
-pub(super) fn push_changes(said: &mut Vec<u8>, changes: &[Change]) -> Result<(), Fail>
-    requires { AllByRecursion IsWellFormed changes.now }
-{
-    for change in changes {
-        push_change(said, change)?;
+/// What both keepers said.
+fn agreed(said: Vec<u8>, other: &[u8]) -> Result<Vec<u8>, Fail> {
+    if said.as_slice() == other {
+        Ok(said)
+    } else {
+        Err(Fail::from("one keeper tells another thing than the other"))
     }
-    Ok(())
 }
 
-/// A registry of a layout.
+/// A registry of a layout, kept twice.
 #[derive(Drop)]
 pub(super) struct Served {
     layout: Layout,
-    rows: Flat,
+    flat: Flat,
+    nested: Nested,
 }
 
 impl Model for Served {
@@ -77,9 +46,9 @@ impl Model for Served {
     ghost use Rattle.srcp_rules.specs.Layout.{IsLayout};
     ghost use Rattle.srcp_rules.specs.State.{IsWhole};
 
-    ghost view = { λ s. s.rows };
+    ghost view = { λ s. s.flat };
 
-    ghost invariant = { λ s. IsLayout s.layout × (s.rows.buses ≡ s.layout) × IsWhole s.rows.buses s.rows.state };
+    ghost invariant = { λ s. IsLayout s.layout × ((s.flat.buses ≡ s.layout) × IsWhole s.flat.buses s.flat.state) × ((s.nested.buses ≡ s.layout) × IsWhole s.nested.buses s.nested.state) };
 }
 
 impl Served {
@@ -89,35 +58,27 @@ impl Served {
         for bus in buses {
             layout.add(*bus)?;
         }
-        let rows = Flat::empty(alloc, &layout)?;
-        Ok(Served { layout, rows })
-    }
-
-    /// Whether the session has begun.
-    fn has_session(&self, session: u32) -> bool
-        ensures { result ≡ is_there (session_device session) self.now.state }
-    {
-        is_there(&self.rows, session_device(session))
+        let flat = Flat::empty(alloc, &layout)?;
+        let nested = Nested::empty(alloc, &layout)?;
+        Ok(Served {
+            layout,
+            flat,
+            nested,
+        })
     }
 
     /// Begins a command session at the moment 0.
-    pub(super) fn begin(&mut self, session: u32) -> Result<(), Fail> {
-        if session == 0 || self.has_session(session) {
-            return Err(Fail::from("a session that is there"));
-        }
-        match begin_session(&mut self.rows, session, 0, Mode::Command) {
-            Ok(_) => Ok(()),
-            Err(_) => Err(Fail::from("no memory")),
-        }
+    pub(super) fn begin(&mut self, alloc: Global, session: u32) -> Result<(), Fail> {
+        self.begin_at(alloc, session, 0)
     }
 
-    fn obey(&mut self, session: u32, moment: u64, command: &Command) -> Obeyed
-        requires begun { IsTrue (is_there (session_device session) self.old.state) }
-        requires command { IsCommandOf self.old.buses command.now }
-        ensures reply { IsWellFormedReply result.reply }
-        ensures changes { AllByRecursion IsWellFormed result.changes.items }
-    {
-        obey(&mut self.rows, session, moment, command)
+    fn begin_at(&mut self, alloc: Global, session: u32, moment: u64) -> Result<(), Fail> {
+        let mut said = Vec::new(alloc);
+        push_begun(&mut said, &mut self.flat, session, moment)?;
+        let mut other = Vec::new(alloc);
+        push_begun(&mut other, &mut self.nested, session, moment)?;
+        let _ = agreed(said, &other)?;
+        Ok(())
     }
 
     /// The reply to a session's line and the changes that it makes, each as its line, and a last
@@ -130,23 +91,24 @@ impl Served {
         line: &[u8],
     ) -> Result<Vec<u8>, Fail> {
         let mut said = Vec::new(alloc);
-        let command = match parse_command(line, &self.layout) {
-            Ok(command) => command,
-            Err(code) => {
-                push_reply(&mut said, moment, &Reply::Refused(code))?;
-                return Ok(said);
-            }
-        };
-        if !self.has_session(session) {
-            return Err(Fail::from("no such session"));
-        }
-        let obeyed = self.obey(session, moment, &command);
-        push_reply(&mut said, moment, &obeyed.reply)?;
-        push_changes(&mut said, obeyed.changes.as_slice())?;
-        if obeyed.ends {
-            said.extend_from_slice(b"the session ends\n")?;
-        }
-        Ok(said)
+        push_line(
+            &mut said,
+            &self.layout,
+            &mut self.flat,
+            session,
+            moment,
+            line,
+        )?;
+        let mut other = Vec::new(alloc);
+        push_line(
+            &mut other,
+            &self.layout,
+            &mut self.nested,
+            session,
+            moment,
+            line,
+        )?;
+        agreed(said, &other)
     }
 
     /// Each line of a session at its moment, one after another, is answered and told so.
@@ -180,24 +142,13 @@ impl Served {
         Ok(())
     }
 
-    fn due(&mut self, moment: u64, cursor: Cursor) -> Option<Change>
-        ensures { IfSome result IsWellFormed }
-    {
-        due_next(&mut self.rows, moment, cursor)
-    }
-
     /// The changes that the moment brings, each as its line.
     fn at(&mut self, alloc: Global, moment: u64) -> Result<Vec<u8>, Fail> {
         let mut said = Vec::new(alloc);
-        let mut cursor = Cursor::Start;
-        for _ in 0..20 {
-            let Some(change) = self.due(moment, cursor) else {
-                return Ok(said);
-            };
-            push_change(&mut said, &change)?;
-            cursor = Cursor::After(change.key());
-        }
-        Err(Fail::from("more than 20 changes"))
+        push_due(&mut said, &mut self.flat, moment)?;
+        let mut other = Vec::new(alloc);
+        push_due(&mut other, &mut self.nested, moment)?;
+        agreed(said, &other)
     }
 
     /// The moment brings these changes.
@@ -213,12 +164,6 @@ impl Served {
         Ok(())
     }
 
-    fn free(&mut self, session: u32, moment: u64) -> Option<Change>
-        ensures { IfSome result IsWellFormed }
-    {
-        free_next(&mut self.rows, session, moment)
-    }
-
     /// The changes that the end of a session brings, each as its line.
     pub(super) fn end(
         &mut self,
@@ -227,12 +172,31 @@ impl Served {
         moment: u64,
     ) -> Result<Vec<u8>, Fail> {
         let mut said = Vec::new(alloc);
-        for _ in 0..20 {
-            let Some(change) = self.free(session, moment) else {
-                return Ok(said);
-            };
-            push_change(&mut said, &change)?;
+        push_end(&mut said, &mut self.flat, session, moment)?;
+        let mut other = Vec::new(alloc);
+        push_end(&mut other, &mut self.nested, session, moment)?;
+        agreed(said, &other)
+    }
+
+    /// What the moment of a line brings and then the line itself, where `go` begins its session and
+    /// `end` ends it.
+    pub(super) fn take(&mut self, alloc: Global, line: &(u32, u64, &str)) -> Result<(), Fail> {
+        let (session, moment, text) = *line;
+        let _ = self.at(alloc, moment)?;
+        if text == "go" {
+            return self.begin_at(alloc, session, moment);
         }
-        Err(Fail::from("more than 20 changes"))
+        let _ = if text == "end" {
+            self.end(alloc, session, moment)?
+        } else {
+            self.say(alloc, session, moment, text.as_bytes())?
+        };
+        Ok(())
+    }
+
+    /// Appends all rows of each keeper, walked from the start to the end.
+    pub(super) fn walk(&self, flat: &mut Vec<Row>, nested: &mut Vec<Row>) -> Result<(), Fail> {
+        push_rows(flat, &self.flat)?;
+        push_rows(nested, &self.nested)
     }
 }

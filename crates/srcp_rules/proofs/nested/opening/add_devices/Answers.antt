@@ -1,4 +1,4 @@
-use Rattle.std.proofs.Common.{◌+◌, ◌++◌, [], ◌∷◌, ap, subst, ◌∙◌}
+use Rattle.std.proofs.Common.{◌+◌, ap, subst}
 use Rattle.srcp_rules.specs.declared.nested.part.Part.TheVariants.{ComeAndGo}
 use Rattle.srcp_rules.specs.Nested.{AreGrown, device_rows, by_rank, number_in}
 use Rattle.srcp_rules.proofs.OpeningPartLaws.{grown, grown_here, no_devices}

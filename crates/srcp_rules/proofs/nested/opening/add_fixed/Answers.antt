@@ -1,4 +1,3 @@
-use Rattle.std.proofs.Common.{◌++◌, [], ◌∷◌, ap, ◌∙◌}
 use Rattle.srcp_rules.specs.declared.nested.part.Part.TheVariants.{Fixed}
 use Rattle.srcp_rules.specs.Nested.{by_rank, number_in}
 use Rattle.srcp_rules.proofs.OpeningPartLaws.{grown, grown_here}

@@ -1,7 +1,7 @@
 use Rattle.std.proofs.Common.{◌≡◌}
 use Rattle.srcp_rules.specs.Layout.{IsLayout}
 use Rattle.srcp_rules.specs.State.{IsWhole}
-use Rattle.srcp_rules.proofs.tests.keepers.push_due.Given as goal
+use Rattle.srcp_rules.proofs.tests.told.push_due.Given as goal
 
 abbrev pub invariant-loop : goal.invariant-loop
 invariant-loop g l = record {

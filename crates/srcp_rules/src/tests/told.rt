@@ -1,0 +1,152 @@
+//! What a keeper of any kind tells its sessions.
+
+ghost use Rattle.std.specs.Prelude.{◌≡◌};
+ghost use Rattle.std.specs.List.{AllByRecursion};
+ghost use Rattle.srcp_info.specs.WellFormed.{IsWellFormed, IsWellFormedReply};
+ghost use Rattle.srcp_rules.specs.Layout.{IsLayout};
+ghost use Rattle.srcp_rules.specs.State.{IsWhole};
+
+use crate::device::session_device;
+use crate::registry::is_there;
+use crate::{Layout, Rows, begin_session, due_next, free_next, obey, parse_command};
+use srcp_info::{Change, Cursor, Mode, Reply, Row, write_change, write_reply};
+use srcp_text::LineBuf;
+use std::test::Fail;
+
+/// Appends the line of a reply.
+pub(super) fn push_reply(said: &mut Vec<u8>, moment: u64, reply: &Reply) -> Result<(), Fail>
+    requires { IsWellFormedReply reply.now }
+{
+    let mut line = LineBuf::new();
+    write_reply(moment, reply, &mut line);
+    said.extend_from_slice(line.as_slice())?;
+    Ok(())
+}
+
+/// Appends the line of a change.
+pub(super) fn push_change(said: &mut Vec<u8>, change: &Change) -> Result<(), Fail>
+    requires { IsWellFormed change.now }
+{
+    let mut line = LineBuf::new();
+    write_change(change, &mut line);
+    said.extend_from_slice(line.as_slice())?;
+    Ok(())
+}
+
+/// Appends the lines of changes.
+pub(super) fn push_changes(said: &mut Vec<u8>, changes: &[Change]) -> Result<(), Fail>
+    requires { AllByRecursion IsWellFormed changes.now }
+{
+    for change in changes {
+        push_change(said, change)?;
+    }
+    Ok(())
+}
+
+/// Appends all rows, walked from the start to the end.
+pub(super) fn push_rows<R: Rows>(walked: &mut Vec<Row>, rows: &R) -> Result<(), Fail> {
+    let mut cursor = Cursor::Start;
+    for _ in 0..1000 {
+        let Some(row) = rows.row_after(cursor) else {
+            break;
+        };
+        walked.extend_from_slice(&[*row])?;
+        cursor = Cursor::After(row.shown.key);
+    }
+    match rows.row_after(Cursor::Done) {
+        Some(_) => Err(Fail::from("a row after the end")),
+        None => Ok(()),
+    }
+}
+
+/// Appends the change that the beginning of a command session brings.
+pub(super) fn push_begun<R: Rows>(
+    said: &mut Vec<u8>,
+    rows: &mut R,
+    session: u32,
+    moment: u64,
+) -> Result<(), Fail>
+    requires laid_out { IsLayout (R.buses rows.old) }
+    requires whole { IsWhole (R.buses rows.old) (R.state rows.old) }
+    ensures layout { R.buses rows.new ≡ R.buses rows.old }
+    ensures whole { IsWhole (R.buses rows.new) (R.state rows.new) }
+{
+    if session == 0 || is_there(rows, session_device(session)) {
+        return Err(Fail::from("a session that is there"));
+    }
+    match begin_session(rows, session, moment, Mode::Command) {
+        Ok(change) => push_change(said, &change),
+        Err(_) => Err(Fail::from("no memory")),
+    }
+}
+
+/// Appends the reply to a session's line and the changes that it makes, and a last line where the
+/// session is to end.
+pub(super) fn push_line<R: Rows>(
+    said: &mut Vec<u8>,
+    layout: &Layout,
+    rows: &mut R,
+    session: u32,
+    moment: u64,
+    line: &[u8],
+) -> Result<(), Fail>
+    requires same { R.buses rows.old ≡ layout.now }
+    requires laid_out { IsLayout (R.buses rows.old) }
+    requires whole { IsWhole (R.buses rows.old) (R.state rows.old) }
+    ensures layout { R.buses rows.new ≡ R.buses rows.old }
+    ensures whole { IsWhole (R.buses rows.new) (R.state rows.new) }
+{
+    let command = match parse_command(line, layout) {
+        Ok(command) => command,
+        Err(code) => return push_reply(said, moment, &Reply::Refused(code)),
+    };
+    if !is_there(rows, session_device(session)) {
+        return Err(Fail::from("no such session"));
+    }
+    let obeyed = obey(rows, session, moment, &command);
+    push_reply(said, moment, &obeyed.reply)?;
+    push_changes(said, obeyed.changes.as_slice())?;
+    if obeyed.ends {
+        said.extend_from_slice(b"the session ends\n")?;
+    }
+    Ok(())
+}
+
+/// Appends the changes that a moment brings.
+pub(super) fn push_due<R: Rows>(said: &mut Vec<u8>, rows: &mut R, moment: u64) -> Result<(), Fail>
+    requires laid_out { IsLayout (R.buses rows.old) }
+    requires whole { IsWhole (R.buses rows.old) (R.state rows.old) }
+    ensures layout { R.buses rows.new ≡ R.buses rows.old }
+    ensures whole { IsWhole (R.buses rows.new) (R.state rows.new) }
+{
+    let mut cursor = Cursor::Start;
+    for _ in 0..20 {
+        let Some(change) = due_next(rows, moment, cursor) else {
+            return Ok(());
+        };
+        push_change(said, &change)?;
+        cursor = Cursor::After(change.key());
+    }
+    Err(Fail::from("more than 20 changes"))
+}
+
+/// Appends the changes that the end of a session brings.
+pub(super) fn push_end<R: Rows>(
+    said: &mut Vec<u8>,
+    rows: &mut R,
+    session: u32,
+    moment: u64,
+) -> Result<(), Fail>
+    requires laid_out { IsLayout (R.buses rows.old) }
+    requires whole { IsWhole (R.buses rows.old) (R.state rows.old) }
+    ensures layout { R.buses rows.new ≡ R.buses rows.old }
+    ensures whole { IsWhole (R.buses rows.new) (R.state rows.new) }
+{
+    for _ in 0..20 {
+        let Some(change) = free_next(rows, session, moment) else {
+            return Ok(());
+        };
+        push_change(said, &change)?;
+    }
+    Err(Fail::from("more than 20 changes"))
+}
