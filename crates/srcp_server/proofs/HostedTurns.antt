@@ -1,5 +1,5 @@
 -- Turns over a core that stands for a course: the newcomer, the whole turn, and turn after turn.
-use Rattle.std.proofs.Common.{◌≡◌, ◌∙◌, ℕ, zero, suc, ◌+◌, Bool, true, false, ◌==◌, List, [], ◌∷◌, ◌++◌, map, drop, fold, replicate, length, if◌then◌else◌, Option, Some, None, Ok, Err, Result, refl, ap, sym, subst, arith, append_assoc, append-nil}
+use Rattle.std.proofs.Common.{◌≡◌, ◌∙◌, ℕ, zero, suc, ◌+◌, ◌≤◌, Bool, true, false, ◌==◌, List, [], ◌∷◌, ◌++◌, map, drop, fold, replicate, length, if◌then◌else◌, Option, Some, None, Ok, Err, Result, refl, ap, sym, subst, arith, append_assoc, append-nil}
 use Rattle.std.proofs.lemmas.Bool.Decides.{nat_tests}
 use Rattle.std.proofs.lemmas.List.{append_cancel_left, map-append}
 use Rattle.std.proofs.lemmas.List.Elements.{filter_map-append}
@@ -14,7 +14,7 @@ use Rattle.srcp_core.specs.Stands.{StandsFor}
 use Rattle.srcp_core.specs.declared.event.Event.TheVariants.{Open}
 use Rattle.srcp_server.specs.Calls.{Call, Tells, NowCall, AcceptCall, ReadCall, WriteCall, CloseCall}
 use Rattle.srcp_server.specs.Serving.{Seat, Stand, Moments, Newcomers, IsServed, PeersDiffer, question, moment_of, newcomer_of, seats, visits_ask, visit_events, kept, is_let_in, let_in, welcomed, with_moment, timed, begun, visited, turned, turn_asks, turns_away, stand_after}
-use Rattle.srcp_server.specs.Places.{IsHosting, IsServing, IsLeftOut, IsNotOf, IsOneOf, LetsIn, MakesTurn, SeatsPeer, SeatsDiffer, ServesCourse, ServesSoFar, Sit, TakesMoment, Visit, VisitsPlaces, AreOwn, asked_by, calls_of, left_by, made_by, seat_of, visits_of}
+use Rattle.srcp_server.specs.Places.{IsHosting, IsServing, IsLeftOut, IsNotOf, IsOneOf, one_if, LetsIn, MakesTurn, SeatsPeer, SeatsDiffer, ServesCourse, ServesSoFar, Sit, TakesMoment, Visit, VisitsPlaces, AreOwn, asked_by, calls_of, left_by, made_by, seat_of, visits_of}
 use Rattle.srcp_server.specs.Turns.{AsksPeers, AsksTurn, IsTurn, is_of_peer}
 use Rattle.srcp_server.specs.Visits.{Adds, Keeps}
 use Rattle.srcp_server.specs.declared.door.DoorFault.{DoorFault}
@@ -108,6 +108,10 @@ module _ (buses : List Bus) where
   known_news (Ok (Some p)) peers stand h = known_welcomed peers stand p h
   known_news (Err failed) peers stand h = known_more peers [] stand.places h
 
+  guests_timed : (answer : Result ℕ DoorFault) (stand : Stand) → length (timed buses stand (NowCall answer ∷ [])).guests ≡ length stand.guests
+  guests_timed (Ok moment) stand = refl
+  guests_timed (Err failed) stand = refl
+
   known_timed : (answer : Result ℕ DoorFault) (peers : List ℕ) (stand : Stand) → AllByRecursion (IsOneOf peers) stand.places → AllByRecursion (IsOneOf peers) (timed buses stand (NowCall answer ∷ [])).places
   known_timed (Ok moment) peers stand h = h
   known_timed (Err failed) peers stand h = h
@@ -118,17 +122,20 @@ module _ (buses : List Bus) where
 
 -- ---- the newcomer of a turn
 
+no_more : (n : ℕ) → n ≡ n + 0
+no_more n = omega arith
+
 module _ (old : Held) (told_old told_new : Option (List Call)) (owns : List (Option Own)) where
-  pub lets_nobody : Tells told_old (AcceptCall (Ok None)) told_new → LetsIn old told_old owns old told_new owns
+  pub lets_nobody : Tells told_old (AcceptCall (Ok None)) told_new → LetsIn old told_old owns old told_new owns false
   lets_nobody h buses stand keys told hosting d is before was differ known =
-      record { answer = Ok None; early = []; keys = keys; adds = adds_one (AcceptCall (Ok None)) told_old told_new told h is; asked = refl; others = none_left_out stand.places; hosting = hosting }
+      record { answer = Ok None; early = []; keys = keys; adds = adds_one (AcceptCall (Ok None)) told_old told_new told h is; asked = refl; others = none_left_out stand.places; hosting = hosting; opened = no_more (length stand.guests) }
 
-  pub lets_none : (failed : DoorFault) → Tells told_old (AcceptCall (Err failed)) told_new → LetsIn old told_old owns old told_new owns
+  pub lets_none : (failed : DoorFault) → Tells told_old (AcceptCall (Err failed)) told_new → LetsIn old told_old owns old told_new owns false
   lets_none failed h buses stand keys told hosting d is before was differ known =
-      record { answer = Err failed; early = []; keys = keys; adds = adds_one (AcceptCall (Err failed)) told_old told_new told h is; asked = refl; others = none_left_out stand.places; hosting = hosting }
+      record { answer = Err failed; early = []; keys = keys; adds = adds_one (AcceptCall (Err failed)) told_old told_new told h is; asked = refl; others = none_left_out stand.places; hosting = hosting; opened = no_more (length stand.guests) }
 
-pub lets_peer : (peer : ℕ) (old new : Held) (told_old told_mid told_new : Option (List Call)) (owns owns_new : List (Option Own)) → Tells told_old (AcceptCall (Ok (Some peer))) told_mid → AsksPeers told_mid told_new → SeatsPeer peer old told_mid owns new told_new owns_new → LetsIn old told_old owns new told_new owns_new
-lets_peer peer old new told_old told_mid told_new owns owns_new h asks sits buses stand keys told hosting d is before was differ known =
+pub lets_peer : (peer : ℕ) (opens : Bool) (old new : Held) (told_old told_mid told_new : Option (List Call)) (owns owns_new : List (Option Own)) → Tells told_old (AcceptCall (Ok (Some peer))) told_mid → AsksPeers told_mid told_new → SeatsPeer peer old told_mid owns new told_new owns_new opens → LetsIn old told_old owns new told_new owns_new opens
+lets_peer peer opens old new told_old told_mid told_new owns owns_new h asks sits buses stand keys told hosting d is before was differ known =
     let call : Call = AcceptCall (Ok (Some peer)) in
     let later = asks told is in
     let first = adds_one call told_old told_mid later.adds.before h later.adds.was in
@@ -146,6 +153,7 @@ lets_peer peer old new told_old told_mid told_new owns owns_new h asks sits buse
       asked = x.asked ∙ sym (append-nil (turns_away buses stand.events peer));
       others = x.others;
       hosting = x.hosting;
+      opened = x.opened;
     }
 
 -- ---- the calls of a turn
@@ -216,10 +224,10 @@ module _ (buses : List Bus) (stand : Stand) (now : Result ℕ DoorFault) (answer
 tail_of : (told : List Call) (now : Result ℕ DoorFault) (answer : Result (Option ℕ) DoorFault) (rest : List Call) → IsTurn told → told ≡ NowCall now ∷ AcceptCall answer ∷ rest → list_all is_of_peer rest ≡ true
 tail_of told now answer rest t e = ap (list_all is_of_peer) (sym (ap (drop 2) (sym t.is ∙ e))) ∙ t.peers
 
-pub makes_turn : (old mid between new : Held) (told_old told_mid told_between told_new : Option (List Call)) (owns_old owns owns_new : List (Option Own))
-    → TakesMoment old told_old mid told_mid → Keeps mid told_mid between told_between → LetsIn mid told_mid owns_old between told_between owns → Keeps between told_between new told_new
-    → AsksPeers told_between told_new → VisitsPlaces between told_between owns new told_new owns_new → AsksTurn told_old told_new → MakesTurn old told_old owns_old new told_new owns_new
-makes_turn old mid between new told_old told_mid told_between told_new owns_old owns owns_new moment keeps_in lets keeps_visits asks_visits visits asks_turn buses stand keys told hosting d is before was differ known =
+pub makes_turn : (opens : Bool) (old mid between new : Held) (told_old told_mid told_between told_new : Option (List Call)) (owns_old owns owns_new : List (Option Own))
+    → TakesMoment old told_old mid told_mid → Keeps mid told_mid between told_between → LetsIn mid told_mid owns_old between told_between owns opens → Keeps between told_between new told_new
+    → AsksPeers told_between told_new → VisitsPlaces between told_between owns new told_new owns_new → AsksTurn told_old told_new → MakesTurn old told_old owns_old new told_new owns_new opens
+makes_turn opens old mid between new told_old told_mid told_between told_new owns_old owns owns_new moment keeps_in lets keeps_visits asks_visits visits asks_turn buses stand keys told hosting d is before was differ known =
     let w = keeps_visits told d is in
     let v = keeps_in w.told w.denied w.is in
     let t = moment owns_old buses stand keys v.told hosting v.denied v.is in
@@ -266,6 +274,7 @@ makes_turn old mid between new told_old told_mid told_between told_new owns_old 
       asked = turn_asked buses stand t.answer b.answer b.early x.round peers x.own x.seats_are b.hosting.differ b.others b.asked x.asked;
       known = subst (λ (s : Stand). AllByRecursion (IsOneOf (filter_map newcomer_of told)) s.places) (sym ends) known_last;
       hosting = subst (λ (s : Stand). IsHosting buses s x.keys new owns_new) (sym ends) x.hosting;
+      opened = ap (λ (s : Stand). length s.guests) ends ∙ b.opened ∙ ap (λ n. n + one_if opens) (guests_timed buses t.answer stand);
     }
 
 -- ---- turn after turn
@@ -282,18 +291,19 @@ differ_none : (n : ℕ) → SeatsDiffer (replicate n None)
 differ_none zero = tt
 differ_none (suc n) = differ_none n
 
-pub serves_first : (old : Held) (told_old : Option (List Call)) → ServesSoFar 0 old told_old old told_old (replicate 64 None)
+pub serves_first : (old : Held) (told_old : Option (List Call)) → ServesSoFar 0 0 old told_old old told_old (replicate 64 None)
 serves_first old told_old buses told layout stands d was is differ =
-    subst (λ (c : List Call). IsServing buses 0 c old (replicate 64 None)) (same_Some [] told (sym was ∙ is)) (record {
+    subst (λ (c : List Call). IsServing buses 0 0 c old (replicate 64 None)) (same_Some [] told (sym was ∙ is)) (record {
       keys = [];
       served = record { turns_are = refl; asked = refl };
       known = known_none 64;
       hosting = record { layout = layout; sit = sit_none 64; few = omega arith; differ = differ_none 64; long = refl; stands = stands };
+      opened = refl;
     })
 
-serves_then : (buses : List Bus) (count : ℕ) (told calls : List Call) (new : Held) (owns : List (Option Own)) (keys : List (Option ℕ)) → IsServed buses count told → (t : IsTurn calls) → map question calls ≡ turn_asks buses (stand_after buses told) calls
-    → AllByRecursion (IsOneOf (filter_map newcomer_of (told ++ calls))) (turned buses (stand_after buses told) calls).places → IsHosting buses (turned buses (stand_after buses told) calls) keys new owns → IsServing buses (count + 1) (told ++ calls) new owns
-serves_then buses count told calls new owns keys so t asked known hosting =
+serves_then : (buses : List Bus) (count opened : ℕ) (opens : Bool) (told calls : List Call) (new : Held) (owns : List (Option Own)) (keys : List (Option ℕ)) → IsServed buses count told → (t : IsTurn calls) → map question calls ≡ turn_asks buses (stand_after buses told) calls
+    → AllByRecursion (IsOneOf (filter_map newcomer_of (told ++ calls))) (turned buses (stand_after buses told) calls).places → IsHosting buses (turned buses (stand_after buses told) calls) keys new owns → length (stand_after buses told).guests ≡ opened → length (turned buses (stand_after buses told) calls).guests ≡ length (stand_after buses told).guests + one_if opens → IsServing buses (count + 1) (opened + one_if opens) (told ++ calls) new owns
+serves_then buses count opened opens told calls new owns keys so t asked known hosting was opens_more =
     let rest : List Call = AcceptCall t.newcomer ∷ t.rest in
     let asked_now : map question (NowCall t.now ∷ rest) ≡ turn_asks buses (stand_after buses told) (NowCall t.now ∷ rest) = subst (λ (c : List Call). map question c ≡ turn_asks buses (stand_after buses told) c) t.is asked in
     let more = served-more buses count told t.now rest so (not_now t.rest t.peers) asked_now in
@@ -303,11 +313,12 @@ serves_then buses count told calls new owns keys so t asked known hosting =
       served = subst (λ (c : List Call). IsServed buses (count + 1) (told ++ c)) (sym t.is) more.0;
       known = subst (λ (s : Stand). AllByRecursion (IsOneOf (filter_map newcomer_of (told ++ calls))) s.places) (sym ends) known;
       hosting = subst (λ (s : Stand). IsHosting buses s keys new owns) (sym ends) hosting;
+      opened = ap (λ (s : Stand). length s.guests) ends ∙ opens_more ∙ ap (λ n. n + one_if opens) was;
     }
 
-pub serves_on : (count : ℕ) (old mid new : Held) (told_old told_mid told_new : Option (List Call)) (owns owns_new : List (Option Own)) → ServesSoFar count old told_old mid told_mid owns → Keeps mid told_mid new told_new → AsksTurn told_mid told_new
-    → MakesTurn mid told_mid owns new told_new owns_new → ServesSoFar (count + 1) old told_old new told_new owns_new
-serves_on count old mid new told_old told_mid told_new owns owns_new so keeps asks turn buses told layout stands d was is differ =
+pub serves_on : (count opened : ℕ) (opens : Bool) (old mid new : Held) (told_old told_mid told_new : Option (List Call)) (owns owns_new : List (Option Own)) → ServesSoFar count opened old told_old mid told_mid owns → Keeps mid told_mid new told_new → AsksTurn told_mid told_new
+    → MakesTurn mid told_mid owns new told_new owns_new opens → ServesSoFar (count + 1) (opened + one_if opens) old told_old new told_new owns_new
+serves_on count opened opens old mid new told_old told_mid told_new owns owns_new so keeps asks turn buses told layout stands d was is differ =
     let w = keeps told d is in
     let later = asks told is in
     let told_is : told ≡ w.told ++ later.calls = later.adds.is ∙ ap (λ b. b ++ later.calls) (same_Some later.adds.before w.told (sym later.adds.was ∙ w.is)) in
@@ -317,9 +328,14 @@ serves_on count old mid new told_old told_mid told_new owns owns_new so keeps as
     let whole : told ≡ w.told ++ x.calls = x.adds.is ∙ ap (λ b. b ++ x.calls) (same_Some x.adds.before w.told (sym x.adds.was ∙ w.is)) in
     let known : AllByRecursion (IsOneOf (filter_map newcomer_of (w.told ++ x.calls))) (turned buses (stand_after buses w.told) x.calls).places =
     subst (λ (c : List Call). AllByRecursion (IsOneOf (filter_map newcomer_of c)) (turned buses (stand_after buses w.told) x.calls).places) whole x.known in
-    subst (λ (c : List Call). IsServing buses (count + 1) c new owns_new) (sym whole) (serves_then buses count w.told x.calls new owns_new x.keys s.served x.turn x.asked known x.hosting)
+    subst (λ (c : List Call). IsServing buses (count + 1) (opened + one_if opens) c new owns_new) (sym whole) (serves_then buses count opened opens w.told x.calls new owns_new x.keys s.served x.turn x.asked known x.hosting s.opened x.opened)
 
-pub serves_all : (count turns : ℕ) (old now : Held) (told_old told_now : Option (List Call)) (owns : List (Option Own)) → count ≡ turns → ServesSoFar count old told_old now told_now owns → ServesCourse turns old told_old now told_now
-serves_all count turns old now told_old told_now owns e so buses told layout stands d was is differ =
+pub serves_all : (count turns opened : ℕ) (old now : Held) (told_old told_now : Option (List Call)) (owns : List (Option Own)) → count ≡ turns → ServesSoFar count opened old told_old now told_now owns → ServesCourse turns opened old told_old now told_now
+serves_all count turns opened old now told_old told_now owns e so buses told layout stands d was is differ =
     let s = so buses told layout stands d was is differ in
-    record { keys = s.keys; served = subst (λ (n : ℕ). IsServed buses n told) e s.served; stands = s.hosting.stands }
+    record { keys = s.keys; served = subst (λ (n : ℕ). IsServed buses n told) e s.served; stands = s.hosting.stands; opened = sym s.opened ∙ sym s.hosting.long ∙ s.hosting.stands.long }
+
+-- no more were let in than there were turns
+pub fewer : (opens : Bool) (opened count after : ℕ) → opened ≤ count → after ≡ opened + one_if opens → after ≤ count + 1
+fewer true opened count after h e = omega (arith, h, e)
+fewer false opened count after h e = omega (arith, h, e)

@@ -58,16 +58,19 @@ close_left_out peer answer (None ∷ places) h = (tt, close_left_out peer answer
 close_left_out peer answer (Some seat ∷ places) h = ((h.0, tt), close_left_out peer answer places h.1)
 
 pub seats_full : (peer : ℕ) (old mid : Held) (cause : CoreFault) (told_old told_new : Option (List Call)) (owns : List (Option Own)) → Closes peer told_old told_new → LeadsTo Open old mid
-    → OfCourse old (λ buses events. IsWhyNotOpened cause (fault buses (course buses events) Open)) → mid ≡ refused_connect cause old → (cause ≡ Full) ⊎ (cause ≡ MemoryFault) → SeatsPeer peer old told_old owns mid told_new owns
+    → OfCourse old (λ buses events. IsWhyNotOpened cause (fault buses (course buses events) Open)) → mid ≡ refused_connect cause old → (cause ≡ Full) ⊎ (cause ≡ MemoryFault) → SeatsPeer peer old told_old owns mid told_new owns false
 seats_full peer old mid cause told_old told_new owns closes leads why refused causes buses stand keys told hosting d is new =
     ⊎_elim full (λ e. absurd (denied e)) causes
   where
+    no_more : (n : ℕ) → n ≡ n + 0
+    no_more n = omega arith
+
     denied : cause ≡ MemoryFault → ⊥
     denied e =
         let more : mid.denied ≡ (refused_connect MemoryFault old).denied = ap (λ (h : Held). h.denied) refused ∙ ap (λ c. (refused_connect c old).denied) e in
         omega (arith, more, d)
 
-    full : cause ≡ Full → IsWelcomed buses stand told_old told mid owns peer
+    full : cause ≡ Full → IsWelcomed buses stand told_old told mid owns peer false
     full e =
         let is_full : fault buses (course buses stand.events) Open ≡ Some Full = subst (λ c. IsWhyNotOpened c (fault buses (course buses stand.events) Open)) e (why buses stand.events keys hosting.layout hosting.stands) in
         let out : is_let_in buses stand.events ≡ false = ap is_none is_full in
@@ -88,10 +91,11 @@ seats_full peer old mid cause told_old told_new owns closes leads why refused ca
             long = hosting.long;
             stands = leads buses stand.events keys hosting.layout d hosting.stands;
           });
+          opened = ap (λ (s : Stand). length s.guests) w ∙ no_more (length stand.guests);
         }
 
 pub seats_in : (peer key free : ℕ) (old mid : Held) (told_old : Option (List Call)) (owns : List (Option Own)) → LeadsToOpen key old mid → OfCourse old (λ buses events. fault buses (course buses events) Open ≡ None)
-    → position is_none owns ≡ Some free → SeatsPeer peer old told_old owns mid told_old (slice_set owns free (Some (record { peer = peer; key = key })))
+    → position is_none owns ≡ Some free → SeatsPeer peer old told_old owns mid told_old (slice_set owns free (Some (record { peer = peer; key = key }))) true
 seats_in peer key free old mid told_old owns leads accepts place buses stand keys told hosting d is new =
     let own : Own = record { peer = peer; key = key } in
     let seat : Seat = record { peer = peer; conn = length stand.guests + 1 } in
@@ -122,12 +126,13 @@ seats_in peer key free old mid told_old owns leads accepts place buses stand key
         long = length-append keys (Some key ∷ []) ∙ ap (λ n. n + 1) hosting.long ∙ sym (length-append stand.guests (peer ∷ []));
         stands = leads buses stand.events keys hosting.layout d hosting.stands;
       });
+      opened = ap (λ (s : Stand). length s.guests) w ∙ length-append stand.guests (peer ∷ []);
     }
 
 -- a place is free where one is let in
-pub seats_none : (peer : ℕ) (old new : Held) (told_old told_new : Option (List Call)) (owns : List (Option Own)) → OfCourse old (λ buses events. fault buses (course buses events) Open ≡ None) → CountsOpen old → length owns ≡ 64
-    → position is_none owns ≡ None → SeatsPeer peer old told_old owns new told_new owns
-seats_none peer old new told_old told_new owns accepts counted long none buses stand keys told hosting d is fresh =
+pub seats_none : (peer : ℕ) (opens : Bool) (old new : Held) (told_old told_new : Option (List Call)) (owns : List (Option Own)) → OfCourse old (λ buses events. fault buses (course buses events) Open ≡ None) → CountsOpen old → length owns ≡ 64
+    → position is_none owns ≡ None → SeatsPeer peer old told_old owns new told_new owns opens
+seats_none peer opens old new told_old told_new owns accepts counted long none buses stand keys told hosting d is fresh =
     let taken = none_free keys owns stand.places hosting.sit none in
     let few = hosting.few in
     let count = hosting.stands.count in

@@ -1,5 +1,5 @@
 -- How the places of a server stand for the course, and what a turn does to them, function by function.
-use Rattle.std.specs.Prelude.{⊤, ◌≡◌, ℕ, ◌≤◌, true, false, ◌==◌, if◌then◌else◌, List, [], ◌∷◌, ◌++◌, map, length, filter_map, flat_map, fold, count_by, is_some, Option, Some, None, Result}
+use Rattle.std.specs.Prelude.{Bool, ⊤, ◌≡◌, ℕ, ◌+◌, ◌≤◌, true, false, ◌==◌, if◌then◌else◌, List, [], ◌∷◌, ◌++◌, map, length, filter_map, flat_map, fold, count_by, is_some, Option, Some, None, Result}
 use Rattle.std.specs.List.{list_any, AllByRecursion}
 use Rattle.srcp_rules.specs.Layout.{IsLayout}
 use Rattle.srcp_rules.specs.declared.layout.Bus.{Bus}
@@ -102,6 +102,10 @@ pub record IsHosting (buses : List Bus) (stand : Stand) (keys : List (Option ℕ
   pub long : length keys ≡ length stand.guests
   pub stands : StandsFor buses keys held (course buses stand.events)
 
+-- one where it is so
+abbrev pub one_if : Bool → ℕ
+one_if b = if b then 1 else 0
+
 -- ---- what the functions of a turn do
 
 module _ (buses : List Bus) (stand : Stand) (old : Option (List Call)) (told : List Call) (held : Held) where
@@ -113,16 +117,17 @@ module _ (buses : List Bus) (stand : Stand) (old : Option (List Call)) (told : L
 
   module _ (owns : List (Option Own)) where
     -- the newcomer has its place, or was turned away
-    pub record IsWelcomed (peer : ℕ) : Type 0 where
+    pub record IsWelcomed (peer : ℕ) (opens : Bool) : Type 0 where
       pub early : List Call
       pub keys : List (Option ℕ)
       pub adds : Adds old told early
       pub asked : map question early ≡ turns_away buses stand.events peer
       pub others : AllByRecursion (IsLeftOut early) (welcomed buses stand peer).places
       pub hosting : IsHosting buses (welcomed buses stand peer) keys held owns
+      pub opened : length (welcomed buses stand peer).guests ≡ length stand.guests + one_if opens
 
     -- so it is of the newcomer, if there was one
-    pub record IsBegun : Type 0 where
+    pub record IsBegun (opens : Bool) : Type 0 where
       pub answer : Result (Option ℕ) DoorFault
       pub early : List Call
       pub keys : List (Option ℕ)
@@ -130,6 +135,7 @@ module _ (buses : List Bus) (stand : Stand) (old : Option (List Call)) (told : L
       pub asked : map question early ≡ flat_map (turns_away buses stand.events) (filter_map newcomer_of (AcceptCall answer ∷ []))
       pub others : AllByRecursion (IsLeftOut early) (fold (welcomed buses) stand (filter_map newcomer_of (AcceptCall answer ∷ []))).places
       pub hosting : IsHosting buses (fold (welcomed buses) stand (filter_map newcomer_of (AcceptCall answer ∷ []))) keys held owns
+      pub opened : length (fold (welcomed buses) stand (filter_map newcomer_of (AcceptCall answer ∷ []))).guests ≡ length stand.guests + one_if opens
 
     -- those that have these places, between the others, were visited in their order
     pub record AreVisited (front seats ahead : List (Option Seat)) : Type 0 where
@@ -142,7 +148,7 @@ module _ (buses : List Bus) (stand : Stand) (old : Option (List Call)) (told : L
       pub hosting : IsHosting buses (record { events = stand.events ++ made_by (visits_of round); guests = stand.guests; places = front ++ (map left_by round ++ ahead) }) keys held owns
 
     -- a turn was made
-    pub record IsTurnMade : Type 0 where
+    pub record IsTurnMade (opens : Bool) : Type 0 where
       pub calls : List Call
       pub keys : List (Option ℕ)
       pub adds : Adds old told calls
@@ -150,6 +156,7 @@ module _ (buses : List Bus) (stand : Stand) (old : Option (List Call)) (told : L
       pub asked : map question calls ≡ turn_asks buses stand calls
       pub known : AllByRecursion (IsOneOf (filter_map newcomer_of told)) (turned buses stand calls).places
       pub hosting : IsHosting buses (turned buses stand calls) keys held owns
+      pub opened : length (turned buses stand calls).guests ≡ length stand.guests + one_if opens
 
 -- whatever the stand was, so it is afterwards, where no memory was refused and the door tells its calls
 abbrev pub HostsOn : (List Bus → Stand → List (Option ℕ) → List Call → Type 0) → (old : Held) (owns : List (Option Own)) (new : Held) (told_new : Option (List Call)) → Type 0
@@ -158,12 +165,12 @@ HostsOn So old owns new told_new = (buses : List Bus) (stand : Stand) (keys : Li
 abbrev pub TakesMoment : (old : Held) (told_old : Option (List Call)) (new : Held) (told_new : Option (List Call)) → Type 0
 TakesMoment old told_old new told_new = (owns : List (Option Own)) → HostsOn (λ buses stand keys told. IsTimed buses stand told_old told new keys) old owns new told_new
 
-abbrev pub SeatsPeer : (peer : ℕ) (old : Held) (told_old : Option (List Call)) (owns_old : List (Option Own)) (new : Held) (told_new : Option (List Call)) (owns_new : List (Option Own)) → Type 0
-SeatsPeer peer old told_old owns_old new told_new owns_new = HostsOn (λ buses stand keys told. AllByRecursion (IsNotOf peer) stand.places → IsWelcomed buses stand told_old told new owns_new peer) old owns_old new told_new
+abbrev pub SeatsPeer : (peer : ℕ) (old : Held) (told_old : Option (List Call)) (owns_old : List (Option Own)) (new : Held) (told_new : Option (List Call)) (owns_new : List (Option Own)) (opens : Bool) → Type 0
+SeatsPeer peer old told_old owns_old new told_new owns_new opens = HostsOn (λ buses stand keys told. AllByRecursion (IsNotOf peer) stand.places → IsWelcomed buses stand told_old told new owns_new peer opens) old owns_old new told_new
 
 -- all that have a place are of the newcomers, and no peer came in twice
-abbrev pub LetsIn : (old : Held) (told_old : Option (List Call)) (owns_old : List (Option Own)) (new : Held) (told_new : Option (List Call)) (owns_new : List (Option Own)) → Type 0
-LetsIn old told_old owns_old new told_new owns_new = HostsOn (λ buses stand keys told. (before : List Call) → told_old ≡ Some before → PeersDiffer buses told → AllByRecursion (IsOneOf (filter_map newcomer_of before)) stand.places → IsBegun buses stand told_old told new owns_new) old owns_old new told_new
+abbrev pub LetsIn : (old : Held) (told_old : Option (List Call)) (owns_old : List (Option Own)) (new : Held) (told_new : Option (List Call)) (owns_new : List (Option Own)) (opens : Bool) → Type 0
+LetsIn old told_old owns_old new told_new owns_new opens = HostsOn (λ buses stand keys told. (before : List Call) → told_old ≡ Some before → PeersDiffer buses told → AllByRecursion (IsOneOf (filter_map newcomer_of before)) stand.places → IsBegun buses stand told_old told new owns_new opens) old owns_old new told_new
 
 abbrev pub VisitsPlace : (place : ℕ) (old : Held) (told_old : Option (List Call)) (owns_old : List (Option Own)) (new : Held) (told_new : Option (List Call)) (owns_new : List (Option Own)) → Type 0
 VisitsPlace place old told_old owns_old new told_new owns_new =
@@ -183,30 +190,32 @@ VisitsSoFar count old told_old owns_old now told_now owns_now = HostsOn (λ buse
 abbrev pub VisitsPlaces : (old : Held) (told_old : Option (List Call)) (owns_old : List (Option Own)) (new : Held) (told_new : Option (List Call)) (owns_new : List (Option Own)) → Type 0
 VisitsPlaces old told_old owns_old new told_new owns_new = HostsOn (λ buses stand keys told. AreVisited buses stand told_old told new owns_new [] stand.places []) old owns_old new told_new
 
-abbrev pub MakesTurn : (old : Held) (told_old : Option (List Call)) (owns_old : List (Option Own)) (new : Held) (told_new : Option (List Call)) (owns_new : List (Option Own)) → Type 0
-MakesTurn old told_old owns_old new told_new owns_new = HostsOn (λ buses stand keys told. (before : List Call) → told_old ≡ Some before → PeersDiffer buses told → AllByRecursion (IsOneOf (filter_map newcomer_of before)) stand.places → IsTurnMade buses stand told_old told new owns_new) old owns_old new told_new
+abbrev pub MakesTurn : (old : Held) (told_old : Option (List Call)) (owns_old : List (Option Own)) (new : Held) (told_new : Option (List Call)) (owns_new : List (Option Own)) (opens : Bool) → Type 0
+MakesTurn old told_old owns_old new told_new owns_new opens = HostsOn (λ buses stand keys told. (before : List Call) → told_old ≡ Some before → PeersDiffer buses told → AllByRecursion (IsOneOf (filter_map newcomer_of before)) stand.places → IsTurnMade buses stand told_old told new owns_new opens) old owns_old new told_new
 
 -- ---- serving
 
 -- the calls are those of so many turns, and the core and the places stand as their answers say
-pub record IsServing (buses : List Bus) (count : ℕ) (told : List Call) (held : Held) (owns : List (Option Own)) : Type 0 where
+pub record IsServing (buses : List Bus) (count opens : ℕ) (told : List Call) (held : Held) (owns : List (Option Own)) : Type 0 where
   pub keys : List (Option ℕ)
   pub served : IsServed buses count told
   pub known : AllByRecursion (IsOneOf (filter_map newcomer_of told)) (stand_after buses told).places
   pub hosting : IsHosting buses (stand_after buses told) keys held owns
+  pub opened : length (stand_after buses told).guests ≡ opens
 
 -- a core that stands for no events, over a door that had told nothing, where no memory was refused and no peer came in twice
 abbrev pub Begins : (List Bus → List Call → Type 0) → (old : Held) (told_old : Option (List Call)) (new : Held) (told_new : Option (List Call)) → Type 0
 Begins So old told_old new told_new = (buses : List Bus) (told : List Call) → IsLayout buses → StandsFor buses [] old (course buses []) → new.denied ≡ 0 → told_old ≡ Some [] → told_new ≡ Some told → PeersDiffer buses told → So buses told
 
-abbrev pub ServesSoFar : (count : ℕ) (old : Held) (told_old : Option (List Call)) (new : Held) (told_new : Option (List Call)) (owns : List (Option Own)) → Type 0
-ServesSoFar count old told_old new told_new owns = Begins (λ buses told. IsServing buses count told new owns) old told_old new told_new
+abbrev pub ServesSoFar : (count opens : ℕ) (old : Held) (told_old : Option (List Call)) (new : Held) (told_new : Option (List Call)) (owns : List (Option Own)) → Type 0
+ServesSoFar count opens old told_old new told_new owns = Begins (λ buses told. IsServing buses count opens told new owns) old told_old new told_new
 
 -- the calls are those of exactly so many turns, each write handed what the course leaves unsent, and the core stands for the events that the answers make
-pub record IsOfCourse (buses : List Bus) (count : ℕ) (told : List Call) (held : Held) : Type 0 where
+pub record IsOfCourse (buses : List Bus) (count opens : ℕ) (told : List Call) (held : Held) : Type 0 where
   pub keys : List (Option ℕ)
   pub served : IsServed buses count told
   pub stands : StandsFor buses keys held (course buses (events_of buses told))
+  pub opened : opens ≡ length (course buses (events_of buses told)).connections  -- one for each Open that is accepted
 
-abbrev pub ServesCourse : (count : ℕ) (old : Held) (told_old : Option (List Call)) (new : Held) (told_new : Option (List Call)) → Type 0
-ServesCourse count old told_old new told_new = Begins (λ buses told. IsOfCourse buses count told new) old told_old new told_new
+abbrev pub ServesCourse : (count opens : ℕ) (old : Held) (told_old : Option (List Call)) (new : Held) (told_new : Option (List Call)) → Type 0
+ServesCourse count opens old told_old new told_new = Begins (λ buses told. IsOfCourse buses count opens told new) old told_old new told_new

@@ -1,7 +1,7 @@
 //! Serving: what a server asks of its door in each turn, and what it makes of the answers.
 
 ghost use Rattle.std.specs.Prelude.{◌≡◌, ◌<◌, ◌≤◌, ◌+◌, is_none, position};
-ghost use Rattle.srcp_server.specs.Places.{LetsIn, MakesTurn, SeatsPeer, ServesCourse, TakesMoment, VisitsPlace, VisitsPlaces};
+ghost use Rattle.srcp_server.specs.Places.{LetsIn, MakesTurn, one_if, SeatsPeer, ServesCourse, TakesMoment, VisitsPlace, VisitsPlaces};
 ghost use Rattle.srcp_server.specs.Tally.{CountsFaults};
 ghost use Rattle.srcp_server.specs.Turns.{AsksMoment, AsksNewcomer, AsksPeers, AsksTurn, AsksTurns};
 ghost use Rattle.srcp_server.specs.Visits.{Keeps};
@@ -26,35 +26,47 @@ pub fn serve<R: Rows, D: Door>(core: &mut Core<'_, R>, door: &mut D, turns: u64)
     ensures turns { result.turns ≡ turns }
     ensures faults { D.faults door.new < 18446744073709551615 → D.faults door.old + result.faults ≡ D.faults door.new }
     ensures told { AsksTurns turns (D.told door.old) (D.told door.new) }
-    ensures course { ServesCourse turns core.old (D.told door.old) core.new (D.told door.new) }
+    ensures course { ServesCourse turns result.opened core.old (D.told door.old) core.new (D.told door.new) }
 {
     let mut places = [None; PLACES];
     let mut tally = Tally::new();
+    let mut opened = 0;
     for _ in 0..turns {
-        turn(core, door, &mut places, &mut tally);
+        let opens = turn(core, door, &mut places, &mut tally);
+        opened = one_more_if(opens, opened);
     }
     Served {
         turns,
-        opened: tally.opened,
+        opened,
         faults: tally.faults,
     }
 }
 
+/// A count after one more, where there was one.
+fn one_more_if(counts: bool, count: u64) -> u64
+    requires { count < 18446744073709551615 }
+    ensures { result ≡ count + one_if counts }
+{
+    if counts { count + 1 } else { count }
+}
+
+/// Makes a turn. Answers whether a newcomer was let in.
 fn turn<R: Rows, D: Door>(
     core: &mut Core<'_, R>,
     door: &mut D,
     places: &mut [Option<Seat>; PLACES],
     tally: &mut Tally,
-)
+) -> bool
     requires { tally.old.faults ≤ D.faults door.old }
     ensures faults { CountsFaults tally.old.faults (D.faults door.old) tally.new.faults (D.faults door.new) }
     ensures told { AsksTurn (D.told door.old) (D.told door.new) }
     ensures keeps { Keeps core.old (D.told door.old) core.new (D.told door.new) }
-    ensures course { MakesTurn core.old (D.told door.old) places.old core.new (D.told door.new) places.new }
+    ensures course { MakesTurn core.old (D.told door.old) places.old core.new (D.told door.new) places.new result }
 {
     take_moment(core, door, tally);
-    let_in(core, door, places, tally);
+    let opens = let_in(core, door, places, tally);
     visit_places(core, door, places, tally);
+    opens
 }
 
 /// Visits the peers that have places, in the order of the places.
@@ -112,50 +124,55 @@ fn take_moment<R: Rows, D: Door>(core: &mut Core<'_, R>, door: &mut D, tally: &m
     }
 }
 
-/// Lets one peer in, to the first free place; it is let go where the core refuses it.
+/// Lets one peer in, to the first free place; it is let go where the core refuses it. Answers whether one was let in.
 fn let_in<R: Rows, D: Door>(
     core: &mut Core<'_, R>,
     door: &mut D,
     places: &mut [Option<Seat>; PLACES],
     tally: &mut Tally,
-)
+) -> bool
     requires { tally.old.faults ≤ D.faults door.old }
     ensures faults { CountsFaults tally.old.faults (D.faults door.old) tally.new.faults (D.faults door.new) }
     ensures told { AsksNewcomer (D.told door.old) (D.told door.new) }
     ensures keeps { Keeps core.old (D.told door.old) core.new (D.told door.new) }
-    ensures course { LetsIn core.old (D.told door.old) places.old core.new (D.told door.new) places.new }
+    ensures course { LetsIn core.old (D.told door.old) places.old core.new (D.told door.new) places.new result }
 {
     match door.accept() {
-        Ok(None) => (),
+        Ok(None) => false,
         Ok(Some(peer)) => seat(core, door, peer, places, tally),
-        Err(_) => tally.fault(),
+        Err(_) => {
+            tally.fault();
+            false
+        }
     }
 }
 
-/// Seats a peer in the first free place; it is let go where the core refuses it.
+/// Seats a peer in the first free place; it is let go where the core refuses it. Answers whether it was seated.
 fn seat<R: Rows, D: Door>(
     core: &mut Core<'_, R>,
     door: &mut D,
     peer: u32,
     places: &mut [Option<Seat>; PLACES],
     tally: &mut Tally,
-)
+) -> bool
     requires { tally.old.faults ≤ D.faults door.old }
     ensures faults { CountsFaults tally.old.faults (D.faults door.old) tally.new.faults (D.faults door.new) }
     ensures told { AsksPeers (D.told door.old) (D.told door.new) }
     ensures keeps { Keeps core.old (D.told door.old) core.new (D.told door.new) }
-    ensures course { SeatsPeer peer core.old (D.told door.old) places.old core.new (D.told door.new) places.new }
+    ensures course { SeatsPeer peer core.old (D.told door.old) places.old core.new (D.told door.new) places.new result }
 {
     let Ok(key) = core.connect() else {
-        return close(door, peer, tally);
+        close(door, peer, tally);
+        return false;
     };
     let seat = Seat { peer, key };
     // A core that lets one in has fewer connections than there are places.
     let Some(free) = first_free(places) else {
-        return let_go(core, door, &seat, tally);
+        let_go(core, door, &seat, tally);
+        return false;
     };
-    tally.open();
     places[free] = Some(seat);
+    true
 }
 
 fn first_free(places: &[Option<Seat>; PLACES]) -> Option<usize>
