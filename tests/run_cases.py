@@ -1,5 +1,7 @@
 #!/usr/bin/env python3
-"""run_cases.py PROGRAM: runs the built program over every case of cases/, over the failures of its streams, and serving.
+"""run_cases.py PROGRAM FLAT: runs the built program over every case of cases/, over the failures of its streams, and
+serving. FLAT is the program that replays over the plain keeper of rows: each case that replays a script over a
+configuration is run by it too, and has to print the same and end with the same status.
 
 A case is a folder: `args` (one word a line), `stdin`, `config.toml` where it needs one, `status`, and what is
 expected: `stdout` and `stderr` to the byte, or in `expect.json` what single connections are sent, the word that each
@@ -70,6 +72,20 @@ def run_case(folder, program):
             return fault
     expected = content("expect.json")
     return unexpected_record(done.stdout, json.loads(expected)) if expected else None
+
+
+def is_replay_over_a_configuration(folder):
+    return (folder / "args").read_text().splitlines() == ["replay", "--config", "config.toml"]
+
+
+def run_over_both(folder, program, flat):
+    """Why the two programs differ over the case, or None."""
+    script = (folder / "stdin").read_bytes()
+    done, plain = (subprocess.run(words, input=script, capture_output=True, cwd=folder, timeout=SECONDS)
+                   for words in ([program, "replay", "--config", "config.toml"], [flat]))
+    if plain.returncode != done.returncode:
+        return f"status {plain.returncode} over the plain keeper, and {done.returncode}"
+    return difference("stdout over the plain keeper", plain.stdout, done.stdout)
 
 
 def ended(done, status, text, out=b""):
@@ -162,8 +178,11 @@ STREAM_CASES = (input_past_its_limit, input_at_its_limit, input_that_cannot_be_r
 
 
 def main():
-    program = str(Path(sys.argv[1]).resolve())
-    results = [(folder.name, run_case(folder, program)) for folder in sorted(CASES.iterdir()) if folder.is_dir()]
+    program, flat = (str(Path(path).resolve()) for path in sys.argv[1:3])
+    folders = [folder for folder in sorted(CASES.iterdir()) if folder.is_dir()]
+    results = [(folder.name, run_case(folder, program)) for folder in folders]
+    results += [(f"{folder.name}, over both keepers", run_over_both(folder, program, flat)) for folder in folders
+                if is_replay_over_a_configuration(folder)]
     results += [(case.__name__.replace("_", "-"), case(program)) for case in STREAM_CASES + SERVING_CASES]
     failed = [(name, fault) for name, fault in results if fault]
     for name, fault in failed:

@@ -89,7 +89,7 @@ fn replay_input<R: Files + AllocGlobal, I: Read, W: Write>(
         Some(path) => read_layout(rt.alloc(), &read_config_file(rt, path)?)?.layout,
         None => built_in_layout(rt.alloc())?,
     };
-    replay(rt.alloc(), &layout, reader, writer)
+    replay::<Nested, I, W>(rt.alloc(), &layout, reader, writer)
 }
 
 /// The layout of a server that was given none: bus 1 with POWER alone.

@@ -12,20 +12,20 @@ use crate::output::write_whole;
 use crate::print::print;
 use crate::script::read_script;
 use srcp_core::{Event, Record, run};
-use srcp_rules::{Layout, Nested};
+use srcp_rules::{Layout, Rows};
 use std::alloc::Global;
 use std::io::{Read, Write};
 use std::vec::Vec;
 
 /// Reads a script to the end of the input, carries out its events over the registry of the layout, from moment 0 on and
 /// with session ids from 1 on, and writes what every connection was sent, which events were refused, and the rows
-/// at the end.
+/// at the end. What is written is the same over every keeper of rows.
 ///
 /// # Errors
 /// `Input` where a read fails, `TooLarge` where there is more than 16,777,216 bytes, `Script` for the script's first
 /// fault, `Memory` where a growth was refused, in the run too: nothing is written then. `Output` where a write fails or
 /// takes nothing: a front is written.
-pub fn replay<R: Read, W: Write>(
+pub fn replay<K: Rows, R: Read, W: Write>(
     alloc: Global,
     layout: &Layout,
     reader: &mut R,
@@ -37,7 +37,7 @@ pub fn replay<R: Read, W: Write>(
         result (W.contents writer.old) (W.contents writer.new) }
 {
     let events = read_events(alloc, reader)?;
-    let told = run::<Nested>(alloc, layout, &events)?;
+    let told = run::<K>(alloc, layout, &events)?;
     write_run(alloc, &told, writer)
 }
 
