@@ -1,0 +1,144 @@
+-- What the calls of a visit say was taken of a peer is what its events send.
+use Rattle.std.proofs.Common.{◌≡◌, ◌∙◌, ℕ, zero, suc, ◌≤◌, Bool, true, false, not, List, [], ◌∷◌, ◌++◌, map, take, length, if◌then◌else◌, Option, Some, None, Ok, Err, refl, ap, sym, subst, arith, append-nil, append_assoc, ◌==◌}
+use Rattle.std.specs.Prelude.{◌&&◌, filter_map, flat_map}
+use Rattle.std.specs.List.{list_all, list_any, AllByRecursion}
+use Rattle.std.proofs.lemmas.Bool.Decides.{nat_tests}
+use Rattle.std.proofs.lemmas.Grind.{flat_map-append}
+use Rattle.std.proofs.lemmas.List.{map-append}
+use Rattle.std.proofs.lemmas.List.Elements.{filter_map-append}
+use Rattle.std.proofs.lemmas.List.Sums.{fold-append}
+use Rattle.srcp_rules.specs.declared.layout.Bus.{Bus}
+use Rattle.srcp_core.specs.Course.{World, start, happens, course}
+use Rattle.srcp_core.specs.declared.event.Event.{Event}
+use Rattle.srcp_core.specs.declared.event.Event.TheVariants.{Bytes, Room, Shut}
+use Rattle.srcp_server.specs.Calls.{Call, NowCall, AcceptCall, ReadCall, WriteCall, CloseCall}
+use Rattle.srcp_server.specs.Serving.{Question, Moments, Newcomers, Reads, Writes, Closes, Seat, question, IsFair, taken, taken_in, piece_of, count_of, is_close, loses, loses_reading, lent_none_last, exchange, is_ready, is_closing, lent, handed, unless_nil, reads_of, writes_of, closes_of, visit_asks}
+use Rattle.srcp_server.proofs.Sendings.{IsSending, sending_bytes, sending_shut}
+use Rattle.srcp_server.proofs.SentLaws.{put, put_none, put_put, take_nil, sending_room}
+
+-- ---- calls by their questions
+
+abbrev pub asks_write : Question → Bool
+asks_write Moments = false
+asks_write Newcomers = false
+asks_write (Reads peer most) = false
+asks_write (Writes peer bytes) = true
+asks_write (Closes peer) = false
+
+-- calls that are no writes take nothing
+pub none_taken : (peer : ℕ) (calls : List Call) → list_all (λ q. not (asks_write q)) (map question calls) ≡ true → (filter_map count_of calls ≡ []) × (taken peer calls ≡ [])
+none_taken peer [] h = (refl, refl)
+none_taken peer (NowCall answer ∷ calls) h = none_taken peer calls h
+none_taken peer (AcceptCall answer ∷ calls) h = none_taken peer calls h
+none_taken peer (ReadCall who answer buffer ∷ calls) h = none_taken peer calls h
+none_taken peer (WriteCall who bytes answer ∷ calls) h = cc
+none_taken peer (CloseCall who answer ∷ calls) h = none_taken peer calls h
+
+-- the calls that asked the first, and those that asked the others
+pub record IsSplit (calls : List Call) (first others : List Question) : Type 0 where
+  pub xs : List Call
+  pub ys : List Call
+  pub is : calls ≡ xs ++ ys
+  pub front : map question xs ≡ first
+  pub back : map question ys ≡ others
+
+pub split : (calls : List Call) (first others : List Question) → map question calls ≡ first ++ others → IsSplit calls first others
+split calls [] others e = record { xs = []; ys = calls; is = refl; front = refl; back = e }
+split [] (q ∷ first) others e = cc
+split (call ∷ calls) (q ∷ first) others e =
+    let head : question call ≡ q = cc in
+    let tail : map question calls ≡ first ++ others = cc in
+    let more = split calls first others tail in
+    record { xs = call ∷ more.xs; ys = more.ys; is = ap (λ cs. call ∷ cs) more.is; front = ap (λ a. a ∷ map question more.xs) head ∙ ap (λ qs. q ∷ qs) more.front; back = more.back }
+
+fair_part : (xs ys : List Call) → AllByRecursion IsFair (xs ++ ys) → AllByRecursion IsFair xs × AllByRecursion IsFair ys
+fair_part [] ys h = (tt, h)
+fair_part (x ∷ xs) ys h = let more = fair_part xs ys h.1 in ((h.0, more.0), more.1)
+
+-- the first question is the first write
+record IsFirst (peer who : ℕ) (bytes now : List ℕ) (questions : List Question) (more : List (List ℕ)) : Type 0 where
+  peer_is : who ≡ peer
+  bytes_are : bytes ≡ now
+  left : ℕ
+  others : questions ≡ map (Writes peer) (take left more)
+
+first_of_writes : (peer who most : ℕ) (bytes now : List ℕ) (questions : List Question) (more : List (List ℕ)) → Writes who bytes ∷ questions ≡ map (Writes peer) (take most (unless_nil now more)) → IsFirst peer who bytes now questions more
+first_of_writes peer who zero bytes now questions more e = cc
+first_of_writes peer who (suc most) bytes [] questions more e = cc
+first_of_writes peer who (suc most) bytes (byte ∷ now) questions more e = record { peer_is = cc; bytes_are = cc; left = most; others = cc }
+
+no_write : (peer : ℕ) (q : Question) (questions : List Question) (texts : List (List ℕ)) → asks_write q ≡ false → q ∷ questions ≡ map (Writes peer) texts → ⊥
+no_write peer q questions [] h e = cc
+no_write peer q questions (text ∷ texts) h e = let same : q ≡ Writes peer text = cc in let t : asks_write q ≡ true = ap asks_write same in cc
+
+module _ (buses : List Bus) (peer conn : ℕ) where
+  abbrev Sends : List (List ℕ) → List Event → Type 0
+  Sends texts events = IsSending texts (course buses events).connections
+
+  sends_bytes : (texts : List (List ℕ)) (events : List Event) (pieces : List (List ℕ)) → Sends texts events → Sends texts (events ++ map (Bytes conn) pieces)
+  sends_bytes texts events [] a = subst (λ (all : List Event). Sends texts all) (sym (append-nil events)) a
+  sends_bytes texts events (piece ∷ pieces) a =
+      let one : Sends texts (events ++ Bytes conn piece ∷ []) =
+      subst (λ (v : World). IsSending texts v.connections) (sym (fold-append (happens buses) start events (Bytes conn piece ∷ []))) (sending_bytes buses conn texts piece (course buses events) a) in
+      subst (λ (all : List Event). Sends texts all) (append_assoc events (Bytes conn piece ∷ []) (map (Bytes conn) pieces)) (sends_bytes texts (events ++ Bytes conn piece ∷ []) pieces one)
+
+  -- what a number of writes does
+  abbrev WritesSend : List Call → Type 0
+  WritesSend calls = (most : ℕ) (events : List Event) (texts : List (List ℕ)) → map question calls ≡ map (Writes peer) (take most (handed buses conn events (filter_map count_of calls))) → Sends texts events
+      → Sends (put conn (taken peer calls) texts) (events ++ map (Room conn) (filter_map count_of calls))
+
+  then_sends : (calls : List Call) → WritesSend calls → (most count : ℕ) (events : List Event) (texts : List (List ℕ)) → count ≤ length (lent buses conn events)
+      → map question calls ≡ map (Writes peer) (take most (if count == length (lent buses conn events) then handed buses conn (events ++ Room conn count ∷ []) (filter_map count_of calls) else [])) → Sends texts events
+      → Sends (put conn (take count (lent buses conn events) ++ taken peer calls) texts) (events ++ (Room conn count ∷ map (Room conn) (filter_map count_of calls)))
+  then_sends calls ih most count events texts h e a =
+      let now : List ℕ = lent buses conn events in
+      let counts : List ℕ = filter_map count_of calls in
+      let next : List Event = events ++ Room conn count ∷ [] in
+      let one = sending_room buses events conn count texts h a in
+      let all : Sends (put conn (taken peer calls) (put conn (take count now) texts)) (next ++ map (Room conn) counts) = by (count == length now) e one in
+      subst (λ (ts : List (List ℕ)). Sends ts (events ++ (Room conn count ∷ map (Room conn) counts))) (put_put conn (take count now) (taken peer calls) texts)
+      (subst (λ (es : List Event). Sends (put conn (taken peer calls) (put conn (take count now) texts)) es) (append_assoc events (Room conn count ∷ []) (map (Room conn) counts)) all)
+    where
+      by : (b : Bool) → map question calls ≡ map (Writes peer) (take most (if b then handed buses conn (events ++ Room conn count ∷ []) (filter_map count_of calls) else [])) → Sends (put conn (take count (lent buses conn events)) texts) (events ++ Room conn count ∷ [])
+          → Sends (put conn (taken peer calls) (put conn (take count (lent buses conn events)) texts)) ((events ++ Room conn count ∷ []) ++ map (Room conn) (filter_map count_of calls))
+      by true e one = ih most (events ++ Room conn count ∷ []) (put conn (take count (lent buses conn events)) texts) e one
+      by false e one = ih 0 (events ++ Room conn count ∷ []) (put conn (take count (lent buses conn events)) texts) (e ∙ ap (map (Writes peer)) (none most)) one
+        where
+          none : (n : ℕ) → take {A = List ℕ} n [] ≡ []
+          none zero = refl
+          none (suc n) = refl
+
+  taken_here : (who count : ℕ) (bytes now : List ℕ) → who ≡ peer → bytes ≡ now → (if who == peer then take count bytes else []) ≡ take count now
+  taken_here who count bytes now p b =
+      let own : (who == peer) ≡ true = grind (arith, nat_tests) in
+      ap (λ t. if t then take count bytes else []) own ∙ ap (take count) b
+
+  pub sending_writes : (calls : List Call) → AllByRecursion IsFair calls → WritesSend calls
+  sending_writes [] fair most events texts e a =
+      subst (λ (ts : List (List ℕ)). Sends ts (events ++ [])) (sym (put_none conn texts)) (subst (λ (all : List Event). Sends texts all) (sym (append-nil events)) a)
+  sending_writes (NowCall answer ∷ calls) fair most events texts e a = absurd (no_write peer Moments (map question calls) _ refl e)
+  sending_writes (AcceptCall answer ∷ calls) fair most events texts e a = absurd (no_write peer Newcomers (map question calls) _ refl e)
+  sending_writes (ReadCall who answer buffer ∷ calls) fair most events texts e a = absurd (no_write peer (Reads who (length buffer)) (map question calls) _ refl e)
+  sending_writes (CloseCall who answer ∷ calls) fair most events texts e a = absurd (no_write peer (Closes who) (map question calls) _ refl e)
+  sending_writes (WriteCall who bytes (Ok count) ∷ calls) fair most events texts e a =
+      let now : List ℕ = lent buses conn events in
+      let counts : List ℕ = filter_map count_of calls in
+      let f = first_of_writes peer who most bytes now (map question calls) (if count == length now then handed buses conn (events ++ Room conn count ∷ []) counts else []) e in
+      let fits : count ≤ length now = subst (λ (l : List ℕ). count ≤ length l) f.bytes_are fair.0 in
+      subst (λ (t : List ℕ). Sends (put conn (t ++ taken peer calls) texts) (events ++ (Room conn count ∷ map (Room conn) counts))) (sym (taken_here who count bytes now f.peer_is f.bytes_are))
+      (then_sends calls (sending_writes calls fair.1) f.left count events texts fits f.others a)
+  sending_writes (WriteCall who bytes (Err failed) ∷ calls) fair most events texts e a =
+      let now : List ℕ = lent buses conn events in
+      let counts : List ℕ = filter_map count_of calls in
+      let f = first_of_writes peer who most bytes now (map question calls) (if 0 == length now then handed buses conn (events ++ Room conn 0 ∷ []) counts else []) e in
+      then_sends calls (sending_writes calls fair.1) f.left 0 events texts (omega arith) f.others a
+
+  -- ---- a whole visit
+
+  last_room : (events : List Event) (texts : List (List ℕ)) (b : Bool) → Sends texts events → Sends texts (events ++ map (Room conn) (if b then 0 ∷ [] else []))
+  last_room events texts true a = subst (λ (ts : List (List ℕ)). Sends ts (events ++ Room conn 0 ∷ [])) (put_none conn texts) (sending_room buses events conn 0 texts (omega arith) a)
+  last_room events texts false a = subst (λ (all : List Event). Sends texts all) (sym (append-nil events)) a
+
+  last_shut : (events : List Event) (texts : List (List ℕ)) (b : Bool) → Sends texts events → Sends texts (events ++ (if b then Shut conn ∷ [] else []))
+  last_shut events texts true a = subst (λ (v : World). IsSending texts v.connections) (sym (fold-append (happens buses) start events (Shut conn ∷ []))) (sending_shut buses conn texts (course buses events) a)
+  last_shut events texts false a = subst (λ (all : List Event). Sends texts all) (sym (append-nil events)) a
