@@ -1,6 +1,6 @@
 -- What the calls of a visit say was taken of a peer is what its events send.
 use Rattle.std.proofs.Common.{◌≡◌, ◌∙◌, ℕ, zero, suc, ◌≤◌, Bool, true, false, not, List, [], ◌∷◌, ◌++◌, map, take, length, if◌then◌else◌, Option, Some, None, Ok, Err, refl, ap, sym, subst, arith, append-nil, append_assoc, ◌==◌}
-use Rattle.std.specs.Prelude.{◌&&◌, filter_map, flat_map}
+use Rattle.std.specs.Prelude.{◌&&◌, ◌||◌, filter_map, flat_map}
 use Rattle.std.specs.List.{list_all, list_any, AllByRecursion}
 use Rattle.std.proofs.lemmas.Bool.Decides.{nat_tests}
 use Rattle.std.proofs.lemmas.Grind.{flat_map-append}
@@ -142,3 +142,91 @@ module _ (buses : List Bus) (peer conn : ℕ) where
   last_shut : (events : List Event) (texts : List (List ℕ)) (b : Bool) → Sends texts events → Sends texts (events ++ (if b then Shut conn ∷ [] else []))
   last_shut events texts true a = subst (λ (v : World). IsSending texts v.connections) (sym (fold-append (happens buses) start events (Shut conn ∷ []))) (sending_shut buses conn texts (course buses events) a)
   last_shut events texts false a = subst (λ (all : List Event). Sends texts all) (sym (append-nil events)) a
+
+-- what a visit makes happen
+abbrev pub made_of : ℕ → List Call → List Event
+made_of conn calls = exchange conn calls ++ (if list_any is_close calls then Shut conn ∷ [] else [])
+
+abbrev no_writes : List Question → Bool
+no_writes questions = list_all (λ q. not (asks_write q)) questions
+
+module _ (buses : List Bus) (seat : Seat) (events : List Event) (calls : List Call) where
+  abbrev read_events : List Event
+  read_events = events ++ map (Bytes seat.conn) (filter_map piece_of calls)
+
+  abbrev writes_asked : List Question
+  writes_asked = writes_of buses events calls seat
+
+  abbrev closes_asked : List Question
+  closes_asked = closes_of buses events calls seat
+
+  reads_none : no_writes (reads_of buses events seat) ≡ true
+  reads_none = elim (is_ready buses seat.conn events) as (λ b. no_writes (if b then Reads seat.peer 256 ∷ [] else []) ≡ true) [ true ↦ refl | false ↦ refl ]
+
+  closes_none : no_writes closes_asked ≡ true
+  closes_none = elim (list_any loses calls || is_closing buses seat.conn (events ++ exchange seat.conn calls)) as (λ b. no_writes (if b then Closes seat.peer ∷ [] else []) ≡ true) [ true ↦ refl | false ↦ refl ]
+
+  -- the writes among the calls
+  record HasWrites : Type 0 where
+    writes : List Call
+    asked : map question writes ≡ writes_asked
+    fair : AllByRecursion IsFair writes
+    counts : filter_map count_of calls ≡ filter_map count_of writes
+    took : taken seat.peer calls ≡ taken seat.peer writes
+
+  has_writes : map question calls ≡ visit_asks buses events calls seat → AllByRecursion IsFair calls → HasWrites
+  has_writes e fair =
+      let s = split calls (reads_of buses events seat) (writes_asked ++ closes_asked) (e ∙ append_assoc (reads_of buses events seat) writes_asked closes_asked) in
+      let t = split s.ys writes_asked closes_asked s.back in
+      let reads = none_taken seat.peer s.xs (ap no_writes s.front ∙ reads_none) in
+      let closes = none_taken seat.peer t.ys (ap no_writes t.back ∙ closes_none) in
+      record {
+        writes = t.xs;
+        asked = t.front;
+        fair = (fair_part t.xs t.ys (subst (λ (cs : List Call). AllByRecursion IsFair cs) t.is (fair_part s.xs s.ys (subst (λ (cs : List Call). AllByRecursion IsFair cs) s.is fair)).1)).0;
+        counts = ap (filter_map count_of) s.is
+            ∙ filter_map-append count_of s.xs s.ys
+            ∙ ap (λ cs. cs ++ filter_map count_of s.ys) reads.0
+            ∙ ap (filter_map count_of) t.is
+            ∙ filter_map-append count_of t.xs t.ys
+            ∙ ap (λ cs. filter_map count_of t.xs ++ cs) closes.0
+            ∙ append-nil (filter_map count_of t.xs);
+        took = ap (taken seat.peer) s.is
+            ∙ flat_map-append (taken_in seat.peer) s.xs s.ys
+            ∙ ap (λ cs. cs ++ taken seat.peer s.ys) reads.1
+            ∙ ap (taken seat.peer) t.is
+            ∙ flat_map-append (taken_in seat.peer) t.xs t.ys
+            ∙ ap (λ cs. taken seat.peer t.xs ++ cs) closes.1
+            ∙ append-nil (taken seat.peer t.xs);
+      }
+
+  joined : (room : List ℕ) (shut : List Event) → ((read_events ++ map (Room seat.conn) (filter_map count_of calls)) ++ map (Room seat.conn) room) ++ shut
+      ≡ events ++ ((map (Bytes seat.conn) (filter_map piece_of calls) ++ map (Room seat.conn) (filter_map count_of calls ++ room)) ++ shut)
+  joined room shut =
+      let b : List Event = map (Bytes seat.conn) (filter_map piece_of calls) in
+      let r : List Event = map (Room seat.conn) (filter_map count_of calls) in
+      let l : List Event = map (Room seat.conn) room in
+      ap (λ es. es ++ shut) (append_assoc (events ++ b) r l ∙ append_assoc events b (r ++ l) ∙ ap (λ es. events ++ (b ++ es)) (sym (map-append (Room seat.conn) (filter_map count_of calls) room)))
+      ∙ append_assoc events (b ++ map (Room seat.conn) (filter_map count_of calls ++ room)) shut
+
+  -- what the calls of a visit say was taken is sent
+  pub sending_visit : (texts : List (List ℕ)) → map question calls ≡ visit_asks buses events calls seat → AllByRecursion IsFair calls → IsSending texts (course buses events).connections
+      → IsSending (put seat.conn (taken seat.peer calls) texts) (course buses (events ++ made_of seat.conn calls)).connections
+  sending_visit texts e fair a =
+      let h = has_writes e fair in
+      let now : List (List ℕ) = put seat.conn (taken seat.peer calls) texts in
+      let wrote = by h (list_any loses_reading calls) h.asked in
+      let wrote' : IsSending now (course buses (read_events ++ map (Room seat.conn) (filter_map count_of calls))).connections =
+      subst (λ (t : List ℕ). IsSending (put seat.conn t texts) (course buses (read_events ++ map (Room seat.conn) (filter_map count_of calls))).connections) (sym h.took)
+      (subst (λ (cs : List ℕ). IsSending (put seat.conn (taken seat.peer h.writes) texts) (course buses (read_events ++ map (Room seat.conn) cs)).connections) (sym h.counts) wrote) in
+      let room : List ℕ = if lent_none_last calls then 0 ∷ [] else [] in
+      let roomed = last_room buses seat.peer seat.conn (read_events ++ map (Room seat.conn) (filter_map count_of calls)) now (lent_none_last calls) wrote' in
+      let shut = last_shut buses seat.peer seat.conn ((read_events ++ map (Room seat.conn) (filter_map count_of calls)) ++ map (Room seat.conn) room) now (list_any is_close calls) roomed in
+      subst (λ (es : List Event). IsSending now (course buses es).connections) (joined room (if list_any is_close calls then Shut seat.conn ∷ [] else [])) shut
+    where
+      by : (h : HasWrites) (b : Bool) → map question h.writes ≡ (if b then [] else map (Writes seat.peer) (take 300 (handed buses seat.conn read_events (filter_map count_of calls))))
+          → IsSending (put seat.conn (taken seat.peer h.writes) texts) (course buses (read_events ++ map (Room seat.conn) (filter_map count_of h.writes))).connections
+      by h true q = sending_writes buses seat.peer seat.conn h.writes h.fair 0 read_events texts q (sends_bytes buses seat.peer seat.conn texts events (filter_map piece_of calls) a)
+      by h false q =
+          sending_writes buses seat.peer seat.conn h.writes h.fair 300 read_events texts (q ∙ ap (λ cs. map (Writes seat.peer) (take 300 (handed buses seat.conn read_events cs))) h.counts)
+          (sends_bytes buses seat.peer seat.conn texts events (filter_map piece_of calls) a)
