@@ -38,7 +38,7 @@ none_of peer who bytes (Ok count) e = ap (λ b. if b then take count bytes else 
 none_of peer who bytes (Err failed) e = refl
 
 -- what is taken of a peer, its own calls say
-taken_visit : (peer : ℕ) (calls : List Call) → taken peer (filter (is_about peer) calls) ≡ taken peer calls
+pub taken_visit : (peer : ℕ) (calls : List Call) → taken peer (filter (is_about peer) calls) ≡ taken peer calls
 taken_visit peer [] = refl
 taken_visit peer (NowCall answer ∷ calls) = taken_visit peer calls
 taken_visit peer (AcceptCall answer ∷ calls) = taken_visit peer calls
