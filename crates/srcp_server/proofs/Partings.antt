@@ -198,7 +198,7 @@ module _ (buses : List Bus) where
   no_moments [] h = tt
   no_moments (q ∷ questions) h = (no_moment q h.0, no_moments questions h.1)
 
-  away_peers : (events : List Event) (peers : List ℕ) → AreOfPeers (flat_map (turns_away buses events) peers)
+  pub away_peers : (events : List Event) (peers : List ℕ) → AreOfPeers (flat_map (turns_away buses events) peers)
   away_peers events [] = tt
   away_peers events (peer ∷ peers) =
       all_append (λ q. asks_peer q ≡ true) (turns_away buses events peer) (flat_map (turns_away buses events) peers)
