@@ -1,0 +1,247 @@
+-- What the events but room leave of what the connections were sent.
+use Rattle.std.proofs.Common.{◌≡◌, ◌∙◌, ℕ, zero, suc, ◌≤◌, Bool, true, false, List, [], ◌∷◌, ◌++◌, map, take, length, if◌then◌else◌, Option, Some, None, option_map, Result, Ok, Err, refl, ap, sym, subst, arith, append-nil, length-append}
+use Rattle.std.specs.Prelude.{◌+◌, ◌||◌, ◌==◌, fold, nat_lt, codes, ◌&&◌}
+use Rattle.std.specs.List.{AllByRecursion}
+use Rattle.std.proofs.lemmas.List.{take-append-le}
+use Rattle.std.proofs.lemmas.Option.{same_Some}
+use Rattle.srcp_info.specs.Line.{reply_line}
+use Rattle.srcp_info.specs.declared.change.Code.{Code}
+use Rattle.srcp_info.specs.declared.change.Code.TheVariants.{C400, C401, C402, C410, C418, C500}
+use Rattle.srcp_info.specs.declared.change.Reply.{Reply}
+use Rattle.srcp_info.specs.declared.change.Reply.TheVariants.{Protocol, Mode as ModeReply, Go, Refused}
+use Rattle.srcp_info.specs.declared.value.Mode.{Mode}
+use Rattle.srcp_info.specs.declared.value.Mode.TheVariants.{Command as CommandMode, Info}
+use Rattle.srcp_rules.specs.declared.layout.Bus.{Bus}
+use Rattle.srcp_rules.specs.declared.command.Command.{Command}
+use Rattle.srcp_rules.specs.Effect.{Effect, effect}
+use Rattle.srcp_text.specs.Marks.{Mark, Line, TooLong}
+use Rattle.srcp_text.specs.Words.{words_of, is_keyword}
+use Rattle.srcp_core.specs.Connection.{Connection, given, sent, text}
+use Rattle.srcp_core.specs.Course.{World, fresh, numbered, with_numbered, open_connection, at_connection, did, replied, counted, is_info, state, entered, goes, greeted, ended, obeyed, commanded, answered_as, answered, command_of, fault, new_marks, fed_to, shut_as, or_refused, happens}
+use Rattle.srcp_core.specs.Handshake.{is_version, greets_protocol, greets_mode, greets_words, greets}
+use Rattle.srcp_core.specs.declared.event.Event.TheVariants.{Open, Bytes, At, Shut}
+use Rattle.srcp_core.specs.declared.record.CoreFault.{CoreFault}
+use Rattle.srcp_core.specs.declared.record.Step.TheVariants.{Obeyed, Began, Ended}
+use Rattle.srcp_core.proofs.Slow.{numbered_with}
+use Rattle.srcp_core.proofs.Worlds.{all_numbered, all_push, opened}
+
+-- it was given no line unless it is an information session, and no more was taken of it than it was given
+pub record IsSteady (conn : Connection) : Type 0 where
+  pub plain : conn.info ≡ false → conn.items ≡ []
+  pub within : conn.taken ≤ length (given conn)
+
+-- these bytes were sent of each
+pub record IsSending (texts : List (List ℕ)) (conns : List Connection) : Type 0 where
+  pub steady : AllByRecursion IsSteady conns
+  pub sends : map sent conns ≡ texts
+
+-- it may have been given more replies
+record IsGrown (c d : Connection) : Type 0 where
+  items : d.items ≡ c.items
+  taken : d.taken ≡ c.taken
+  more : List ℕ
+  out : d.out ≡ c.out ++ more
+
+-- so they are, and that one was given no line
+record IsQuiet (n : ℕ) (texts : List (List ℕ)) (conns : List Connection) : Type 0 where
+  sending : IsSending texts conns
+  none : (conn : Connection) → numbered n conns ≡ Some conn → conn.items ≡ []
+
+pub steady_at : (n : ℕ) (conns : List Connection) (conn : Connection) → numbered n conns ≡ Some conn → AllByRecursion IsSteady conns → IsSteady conn
+steady_at zero conns conn e a = cc
+steady_at (suc n) [] conn e a = cc
+steady_at (suc zero) (c ∷ conns) conn e a = subst IsSteady (same_Some c conn e) a.0
+steady_at (suc (suc n)) (c ∷ conns) conn e a = steady_at (suc n) conns conn e a.1
+
+sent_with : (n : ℕ) (f : Connection → Connection) (conns : List Connection) → ((conn : Connection) → numbered n conns ≡ Some conn → IsSteady conn → sent (f conn) ≡ sent conn) → AllByRecursion IsSteady conns
+    → map sent (with_numbered n f conns) ≡ map sent conns
+sent_with n f [] h a = refl
+sent_with zero f (c ∷ conns) h a = refl
+sent_with (suc zero) f (c ∷ conns) h a = ap (λ t. t ∷ map sent conns) (h c refl a.0)
+sent_with (suc (suc n)) f (c ∷ conns) h a = ap (λ ts. sent c ∷ ts) (sent_with (suc n) f conns h a.1)
+
+sending_with : (n : ℕ) (f : Connection → Connection) (texts : List (List ℕ)) (conns : List Connection) → ((conn : Connection) → numbered n conns ≡ Some conn → IsSteady conn → IsSteady (f conn) × (sent (f conn) ≡ sent conn))
+    → IsSending texts conns → IsSending texts (with_numbered n f conns)
+sending_with n f texts conns h a = record {
+  steady = all_numbered IsSteady n f conns (λ conn e s. (h conn e s).0) a.steady;
+  sends = sent_with n f conns (λ conn e s. (h conn e s).1) a.steady ∙ a.sends;
+}
+
+grown_sent : (c d : Connection) → IsGrown c d → c.items ≡ [] → IsSteady c → IsSteady d × (sent d ≡ sent c)
+grown_sent c d g i s =
+    let none : d.items ≡ [] = g.items ∙ i in
+    let before : given c ≡ c.out = ap (λ is. c.out ++ text is) i ∙ append-nil c.out in
+    let now : given d ≡ c.out ++ g.more = ap (λ is. d.out ++ text is) none ∙ append-nil d.out ∙ g.out in
+    let low : c.taken ≤ length c.out = subst (λ (l : List ℕ). c.taken ≤ length l) before s.within in
+    let size = length-append c.out g.more in
+    let whole = ap length now in
+    let taken = g.taken in
+    let fits : d.taken ≤ length (given d) = omega (arith, low, size, whole, taken) in (
+      record { plain = λ h. none; within = fits },
+      ap (λ k. take k (given d)) g.taken ∙ ap (take c.taken) now ∙ take-append-le c.taken c.out g.more low ∙ ap (take c.taken) (sym before),
+    )
+
+quiet_with : (n : ℕ) (f : Connection → Connection) (texts : List (List ℕ)) (conns : List Connection) → ((conn : Connection) → IsGrown conn (f conn)) → IsQuiet n texts conns → IsQuiet n texts (with_numbered n f conns)
+quiet_with n f texts conns h q = record {
+  sending = sending_with n f texts conns (λ conn e s. grown_sent conn (f conn) (h conn) (q.none conn e) s) q.sending;
+  none = λ conn e. by (numbered n conns) refl conn (sym (numbered_with n f conns) ∙ e);
+}
+  where
+    by : (o : Option Connection) → numbered n conns ≡ o → (conn : Connection) → option_map f (numbered n conns) ≡ Some conn → conn.items ≡ []
+    by None t conn e = let no : option_map f None ≡ Some conn = ap (option_map f) (sym t) ∙ e in cc
+    by (Some c) t conn e =
+        let is : Some (f c) ≡ Some conn = ap (option_map f) (sym t) ∙ e in
+        ap (λ (x : Connection). x.items) (sym (same_Some (f c) conn is)) ∙ (h c).items ∙ q.none c t
+
+module _ (buses : List Bus) (n : ℕ) (texts : List (List ℕ)) where
+  abbrev Quiet : World → Type 0
+  Quiet w = IsQuiet n texts w.connections
+
+  abbrev Sending : World → Type 0
+  Sending w = IsSending texts w.connections
+
+  quiet_replied : (reply : Reply) (w : World) → Quiet w → Quiet (replied n reply w)
+  quiet_replied reply w q = quiet_with n (λ conn. record conn { out = conn.out ++ reply_line w.moment reply }) texts w.connections (λ conn. record { items = refl; taken = refl; more = reply_line w.moment reply; out = refl }) q
+
+  quiet_goes : (mode : Mode) (w : World) → Quiet w → Quiet (goes buses n mode w)
+  quiet_goes mode w q =
+      let id : ℕ = w.last_id + 1 in
+      let begun : World = did (Began id w.moment mode) (record w { last_id = id }) in
+      elim (nat_lt w.last_id 4294967295) as (λ t. Quiet (if t then replied n (Go id) (entered buses n id begun) else replied n (Refused C500) w)) [
+        | true ↦ quiet_replied (Go id) (entered buses n id begun)
+            (quiet_with n (λ conn. record conn { session = id; info = is_info conn.mode; go_step = length begun.steps }) texts w.connections (λ conn. record { items = refl; taken = refl; more = []; out = sym (append-nil conn.out) }) q)
+        | false ↦ quiet_replied (Refused C500) w q
+      ]
+
+  quiet_chosen : (mode : Mode) (w : World) → Quiet w → Quiet (replied n ModeReply (at_connection n (λ conn. record conn { mode = mode }) w))
+  quiet_chosen mode w q =
+      quiet_replied ModeReply (at_connection n (λ conn. record conn { mode = mode }) w)
+      (quiet_with n (λ conn. record conn { mode = mode }) texts w.connections (λ conn. record { items = refl; taken = refl; more = []; out = sym (append-nil conn.out) }) q)
+
+  module _ (mode : Mode) (w : World) (q : Quiet w) where
+    refuses : (code : Code) → Quiet (replied n (Refused code) w)
+    refuses code = quiet_replied (Refused code) w q
+
+    quiet_protocol : (words : List (List ℕ)) → Quiet (greeted buses n mode (greets_protocol words) w)
+    quiet_protocol [] = refuses C402
+    quiet_protocol (name ∷ []) = refuses C402
+    quiet_protocol (name ∷ version ∷ []) = by (is_keyword (codes "SRCP") name && is_version version) refl
+      where
+        by : (b : Bool) → is_keyword (codes "SRCP") name && is_version version ≡ b → Quiet (greeted buses n mode (greets_protocol (name ∷ version ∷ [])) w)
+        by true e = rw e (quiet_replied Protocol w q)
+        by false e = rw e (refuses C400)
+    quiet_protocol (name ∷ version ∷ more ∷ words) = refuses C410
+
+    quiet_mode : (words : List (List ℕ)) → Quiet (greeted buses n mode (greets_mode words) w)
+    quiet_mode [] = refuses C402
+    quiet_mode (name ∷ []) = refuses C402
+    quiet_mode (name ∷ word ∷ []) = by (is_keyword (codes "SRCP") name) (is_keyword (codes "COMMAND") word) (is_keyword (codes "INFO") word) refl refl refl
+      where
+        by : (a b c : Bool) → is_keyword (codes "SRCP") name ≡ a → is_keyword (codes "COMMAND") word ≡ b → is_keyword (codes "INFO") word ≡ c → Quiet (greeted buses n mode (greets_mode (name ∷ word ∷ [])) w)
+        by false b c d e f = rw d (refuses C401)
+        by true true c d e f = rw (d, e) (quiet_chosen CommandMode w q)
+        by true false true d e f = rw (d, e, f) (quiet_chosen Info w q)
+        by true false false d e f = rw (d, e, f) (refuses C401)
+    quiet_mode (name ∷ word ∷ more ∷ words) = refuses C410
+
+    quiet_words : (words : List (List ℕ)) → Quiet (greeted buses n mode (greets_words words) w)
+    quiet_words [] = refuses C410
+    quiet_words (word ∷ []) = by (is_keyword (codes "GO") word) refl
+      where
+        by : (b : Bool) → is_keyword (codes "GO") word ≡ b → Quiet (greeted buses n mode (greets_words (word ∷ [])) w)
+        by true e = rw e (quiet_goes mode w q)
+        by false e = rw e (refuses C410)
+    quiet_words (word ∷ what ∷ words) = by (is_keyword (codes "SET") word) (is_keyword (codes "PROTOCOL") what) (is_keyword (codes "CONNECTIONMODE") what) refl refl refl
+      where
+        by : (a b c : Bool) → is_keyword (codes "SET") word ≡ a → is_keyword (codes "PROTOCOL") what ≡ b → is_keyword (codes "CONNECTIONMODE") what ≡ c → Quiet (greeted buses n mode (greets_words (word ∷ what ∷ words)) w)
+        by false b c d e f = rw d (refuses C410)
+        by true true c d e f = rw (d, e) (quiet_protocol words)
+        by true false true d e f = rw (d, e, f) (quiet_mode words)
+        by true false false d e f = rw (d, e, f) (refuses C410)
+
+    quiet_greeted : (mark : Mark) → Quiet (greeted buses n mode (greets mark) w)
+    quiet_greeted TooLong = refuses C418
+    quiet_greeted (Line text) = quiet_words (words_of text)
+
+  quiet_obeyed : (session : ℕ) (command : Command) (result : Effect) (w : World) → Quiet w → Quiet (obeyed buses n session command result w)
+  quiet_obeyed session command result w q =
+      let once : World = replied n result.reply (did (Obeyed session w.moment command) w) in
+      let still : Quiet once = quiet_replied result.reply (did (Obeyed session w.moment command) w) q in
+      elim result.ends as (λ t. Quiet (if t then ended buses n session once else once)) [
+        | true ↦ quiet_with n (λ conn. record conn { ended = true }) texts once.connections (λ conn. record { items = refl; taken = refl; more = []; out = sym (append-nil conn.out) }) still
+        | false ↦ still
+      ]
+
+  quiet_commanded : (session : ℕ) (command : Result Command Code) (w : World) → Quiet w → Quiet (commanded buses n session command w)
+  quiet_commanded session (Err code) w q = quiet_replied (Refused code) w q
+  quiet_commanded session (Ok command) w q = quiet_obeyed session command (effect (state buses w) session w.moment command) w q
+
+  sending_answered_as : (o : Option Connection) (mark : Mark) (w : World) → ((conn : Connection) → o ≡ Some conn → numbered n w.connections ≡ Some conn) → Sending w → Sending (answered_as buses n o mark w)
+  sending_answered_as None mark w f a = a
+  sending_answered_as (Some conn) mark w f a = by conn.info refl
+    where
+      quiet : conn.info ≡ false → Quiet w
+      quiet e = record {
+        sending = a;
+        none = λ c t. ap (λ (x : Connection). x.items) (same_Some c conn (sym t ∙ f conn refl)) ∙ (steady_at n w.connections conn (f conn refl) a.steady).plain e;
+      }
+
+      by : (t : Bool) → conn.info ≡ t → Sending (if t || conn.ended then w else (if conn.session == 0 then greeted buses n conn.mode (greets mark) w else commanded buses n conn.session (command_of buses mark) w))
+      by true e = a
+      by false e = elim conn.ended as (λ t. Sending (if t then w else (if conn.session == 0 then greeted buses n conn.mode (greets mark) w else commanded buses n conn.session (command_of buses mark) w))) [
+        | true ↦ a
+        | false ↦ elim (conn.session == 0) as (λ t. Sending (if t then greeted buses n conn.mode (greets mark) w else commanded buses n conn.session (command_of buses mark) w)) [
+          | true ↦ (quiet_greeted conn.mode w (quiet e) mark).sending
+          | false ↦ (quiet_commanded conn.session (command_of buses mark) w (quiet e)).sending
+        ]
+      ]
+
+  sending_marks : (marks : List Mark) (w : World) → Sending w → Sending (fold (answered buses n) w marks)
+  sending_marks [] w a = a
+  sending_marks (mark ∷ marks) w a = sending_marks marks (answered buses n w mark) (sending_answered_as (open_connection w n) mark w (λ conn e. (opened (numbered n w.connections) conn e).0) a)
+
+  sending_fed : (piece : List ℕ) (o : Option Connection) (w : World) → Sending w → Sending (fed_to buses n piece o w)
+  sending_fed piece None w a = a
+  sending_fed piece (Some conn) w a =
+      sending_marks (new_marks buses conn.fed piece) (at_connection n (λ c. record c { fed = c.fed ++ piece }) w)
+      (sending_with n (λ c. record c { fed = c.fed ++ piece }) texts w.connections (λ c e s. (record { plain = s.plain; within = s.within }, refl)) a)
+
+  sending_shut_as : (o : Option Connection) (w : World) → Sending w → Sending (shut_as buses n o w)
+  sending_shut_as None w a = a
+  sending_shut_as (Some conn) w a =
+      let f : Connection → Connection = λ c. record c { shut = Some (length w.steps) } in
+      let once : Sending (at_connection n f w) = sending_with n f texts w.connections (λ c e s. (record { plain = s.plain; within = s.within }, refl)) a in
+      elim ((conn.session == 0) || conn.ended) as (λ t. Sending (if t then at_connection n f w else did (Ended conn.session w.moment) (at_connection n f w))) [ true ↦ once | false ↦ once ]
+
+  pub sending_bytes : (piece : List ℕ) (w : World) → Sending w → Sending (happens buses w (Bytes n piece))
+  sending_bytes piece w a =
+      elim (fault buses (counted w) (Bytes n piece)) as (λ o. Sending (or_refused buses o (Bytes n piece) (counted w))) [
+        | None ↦ sending_fed piece (open_connection (counted w) n) (counted w) a
+        | Some cause ↦ a
+      ]
+
+  pub sending_shut : (w : World) → Sending w → Sending (happens buses w (Shut n))
+  sending_shut w a =
+      elim (fault buses (counted w) (Shut n)) as (λ o. Sending (or_refused buses o (Shut n) (counted w))) [
+        | None ↦ sending_shut_as (open_connection (counted w) n) (counted w) a
+        | Some cause ↦ a
+      ]
+
+sent_push : (conns : List Connection) (conn : Connection) → map sent (conns ++ conn ∷ []) ≡ map sent conns ++ sent conn ∷ []
+sent_push [] conn = refl
+sent_push (c ∷ conns) conn = ap (λ ts. sent c ∷ ts) (sent_push conns conn)
+
+module _ (buses : List Bus) (texts : List (List ℕ)) where
+  pub sending_moment : (moment : ℕ) (w : World) → IsSending texts w.connections → IsSending texts (happens buses w (At moment)).connections
+  sending_moment moment w a = a
+
+  -- a connection more was sent nothing
+  pub sending_opened : (w : World) → IsSending texts w.connections → fault buses w Open ≡ None → IsSending (texts ++ [] ∷ []) (happens buses w Open).connections
+  sending_opened w a e =
+      let more : AllByRecursion IsSteady (w.connections ++ fresh ∷ []) = all_push IsSteady w.connections fresh a.steady (record { plain = λ h. refl; within = omega arith }) in
+      let one : IsSending (texts ++ [] ∷ []) (w.connections ++ fresh ∷ []) = record { steady = more; sends = sent_push w.connections fresh ∙ ap (λ ts. ts ++ [] ∷ []) a.sends } in
+      subst (λ (o : Option CoreFault). IsSending (texts ++ [] ∷ []) (or_refused buses o Open (counted w)).connections) (sym e) one
+
+  -- one that is not accepted changes nothing
+  pub sending_refused : (w : World) (cause : CoreFault) → IsSending texts w.connections → fault buses w Open ≡ Some cause → IsSending texts (happens buses w Open).connections
+  sending_refused w cause a e = subst (λ (o : Option CoreFault). IsSending texts (or_refused buses o Open (counted w)).connections) (sym e) a
