@@ -51,7 +51,7 @@ impl<C: Clock + Drop> SocketDoor<C> {
     }
 
     /// The port that it listens on.
-    pub fn port(&self) -> io::Result<u16> {
+    pub(crate) fn port(&self) -> io::Result<u16> {
         self.sockets.port()
     }
 
