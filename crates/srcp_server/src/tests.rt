@@ -5,6 +5,7 @@ mod keepers;
 mod loopback;
 mod script_door;
 mod serving;
+mod told_turns;
 
 use crate::input::read_input;
 use crate::output::write_whole;

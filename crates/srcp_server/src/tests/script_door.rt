@@ -4,7 +4,9 @@ ghost use Rattle.std.specs.Prelude.{◌≡◌, ◌<◌, ◌≤◌, ℕ, Ok, OnOk
 ghost use Rattle.srcp_server.specs.declared.door.Got.{Got};
 ghost use Rattle.srcp_server.specs.Calls.{one_more};
 
+use super::told_turns::{Answer, ToldTurns};
 use crate::{Door, DoorFault, Got};
+use srcp_core::Event;
 use std::alloc::{AllocError, Global};
 use std::vec::Vec;
 
@@ -73,6 +75,7 @@ pub(super) struct ScriptDoor<'a> {
     arrived: u32,
     pub calls: u32,
     faults: u64,
+    told: ToldTurns,
 }
 
 impl<'a> ScriptDoor<'a> {
@@ -84,6 +87,7 @@ impl<'a> ScriptDoor<'a> {
             arrived: 0,
             calls: 0,
             faults: 0,
+            told: ToldTurns::new(alloc),
         }
     }
 
@@ -106,6 +110,11 @@ impl<'a> ScriptDoor<'a> {
             Some(peer) => peer.closes,
             None => 0,
         }
+    }
+
+    /// The events that the answers so far make.
+    pub(super) fn events(&self) -> Result<Vec<Event>, AllocError> {
+        self.told.events()
     }
 
     /// One more call; it fails where that is the one to fail.
@@ -134,8 +143,12 @@ impl Door for ScriptDoor<'_> {
             }
             None => 0,
         };
-        self.call(DoorFault::Now)?;
-        Ok(moment)
+        let answer = match self.call(DoorFault::Now) {
+            Ok(()) => Ok(moment),
+            Err(fault) => Err(fault),
+        };
+        self.told.begin(answer.ok());
+        answer
     }
 
     fn accept(&mut self) -> Result<Option<u32>, DoorFault> {
@@ -145,29 +158,46 @@ impl Door for ScriptDoor<'_> {
             return Ok(None);
         }
         self.arrived = next.saturating_add(1);
+        self.told.arrive(next);
         Ok(Some(next))
     }
 
     fn read(&mut self, peer: u32, buf: &mut [u8]) -> Result<Got, DoorFault> {
-        self.call(DoorFault::Read)?;
-        match self.peers.get_mut(peer as usize) {
-            Some(peer) => Ok(peer.read(buf)),
-            None => Ok(Got::Nothing),
+        if let Err(fault) = self.call(DoorFault::Read) {
+            self.told.note(peer, Answer::Ended);
+            return Err(fault);
         }
+        let got = match self.peers.get_mut(peer as usize) {
+            Some(peer) => peer.read(buf),
+            None => Got::Nothing,
+        };
+        match got {
+            Got::Bytes(count) => self.told.note_piece(peer, &buf[..count]),
+            Got::Nothing => {}
+            Got::Ended => self.told.note(peer, Answer::Ended),
+        }
+        Ok(got)
     }
 
     fn write(&mut self, peer: u32, bytes: &[u8]) -> Result<usize, DoorFault> {
-        self.call(DoorFault::Write)?;
-        match self.peers.get_mut(peer as usize) {
-            Some(peer) => Ok(peer.take(bytes)),
-            None => Ok(0),
+        if let Err(fault) = self.call(DoorFault::Write) {
+            self.told.note(peer, Answer::Unwritten);
+            return Err(fault);
         }
+        let count = match self.peers.get_mut(peer as usize) {
+            Some(peer) => peer.take(bytes),
+            None => 0,
+        };
+        let all = count == bytes.len();
+        self.told.note(peer, Answer::Took { count, all });
+        Ok(count)
     }
 
     fn close(&mut self, peer: u32) -> Result<(), DoorFault> {
         if let Some(peer) = self.peers.get_mut(peer as usize) {
             peer.closes = peer.closes.saturating_add(1);
         }
+        self.told.note(peer, Answer::Closed);
         self.call(DoorFault::Close)
     }
 }

@@ -1,7 +1,8 @@
 use super::script_door::{ScriptDoor, ScriptPeer};
-use crate::{Served, ToolFault, read_script, serve};
-use srcp_core::{Core, run};
+use crate::{Served, read_layout, serve};
+use srcp_core::{Core, CoreFault, Record, Refusal, run};
 use srcp_rules::{Flat, Layout};
+use std::alloc::Global;
 use std::test::Fail;
 
 const NOTHING: &[u8] = b"";
@@ -16,19 +17,51 @@ const AT_2: &[u8] = b"srcp_server 1.0; SRCP 0.8.4; SRCPOTHER 0.8.3\n2.000 200 OK
 
 const AT_3: &[u8] = b"srcp_server 1.0; SRCP 0.8.4; SRCPOTHER 0.8.3\n3.000 200 OK GO 1\n";
 
+const MANY_PORTS: &[u8] = b"[[bus]]
+number = 1
+groups = [\"FB\"]
+fb_ports = 1000
+";
+
+/// What a panel sends.
+const PANEL: [&[u8]; 1] = [b"SET CONNECTIONMODE SRCP INFO\nGO\n"];
+
+/// Serves the peers of a door for so many turns, and runs the events that its answers make.
+fn serve_and_run(
+    alloc: Global,
+    layout: &Layout,
+    door: &mut ScriptDoor<'_>,
+    turns: u64,
+) -> Result<(Served, Record), Fail> {
+    let mut core = Core::<Flat>::new(alloc, layout, 0, 0)?;
+    let served = serve(&mut core, door, turns);
+    let events = door.events()?;
+    let told = run::<Flat>(alloc, layout, &events)?;
+    Ok((served, told))
+}
+
+/// What a connection of a run was sent; nothing where there is no such connection.
+fn sent(told: &Record, place: usize) -> &[u8] {
+    match told.connections.as_slice().get(place) {
+        Some(conn) => conn.sent.as_slice(),
+        None => NOTHING,
+    }
+}
+
 #[test]
 fn serves_a_peer(rt: HostRuntime) -> Result<(), Fail> {
     let layout = Layout::new(rt.alloc());
-    let mut core = Core::<Flat>::new(rt.alloc(), &layout, 0, 0)?;
     let mut door = ScriptDoor::new(rt.alloc(), &[0, 0, 0], 0);
     door.add(ScriptPeer::new(rt.alloc(), &[b"GO\n", b""], 1000))?;
-    let served = Served {
+    let (served, told) = serve_and_run(rt.alloc(), &layout, &mut door, 3)?;
+    let wanted = Served {
         turns: 3,
         opened: 1,
         faults: 0,
     };
-    assert_eq!(rt; serve(&mut core, &mut door, 3), served);
+    assert_eq!(rt; served, wanted);
     assert_eq!(rt; door.written(0), AT_0);
+    assert_eq!(rt; sent(&told, 0), AT_0);
     assert_eq!(rt; door.closes(0), 1);
     assert_eq!(rt; door.calls, 11);
     Ok(())
@@ -50,18 +83,19 @@ fn goes_on_after_a_call_that_fails(rt: HostRuntime) -> Result<(), Fail> {
         (10, AT_2),
         (11, AT_2),
     ];
-    let served = Served {
+    let wanted = Served {
         turns: 4,
         opened: 1,
         faults: 1,
     };
-    for (failing, wanted) in written {
+    for (failing, lines) in written {
         let layout = Layout::new(rt.alloc());
-        let mut core = Core::<Flat>::new(rt.alloc(), &layout, 0, 0)?;
         let mut door = ScriptDoor::new(rt.alloc(), &[1000, 2000, 3000, 4000], failing);
         door.add(ScriptPeer::new(rt.alloc(), &[b"GO\n", b""], 1000))?;
-        assert_eq!(rt; serve(&mut core, &mut door, 4), served);
-        assert_eq!(rt; door.written(0), wanted);
+        let (served, told) = serve_and_run(rt.alloc(), &layout, &mut door, 4)?;
+        assert_eq!(rt; served, wanted);
+        assert_eq!(rt; door.written(0), lines);
+        assert_eq!(rt; sent(&told, 0), lines);
         assert_eq!(rt; door.closes(0), 1);
     }
     Ok(())
@@ -71,16 +105,17 @@ fn goes_on_after_a_call_that_fails(rt: HostRuntime) -> Result<(), Fail> {
 fn writes_a_byte_each_turn(rt: HostRuntime) -> Result<(), Fail> {
     for (turns, written) in [(45, WELCOME), (63, AT_0)] {
         let layout = Layout::new(rt.alloc());
-        let mut core = Core::<Flat>::new(rt.alloc(), &layout, 0, 0)?;
         let mut door = ScriptDoor::new(rt.alloc(), &[], 0);
         door.add(ScriptPeer::new(rt.alloc(), &[b"GO\n"], 1))?;
-        let served = Served {
+        let (served, told) = serve_and_run(rt.alloc(), &layout, &mut door, turns)?;
+        let wanted = Served {
             turns,
             opened: 1,
             faults: 0,
         };
-        assert_eq!(rt; serve(&mut core, &mut door, turns), served);
+        assert_eq!(rt; served, wanted);
         assert_eq!(rt; door.written(0), written);
+        assert_eq!(rt; sent(&told, 0), written);
     }
     Ok(())
 }
@@ -88,70 +123,76 @@ fn writes_a_byte_each_turn(rt: HostRuntime) -> Result<(), Fail> {
 #[test]
 fn lets_64_peers_in(rt: HostRuntime) -> Result<(), Fail> {
     let layout = Layout::new(rt.alloc());
-    let mut core = Core::<Flat>::new(rt.alloc(), &layout, 0, 0)?;
     let mut door = ScriptDoor::new(rt.alloc(), &[], 0);
     for _ in 0..65 {
         door.add(ScriptPeer::new(rt.alloc(), &[], 1000))?;
     }
-    let served = Served {
+    let (served, told) = serve_and_run(rt.alloc(), &layout, &mut door, 66)?;
+    let wanted = Served {
         turns: 66,
         opened: 64,
         faults: 0,
     };
-    assert_eq!(rt; serve(&mut core, &mut door, 66), served);
+    assert_eq!(rt; served, wanted);
     for place in 0..64 {
         assert_eq!(rt; door.written(place), WELCOME);
+        assert_eq!(rt; sent(&told, place), WELCOME);
         assert_eq!(rt; door.closes(place), 0);
     }
     assert_eq!(rt; door.written(64), NOTHING);
     assert_eq!(rt; door.closes(64), 1);
+    assert_eq!(rt; told.connections.as_slice().len(), 64);
+    assert!(rt;
+        matches!(
+            told.refused.as_slice(),
+            [Refusal {
+                fault: CoreFault::Full,
+                ..
+            }]
+        )
+    );
     Ok(())
 }
 
-/// The events that the answers of a door make, and what its peer was written.
-const EVENTS: [(&[u8], &[u8]); 6] = [
-    // Three turns.
-    (
-        b"at 0\nopen\nroom 1 45\nroom 1 0\nat 0\nbytes 1 GO\\n\nroom 1 18\nroom 1 0\nat 0\nshut 1\n",
-        AT_0,
-    ),
-    // The second call fails, so that nobody comes in before the second turn.
-    (
-        b"at 1000\nat 2000\nopen\nroom 1 45\nroom 1 0\nat 3000\nbytes 1 GO\\n\nroom 1 18\nroom 1 0\nat 4000\nshut 1\n",
-        AT_3,
-    ),
-    // The clock fails in the second turn.
-    (
-        b"at 1000\nopen\nroom 1 45\nroom 1 0\nbytes 1 GO\\n\nroom 1 18\nroom 1 0\nat 3000\nshut 1\n",
-        AT_1,
-    ),
-    // The first read fails.
-    (
-        b"at 1000\nopen\nroom 1 45\nroom 1 0\nat 2000\nshut 1\n",
-        WELCOME,
-    ),
-    // The write of the reply fails.
-    (
-        b"at 1000\nopen\nroom 1 45\nroom 1 0\nat 2000\nbytes 1 GO\\n\nroom 1 0\nshut 1\n",
-        WELCOME,
-    ),
-    // The close fails.
-    (
-        b"at 1000\nopen\nroom 1 45\nroom 1 0\nat 2000\nbytes 1 GO\\n\nroom 1 18\nroom 1 0\nat 3000\nshut 1\n",
-        AT_2,
-    ),
-];
+#[test]
+fn gives_a_place_to_the_next(rt: HostRuntime) -> Result<(), Fail> {
+    // The first peer ends in turn 2; the third has its place from turn 3 on, and all three are told the same.
+    let layout = Layout::new(rt.alloc());
+    let mut door = ScriptDoor::new(rt.alloc(), &[], 0);
+    door.add(ScriptPeer::new(rt.alloc(), &[b""], 1000))?;
+    door.add(ScriptPeer::new(rt.alloc(), &[b"GO\n"], 7))?;
+    door.add(ScriptPeer::new(rt.alloc(), &[b"GO\n"], 1000))?;
+    let (served, told) = serve_and_run(rt.alloc(), &layout, &mut door, 20)?;
+    let wanted = Served {
+        turns: 20,
+        opened: 3,
+        faults: 0,
+    };
+    assert_eq!(rt; served, wanted);
+    for place in 0..3 {
+        assert_eq!(rt; sent(&told, place), door.written(place));
+    }
+    assert_eq!(rt; door.written(0), WELCOME);
+    assert!(rt; door.written(1).ends_with(b"0.000 200 OK GO 2\n"));
+    assert!(rt; door.written(2).ends_with(b"0.000 200 OK GO 1\n"));
+    Ok(())
+}
 
 #[test]
-fn a_run_of_its_events_sends_the_same(rt: HostRuntime) -> Result<(), Fail> {
-    for (script, wanted) in EVENTS {
-        let layout = Layout::new(rt.alloc());
-        let events = read_script(rt.alloc(), script).map_err(ToolFault::from)?;
-        let told = run::<Flat>(rt.alloc(), &layout, &events).map_err(ToolFault::from)?;
-        match told.connections.as_slice() {
-            [conn] => assert_eq!(rt; conn.sent.as_slice(), wanted),
-            _ => assert!(rt; false),
-        }
+fn writes_300_lines_a_turn(rt: HostRuntime) -> Result<(), Fail> {
+    let layout = read_layout(rt.alloc(), MANY_PORTS)?.layout;
+    let mut lines = [0usize; 2];
+    for (turns, count) in [2u64, 3].into_iter().zip(&mut lines) {
+        let mut door = ScriptDoor::new(rt.alloc(), &[], 0);
+        door.add(ScriptPeer::new(rt.alloc(), &PANEL, 1000))?;
+        let (_, told) = serve_and_run(rt.alloc(), &layout, &mut door, turns)?;
+        assert_eq!(rt; sent(&told, 0), door.written(0));
+        *count = door
+            .written(0)
+            .iter()
+            .filter(|byte| **byte == b'\n')
+            .count();
     }
+    assert_eq!(rt; lines[1].checked_sub(lines[0]), Some(300));
     Ok(())
 }
