@@ -10,6 +10,7 @@ ends with, and the refused events. The last line counts the cases; the status is
 import json
 import os
 import re
+import resource
 import subprocess
 import sys
 import tempfile
@@ -172,9 +173,26 @@ def run_that_cannot_be_written(program):
     return ended(done, 1, b"cannot write")
 
 
+def run_in_little_memory(program):
+    """With however little memory, a run is told whole, with the commands that were refused, or not at all."""
+    lines = b"".join(b"bytes 1 INIT 1 GL %d N 1 28 0\\n\nroom 1 100\n" % (address + 1) for address in range(99))
+    script = b"open\nroom 1 100\nbytes 1 GO\\n\nroom 1 100\n" + lines * 100
+    whole = subprocess.run([program], input=script, capture_output=True, timeout=SECONDS).stdout
+    seen = set()
+    for mebibytes in range(4, 65, 2):
+        limits = (mebibytes << 20, mebibytes << 20)
+        done = subprocess.run([program], input=script, capture_output=True, timeout=SECONDS,
+                              preexec_fn=lambda: resource.setrlimit(resource.RLIMIT_AS, limits))
+        seen.add(done.returncode)
+        refuses = done.returncode == 0 and b" 500 ERROR out of resources\n" in done.stdout
+        if fault := not refuses and ended(done, 1, b"out of memory") and ended(done, 0, b"", whole):
+            return f"{mebibytes} MiB: {fault}"
+    return None if seen == {0, 1} else f"statuses {seen}"
+
+
 STREAM_CASES = (input_past_its_limit, input_at_its_limit, input_that_cannot_be_read, output_that_cannot_be_written,
                 words_that_are_unknown, configuration_at_its_limit, configuration_past_its_limit, script_past_its_limit,
-                script_at_its_limit, script_that_cannot_be_read, run_that_cannot_be_written)
+                script_at_its_limit, script_that_cannot_be_read, run_that_cannot_be_written, run_in_little_memory)
 
 
 def main():

@@ -1,9 +1,11 @@
 """What a served layout does, seen from outside: a throttle and panels over sockets of this machine."""
+import resource
 import socket
 import subprocess
 import tempfile
 import time
 from contextlib import contextmanager
+from pathlib import Path
 
 LAYOUT = """port = {port}
 [[bus]]
@@ -149,6 +151,38 @@ def peers_that_harm_nobody(program):
     return None
 
 
+def limit_memory(server, more):
+    """Leaves a server so many bytes of address space more than it has."""
+    pages = int(Path(f"/proc/{server.pid}/statm").read_text().split()[0])
+    limit = pages * resource.getpagesize() + more
+    resource.prlimit(server.pid, resource.RLIMIT_AS, (limit, resource.RLIM_INFINITY))
+
+
+def memory_that_runs_out(program):
+    """The locomotive that there is no memory for is refused and changes nothing; with memory it can be made."""
+    with served(program) as (port, server):
+        throttle, panel = Client(port, "COMMAND"), Client(port, "INFO")
+        limit_memory(server, 1 << 20)
+        for address in range(1, 10240):
+            reply = throttle.asks(f"INIT 1 GL {address} N 1 28 0")
+            if reply != "200 OK":
+                break
+            panel.hears_until(b" 101 INFO 1 GL %d N 1 28 0\n" % address)
+        if reply != "500 ERROR out of resources":
+            return f"the last locomotive is answered {reply}"
+        replies = [throttle.asks(command) for command in (f"GET 1 GL {address}", "SET 1 GL 1 1 7 28", "SET 1 POWER ON")]
+        if replies != ["416 ERROR no data", "200 OK", "200 OK"]:
+            return f"without memory: {replies}"
+        resource.prlimit(server.pid, resource.RLIMIT_AS, (resource.RLIM_INFINITY, resource.RLIM_INFINITY))
+        if (reply := throttle.asks(f"INIT 1 GL {address} N 1 28 0")) != "200 OK":
+            return f"with memory again: {reply}"
+        end = b" 100 INFO 1 GL %d 1 0 0\n" % address
+        told = mirrored(program, panel.hears_until(end))
+        fresh = Client(port, "INFO")
+        listed = fresh.hears_until(b"1 FB 8 0\n")
+    return None if rows_of(told) == rows_of(listed) else f"the panel holds {told[-300:]!r}, listed {listed[-300:]!r}"
+
+
 def turns_are_counted(program):
     port = free_port()
     with tempfile.NamedTemporaryFile("w", suffix=".toml") as config:
@@ -170,5 +204,5 @@ def port_that_is_taken(program):
     return None if is_told else f"got {done!r}"
 
 
-SERVING_CASES = (panels_hold_the_registry, peer_65_is_turned_away, peers_that_harm_nobody, turns_are_counted,
-                 port_that_is_taken)
+SERVING_CASES = (panels_hold_the_registry, peer_65_is_turned_away, peers_that_harm_nobody, memory_that_runs_out,
+                 turns_are_counted, port_that_is_taken)
