@@ -55,7 +55,7 @@ seated_apart seat (Some other ∷ places) new h = (seated_all (λ x. (x.peer == 
 abbrev pub IsNew : ℕ → List ℕ → Type 0
 IsNew peer guests = AllByRecursion (λ guest. (guest == peer) ≡ false) guests
 
-new_push : (peer other : ℕ) (guests : List ℕ) → IsNew peer guests → (other == peer) ≡ false → IsNew peer (guests ++ other ∷ [])
+pub new_push : (peer other : ℕ) (guests : List ℕ) → IsNew peer guests → (other == peer) ≡ false → IsNew peer (guests ++ other ∷ [])
 new_push peer other [] h e = (e, tt)
 new_push peer other (guest ∷ guests) h e = (h.0, new_push peer other guests h.1 e)
 

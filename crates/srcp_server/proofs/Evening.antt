@@ -38,7 +38,7 @@ any_none peer (seat ∷ all) h = let parts = neither (seat.peer == peer) (list_a
     neither true b e = cc
     neither false b e = (refl, e)
 
-same_each : (f g : ℕ → List ℕ) (guests : List ℕ) → ((peer : ℕ) → f peer ≡ g peer) → map f guests ≡ map g guests
+pub same_each : (f g : ℕ → List ℕ) (guests : List ℕ) → ((peer : ℕ) → f peer ≡ g peer) → map f guests ≡ map g guests
 same_each f g [] h = refl
 same_each f g (guest ∷ guests) h = ap (λ t. t ∷ map f guests) (h guest) ∙ ap (λ ts. g guest ∷ ts) (same_each f g guests h)
 

@@ -174,7 +174,8 @@ module _ (buses : List Bus) where
   AreTurnsAsked stand [] = Unit {0}
   AreTurnsAsked stand (calls ∷ more) = (map question calls ≡ turn_asks buses stand calls) × AreTurnsAsked (turned buses stand calls) more
 
-  abbrev in_turn : List Call → List Call
+  -- the calls before the next moment
+  abbrev pub in_turn : List Call → List Call
   in_turn calls = take_while (λ next. not (is_now next)) calls
 
   abbrev asks_moment : Question → Bool

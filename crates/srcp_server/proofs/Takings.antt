@@ -51,9 +51,9 @@ split (call ∷ calls) (q ∷ first) others e =
     let more = split calls first others tail in
     record { xs = call ∷ more.xs; ys = more.ys; is = ap (λ cs. call ∷ cs) more.is; front = ap (λ a. a ∷ map question more.xs) head ∙ ap (λ qs. q ∷ qs) more.front; back = more.back }
 
-fair_part : (xs ys : List Call) → AllByRecursion IsFair (xs ++ ys) → AllByRecursion IsFair xs × AllByRecursion IsFair ys
-fair_part [] ys h = (tt, h)
-fair_part (x ∷ xs) ys h = let more = fair_part xs ys h.1 in ((h.0, more.0), more.1)
+pub all_parts : {X : Type 0} (P : X → Type 0) (xs ys : List X) → AllByRecursion P (xs ++ ys) → AllByRecursion P xs × AllByRecursion P ys
+all_parts P [] ys h = (tt, h)
+all_parts P (x ∷ xs) ys h = let more = all_parts P xs ys h.1 in ((h.0, more.0), more.1)
 
 -- the first question is the first write
 record IsFirst (peer who : ℕ) (bytes now : List ℕ) (questions : List Question) (more : List (List ℕ)) : Type 0 where
@@ -183,7 +183,7 @@ module _ (buses : List Bus) (seat : Seat) (events : List Event) (calls : List Ca
       record {
         writes = t.xs;
         asked = t.front;
-        fair = (fair_part t.xs t.ys (subst (λ (cs : List Call). AllByRecursion IsFair cs) t.is (fair_part s.xs s.ys (subst (λ (cs : List Call). AllByRecursion IsFair cs) s.is fair)).1)).0;
+        fair = (all_parts IsFair t.xs t.ys (subst (λ (cs : List Call). AllByRecursion IsFair cs) t.is (all_parts IsFair s.xs s.ys (subst (λ (cs : List Call). AllByRecursion IsFair cs) s.is fair)).1)).0;
         counts = ap (filter_map count_of) s.is
             ∙ filter_map-append count_of s.xs s.ys
             ∙ ap (λ cs. cs ++ filter_map count_of s.ys) reads.0

@@ -29,6 +29,7 @@ pub(super) struct Sockets {
     wanted: bool,
     poll: Poll,
     events: Events<Global>,
+    // By rising numbers, as they came.
     peers: Vec<Peer>,
     // The number of the peer that came last.
     last: u32,
@@ -155,9 +156,9 @@ impl Sockets {
     fn place(&self, number: u32) -> io::Result<usize>
         ensures { IfOk result (λ place. place < length self.now.peers.items) }
     {
-        match self.peers.iter().position(|peer| peer.number == number) {
-            Some(place) => Ok(place),
-            None => Err(io::Error::from(ErrorKind::NotFound)),
+        match self.peers.binary_search_by_key(&number, |peer| peer.number) {
+            Ok(place) => Ok(place),
+            Err(_) => Err(io::Error::from(ErrorKind::NotFound)),
         }
     }
 }
