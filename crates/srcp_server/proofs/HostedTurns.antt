@@ -15,7 +15,7 @@ use Rattle.srcp_core.specs.declared.event.Event.TheVariants.{Open}
 use Rattle.srcp_server.specs.Calls.{Call, Tells, NowCall, AcceptCall, ReadCall, WriteCall, CloseCall}
 use Rattle.srcp_server.specs.Serving.{Seat, Stand, Moments, Newcomers, IsServed, PeersDiffer, question, moment_of, newcomer_of, seats, visits_ask, visit_events, kept, is_let_in, let_in, welcomed, with_moment, timed, begun, visited, turned, turn_asks, turns_away, stand_after}
 use Rattle.srcp_server.specs.Places.{IsHosting, IsServing, IsLeftOut, IsNotOf, IsOneOf, one_if, LetsIn, MakesTurn, SeatsPeer, SeatsDiffer, ServesCourse, ServesSoFar, Sit, TakesMoment, Visit, VisitsPlaces, AreOwn, asked_by, calls_of, left_by, made_by, seat_of, visits_of}
-use Rattle.srcp_server.specs.Turns.{AsksPeers, AsksTurn, IsTurn, is_of_peer}
+use Rattle.srcp_server.specs.Turns.{AsksPeers, AsksTurn, AsksTurns, IsTurn, is_of_peer}
 use Rattle.srcp_server.specs.Visits.{Adds, Keeps}
 use Rattle.srcp_server.specs.declared.door.DoorFault.{DoorFault}
 use Rattle.srcp_server.specs.declared.serving.visit.Seat.{Seat as Own}
@@ -24,6 +24,7 @@ use Rattle.srcp_server.proofs.PlaceLaws.{all_here, all_seated, kept_by, known_le
 use Rattle.srcp_server.proofs.ServingLaws.{served-more}
 use Rattle.srcp_server.proofs.Telling.{adds_one, adds_more}
 use Rattle.srcp_server.proofs.Turning.{not_now}
+use Rattle.srcp_server.proofs.TurnsTaken.{sent_taken}
 use Rattle.srcp_server.proofs.VisitLaws.{AreApart, visits_asked, visits_make}
 
 -- ---- peers that came in
@@ -330,10 +331,17 @@ serves_on count opened opens old mid new told_old told_mid told_new owns owns_ne
     subst (λ (c : List Call). AllByRecursion (IsOneOf (filter_map newcomer_of c)) (turned buses (stand_after buses w.told) x.calls).places) whole x.known in
     subst (λ (c : List Call). IsServing buses (count + 1) (opened + one_if opens) c new owns_new) (sym whole) (serves_then buses count opened opens w.told x.calls new owns_new x.keys s.served x.turn x.asked known x.hosting s.opened x.opened)
 
-pub serves_all : (count turns opened : ℕ) (old now : Held) (told_old told_now : Option (List Call)) (owns : List (Option Own)) → count ≡ turns → ServesSoFar count opened old told_old now told_now owns → ServesCourse turns opened old told_old now told_now
-serves_all count turns opened old now told_old told_now owns e so buses told layout stands d was is differ =
+pub serves_all : (count turns opened : ℕ) (old now : Held) (told_old told_now : Option (List Call)) (owns : List (Option Own)) → count ≡ turns → AsksTurns turns told_old told_now → ServesSoFar count opened old told_old now told_now owns → ServesCourse turns opened old told_old now told_now
+serves_all count turns opened old now told_old told_now owns e asks so buses told layout stands d was is differ =
     let s = so buses told layout stands d was is differ in
-    record { keys = s.keys; served = subst (λ (n : ℕ). IsServed buses n told) e s.served; stands = s.hosting.stands; opened = sym s.opened ∙ sym s.hosting.long ∙ s.hosting.stands.long }
+    let served : IsServed buses turns told = subst (λ (n : ℕ). IsServed buses n told) e s.served in
+    record {
+      keys = s.keys;
+      served = served;
+      stands = s.hosting.stands;
+      opened = sym s.opened ∙ sym s.hosting.long ∙ s.hosting.stands.long;
+      taken = sent_taken buses turns told served differ (asks told was is).fair;
+    }
 
 -- no more were let in than there were turns
 pub fewer : (opens : Bool) (opened count after : ℕ) → opened ≤ count → after ≡ opened + one_if opens → after ≤ count + 1

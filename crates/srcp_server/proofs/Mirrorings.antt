@@ -12,6 +12,7 @@ use Rattle.srcp_info.specs.Line.{line}
 use Rattle.srcp_info.specs.Read.{IsLineOf}
 use Rattle.srcp_info.specs.WellFormed.{IsWellFormed}
 use Rattle.srcp_info.specs.declared.change.Change.{Change}
+use Rattle.srcp_info.proofs.ClientLaws.{all_append}
 use Rattle.srcp_info.proofs.LineLaws.{length-line-le}
 use Rattle.srcp_server.specs.Mirroring.{HasTaken, IsBegun}
 use Rattle.srcp_server.specs.Output.{RefusesLine}
@@ -19,10 +20,6 @@ use Rattle.srcp_server.specs.declared.stream.lines.MirroredLines.{MirroredLines}
 
 free-append : (xs ys : List ℕ) → list_any is_lf xs ≡ false → list_any is_lf ys ≡ false → list_any is_lf (xs ++ ys) ≡ false
 free-append xs ys e h = rw (list_any-append is_lf xs ys, e, h) refl
-
-all_append : (xs ys : List Change) → AllByRecursion IsWellFormed xs → AllByRecursion IsWellFormed ys → AllByRecursion IsWellFormed (xs ++ ys)
-all_append [] ys h k = k
-all_append (x ∷ xs) ys h k = (h.0, all_append xs ys h.1 k)
 
 -- more bytes of the line that has begun
 pub holds_more : (input more text : List ℕ) (changes : List Change) → HoldsLines input changes text → list_any is_lf more ≡ false → HoldsLines (input ++ more) changes (text ++ more)
@@ -35,7 +32,7 @@ holds_more input more text changes holds free = record {
 -- its LF, where it is the line of a change
 pub holds_ended : (input text : List ℕ) (changes : List Change) (change : Change) → HoldsLines input changes text → IsLineOf text change → HoldsLines (input ++ 10 ∷ []) (changes ++ change ∷ []) []
 holds_ended input text changes change holds is = record {
-  each = all_append changes (change ∷ []) holds.each (is.well_formed, tt);
+  each = all_append IsWellFormed changes (change ∷ []) holds.each (is.well_formed, tt);
   whole =
       ap (λ xs. xs ++ 10 ∷ []) holds.whole ∙ append_assoc (flat_map line changes) text (10 ∷ [])
       ∙ ap (λ xs. flat_map line changes ++ xs) (sym is.same ∙ sym (append-nil (line change)))

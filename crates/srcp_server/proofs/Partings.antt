@@ -5,6 +5,7 @@ use Rattle.std.specs.List.{list_all, list_any, AllByRecursion}
 use Rattle.std.proofs.lemmas.Bool.Decides.{nat_tests}
 use Rattle.std.proofs.lemmas.List.Elements.{filter-append}
 use Rattle.std.proofs.lemmas.List.Sums.{take_while-cons}
+use Rattle.srcp_info.proofs.ClientLaws.{all_append}
 use Rattle.srcp_rules.specs.declared.layout.Bus.{Bus}
 use Rattle.srcp_core.specs.declared.event.Event.{Event}
 use Rattle.srcp_core.specs.declared.event.Event.TheVariants.{Bytes}
@@ -80,10 +81,6 @@ peer_question peer (Closes who) h = refl
 of_peers : (peer : ℕ) (questions : List Question) → AreOf peer questions → AreOfPeers questions
 of_peers peer [] h = tt
 of_peers peer (q ∷ questions) h = (peer_question peer q h.0, of_peers peer questions h.1)
-
-pub all_append : (P : Question → Type 0) (xs ys : List Question) → AllByRecursion P xs → AllByRecursion P ys → AllByRecursion P (xs ++ ys)
-all_append P [] ys h k = k
-all_append P (x ∷ xs) ys h k = (h.0, all_append P xs ys h.1 k)
 
 same_peer : (peer : ℕ) → (peer == peer) ≡ true
 same_peer peer = grind (arith, nat_tests)

@@ -9,7 +9,7 @@ use Rattle.srcp_core.specs.Recording.{key_of}
 use Rattle.srcp_core.specs.Stands.{StandsFor}
 use Rattle.srcp_core.specs.declared.event.Event.{Event}
 use Rattle.srcp_server.specs.Calls.{Call, NowCall, AcceptCall}
-use Rattle.srcp_server.specs.Serving.{Seat, Stand, Question, IsServed, PeersDiffer, question, newcomer_of, is_about, is_close, visit_events, visit_asks, timed, turned, turn_asks, turns_away, welcomed, stand_after, events_of}
+use Rattle.srcp_server.specs.Serving.{Seat, Stand, Question, IsServed, PeersDiffer, question, newcomer_of, is_about, is_close, visit_events, visit_asks, timed, turned, turn_asks, turns_away, welcomed, stand_after, events_of, SendsWhatIsTaken}
 use Rattle.srcp_server.specs.Turns.{IsTurn}
 use Rattle.srcp_server.specs.Visits.{Adds, AreAbout}
 use Rattle.srcp_server.specs.declared.door.DoorFault.{DoorFault}
@@ -210,12 +210,13 @@ Begins So old told_old new told_new = (buses : List Bus) (told : List Call) → 
 abbrev pub ServesSoFar : (count opens : ℕ) (old : Held) (told_old : Option (List Call)) (new : Held) (told_new : Option (List Call)) (owns : List (Option Own)) → Type 0
 ServesSoFar count opens old told_old new told_new owns = Begins (λ buses told. IsServing buses count opens told new owns) old told_old new told_new
 
--- the calls are those of exactly so many turns, each write handed what the course leaves unsent, and the core stands for the events that the answers make
+-- the calls are those of exactly so many turns, each write handed what the course leaves unsent; the core stands for the events that the answers make; and what each connection was sent by them is to the byte what the door took of its peer
 pub record IsOfCourse (buses : List Bus) (count opens : ℕ) (told : List Call) (held : Held) : Type 0 where
   pub keys : List (Option ℕ)
   pub served : IsServed buses count told
   pub stands : StandsFor buses keys held (course buses (events_of buses told))
   pub opened : opens ≡ length (course buses (events_of buses told)).connections  -- one for each Open that is accepted
+  pub taken : SendsWhatIsTaken buses told
 
 abbrev pub ServesCourse : (count opens : ℕ) (old : Held) (told_old : Option (List Call)) (new : Held) (told_new : Option (List Call)) → Type 0
 ServesCourse count opens old told_old new told_new = Begins (λ buses told. IsOfCourse buses count opens told new) old told_old new told_new

@@ -2,7 +2,7 @@
 use Rattle.std.specs.Prelude.{◌≡◌, ℕ, Bool, true, false, List, [], ◌∷◌, length, flat_map, Option, Some, Result}
 use Rattle.std.specs.List.{list_all, AllByRecursion}
 use Rattle.srcp_server.specs.Calls.{Call, NowCall, AcceptCall, ReadCall, WriteCall, CloseCall}
-use Rattle.srcp_server.specs.Serving.{turns}
+use Rattle.srcp_server.specs.Serving.{IsFair, turns}
 use Rattle.srcp_server.specs.Visits.{Adds}
 use Rattle.srcp_server.specs.declared.door.DoorFault.{DoorFault}
 
@@ -14,11 +14,12 @@ is_of_peer (ReadCall peer answer buffer) = true
 is_of_peer (WriteCall peer bytes answer) = true
 is_of_peer (CloseCall peer answer) = true
 
--- the calls that were added are about peers
+-- the calls that were added are about peers, each answered within what was asked
 pub record AsksOfPeers (old : Option (List Call)) (told : List Call) : Type 0 where
   pub calls : List Call
   pub adds : Adds old told calls
   pub peers : list_all is_of_peer calls ≡ true
+  pub fair : AllByRecursion IsFair calls
 
 abbrev pub AsksPeers : (old new : Option (List Call)) → Type 0
 AsksPeers old new = (told : List Call) → new ≡ Some told → AsksOfPeers old told
@@ -37,17 +38,19 @@ pub record AsksOneIn (old : Option (List Call)) (told : List Call) : Type 0 wher
   pub rest : List Call
   pub adds : Adds old told (AcceptCall answer ∷ rest)
   pub peers : list_all is_of_peer rest ≡ true
+  pub fair : AllByRecursion IsFair rest
 
 abbrev pub AsksNewcomer : (old new : Option (List Call)) → Type 0
 AsksNewcomer old new = (told : List Call) → new ≡ Some told → AsksOneIn old told
 
--- the calls of a turn
+-- the calls of a turn, each answered within what was asked
 pub record IsTurn (calls : List Call) : Type 0 where
   pub now : Result ℕ DoorFault
   pub newcomer : Result (Option ℕ) DoorFault
   pub rest : List Call
   pub is : calls ≡ NowCall now ∷ AcceptCall newcomer ∷ rest
   pub peers : list_all is_of_peer rest ≡ true
+  pub fair : AllByRecursion IsFair rest
 
 pub record IsTurned (old : Option (List Call)) (told : List Call) : Type 0 where
   pub calls : List Call
@@ -57,11 +60,12 @@ pub record IsTurned (old : Option (List Call)) (told : List Call) : Type 0 where
 abbrev pub AsksTurn : (old new : Option (List Call)) → Type 0
 AsksTurn old new = (told : List Call) → new ≡ Some told → IsTurned old told
 
--- all calls are those of so many turns, none more and none fewer
+-- all calls are those of so many turns, none more and none fewer, each answered within what was asked
 pub record AreTurns (count : ℕ) (told : List Call) : Type 0 where
   pub many : length (turns told) ≡ count
   pub each : AllByRecursion IsTurn (turns told)
   pub all : flat_map (λ calls. calls) (turns told) ≡ told
+  pub fair : AllByRecursion IsFair told
 
 -- a door that had told nothing tells so many turns
 abbrev pub AsksTurns : (count : ℕ) (old new : Option (List Call)) → Type 0

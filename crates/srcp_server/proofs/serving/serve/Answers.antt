@@ -23,4 +23,4 @@ returns-clause-told g c =
 pub returns-clause-course : goal.returns-clause-course
 returns-clause-course g c =
     let all : c.loop.counter ≡ c.args.turns = omega (arith, c.loop-test.false, c.loop.auto.counter-end) in
-    serves_all c.loop.counter c.args.turns c.loop.opened c.args.core.now c.loop.core (g.D.Door.told c.args.door.now) (g.D.Door.told c.loop.door) c.loop.places all c.loop.invariant.course
+    serves_all c.loop.counter c.args.turns c.loop.opened c.args.core.now c.loop.core (g.D.Door.told c.args.door.now) (g.D.Door.told c.loop.door) c.loop.places all (returns-clause-told g c) c.loop.invariant.course

@@ -16,7 +16,7 @@ pub returns-in-Err-clause-told : goal.returns-in-Err-clause-told
 returns-in-Err-clause-told g c = closes_by _ _ _ _ c.close.ensures.told
 
 pub returns-in-Ok-clause-asks : goal.returns-in-Ok-clause-asks
-returns-in-Ok-clause-asks g c = asks_one _ _ _ refl c.close.ensures.told
+returns-in-Ok-clause-asks g c = asks_one _ _ _ refl tt c.close.ensures.told
 
 pub returns-in-Err-clause-asks : goal.returns-in-Err-clause-asks
-returns-in-Err-clause-asks g c = asks_one _ _ _ refl c.close.ensures.told
+returns-in-Err-clause-asks g c = asks_one _ _ _ refl tt c.close.ensures.told

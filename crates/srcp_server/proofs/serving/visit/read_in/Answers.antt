@@ -3,6 +3,7 @@ use Rattle.srcp_server.specs.declared.serving.tally.Tally.{Tally}
 use Rattle.srcp_server.specs.Calls.{ReadCall, Tells}
 use Rattle.srcp_server.specs.Serving.{loses_reading, piece_of}
 use Rattle.srcp_server.specs.declared.door.Got.{Got}
+use Rattle.srcp_server.proofs.Fairness.{fair_read}
 use Rattle.srcp_server.proofs.Reading.{read_not, read_other, read_bytes}
 use Rattle.srcp_server.proofs.Tallies.{one_failed}
 use Rattle.srcp_server.proofs.Turning.{asks_none, asks_one}
@@ -38,13 +39,13 @@ pub returns-then-not-ready-clause-asks : goal.returns-then-not-ready-clause-asks
 returns-then-not-ready-clause-asks g c = asks_none _
 
 pub returns-in-Ok-Bytes-clause-asks : goal.returns-in-Ok-Bytes-clause-asks
-returns-in-Ok-Bytes-clause-asks g c = asks_one _ _ _ refl c.read.ensures.told
+returns-in-Ok-Bytes-clause-asks g c = asks_one _ _ _ refl (fair_read c.args.seat.now.peer c.read.result _ c.read.new.buf c.read.ensures.count c.read.auto.buf) c.read.ensures.told
 
 pub returns-in-Ok-Nothing-clause-asks : goal.returns-in-Ok-Nothing-clause-asks
-returns-in-Ok-Nothing-clause-asks g c = asks_one _ _ _ refl c.read.ensures.told
+returns-in-Ok-Nothing-clause-asks g c = asks_one _ _ _ refl (fair_read c.args.seat.now.peer c.read.result _ c.read.new.buf c.read.ensures.count c.read.auto.buf) c.read.ensures.told
 
 pub returns-in-Ok-Ended-clause-asks : goal.returns-in-Ok-Ended-clause-asks
-returns-in-Ok-Ended-clause-asks g c = asks_one _ _ _ refl c.read.ensures.told
+returns-in-Ok-Ended-clause-asks g c = asks_one _ _ _ refl (fair_read c.args.seat.now.peer c.read.result _ c.read.new.buf c.read.ensures.count c.read.auto.buf) c.read.ensures.told
 
 pub returns-in-Err-clause-asks : goal.returns-in-Err-clause-asks
-returns-in-Err-clause-asks g c = asks_one _ _ _ refl c.read.ensures.told
+returns-in-Err-clause-asks g c = asks_one _ _ _ refl (fair_read c.args.seat.now.peer c.read.result _ c.read.new.buf c.read.ensures.count c.read.auto.buf) c.read.ensures.told

@@ -1,6 +1,7 @@
 use Rattle.std.proofs.Common.{ap, sym, ◌∙◌, arith, ◌≡◌, length}
 use Rattle.srcp_server.specs.declared.serving.tally.Tally.{Tally}
 use Rattle.srcp_server.specs.declared.serving.visit.Wrote.TheVariants.{Less}
+use Rattle.srcp_server.proofs.Fairness.{fair_write}
 use Rattle.srcp_server.proofs.Tallies.{one_failed}
 use Rattle.srcp_server.proofs.Telling.{keeps_call, keeps_quiet}
 use Rattle.srcp_server.proofs.Writing.{out_denied, wrote_absent, wrote_none, wrote_less, wrote_all, wrote_failed}
@@ -50,10 +51,10 @@ pub returns-then-is_empty-clause-asks : goal.returns-then-is_empty-clause-asks
 returns-then-is_empty-clause-asks g c = asks_none _
 
 pub returns-then-count-handed-clause-asks : goal.returns-then-count-handed-clause-asks
-returns-then-count-handed-clause-asks g c = asks_one _ _ _ refl c.write.ensures.told
+returns-then-count-handed-clause-asks g c = asks_one _ _ _ refl (fair_write c.args.seat.now.peer c.in-Ok.lent.now c.write.result c.write.ensures.count) c.write.ensures.told
 
 pub returns-else-count-handed-clause-asks : goal.returns-else-count-handed-clause-asks
-returns-else-count-handed-clause-asks g c = asks_one _ _ _ refl c.write.ensures.told
+returns-else-count-handed-clause-asks g c = asks_one _ _ _ refl (fair_write c.args.seat.now.peer c.in-Ok.lent.now c.write.result c.write.ensures.count) c.write.ensures.told
 
 pub returns-in_default-write-clause-asks : goal.returns-in_default-write-clause-asks
-returns-in_default-write-clause-asks g c = asks_one _ _ _ refl c.write.ensures.told
+returns-in_default-write-clause-asks g c = asks_one _ _ _ refl (fair_write c.args.seat.now.peer c.in-Ok.lent.now c.write.result c.write.ensures.count) c.write.ensures.told
