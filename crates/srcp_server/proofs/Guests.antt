@@ -7,7 +7,7 @@ use Rattle.srcp_rules.specs.declared.layout.Bus.{Bus}
 use Rattle.srcp_core.specs.Course.{course}
 use Rattle.srcp_core.specs.declared.event.Event.{Event}
 use Rattle.srcp_server.specs.Calls.{Call, NowCall, AcceptCall, ReadCall, WriteCall, CloseCall}
-use Rattle.srcp_server.specs.Serving.{Seat, IsFair, is_about, visit, visit_events, visit_asks, taken, taken_in, question}
+use Rattle.srcp_server.specs.Serving.{Seat, IsFair, is_about, visit, visit_events, taken, taken_in}
 use Rattle.srcp_server.specs.declared.door.DoorFault.{DoorFault}
 use Rattle.srcp_server.proofs.Sendings.{IsSending}
 use Rattle.srcp_server.proofs.SentLaws.{put}

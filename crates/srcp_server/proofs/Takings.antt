@@ -1,6 +1,6 @@
 -- What the calls of a visit say was taken of a peer is what its events send.
-use Rattle.std.proofs.Common.{◌≡◌, ◌∙◌, ℕ, zero, suc, ◌≤◌, Bool, true, false, not, List, [], ◌∷◌, ◌++◌, map, take, length, if◌then◌else◌, Option, Some, None, Ok, Err, refl, ap, sym, subst, arith, append-nil, append_assoc, ◌==◌}
-use Rattle.std.specs.Prelude.{◌&&◌, ◌||◌, filter_map, flat_map}
+use Rattle.std.proofs.Common.{◌≡◌, ◌∙◌, ℕ, zero, suc, ◌≤◌, Bool, true, false, not, List, [], ◌∷◌, ◌++◌, map, take, length, if◌then◌else◌, Ok, Err, refl, ap, sym, subst, arith, append-nil, append_assoc, ◌==◌}
+use Rattle.std.specs.Prelude.{◌||◌, filter_map}
 use Rattle.std.specs.List.{list_all, list_any, AllByRecursion}
 use Rattle.std.proofs.lemmas.Bool.Decides.{nat_tests}
 use Rattle.std.proofs.lemmas.Grind.{flat_map-append}
@@ -14,7 +14,7 @@ use Rattle.srcp_core.specs.declared.event.Event.TheVariants.{Bytes, Room, Shut}
 use Rattle.srcp_server.specs.Calls.{Call, NowCall, AcceptCall, ReadCall, WriteCall, CloseCall}
 use Rattle.srcp_server.specs.Serving.{Question, Moments, Newcomers, Reads, Writes, Closes, Seat, question, IsFair, taken, taken_in, piece_of, count_of, is_close, loses, loses_reading, lent_none_last, exchange, is_ready, is_closing, lent, handed, unless_nil, reads_of, writes_of, closes_of, visit_asks}
 use Rattle.srcp_server.proofs.Sendings.{IsSending, sending_bytes, sending_shut}
-use Rattle.srcp_server.proofs.SentLaws.{put, put_none, put_put, take_nil, sending_room}
+use Rattle.srcp_server.proofs.SentLaws.{put, put_none, put_put, sending_room}
 
 -- ---- calls by their questions
 
