@@ -25,8 +25,11 @@ asks_write (Reads peer most) = false
 asks_write (Writes peer bytes) = true
 asks_write (Closes peer) = false
 
+abbrev pub no_writes : List Question → Bool
+no_writes questions = list_all (λ q. not (asks_write q)) questions
+
 -- calls that are no writes take nothing
-pub none_taken : (peer : ℕ) (calls : List Call) → list_all (λ q. not (asks_write q)) (map question calls) ≡ true → (filter_map count_of calls ≡ []) × (taken peer calls ≡ [])
+pub none_taken : (peer : ℕ) (calls : List Call) → no_writes (map question calls) ≡ true → (filter_map count_of calls ≡ []) × (taken peer calls ≡ [])
 none_taken peer [] h = (refl, refl)
 none_taken peer (NowCall answer ∷ calls) h = none_taken peer calls h
 none_taken peer (AcceptCall answer ∷ calls) h = none_taken peer calls h
@@ -146,9 +149,6 @@ module _ (buses : List Bus) (peer conn : ℕ) where
 -- what a visit makes happen
 abbrev pub made_of : ℕ → List Call → List Event
 made_of conn calls = exchange conn calls ++ (if list_any is_close calls then Shut conn ∷ [] else [])
-
-abbrev no_writes : List Question → Bool
-no_writes questions = list_all (λ q. not (asks_write q)) questions
 
 module _ (buses : List Bus) (seat : Seat) (events : List Event) (calls : List Call) where
   abbrev read_events : List Event
