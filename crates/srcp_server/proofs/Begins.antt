@@ -1,13 +1,13 @@
 -- How a turn begins: the moment, at most one newcomer, and whom it turns away.
-use Rattle.std.proofs.Common.{◌≡◌, ◌∙◌, ℕ, Bool, true, false, List, [], ◌∷◌, ◌++◌, map, filter, cond, if◌then◌else◌, Option, Some, None, ◌⊎◌, inl, inr, refl, ap, sym, subst, arith, append-nil, ◌==◌}
-use Rattle.std.specs.Prelude.{filter_map, flat_map, fold}
-use Rattle.std.specs.List.{AllByRecursion, cons_option}
+use Rattle.std.proofs.Common.{◌≡◌, ◌∙◌, ℕ, Bool, true, false, List, [], ◌∷◌, ◌++◌, map, filter, cond, if◌then◌else◌, Option, Some, None, ◌⊎◌, inl, inr, refl, ap, sym, subst, arith, ◌==◌}
+use Rattle.std.specs.Prelude.{filter_map, fold}
+use Rattle.std.specs.List.{cons_option}
 use Rattle.std.proofs.lemmas.Bool.Decides.{nat_tests}
 use Rattle.srcp_rules.specs.declared.layout.Bus.{Bus}
 use Rattle.srcp_core.specs.declared.event.Event.{Event}
 use Rattle.srcp_server.specs.Calls.{Call, NowCall, AcceptCall, ReadCall, WriteCall, CloseCall}
 use Rattle.srcp_server.specs.Serving.{Question, Moments, Newcomers, Closes, Seat, Stand, question, newcomer_of, with_moment, is_let_in, turns_away}
-use Rattle.srcp_server.proofs.Partings.{IsNoneOf, IsOfNone, AreOfPeers, asks_of, asks_peer}
+use Rattle.srcp_server.proofs.Partings.{IsNoneOf, IsOfNone, AreOfPeers, asks_of}
 use Rattle.srcp_server.proofs.Comings.{IsEven, even_moment}
 
 -- after the moments of a turn

@@ -1,23 +1,18 @@
 -- Who has a place as which guest: a newcomer takes one, and who is let go leaves one.
-use Rattle.std.proofs.Common.{◌≡◌, ◌∙◌, ℕ, zero, suc, ◌+◌, Bool, true, false, List, [], ◌∷◌, ◌++◌, map, length, if◌then◌else◌, Option, Some, None, refl, ap, sym, subst, arith, append-nil, ◌==◌}
+use Rattle.std.proofs.Common.{◌≡◌, ◌∙◌, ℕ, zero, suc, ◌+◌, Bool, true, false, List, [], ◌∷◌, ◌++◌, map, length, if◌then◌else◌, Option, Some, None, refl, ap, sym, subst, arith, ◌==◌}
 use Rattle.std.specs.List.{list_any, AllByRecursion}
-use Rattle.std.specs.Prelude.{fold, is_none}
-use Rattle.std.proofs.lemmas.Bool.Decides.{nat_tests}
+use Rattle.std.specs.Prelude.{is_none}
 use Rattle.std.proofs.lemmas.List.{map-append}
 use Rattle.std.proofs.lemmas.List.Sums.{fold-append}
 use Rattle.srcp_rules.specs.declared.layout.Bus.{Bus}
 use Rattle.srcp_core.specs.Course.{World, start, happens, course, fault}
-use Rattle.srcp_core.specs.declared.event.Event.{Event}
 use Rattle.srcp_core.specs.declared.event.Event.TheVariants.{Open, At}
 use Rattle.srcp_core.specs.declared.record.CoreFault.{CoreFault}
 use Rattle.srcp_server.specs.Calls.{Call}
-use Rattle.srcp_server.specs.Serving.{Seat, Stand, seats, seated, kept, visit, is_close, with_moment, welcomed, let_in, is_let_in}
+use Rattle.srcp_server.specs.Serving.{Seat, Stand, seats, seated, kept, visit, is_close, with_moment, welcomed, let_in}
 use Rattle.srcp_server.proofs.Sendings.{IsSending, sending_moment, sending_opened, sending_refused}
 use Rattle.srcp_server.proofs.Partings.{IsNoneOf, PeersApart}
-use Rattle.srcp_server.proofs.Guests.{IsGuest, AreGuests}
-
-turned_round : (a b : ℕ) → (a == b) ≡ false → (b == a) ≡ false
-turned_round a b e = grind (arith, nat_tests)
+use Rattle.srcp_server.proofs.Guests.{IsGuest, AreGuests, turned_round}
 
 -- ---- places
 

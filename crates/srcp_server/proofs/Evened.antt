@@ -1,15 +1,16 @@
 -- After a turn each guest was sent what was taken before it and in it.
-use Rattle.std.proofs.Common.{◌≡◌, ◌∙◌, ℕ, Bool, true, false, List, [], ◌∷◌, ◌++◌, map, if◌then◌else◌, ◌⊎◌, ⊎_elim, refl, ap, sym, subst}
+use Rattle.std.proofs.Common.{◌≡◌, ℕ, Bool, true, false, List, [], ◌∷◌, ◌++◌, map, if◌then◌else◌, ◌⊎◌, ⊎_elim, refl, ap, sym, subst}
 use Rattle.std.specs.Prelude.{filter_map, flat_map, fold}
 use Rattle.std.specs.List.{AllByRecursion}
 use Rattle.srcp_info.proofs.ClientLaws.{all_append}
 use Rattle.srcp_rules.specs.declared.layout.Bus.{Bus}
 use Rattle.srcp_core.specs.declared.event.Event.TheVariants.{Open}
 use Rattle.srcp_server.specs.Calls.{Call}
-use Rattle.srcp_server.specs.Serving.{Question, Moments, Newcomers, Closes, Seat, Stand, IsFair, question, moment_of, newcomer_of, seats, taken, timed, begun, turned, visited, visits_ask, welcomed, let_in, is_let_in, turns_away, turn_asks}
+use Rattle.srcp_server.specs.Serving.{Question, Moments, Newcomers, Closes, Seat, Stand, IsFair, question, moment_of, newcomer_of, seats, taken, timed, turned, visited, visits_ask, welcomed, let_in, is_let_in, turns_away, turn_asks}
+use Rattle.srcp_server.proofs.Takings.{no_writes}
 use Rattle.srcp_server.proofs.Partings.{IsOfNone, AreOfPeers, asks_peer, away_peers, visits_peers}
 use Rattle.srcp_server.proofs.Comings.{IsEven, IsNew, even_welcomed, new_unseated}
-use Rattle.srcp_server.proofs.Evening.{even_visited, no_writes}
+use Rattle.srcp_server.proofs.Evening.{even_visited}
 use Rattle.srcp_server.proofs.Begins.{even_timed, one_newcomer, away_of_none}
 
 module _ (buses : List Bus) (before : ℕ → List ℕ) (stand : Stand) (calls : List Call) (fair : AllByRecursion IsFair calls) (fresh : (peer : ℕ) → IsNew peer stand.guests → before peer ≡ []) (even : IsEven buses before stand) where

@@ -1,14 +1,14 @@
 -- After the visits of a turn each guest was sent what was taken before it and in it.
 use Rattle.std.proofs.Common.{◌≡◌, ◌∙◌, ℕ, Bool, true, false, not, cond, List, [], ◌∷◌, ◌++◌, map, filter, if◌then◌else◌, refl, ap, sym, subst, append-nil, ◌==◌}
-use Rattle.std.specs.Prelude.{◌&&◌, ◌||◌, flat_map}
-use Rattle.std.specs.List.{list_all, list_any, AllByRecursion}
+use Rattle.std.specs.Prelude.{◌&&◌, ◌||◌}
+use Rattle.std.specs.List.{list_any, AllByRecursion}
 use Rattle.std.proofs.lemmas.List.Elements.{filter-append}
 use Rattle.srcp_rules.specs.declared.layout.Bus.{Bus}
 use Rattle.srcp_core.specs.Course.{course}
 use Rattle.srcp_server.specs.Calls.{Call}
-use Rattle.srcp_server.specs.Serving.{Question, Seat, Stand, IsFair, is_about, question, seats, taken, visit_events, visited, visits_ask}
+use Rattle.srcp_server.specs.Serving.{Question, Seat, Stand, IsFair, is_about, question, seats, taken, visited, visits_ask}
 use Rattle.srcp_server.proofs.Sendings.{IsSending}
-use Rattle.srcp_server.proofs.Takings.{asks_write, none_taken}
+use Rattle.srcp_server.proofs.Takings.{asks_write, no_writes, none_taken}
 use Rattle.srcp_server.proofs.Partings.{IsNoneOf, IsOfNone, about_question, asks_of, none_asked, visits_parted}
 use Rattle.srcp_server.proofs.Guests.{IsGuest, sending_visits, so_far, taken_visit}
 use Rattle.srcp_server.proofs.Comings.{IsEven, kept_all, kept_apart}
@@ -16,9 +16,6 @@ use Rattle.srcp_server.proofs.Comings.{IsEven, kept_all, kept_apart}
 both : (a b : Bool) → a && b ≡ true → (a ≡ true) × (b ≡ true)
 both true b e = (refl, e)
 both false b e = cc
-
-abbrev pub no_writes : List Question → Bool
-no_writes questions = list_all (λ q. not (asks_write q)) questions
 
 no_writes_kept : (g : Question → Bool) (questions : List Question) → no_writes questions ≡ true → no_writes (filter g questions) ≡ true
 no_writes_kept g [] h = refl

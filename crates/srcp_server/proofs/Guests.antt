@@ -7,7 +7,7 @@ use Rattle.srcp_rules.specs.declared.layout.Bus.{Bus}
 use Rattle.srcp_core.specs.Course.{course}
 use Rattle.srcp_core.specs.declared.event.Event.{Event}
 use Rattle.srcp_server.specs.Calls.{Call, NowCall, AcceptCall, ReadCall, WriteCall, CloseCall}
-use Rattle.srcp_server.specs.Serving.{Seat, IsFair, is_about, visit, visit_events, visit_asks, taken, taken_in, question}
+use Rattle.srcp_server.specs.Serving.{Seat, IsFair, is_about, visit, visit_events, taken, taken_in}
 use Rattle.srcp_server.specs.declared.door.DoorFault.{DoorFault}
 use Rattle.srcp_server.proofs.Sendings.{IsSending}
 use Rattle.srcp_server.proofs.SentLaws.{put}
@@ -77,6 +77,9 @@ none_any : (peer : ℕ) (all : List Seat) → IsNoneOf peer all → list_any (λ
 none_any peer [] h = refl
 none_any peer (seat ∷ all) h = ap (λ b. b || list_any (λ other. other.peer == peer) all) h.0 ∙ none_any peer all h.1
 
+pub turned_round : (a b : ℕ) → (a == b) ≡ false → (b == a) ≡ false
+turned_round a b e = grind (arith, nat_tests)
+
 module _ (buses : List Bus) (guests : List ℕ) (before : ℕ → List ℕ) (calls : List Call) (fair : AllByRecursion IsFair calls) where
   -- the visits of a turn
   pub sending_visits : (events : List Event) (all : List Seat) → AreGuests guests all → PeersApart all → AreAsked buses events calls all → IsSending (map (so_far before calls all) guests) (course buses events).connections
@@ -99,6 +102,3 @@ module _ (buses : List Bus) (guests : List ℕ) (before : ℕ → List ℕ) (cal
       let here : IsSending (map (so_far before calls all) guests) (course buses next).connections = subst (λ (ts : List (List ℕ)). IsSending ts (course buses next).connections) now one in
       subst (λ (es : List Event). IsSending (map (so_far before calls []) guests) (course buses es).connections) (append_assoc events (visit_events calls seat) (flat_map (visit_events calls) all))
       (sending_visits next all known.1 apart.1 asked.1 here)
-    where
-      turned_round : (a b : ℕ) → (a == b) ≡ false → (b == a) ≡ false
-      turned_round a b e = grind (arith, nat_tests)

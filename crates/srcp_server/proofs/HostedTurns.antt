@@ -12,6 +12,7 @@ use Rattle.srcp_core.specs.Course.{course}
 use Rattle.srcp_core.specs.Held.{Held}
 use Rattle.srcp_core.specs.Stands.{StandsFor}
 use Rattle.srcp_core.specs.declared.event.Event.TheVariants.{Open}
+use Rattle.srcp_core.proofs.Told.{all_front}
 use Rattle.srcp_server.specs.Calls.{Call, Tells, NowCall, AcceptCall, ReadCall, WriteCall, CloseCall}
 use Rattle.srcp_server.specs.Serving.{Seat, Stand, Moments, Newcomers, IsServed, PeersDiffer, question, moment_of, newcomer_of, seats, visits_ask, visit_events, kept, is_let_in, let_in, welcomed, with_moment, timed, begun, visited, turned, turn_asks, turns_away, stand_after}
 use Rattle.srcp_server.specs.Places.{IsHosting, IsServing, IsLeftOut, IsNotOf, IsOneOf, one_if, LetsIn, MakesTurn, SeatsPeer, SeatsDiffer, ServesCourse, ServesSoFar, Sit, TakesMoment, Visit, VisitsPlaces, AreOwn, asked_by, calls_of, left_by, made_by, seat_of, visits_of}
@@ -44,10 +45,6 @@ no_moments (AcceptCall answer ∷ calls) h = cc
 no_moments (ReadCall peer answer buffer ∷ calls) h = no_moments calls h
 no_moments (WriteCall peer bytes answer ∷ calls) h = no_moments calls h
 no_moments (CloseCall peer answer ∷ calls) h = no_moments calls h
-
-all_front : {X : Type 0} (P : X → Type 0) (xs ys : List X) → AllByRecursion P (xs ++ ys) → AllByRecursion P xs
-all_front P [] ys h = tt
-all_front P (x ∷ xs) ys h = (h.0, all_front P xs ys h.1)
 
 differ_front : (xs ys : List ℕ) → IsDistinct (λ a b. a == b) (xs ++ ys) → IsDistinct (λ a b. a == b) xs
 unfolding IsDistinct

@@ -1,7 +1,7 @@
 -- The calls of some turns are parted by what they ask: turn by turn, and in a turn peer by peer.
-use Rattle.std.proofs.Common.{◌≡◌, ◌∙◌, ℕ, zero, suc, Bool, true, false, not, cond, List, [], ◌∷◌, ◌++◌, map, take, length, filter, if◌then◌else◌, Option, Some, None, Ok, Err, refl, ap, sym, subst, arith, append-nil, append_assoc, ◌==◌}
-use Rattle.std.specs.Prelude.{◌||◌, ◌&&◌, filter_map, flat_map, take_while}
-use Rattle.std.specs.List.{list_all, list_any, AllByRecursion}
+use Rattle.std.proofs.Common.{◌≡◌, ◌∙◌, ℕ, Bool, true, false, not, cond, List, [], ◌∷◌, ◌++◌, map, take, length, filter, if◌then◌else◌, refl, ap, sym, subst, arith, append-nil, append_assoc, ◌==◌}
+use Rattle.std.specs.Prelude.{◌||◌, filter_map, flat_map, take_while}
+use Rattle.std.specs.List.{list_any, AllByRecursion}
 use Rattle.std.proofs.lemmas.Bool.Decides.{nat_tests}
 use Rattle.std.proofs.lemmas.List.Elements.{filter-append}
 use Rattle.std.proofs.lemmas.List.Sums.{take_while-cons}

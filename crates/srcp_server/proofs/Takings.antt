@@ -1,6 +1,6 @@
 -- What the calls of a visit say was taken of a peer is what its events send.
-use Rattle.std.proofs.Common.{◌≡◌, ◌∙◌, ℕ, zero, suc, ◌≤◌, Bool, true, false, not, List, [], ◌∷◌, ◌++◌, map, take, length, if◌then◌else◌, Option, Some, None, Ok, Err, refl, ap, sym, subst, arith, append-nil, append_assoc, ◌==◌}
-use Rattle.std.specs.Prelude.{◌&&◌, ◌||◌, filter_map, flat_map}
+use Rattle.std.proofs.Common.{◌≡◌, ◌∙◌, ℕ, zero, suc, ◌≤◌, Bool, true, false, not, List, [], ◌∷◌, ◌++◌, map, take, length, if◌then◌else◌, Ok, Err, refl, ap, sym, subst, arith, append-nil, append_assoc, ◌==◌}
+use Rattle.std.specs.Prelude.{◌||◌, filter_map}
 use Rattle.std.specs.List.{list_all, list_any, AllByRecursion}
 use Rattle.std.proofs.lemmas.Bool.Decides.{nat_tests}
 use Rattle.std.proofs.lemmas.Grind.{flat_map-append}
@@ -14,7 +14,7 @@ use Rattle.srcp_core.specs.declared.event.Event.TheVariants.{Bytes, Room, Shut}
 use Rattle.srcp_server.specs.Calls.{Call, NowCall, AcceptCall, ReadCall, WriteCall, CloseCall}
 use Rattle.srcp_server.specs.Serving.{Question, Moments, Newcomers, Reads, Writes, Closes, Seat, question, IsFair, taken, taken_in, piece_of, count_of, is_close, loses, loses_reading, lent_none_last, exchange, is_ready, is_closing, lent, handed, unless_nil, reads_of, writes_of, closes_of, visit_asks}
 use Rattle.srcp_server.proofs.Sendings.{IsSending, sending_bytes, sending_shut}
-use Rattle.srcp_server.proofs.SentLaws.{put, put_none, put_put, take_nil, sending_room}
+use Rattle.srcp_server.proofs.SentLaws.{put, put_none, put_put, sending_room}
 
 -- ---- calls by their questions
 
@@ -25,8 +25,11 @@ asks_write (Reads peer most) = false
 asks_write (Writes peer bytes) = true
 asks_write (Closes peer) = false
 
+abbrev pub no_writes : List Question → Bool
+no_writes questions = list_all (λ q. not (asks_write q)) questions
+
 -- calls that are no writes take nothing
-pub none_taken : (peer : ℕ) (calls : List Call) → list_all (λ q. not (asks_write q)) (map question calls) ≡ true → (filter_map count_of calls ≡ []) × (taken peer calls ≡ [])
+pub none_taken : (peer : ℕ) (calls : List Call) → no_writes (map question calls) ≡ true → (filter_map count_of calls ≡ []) × (taken peer calls ≡ [])
 none_taken peer [] h = (refl, refl)
 none_taken peer (NowCall answer ∷ calls) h = none_taken peer calls h
 none_taken peer (AcceptCall answer ∷ calls) h = none_taken peer calls h
@@ -146,9 +149,6 @@ module _ (buses : List Bus) (peer conn : ℕ) where
 -- what a visit makes happen
 abbrev pub made_of : ℕ → List Call → List Event
 made_of conn calls = exchange conn calls ++ (if list_any is_close calls then Shut conn ∷ [] else [])
-
-abbrev no_writes : List Question → Bool
-no_writes questions = list_all (λ q. not (asks_write q)) questions
 
 module _ (buses : List Bus) (seat : Seat) (events : List Event) (calls : List Call) where
   abbrev read_events : List Event

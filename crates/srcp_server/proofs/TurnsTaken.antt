@@ -13,10 +13,10 @@ use Rattle.srcp_core.specs.declared.event.Event.{Event}
 use Rattle.srcp_core.specs.declared.event.Event.TheVariants.{Open}
 use Rattle.srcp_server.specs.Calls.{Call}
 use Rattle.srcp_server.specs.Serving.{Question, Moments, Newcomers, Closes, Stand, IsFair, question, is_now, moment_of, newcomer_of, taken, taken_in, seats, empty_stand, is_let_in, let_in, welcomed, timed, begun, turned, turns, turns_away, turn_asks, stand_after, SentIsTaken}
-use Rattle.srcp_server.proofs.Takings.{all_parts}
+use Rattle.srcp_server.proofs.Takings.{all_parts, no_writes}
 use Rattle.srcp_server.proofs.Partings.{AreTurnsAsked, IsNoneOf, in_turn, turns_parted}
 use Rattle.srcp_server.proofs.Comings.{IsEven, IsNew, even_welcomed, new_push, new_unseated}
-use Rattle.srcp_server.proofs.Evening.{no_writes, nothing_taken, same_each}
+use Rattle.srcp_server.proofs.Evening.{nothing_taken, same_each}
 use Rattle.srcp_server.proofs.Begins.{even_timed}
 use Rattle.srcp_server.proofs.Evened.{even_turned}
 
