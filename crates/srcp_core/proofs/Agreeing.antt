@@ -1,6 +1,7 @@
 -- What the answers of a core's calls say of the course that it stands for.
 use Rattle.std.proofs.Common.{◌≡◌, ◌≢◌, ℕ, suc, ◌+◌, Bool, true, false, List, [], ◌∷◌, ◌++◌, length, refl, ap, sym, ◌∙◌, arith, ◌⊎◌, inl, inr}
 use Rattle.std.proofs.lemmas.Bool.Decides.{nat_tests}
+use Rattle.std.proofs.lemmas.Option.{none-some}
 use Rattle.std.specs.List.{filter}
 use Rattle.std.specs.Option.{option_map_or}
 use Rattle.std.specs.Prelude.{Option, Some, None, is_none, is_some, count_by, nat_lt, slice_get, slice_index_or, not, ◌&&◌, ◌||◌, if◌then◌else◌, Result, Ok, Err, MatchResult, IfOk, IfErr, IsErr, IsErrOf, IsSome, ◌↔◌}
@@ -28,9 +29,6 @@ use Rattle.srcp_core.proofs.SessionLaws.{anything, at_number, opening_in_order}
 use Rattle.srcp_core.proofs.Standing.{Anything, Fine, Found, found_at}
 use Rattle.srcp_core.proofs.Telling.{count_by_cons}
 use Rattle.srcp_core.proofs.Worlds.{sound}
-
-none_some : {A : Type 0} (x : A) → None ≡ Some x → ⊥
-none_some x e = cc
 
 -- every course has sound connections
 fine : (buses : List Bus) (layout : IsLayout buses) (events : List Event) → IsFine buses (opening_in_order buses layout) (course buses events)
@@ -103,7 +101,7 @@ module _ (buses : List Bus) (layout : IsLayout buses) (events : List Event) (key
   there_is = ap (absent_fault buses) its.opened
 
   is_there : at held key ≡ None → ⊥
-  is_there gone = none_some (place_of its.reader (history buses w) its.conn) (sym gone ∙ its.place)
+  is_there gone = none-some (place_of its.reader (history buses w) its.conn) (sym gone ∙ its.place)
 
   -- its place, by what is known of that
   last_is : (p : Place) → at held key ≡ Some p → p.overran ≡ overran its.conn (history buses w) → p.ended ≡ its.conn.ended → (overran its.conn (history buses w) ≡ false → p.unsent ≡ unsent its.conn)

@@ -27,10 +27,10 @@ use Rattle.srcp_core.specs.declared.asked.Asked.TheVariants.{Dropped, Greets, Co
 use Rattle.srcp_core.specs.declared.record.ConnRecord.{ConnRecord}
 use Rattle.srcp_core.specs.declared.record.Step.{Step}
 use Rattle.srcp_core.specs.declared.record.Step.TheVariants.{Obeyed, Began, Ended}
-use Rattle.srcp_core.proofs.Answering.{IsFine}
+use Rattle.srcp_core.proofs.Answering.{IsFine, asked_alike}
 use Rattle.srcp_core.proofs.Placing.{place_mode, place_session, place_info, place_ended}
 use Rattle.srcp_core.proofs.SessionLaws.{at_number}
-use Rattle.srcp_core.proofs.Slow.{numbered_with}
+use Rattle.srcp_core.proofs.Numbers.{numbered_with}
 use Rattle.srcp_core.proofs.Standing.{Fine, found_at}
 
 -- ---- the records of connections
@@ -171,11 +171,7 @@ tells_answered buses order read keys n key r held w mark p a s named here t =
     let z : p.session ≡ h.conn.session = ap (λ (p : Place). p.session) (sym same) ∙ place_session h.reader (history buses w) h.conn in
     let m : p.mode ≡ h.conn.mode = ap (λ (p : Place). p.mode) (sym same) ∙ place_mode h.reader (history buses w) h.conn in
     let f : Fine buses (history buses w) h.conn = at_number (Fine buses (history buses w)) n w.connections h.conn a h.there in
-    let asks : asked_of held.buses p mark ≡ (if h.conn.info || h.conn.ended then Dropped else (if h.conn.session == 0 then Greets (greets mark) else Commands (command_of buses mark))) =
-    ap (λ b. asked_of b p mark) s.layout
-    ∙ ap (λ t. if t || p.ended then Dropped else (if p.session == 0 then Greets (greets mark) else Commands (command_of buses mark))) i
-    ∙ ap (λ t. if h.conn.info || t then Dropped else (if p.session == 0 then Greets (greets mark) else Commands (command_of buses mark))) e
-    ∙ ap (λ n. if h.conn.info || h.conn.ended then Dropped else (if n == 0 then Greets (greets mark) else Commands (command_of buses mark))) z in
+    let asks = asked_alike buses held.buses p h.conn mark s.layout i e z in
     subst (λ (o : Option Connection). Tells (noted n (steps_answered_from true (asked_of held.buses p mark) held (Some p)) r) (answered_as buses n o mark w)) (sym h.opened)
     (subst (λ (asked : Asked). Tells (noted n (steps_answered_from true asked held (Some p)) r) (answered_as buses n (Some h.conn) mark w)) (sym asks)
     (tells_asked buses n r w h.conn held mark p h.conn.info h.conn.ended (h.conn.session == 0) s.moment s.last_id s.rows (λ plain. (h.there, ((f.plain plain).0, f.within))) t m z))

@@ -1,5 +1,6 @@
 -- A core that stands for a course, after the place of one connection changed, and after a step.
 use Rattle.std.proofs.Common.{◌≡◌, ◌≢◌, ℕ, ⊎_elim, Bool, true, false, cond, List, [], ◌∷◌, ◌++◌, map, refl, ap, sym, ◌∙◌, subst, arith}
+use Rattle.std.proofs.lemmas.List.Sums.{fold-append}
 use Rattle.std.specs.Option.{option_map}
 use Rattle.std.specs.Prelude.{Option, Some, None, slice_set}
 use Rattle.srcp_info.specs.declared.change.Change.{Change}
@@ -15,7 +16,6 @@ use Rattle.srcp_core.specs.Stands.{StandsBy, IsAt, IsOwned, place_of}
 use Rattle.srcp_core.specs.declared.record.Item.{Item}
 use Rattle.srcp_core.specs.declared.record.Step.{Step}
 use Rattle.srcp_core.proofs.Covers.{Where, Here, Away, where_is, place_set, place_set_here, set_count, told_each_count}
-use Rattle.srcp_core.proofs.Histories.{fold_append}
 use Rattle.srcp_core.proofs.Numbers.{opens_same, length_with, key_within, numbered_none}
 use Rattle.srcp_core.proofs.Placing.{told_places, told_each_at, told_place_of}
 use Rattle.srcp_core.proofs.Registry.{history_push}
@@ -157,7 +157,7 @@ module _ (buses : List Bus) where
   stands_did read keys held w step fine s =
       subst (λ (updates : List Update). StandsBy buses read keys (carried updates held) (did step w)) (ap (λ rows. updates_of rows step) (sym s.rows)) (record {
         layout = s.layout;
-        rows = ap (updated_all updates) s.rows ∙ sym (fold_append stepped (opening buses 0) w.steps (step ∷ []));
+        rows = ap (updated_all updates) s.rows ∙ sym (fold-append stepped (opening buses 0) w.steps (step ∷ []));
         moment = s.moment;
         last_id = s.last_id;
         count = told_each_count changes held.places ∙ s.count;

@@ -27,11 +27,11 @@ use Rattle.srcp_core.proofs.Calling.{over_is}
 use Rattle.srcp_core.proofs.Giving.{IsFilled, fills, with_given}
 use Rattle.srcp_core.proofs.Histories.{rows_after}
 use Rattle.srcp_core.proofs.Noting.{Tells, tells_same, tells_changed}
-use Rattle.srcp_core.proofs.Pieces.{with_itself, set_same}
+use Rattle.srcp_core.proofs.Pieces.{set_same}
 use Rattle.srcp_core.proofs.Placing.{is_over_place, place_unsent}
 use Rattle.srcp_core.proofs.Registry.{shown_after, length_history}
 use Rattle.srcp_core.proofs.SessionLaws.{anything, at_number, fits_open}
-use Rattle.srcp_core.proofs.Slow.{numbered_with}
+use Rattle.srcp_core.proofs.Numbers.{numbered_with, with_itself}
 use Rattle.srcp_core.proofs.Standing.{Anything, Fine, found_at}
 use Rattle.srcp_core.proofs.Worlds.{sound_at, stands_room, in_order_after}
 
