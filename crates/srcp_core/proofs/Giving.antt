@@ -1,11 +1,13 @@
 -- Bytes that go out: the line that is put in, and the bytes that are taken, by the course.
 use Rattle.std.proofs.Common.{◌≡◌, ℕ, suc, min, ◌+◌, ◌-◌, ◌≤◌, Bool, true, false, List, [], ◌∷◌, ◌++◌, map, take, drop, length, refl, ap, sym, ◌∙◌, subst, arith, append-nil, append_assoc}
+use Rattle.std.proofs.lemmas.Bool.{le-leb, le-ltb}
 use Rattle.std.proofs.lemmas.Bool.Decides.{nat_tests}
 use Rattle.std.proofs.lemmas.List.{drop-append-le, take-append-le}
 use Rattle.std.proofs.Math.Bool.{and-false}
+use Rattle.std.proofs.Math.Nat.{le_refl}
 use Rattle.std.specs.List.{flat_map}
 use Rattle.std.specs.Option.{option_or}
-use Rattle.std.specs.Prelude.{Option, Some, None, ◌&&◌, ◌||◌, nat_lt, nat_le, is_none, IfSome, if◌then◌else◌}
+use Rattle.std.specs.Prelude.{Option, Some, None, ◌&&◌, ◌||◌, nat_lt, is_none, IfSome, if◌then◌else◌}
 use Rattle.srcp_info.specs.declared.change.Change.{Change}
 use Rattle.srcp_info.specs.declared.change.Cursor.{Cursor}
 use Rattle.srcp_info.specs.declared.change.Cursor.TheVariants.{Done}
@@ -50,9 +52,6 @@ with_given steps (Some (Told change)) told = with_item steps (Told change) told
 with_given steps (Some (Listed row)) told = with_item steps (Listed row) told
 with_given steps (Some Settled) told = told
 
-none_below : (n : ℕ) → nat_lt n 0 ≡ false
-none_below n = grind (arith, nat_tests)
-
 -- where something is unsent nothing is put in
 took_still : (n : ℕ) (nexts : List Next) (conn : Connection) (byte : ℕ) (bytes : List ℕ) → unsent conn ≡ byte ∷ bytes → took 0 n nexts conn ≡ conn
 took_still n nexts conn byte bytes e =
@@ -64,7 +63,7 @@ took_still n nexts conn byte bytes e =
     none k e = let z : 0 - length (byte ∷ bytes) ≡ 0 = omega arith in ap (λ m. conn.items ++ items_of n (front m nexts)) z ∙ append-nil conn.items
 
     not_yet : exhausts 0 (byte ∷ bytes) nexts ≡ false
-    not_yet = ap (λ t. t || false) (none_below (length (available (byte ∷ bytes) nexts)))
+    not_yet = ap (λ t. t || false) (le-ltb (length (available (byte ∷ bytes) nexts)) 0 (omega arith))
 
     never : (info : Bool) → (if info && false then option_or conn.done (Some n) else conn.done) ≡ conn.done
     never true = refl
@@ -76,7 +75,7 @@ took_one n nexts conn e =
     ap (λ (items : List Item). record conn { items = items; taken = conn.taken + min 0 (length (available (unsent conn) nexts)); done = (took 0 n nexts conn).done }) (ap (λ left. conn.items ++ items_of n (fitting 0 left nexts)) e)
     ∙ ap (λ taken. record conn { items = conn.items ++ items_of n (take 1 nexts); taken = taken; done = (took 0 n nexts conn).done }) (none_taken conn.taken (length (available (unsent conn) nexts)))
     ∙ ap (λ end. record conn { items = conn.items ++ items_of n (take 1 nexts); done = end })
-    (ap (λ left. if conn.info && exhausts 0 left nexts then option_or conn.done (Some n) else conn.done) e ∙ ap (λ t. if conn.info && (t || is_nil nexts) then option_or conn.done (Some n) else conn.done) (none_below (length (available [] nexts))))
+    (ap (λ left. if conn.info && exhausts 0 left nexts then option_or conn.done (Some n) else conn.done) e ∙ ap (λ t. if conn.info && (t || is_nil nexts) then option_or conn.done (Some n) else conn.done) (le-ltb (length (available [] nexts)) 0 (omega arith)))
 
 -- what is unsent and what was sent once more was given
 unsent_more : (conn : Connection) (n : ℕ) (nexts : List Next) (end : Option ℕ) → conn.taken ≤ length (given conn) → unsent (record conn { items = conn.items ++ items_of n nexts; done = end }) ≡ unsent conn ++ flat_map line_of nexts
@@ -151,14 +150,8 @@ module _ (first : List Shown) (history : History) (conn : Connection) (shut : co
       })
     where
       done_now : (end : Option ℕ) → IfSome end (λ m. m ≤ length history) → cursor_by (option_or end (Some (length history))) conn.items (length history) ≡ Done
-      done_now None h = ap (λ t. if t then Done else cursor_by None conn.items (length history)) (self (length history))
-        where
-          self : (m : ℕ) → nat_le m m ≡ true
-          self m = grind (arith, nat_tests)
-      done_now (Some m) h = ap (λ t. if t then Done else cursor_by None conn.items (length history)) (yes h)
-        where
-          yes : m ≤ length history → nat_le m (length history) ≡ true
-          yes h = grind (arith, nat_tests)
+      done_now None h = ap (λ t. if t then Done else cursor_by None conn.items (length history)) (le-leb (length history) (length history) (le_refl (length history)))
+      done_now (Some m) h = ap (λ t. if t then Done else cursor_by None conn.items (length history)) (le-leb m (length history) h)
 
   -- a room for no bytes puts in what the code puts in
   pub record IsFilled (reader : Reading) (later : Connection) : Type 0 where

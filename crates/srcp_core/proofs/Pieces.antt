@@ -1,6 +1,6 @@
 -- A core that stands for a course takes a piece as the course does.
 use Rattle.std.proofs.Common.{◌≡◌, ◌≢◌, ℕ, zero, suc, ◌+◌, ◌<◌, ◌≤◌, Bool, true, false, List, [], ◌∷◌, ◌++◌, take, drop, length, refl, ap, sym, ◌∙◌, subst, arith, append-nil}
-use Rattle.std.proofs.lemmas.Bool.Decides.{nat_tests}
+use Rattle.std.proofs.lemmas.Bool.{eqb-true, eq-eqb}
 use Rattle.std.proofs.lemmas.List.{drop_all}
 use Rattle.std.proofs.lemmas.List.Sums.{fold-append}
 use Rattle.std.proofs.lemmas.Option.{none-some}
@@ -56,19 +56,13 @@ abbrev pub partly : ℕ → List ℕ → ℕ → List ℕ → List ℕ
 partly n bytes m fed = if m == n then bytes else fed
 
 partly_here : (n : ℕ) (bytes fed : List ℕ) → partly n bytes n fed ≡ bytes
-partly_here n bytes fed = ap (λ t. if t then bytes else fed) same
-  where
-    same : (n == n) ≡ true
-    same = grind (arith, nat_tests)
+partly_here n bytes fed = ap (λ t. if t then bytes else fed) (eq-eqb n n refl)
 
 partly_other : (n m : ℕ) (bytes fed : List ℕ) → m ≢ n → partly n bytes m fed ≡ fed
 partly_other n m bytes fed d = by (m == n) refl
   where
-    equal : (m == n) ≡ true → m ≡ n
-    equal e = grind (arith, nat_tests)
-
     by : (t : Bool) → (m == n) ≡ t → (if t then bytes else fed) ≡ fed
-    by true e = absurd (d (equal e))
+    by true e = absurd (d (eqb-true m n e))
     by false e = refl
 
 module _ (buses : List Bus) (keys : List (Option ℕ)) (n key : ℕ) (named : key_of n keys ≡ Some key) where

@@ -1,6 +1,6 @@
 -- A run over one more event.
 use Rattle.std.proofs.Common.{◌≡◌, ◌≢◌, ℕ, zero, suc, min, max, ◌+◌, ◌-◌, ◌<◌, ◌≤◌, Bool, true, false, List, [], ◌∷◌, ◌++◌, take, length, refl, ap, sym, ◌∙◌, subst, arith, append-nil, ◌⊎◌, inl, inr}
-use Rattle.std.proofs.lemmas.Bool.Decides.{nat_tests}
+use Rattle.std.proofs.lemmas.Bool.{ltb-false}
 use Rattle.std.specs.List.{fold}
 use Rattle.std.specs.Prelude.{Option, Some, None, not, ◌||◌, ◌==◌, nat_lt, slice_get, slice_set, if◌then◌else◌}
 use Rattle.std.proofs.lemmas.List.{map-append}
@@ -187,9 +187,6 @@ bytes_refused n key piece r held cause named e buses events layout d s =
 pub bytes_room : (key : ℕ) (piece : List ℕ) (held : Held) → bytes_fault key piece held ≡ None → (length piece ≤ 256) × HasRoom key piece 0 held
 bytes_room key piece held e = by (at held key) refl e
   where
-    few : nat_lt 256 (length piece) ≡ false → length piece ≤ 256
-    few t = grind (arith, nat_tests)
-
     some_none : (cause : CoreFault) → Some cause ≡ None → ⊥
     some_none cause e = cc
 
@@ -198,7 +195,7 @@ bytes_room key piece held e = by (at held key) refl e
     with p true idle long h i l e = absurd (some_none Closing e)
     with p false false long h i l e = absurd (some_none Busy e)
     with p false true true h i l e = absurd (some_none PieceTooLong e)
-    with p false true false h i l e = (few l, nothing_begun key piece held (ap unsent_of h ∙ nil_is p.unsent i))
+    with p false true false h i l e = (ltb-false 256 (length piece) l, nothing_begun key piece held (ap unsent_of h ∙ nil_is p.unsent i))
       where
         nil_is : (xs : List ℕ) → is_nil xs ≡ true → xs ≡ []
         nil_is [] e = refl
