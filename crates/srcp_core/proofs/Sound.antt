@@ -1,6 +1,5 @@
 -- What holds of every core is kept.
 use Rattle.std.proofs.Common.{inl, inr, ◌⊎◌, ◌≡◌, ◌≢◌, ℕ, ◌+◌, ◌<◌, ◌≤◌, Bool, true, false, List, [], ◌∷◌, map, refl, ap, sym, ◌∙◌, subst, arith}
-use Rattle.std.specs.List.{AllByRecursion}
 use Rattle.std.specs.Prelude.{Option, Some, None, is_some, slice_set, count_by}
 use Rattle.srcp_info.specs.Key.{first_key}
 use Rattle.srcp_info.specs.WellFormed.{IsMoment}
@@ -26,10 +25,7 @@ use Rattle.srcp_rules.proofs.KeyLaws.{same_key, same_key-true}
 use Rattle.std.proofs.lemmas.Bool.{le-leb}
 use Rattle.std.specs.Prelude.{◌&&◌}
 use Rattle.srcp_core.specs.Machine.{changed_at, changed_in, changed_places, carried, told_all, told_each, freed_of, freed_place, entered_place, begun}
-use Rattle.srcp_info.specs.WellFormed.{IsWellFormedShown}
 use Rattle.srcp_info.specs.declared.change.Shown.{Shown}
-use Rattle.srcp_rules.specs.State.{IsRowOf, shown_rows}
-use Rattle.srcp_rules.proofs.StateLaws.{each_found}
 use Rattle.srcp_feed.specs.Feed.{Feed}
 use Rattle.srcp_core.specs.Machine.{filled, filled_from}
 use Rattle.srcp_core.proofs.Walks.{change_in}
@@ -39,7 +35,6 @@ use Rattle.srcp_core.proofs.SessionRows.{no_session-opening}
 pub sound_opening : (buses : List Bus) → IsLayout buses → (moment : ℕ) → IsMoment moment → (last_id : ℕ) (state : State) → state ≡ opening buses 0 → (places : List (Option Place)) → places ≡ []
     → IsSound (record { buses = buses; rows = state; moment = moment; last_id = last_id; places = places; denied = 0 })
 sound_opening buses layout moment now last_id state is places none = record {
-  layout = layout;
   moment = now;
   few = rw none (omega arith);
   whole = rw is (opening_whole buses layout 0 (omega arith));
@@ -54,7 +49,7 @@ sound_opening buses layout moment now last_id state is places none = record {
 -- ---- places
 
 pub sound_places : (held : Held) (places : List (Option Place)) → Covers held.places places → count_by is_some places ≤ count_by is_some held.places → IsSound held → IsSound (record held { places = places })
-sound_places held places covers fewer s = record { layout = s.layout; moment = s.moment; few = omega (arith, s.few, fewer); whole = s.whole; sessions = sessions_covered held.last_id held.rows held.places places covers s.sessions }
+sound_places held places covers fewer s = record { moment = s.moment; few = omega (arith, s.few, fewer); whole = s.whole; sessions = sessions_covered held.last_id held.rows held.places places covers s.sessions }
 
 pub covers_changed : (key : ℕ) (change : Place → Place) (places : List (Option Place)) → ((p : Place) → IsMild p (change p)) → Covers places (changed_places key change places)
 covers_changed key change places mild = by (place_at places key) refl
@@ -82,7 +77,6 @@ sound_carried updates held whole same s =
     let places = told_each (map change_in updates) held.places in
     let a = sessions_covered held.last_id held.rows held.places places (covers_told_each (map change_in updates) held.places) s.sessions in
     record {
-      layout = s.layout;
       moment = s.moment;
       few = let c = told_each_count (map change_in updates) held.places in omega (arith, c, s.few);
       whole = whole;
@@ -114,7 +108,6 @@ sound_freed session held now known over s =
     let others : (id : ℕ) → id ≢ session → is_there (session_device id) (updated_all updates held.rows) ≡ is_there (session_device id) held.rows =
     λ id apart. ap is_some (freed_others held.buses held.rows s.whole held.moment session id apart) in
     record {
-      layout = s.layout;
       moment = s.moment;
       few = let c = told_each_count (map change_in updates) held.places in omega (arith, c, s.few);
       whole = freed_kept held.buses held.moment held.rows s.whole session;
@@ -207,7 +200,6 @@ sound_begun key id mode held now next high s =
     let told = told_each_count (map change_in (update ∷ [])) held.places in
     let count = changed_count key (entered_place id mode) mid.places in
     record {
-      layout = s.layout;
       moment = s.moment;
       few = omega (arith, s.few, told, count);
       whole = began_kept held.buses held.moment now id mode held.rows (session_place held.buses id (omega (arith, next)) high) s.whole;
@@ -270,7 +262,7 @@ sound_ended key session held now here s =
     ended_here p e = ap (λ (o : Option Place). place_at (changed_in key (λ q. record q { ended = true }) held.places o) key) e ∙ place_set_here held.places key p (Some (record p { ended = true })) e
 
 pub sound_moment : (held : Held) (moment : ℕ) → IsMoment moment → IsSound held → IsSound (record held { moment = moment })
-sound_moment held moment now s = record { layout = s.layout; moment = now; few = s.few; whole = s.whole; sessions = s.sessions }
+sound_moment held moment now s = record { moment = now; few = s.few; whole = s.whole; sessions = s.sessions }
 
 -- a connection that is taken out, and then its session
 pub sound_hung_up : (key : ℕ) (held : Held) (p : Place) (session : ℕ) → at held key ≡ Some p → session ≡ p.session → 0 < session → open_count (freed_place key held) ≤ open_count held → IsSound held → IsSound (freed_of session (freed_place key held))
@@ -278,14 +270,6 @@ sound_hung_up key held p session e own began fewer s =
     sound_freed session (freed_place key held) s.moment (subst (λ n. n ≤ held.last_id) (sym own) (s.sessions.ids key p e))
     (subst (λ n. IsOver n (freed_place key held).places) (sym own) (over_free key held p e (subst (λ n. 0 < n) own began) s))
     (sound_free key held p e fewer s)
-
--- what a whole registry shows can be told
-all_shown : (buses : List Bus) (rows : State) → AllByRecursion (IsRowOf buses) rows → AllByRecursion IsWellFormedShown (shown_rows rows)
-all_shown buses [] a = tt
-all_shown buses (row ∷ rows) a = (a.0.shown, all_shown buses rows a.1)
-
-pub shown_tellable : (buses : List Bus) (rows : State) → IsWhole buses rows → AllByRecursion IsWellFormedShown (shown_rows rows)
-shown_tellable buses rows whole = all_shown buses rows (each_found (IsRowOf buses) rows whole.rising whole.rows)
 
 pub filled_mild : (rows : List Shown) (p : Place) → IsMild p (filled rows p)
 filled_mild rows p = by p.unsent p.feed
