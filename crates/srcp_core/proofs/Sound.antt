@@ -1,6 +1,6 @@
 -- What holds of every core is kept.
 use Rattle.std.proofs.Common.{inl, inr, ◌⊎◌, ◌≡◌, ◌≢◌, ℕ, ◌+◌, ◌<◌, ◌≤◌, Bool, true, false, List, [], ◌∷◌, map, refl, ap, sym, ◌∙◌, subst, arith}
-use Rattle.std.specs.Prelude.{Option, Some, None, is_some, slice_set, count_by}
+use Rattle.std.specs.Prelude.{◌==◌, ◌&&◌, ◌||◌, if◌then◌else◌, Option, Some, None, is_some, slice_set, count_by}
 use Rattle.srcp_info.specs.Key.{first_key}
 use Rattle.srcp_info.specs.WellFormed.{IsMoment}
 use Rattle.srcp_info.specs.declared.change.Change.{Change}
@@ -22,12 +22,11 @@ use Rattle.srcp_rules.proofs.EffectLaws.{effect_kept}
 use Rattle.srcp_rules.proofs.SessionLaws.{session_row-updated_all, effect_elsewhere, due_elsewhere, freed_others}
 use Rattle.srcp_rules.proofs.StateLaws.{row_at-put_same, row_at-put_other}
 use Rattle.srcp_rules.proofs.KeyLaws.{same_key, same_key-true}
-use Rattle.std.proofs.lemmas.Bool.{le-leb}
-use Rattle.std.specs.Prelude.{◌&&◌}
-use Rattle.srcp_core.specs.Machine.{changed_at, changed_in, changed_places, carried, told_all, told_each, freed_of, freed_place, entered_place, begun}
+use Rattle.std.proofs.lemmas.Bool.{le-leb, eqb-false}
+use Rattle.std.proofs.Math.Nat.{pos_of_ne-zero}
+use Rattle.srcp_core.specs.Machine.{changed_at, changed_in, changed_places, carried, told_all, told_each, freed_of, freed_place, entered_place, begun, filled, filled_from, live_session_of}
 use Rattle.srcp_info.specs.declared.change.Shown.{Shown}
 use Rattle.srcp_feed.specs.Feed.{Feed}
-use Rattle.srcp_core.specs.Machine.{filled, filled_from}
 use Rattle.srcp_core.proofs.Walks.{change_in}
 use Rattle.srcp_core.proofs.Covers.{IsMild, mild_itself, mild_live, Covers, covers_itself, covers_set, covers_free, covers_told_each, told_each_count, set_count, free_other, sessions_covered, place_set, place_set_here, where_is, Where, Here, Away, no_place}
 use Rattle.srcp_core.proofs.SessionRows.{no_session-opening}
@@ -263,6 +262,14 @@ sound_ended key session held now here s =
 
 pub sound_moment : (held : Held) (moment : ℕ) → IsMoment moment → IsSound held → IsSound (record held { moment = moment })
 sound_moment held moment now s = record { moment = now; few = s.few; whole = s.whole; sessions = s.sessions }
+
+pub live_session_is : (p : Place) (session : ℕ) → Some session ≡ live_session_of (Some p) → (session ≡ p.session) × (0 < session)
+live_session_is p session e = by (p.session == 0) refl p.ended e
+  where
+    by : (none : Bool) → (p.session == 0) ≡ none → (ended : Bool) → Some session ≡ (if none || ended then None else Some p.session) → (session ≡ p.session) × (0 < session)
+    by true q ended e = cc
+    by false q true e = cc
+    by false q false e = let own : session ≡ p.session = cc in (own, subst (λ n. 0 < n) (sym own) (pos_of_ne-zero (eqb-false p.session 0 q)))
 
 -- a connection that is taken out, and then its session
 pub sound_hung_up : (key : ℕ) (held : Held) (p : Place) (session : ℕ) → at held key ≡ Some p → session ≡ p.session → 0 < session → open_count (freed_place key held) ≤ open_count held → IsSound held → IsSound (freed_of session (freed_place key held))
