@@ -25,7 +25,7 @@ use Rattle.srcp_core.proofs.Placing.{is_over_place, untold_shut, place_session, 
 use Rattle.srcp_core.proofs.Registry.{length_history}
 use Rattle.srcp_core.proofs.SessionLaws.{anything, at_number}
 use Rattle.srcp_core.proofs.Sessions.{untold_by}
-use Rattle.srcp_core.proofs.Standing.{Anything, Fine, AllFine, Found, found_at, stands_did}
+use Rattle.srcp_core.proofs.Standing.{Anything, Fine, AllFine, Found, found_at, stands_did, other_key}
 use Rattle.srcp_core.proofs.Telling.{count_by_cons}
 use Rattle.srcp_core.proofs.WholeCourses.{Source, look_with}
 use Rattle.srcp_core.proofs.Worlds.{sound_at, stands_shut, concerning_start}
@@ -216,16 +216,13 @@ module _ (buses : List Bus) where
           let o = ap one_if found.up in
           omega (arith, a, b, c, o)
 
-      far : (m other : ℕ) → (m ≡ n → ⊥) → key_of m keys ≡ Some other → other ≢ key
-      far m other d e z = d (s.apart m n key (e ∙ ap Some z) named)
-
       at_all : (m : ℕ) (conn : Connection) → is_open conn ≡ true → Source m n f w.connections conn → IsAt (without_key n keys) (slice_set held.places key None) (history buses w) m conn conn.fed
       at_all m conn o from =
           ⊎_elim
           (λ h.
           let a = s.opens m from.x from.there (ap is_open (sym h.1) ∙ o) in
           subst (λ (c : Connection). IsAt (without_key n keys) (slice_set held.places key None) (history buses w) m c c.fed) (sym h.1)
-          (record { key = a.key; reader = a.reader; named = without_other n m keys h.0 ∙ a.named; place = place_set held.places key a.key None (far m a.key h.0 a.named) ∙ a.place; reads = a.reads }))
+          (record { key = a.key; reader = a.reader; named = without_other n m keys h.0 ∙ a.named; place = place_set held.places key a.key None (other_key buses (λ n fed. fed) keys held w n key s named m a.key h.0 a.named) ∙ a.place; reads = a.reads }))
           (λ h. let bad : false ≡ true = ap is_open (sym h.1) ∙ o in absurd (false≢true bad))
           from.from
 

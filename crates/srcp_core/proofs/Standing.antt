@@ -73,6 +73,10 @@ module _ (buses : List Bus) where
           absurd (omega (arith, short, long, most))
       by (Some conn) e = with conn (is_open conn) e refl
 
+  -- another number has another key
+  pub other_key : (read : ℕ → List ℕ → List ℕ) (keys : List (Option ℕ)) (held : Held) (w : World) (n key : ℕ) → StandsBy buses read keys held w → key_of n keys ≡ Some key → (m other : ℕ) → m ≢ n → key_of m keys ≡ Some other → other ≢ key
+  other_key read keys held w n key s named m other d e z = d (s.apart m n key (e ∙ ap Some z) named)
+
   -- ---- one connection
 
   pub stands_changed : (read later : ℕ → List ℕ → List ℕ) (keys : List (Option ℕ)) (held : Held) (w : World) (n key : ℕ) (conn : Connection) (f : Connection → Connection) (p : Place) (reader : Reading)
@@ -102,9 +106,6 @@ module _ (buses : List Bus) where
       was : place_at held.places key ≡ Some old
       was = found.place
 
-      far : (m other : ℕ) → (m ≡ n → ⊥) → key_of m keys ≡ Some other → other ≢ key
-      far m other d e z = d (s.apart m n key (e ∙ ap Some z) k)
-
       at_all : (m : ℕ) (c : Connection) → numbered m (at_connection n f w).connections ≡ Some c → is_open c ≡ true → IsAt keys (slice_set held.places key (Some p)) (history buses w) m c (later m c.fed)
       at_all m c e o =
           let from = look_with m n f w.connections c e in
@@ -112,7 +113,7 @@ module _ (buses : List Bus) where
           (λ h.
           let a = s.opens m from.x from.there (ap is_open (sym h.1) ∙ o) in
           subst (λ (c : Connection). IsAt keys (slice_set held.places key (Some p)) (history buses w) m c (later m c.fed)) (sym h.1)
-          (record { key = a.key; reader = a.reader; named = a.named; place = place_set held.places key a.key (Some p) (far m a.key h.0 a.named) ∙ a.place; reads = subst (λ bytes. StandsAt bytes a.reader) (sym (same_read m from.x.fed h.0)) a.reads }))
+          (record { key = a.key; reader = a.reader; named = a.named; place = place_set held.places key a.key (Some p) (other_key read keys held w n key s k m a.key h.0 a.named) ∙ a.place; reads = subst (λ bytes. StandsAt bytes a.reader) (sym (same_read m from.x.fed h.0)) a.reads }))
           (λ h.
           let same : conn ≡ from.x = let both : Some conn ≡ Some from.x = sym there ∙ ap (λ j. numbered j w.connections) (sym h.0) ∙ from.there in cc in
           let image : c ≡ f conn = h.1 ∙ ap f (sym same) in
