@@ -5,7 +5,7 @@ use Rattle.std.specs.List.{fold}
 use Rattle.std.specs.Prelude.{Option, Some, None, not, ◌||◌, ◌==◌, nat_lt, slice_get, slice_set, if◌then◌else◌}
 use Rattle.std.proofs.lemmas.List.{map-append}
 use Rattle.std.proofs.lemmas.Option.{none-some}
-use Rattle.std.proofs.Math.Nat.{pos_of_ne-zero}
+use Rattle.std.proofs.Math.Nat.{pos_of_ne-zero, zero-min}
 use Rattle.srcp_rules.specs.declared.layout.Bus.{Bus}
 use Rattle.srcp_rules.specs.Layout.{IsLayout}
 use Rattle.srcp_rules.specs.State.{opening, shown_rows}
@@ -388,7 +388,7 @@ pub taking_none : (n key most : ℕ) (held : Held) (r : Recording) → at held k
 taking_none n key most held r e =
     let gone : let_out key held ≡ held = ap (λ (o : Option Place). record held { places = changed_places_in key (filled (shown_rows held.rows)) held.places o }) e in
     let bytes : unsent_at key (let_out key held) ≡ [] = ap (unsent_at key) gone ∙ ap unsent_of e in
-    let none : count_at key most held ≡ 0 = ap (λ bytes. min (length bytes) most) bytes ∙ least most in (
+    let none : count_at key most held ≡ 0 = ap (λ bytes. min (length bytes) most) bytes ∙ zero-min most in (
       ap (λ k. took n (take k (unsent_at key (let_out key held))) (gave n (item_at key held) r)) none
           ∙ ap (λ (o : Option Place). took n [] (gave n (item_of (shown_rows held.rows) o) r)) e
           ∙ ap (λ tolds. record r { connections = tolds }) (changed_same n (λ told. record told { sent = told.sent ++ [] }) (λ told. ap (λ bytes. record told { sent = bytes }) (append-nil told.sent)) r.connections),
@@ -398,6 +398,3 @@ taking_none n key most held r e =
         none,
       ),
     )
-  where
-    least : (m : ℕ) → min 0 m ≡ 0
-    least m = omega arith

@@ -7,7 +7,6 @@ use Rattle.srcp_info.specs.declared.change.Change.{Change}
 use Rattle.srcp_rules.specs.declared.layout.Bus.{Bus}
 use Rattle.srcp_rules.specs.Layout.{IsLayout}
 use Rattle.srcp_rules.specs.State.{State, Update, IsWhole, opening, updated_all, session_device, is_there}
-use Rattle.srcp_rules.proofs.OpeningLaws.{opening_whole}
 use Rattle.srcp_core.specs.Held.{Place, Held, place_at, at, open_count, IsLive, AreSessions, IsSound, IsSessionAt}
 use Rattle.srcp_info.specs.declared.value.Mode.{Mode}
 use Rattle.srcp_info.specs.declared.value.Value.TheVariants as value
@@ -30,13 +29,14 @@ use Rattle.srcp_feed.specs.Feed.{Feed}
 use Rattle.srcp_core.proofs.Walks.{change_in}
 use Rattle.srcp_core.proofs.Covers.{IsMild, mild_itself, mild_live, Covers, covers_itself, covers_set, covers_free, covers_told_each, told_each_count, set_count, free_other, sessions_covered, place_set, place_set_here, where_is, Where, Here, Away, no_place}
 use Rattle.srcp_core.proofs.SessionRows.{no_session-opening}
+use Rattle.srcp_core.proofs.Wholes.{whole_opening}
 
 pub sound_opening : (buses : List Bus) → IsLayout buses → (moment : ℕ) → IsMoment moment → (last_id : ℕ) (state : State) → state ≡ opening buses 0 → (places : List (Option Place)) → places ≡ []
     → IsSound (record { buses = buses; rows = state; moment = moment; last_id = last_id; places = places; denied = 0 })
 sound_opening buses layout moment now last_id state is places none = record {
   moment = now;
   few = rw none (omega arith);
-  whole = rw is (opening_whole buses layout 0 (omega arith));
+  whole = rw is (whole_opening buses layout);
   sessions = rw (is, none) (record {
     ids = λ key p e. absurd (no_place key p e);
     apart = λ m n p q e f l s. absurd (no_place m p e);
