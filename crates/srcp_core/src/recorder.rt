@@ -54,11 +54,7 @@ impl Recorder {
         ensures { result ≡ key_of conn self.now.keys }
     {
         let index = conn.checked_sub(1)?;
-        if index < self.keys.len() {
-            self.keys[index]
-        } else {
-            None
-        }
+        *self.keys.get(index)?
     }
 
     /// A connection was opened at a place.
