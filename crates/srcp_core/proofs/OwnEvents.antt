@@ -5,7 +5,7 @@ use Rattle.std.specs.Prelude.{◌==◌, ◌||◌, Option, Some, None, option_map
 use Rattle.srcp_rules.specs.declared.layout.Bus.{Bus}
 use Rattle.srcp_text.specs.Marks.{Mark}
 use Rattle.srcp_core.specs.Connection.{Connection, is_open, overran, owed, took, given_room}
-use Rattle.srcp_core.specs.Course.{World, numbered, with_numbered, at_connection, if_open, open_connection, did, counted, rows, history, greeted, ended, commanded, answered_as, answered, command_of, fault, new_marks, fed_to, shut_as, accepted, or_refused, happens}
+use Rattle.srcp_core.specs.Course.{World, numbered, with_numbered, at_connection, if_open, open_connection, did, counted, rows, history, greeted, commanded, answered_as, answered, command_of, fault, new_marks, fed_to, shut_as, accepted, or_refused, happens}
 use Rattle.srcp_core.specs.Handshake.{greets}
 use Rattle.srcp_core.specs.Laws.{is_info_session}
 use Rattle.srcp_core.specs.declared.event.Event.{Event}
