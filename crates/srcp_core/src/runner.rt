@@ -11,7 +11,6 @@ use crate::event::Event;
 use crate::record::{CoreFault, Record, Step};
 use crate::recorder::Recorder;
 use crate::table::Core;
-use srcp_feed::Next;
 use srcp_rules::{Layout, Memory, Rows};
 use std::alloc::Global;
 

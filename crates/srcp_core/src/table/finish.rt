@@ -9,7 +9,7 @@ ghost use Rattle.srcp_core.specs.Machine.{finish_at, live_session};
 use super::Core;
 use crate::entries::Entries;
 use crate::record::{Finish, Rows as RowEntries};
-use srcp_info::{Cursor, Shown};
+use srcp_info::Cursor;
 use srcp_rules::{Memory, Rows};
 use std::alloc::Global;
 
