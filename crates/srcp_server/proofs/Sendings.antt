@@ -22,7 +22,7 @@ use Rattle.srcp_core.specs.Handshake.{is_version, greets_protocol, greets_mode, 
 use Rattle.srcp_core.specs.declared.event.Event.TheVariants.{Open, Bytes, At, Shut}
 use Rattle.srcp_core.specs.declared.record.CoreFault.{CoreFault}
 use Rattle.srcp_core.specs.declared.record.Step.TheVariants.{Obeyed, Began, Ended}
-use Rattle.srcp_core.proofs.Slow.{numbered_with}
+use Rattle.srcp_core.proofs.Numbers.{numbered_with}
 use Rattle.srcp_core.proofs.Worlds.{all_numbered, all_push, opened}
 
 -- it was given no line unless it is an information session, and no more was taken of it than it was given
