@@ -29,7 +29,7 @@ pub fn put_number(number: u64, line: &mut LineBuf)
 
 /// Appends the stamp of a moment of `moment` milliseconds: its seconds in decimal, a point, and the
 /// milliseconds past them in three digits, as `12.050`: at most 21 bytes, for which the line must
-/// have room. The form is that of SRCP 0.8.
+/// have room.
 pub fn put_stamp(moment: u64, line: &mut LineBuf)
     requires { array_vec_len line.old + length (stamp moment) ≤ 256 }
     ensures { line.new.items ≡ line.old.items ++ stamp moment }
