@@ -1,20 +1,18 @@
 -- What a feed gives, and that its client holds the rows that the listing has passed.
-use Rattle.std.proofs.Common.{◌≡◌, ◌≢◌, ℕ, Bool, true, false, not, ◌&&◌, cond, List, [], ◌∷◌, ◌++◌, map, drop, length, Option, Some, None, refl, ap, sym, ◌∙◌, subst, append-nil, append_assoc}
-use Rattle.std.specs.Prelude.{slice_get, if◌then◌else◌}
+use Rattle.std.proofs.Common.{◌≡◌, ◌≢◌, Bool, true, false, List, [], ◌∷◌, ◌++◌, map, drop, Option, Some, None, refl, ap, sym, ◌∙◌, subst, append-nil, append_assoc}
+use Rattle.std.specs.Prelude.{slice_get}
 use Rattle.srcp_info.specs.Client.{client, changed, put, IsRisingBy}
 use Rattle.srcp_info.specs.declared.change.Change.{Change}
 use Rattle.srcp_info.specs.declared.change.Change.TheVariants.{Put}
 use Rattle.srcp_info.specs.declared.change.Cursor.{Cursor}
-use Rattle.srcp_info.specs.declared.change.Cursor.TheVariants.{After, Done}
 use Rattle.srcp_info.specs.declared.change.Row.{Row}
 use Rattle.srcp_info.specs.declared.change.Shown.{Shown}
 use Rattle.srcp_rules.specs.State.{State, shown_rows, row_after}
 use Rattle.srcp_feed.specs.Cursor.{concerns, passed, beyond, moved, said}
-use Rattle.srcp_feed.specs.Feed.{Feed, is_full, told, told_answer, owed, first_of, next_of, after_next, HoldsPassed}
+use Rattle.srcp_feed.specs.Feed.{Feed, is_full, told, told_answer, first_of, next_of, after_next, HoldsPassed}
 use Rattle.srcp_feed.specs.declared.Next.{Next}
 use Rattle.srcp_feed.specs.declared.Next.TheVariants as next
-use Rattle.srcp_feed.specs.declared.Told.{Told}
-use Rattle.srcp_feed.specs.declared.Told.TheVariants.{Skipped, Queued, Overrun}
+use Rattle.srcp_feed.specs.declared.Told.TheVariants.{Overrun}
 use Rattle.srcp_info.proofs.ClientLaws.{client-push}
 use Rattle.srcp_feed.proofs.Nexts.{IsNext, row_after_next}
 use Rattle.srcp_feed.proofs.Steps.{in_order, lists_one, passed_all, passed_done, passed_told, passed_skipped}
