@@ -1,20 +1,19 @@
 -- What a feed gives, and that its client holds the rows that the listing has passed.
-use Rattle.std.proofs.Common.{◌≡◌, ◌≢◌, ℕ, Bool, true, false, not, ◌&&◌, cond, List, [], ◌∷◌, ◌++◌, map, drop, length, Option, Some, None, fold, refl, ap, sym, ◌∙◌, subst, append-nil, append_assoc}
-use Rattle.std.specs.Prelude.{slice_get, if◌then◌else◌}
+use Rattle.std.proofs.Common.{◌≡◌, ◌≢◌, Bool, true, false, List, [], ◌∷◌, ◌++◌, map, drop, Option, Some, None, refl, ap, sym, ◌∙◌, subst, append-nil, append_assoc}
+use Rattle.std.specs.Prelude.{slice_get}
 use Rattle.srcp_info.specs.Client.{client, changed, put, IsRisingBy}
 use Rattle.srcp_info.specs.declared.change.Change.{Change}
 use Rattle.srcp_info.specs.declared.change.Change.TheVariants.{Put}
 use Rattle.srcp_info.specs.declared.change.Cursor.{Cursor}
-use Rattle.srcp_info.specs.declared.change.Cursor.TheVariants.{After, Done}
 use Rattle.srcp_info.specs.declared.change.Row.{Row}
 use Rattle.srcp_info.specs.declared.change.Shown.{Shown}
 use Rattle.srcp_rules.specs.State.{State, shown_rows, row_after}
 use Rattle.srcp_feed.specs.Cursor.{concerns, passed, beyond, moved, said}
-use Rattle.srcp_feed.specs.Feed.{Feed, is_full, told, told_answer, owed, first_of, next_of, after_next, HoldsPassed}
+use Rattle.srcp_feed.specs.Feed.{Feed, is_full, told, told_answer, first_of, next_of, after_next, HoldsPassed}
 use Rattle.srcp_feed.specs.declared.Next.{Next}
 use Rattle.srcp_feed.specs.declared.Next.TheVariants as next
-use Rattle.srcp_feed.specs.declared.Told.{Told}
-use Rattle.srcp_feed.specs.declared.Told.TheVariants.{Skipped, Queued, Overrun}
+use Rattle.srcp_feed.specs.declared.Told.TheVariants.{Overrun}
+use Rattle.srcp_info.proofs.ClientLaws.{client-push}
 use Rattle.srcp_feed.proofs.Nexts.{IsNext, row_after_next}
 use Rattle.srcp_feed.proofs.Steps.{in_order, lists_one, passed_all, passed_done, passed_told, passed_skipped}
 
@@ -42,14 +41,6 @@ after_next_is feed rows what e = ap (λ (w : Next). let f : Feed = record { curs
 
 -- ---- the client
 
-client_append : (given later : List Change) (rows : List Shown) → fold (λ rows change. changed change rows) rows (given ++ later) ≡ fold (λ rows change. changed change rows) (fold (λ rows change. changed change rows) rows given) later
-client_append [] later rows = refl
-client_append (change ∷ given) later rows = client_append given later (changed change rows)
-
--- one more change at the end
-client_push : (given : List Change) (change : Change) → client (given ++ change ∷ []) ≡ changed change (client given)
-client_push given change = client_append given (change ∷ []) []
-
 -- a client that is told a change which the rows underwent
 pub tell_holds : (given : List Change) (change : Change) (feed : Feed) (rows : List Shown) → told_answer change feed ≢ Overrun → HoldsPassed given feed rows → HoldsPassed given (told change feed) (changed change rows)
 tell_holds given change feed rows fits holds = by (concerns feed.cursor change) refl (is_full feed) refl
@@ -58,7 +49,7 @@ tell_holds given change feed rows fits holds = by (concerns feed.cursor change) 
     by false e f g = rw e (holds ∙ sym (passed_skipped feed.cursor change rows e))
     by true e true g = absurd (fits (rw (e, g) refl))
     by true e false g =
-        rw (e, g) (ap client (sym (append_assoc given feed.queue (change ∷ []))) ∙ client_push (given ++ feed.queue) change ∙ ap (changed change) holds ∙ sym (passed_told feed.cursor change rows e))
+        rw (e, g) (ap client (sym (append_assoc given feed.queue (change ∷ []))) ∙ client-push (given ++ feed.queue) change ∙ ap (changed change) holds ∙ sym (passed_told feed.cursor change rows e))
 
 -- a client that is given what is next
 pub next_holds : (given : List Change) (feed : Feed) (rows : List Shown) → IsRisingBy (λ row. row.key) rows → HoldsPassed given feed rows → HoldsPassed (given ++ said (next_of rows feed)) (after_next rows feed) rows
@@ -69,7 +60,7 @@ next_holds given feed rows rising holds = by feed.cursor feed.queue holds
     from cursor [] e h = ap client (append-nil (given ++ []) ∙ append-nil given) ∙ h ∙ passed_all cursor rows e ∙ sym (passed_done rows)
     from cursor (row ∷ left) e h =
         let l = lists_one cursor row left rows (in_order rows rising) e in
-        ap client (append-nil (given ++ Put row ∷ [])) ∙ client_push given (Put row) ∙ ap (put row) h ∙ l.taken
+        ap client (append-nil (given ++ Put row ∷ [])) ∙ client-push given (Put row) ∙ ap (put row) h ∙ l.taken
 
     by : (cursor : Cursor) (queue : List Change) → HoldsPassed given (record { cursor = cursor; queue = queue }) rows
         → HoldsPassed (given ++ said (next_of rows (record { cursor = cursor; queue = queue }))) (after_next rows (record { cursor = cursor; queue = queue })) rows

@@ -45,6 +45,7 @@ abbrev pub first_of : List Next → Next
 first_of [] = next.Settled
 first_of (what ∷ nexts) = what
 
+-- what is given next
 abbrev pub next_of : List Shown → Feed → Next
 next_of rows feed = first_of (owed rows feed)
 

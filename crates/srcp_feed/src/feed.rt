@@ -1,3 +1,5 @@
+//! The feed of one information session.
+
 ghost use Rattle.std.specs.Prelude.{◌≡◌, ◌≢◌, ◌≤◌, List, ◌++◌, length, IfOk};
 ghost use Rattle.srcp_info.specs.Client.{changed, IsRisingBy};
 ghost use Rattle.srcp_info.specs.declared.change.Change.{Change};
@@ -69,6 +71,7 @@ impl InfoFeed {
         self.give(rows)
     }
 
+    /// `tell`, without what holds of a client.
     fn enqueue(&mut self, change: &Change) -> Told
         ensures answer { result ≡ told_answer change.now self.old }
         ensures feed { self.new ≡ told change.now self.old }
@@ -83,6 +86,7 @@ impl InfoFeed {
         Told::Queued
     }
 
+    /// `next`, without what holds of a client.
     fn give<R: Rows>(&mut self, rows: &R) -> Next
         ensures answer { result ≡ next_of (shown_rows (R.state rows.now)) self.old }
         ensures feed { self.new ≡ after_next (shown_rows (R.state rows.now)) self.old }

@@ -6,7 +6,7 @@ use Rattle.std.specs.Ordering.{is_gt}
 use Rattle.std.specs.declared.cmp.Ordering.{Ordering}
 use Rattle.std.specs.declared.cmp.Ordering.TheVariants.{Less, Equal, Greater}
 use Rattle.std.proofs.Common.{refl, ap, sym, subst, ◌∙◌, arith, inl, inr}
-use Rattle.std.proofs.lemmas.Bool.{cases_eq}
+use Rattle.std.proofs.lemmas.Bool.{cases_eq, not-true}
 use Rattle.std.proofs.lemmas.List.{take-append-drop, drop_more, length-take-le, length-append}
 use Rattle.std.proofs.Math.Seq.{set-append_seam}
 use Rattle.srcp_info.specs.declared.key.Key.{Key}
@@ -73,13 +73,9 @@ module _ {X : Type 0} (key : X → Key) where
   pub put_inserted : (x : X) (xs : List X) (i : ℕ) → IsRisingBy key xs → take i xs ≡ filter (λ y. is_after (key x) (key y)) xs → drop i xs ≡ filter (λ y. not (is_after (key x) (key y))) xs → ((y : X) (rest : List X) → drop i xs ≡ y ∷ rest → key y ≡ key x → ⊥) → put_by key x xs ≡ take i xs ++ x ∷ drop i xs
   put_inserted x xs i h front back other =
       let rising : IsRisingBy key (drop i xs) = subst (λ (ys : List X). IsRisingBy key ys) (sym back) (rising_filter key (λ y. not (is_after (key x) (key y))) xs h) in
-      let none : AllByRecursion (λ y. is_after (key x) (key y) ≡ false) (drop i xs) = subst (λ (ys : List X). AllByRecursion (λ y. is_after (key x) (key y) ≡ false) ys) (sym back) (all_kept (λ y. is_after (key x) (key y) ≡ false) (λ y. not (is_after (key x) (key y))) (λ y n. not_true (is_after (key x) (key y)) n) xs) in
+      let none : AllByRecursion (λ y. is_after (key x) (key y) ≡ false) (drop i xs) = subst (λ (ys : List X). AllByRecursion (λ y. is_after (key x) (key y) ≡ false) ys) (sym back) (all_kept (λ y. is_after (key x) (key y) ≡ false) (λ y. not (is_after (key x) (key y))) (λ y n. not-true (is_after (key x) (key y)) n) xs) in
       ap (λ (ys : List X). put_by key x ys) (sym (take-append-drop i xs))
       ∙ put_between key x (take i xs) (drop i xs) (below_all x xs i front) (above_all x (drop i xs) rising none other)
-    where
-      not_true : (b : Bool) → not b ≡ true → b ≡ false
-      not_true true e = cc
-      not_true false e = refl
 
   -- and an item takes the place of the one at its key
   pub put_replaced : (x : X) (xs : List X) (i : ℕ) (d : X) → IsRisingBy key xs → take i xs ≡ filter (λ y. is_after (key x) (key y)) xs → i < length xs → key (get_or xs i d) ≡ key x → put_by key x xs ≡ slice_set xs i x

@@ -14,7 +14,7 @@ use Rattle.srcp_text.specs.Stamp.{stamp, three_digits}
 use Rattle.srcp_text.specs.Words.{number_of, plain_number_of}
 use Rattle.srcp_text.proofs.NumberLaws.{own, has_leading_zero-decimal, plain_number_of-decimal}
 use Rattle.srcp_text.proofs.ScanLaws.{position_some}
-use Rattle.srcp_text.proofs.StampLaws.{digits_free, stamp_free}
+use Rattle.srcp_text.proofs.StampLaws.{digits_free, stamp_free, digit_no_point}
 use Rattle.srcp_info.specs.Line.{bit_word, after_spaces}
 use Rattle.srcp_info.specs.declared.scan.InfoKind.{InfoKind}
 use Rattle.srcp_info.specs.declared.scan.InfoKind.TheVariants.{State, Init, Term}
@@ -87,14 +87,17 @@ decimal_no_space n h = digits_free is_space digit_no_space (decimal n) (digits_d
 pub stamp_no_space : (moment : ℕ) → moment < 2 ^ 64 → list_any is_space (stamp moment) ≡ false
 stamp_no_space moment h = stamp_free is_space digit_no_space refl moment h
 
+-- nor has the number of a line
+pub kind_no_space : (kind : InfoKind) → list_any is_space (kind_code kind) ≡ false
+kind_no_space State = refl
+kind_no_space Init = refl
+kind_no_space Term = refl
+
 -- ---- numbers
 
 -- a printed number is read as that number
 pub number_of-decimal : (max n : ℕ) → n ≤ max → n < 2 ^ 64 → number_of max (decimal n) ≡ Some n
 number_of-decimal max n le h = rw (has_leading_zero-decimal n h) at (plain_number_of-decimal max n le h)
-
-digit_no_point : (c : ℕ) → is_ascii_digit c ≡ true → (c == 46) ≡ false
-digit_no_point c h = grind (arith, nat_tests)
 
 -- the seconds of a stamp stand before its point
 pub before_first-stamp : (moment : ℕ) → moment < 2 ^ 64 → before_first (λ byte. byte == 46) (stamp moment) ≡ decimal (moment / 1000)
@@ -140,9 +143,3 @@ bits_step bits seen seen' left on rest more whole is some push next =
     let bs = first.1 in
     let read = next b (map bit_word bs) (is ∙ ap (λ (ys : List Bool). join_with_byte 32 (map bit_word ys)) first.2) in
     (bs, whole ∙ ap (λ (ys : List Bool). seen ++ ys) (first.2 ∙ ap (λ (y : Bool). y ∷ bs) (sym read.0)) ∙ sym (append_assoc seen (on ∷ []) bs) ∙ ap (λ (ys : List Bool). ys ++ bs) (sym push), read.1)
-
--- nor has the number of a line a space
-pub kind_no_space : (kind : InfoKind) → list_any is_space (kind_code kind) ≡ false
-kind_no_space State = refl
-kind_no_space Init = refl
-kind_no_space Term = refl

@@ -8,7 +8,7 @@ pub fn changes_have_lines()
     ensures { ChangesHaveLines }
 {}
 
-/// So has the line of a well-formed reply.
+/// So has the line of a well-formed reply, at a moment of 64 bits in milliseconds.
 pub fn replies_have_lines()
     ensures { RepliesHaveLines }
 {}

@@ -14,12 +14,14 @@ use crate::key::Group;
 use crate::value::{Bits, Letter, Mode};
 use srcp_text::{read_number, read_plain};
 
-/// What an information line is about: 100 tells what a device does, 101 what it is, and 102 that
-/// it is gone.
+/// What an information line is about.
 #[derive(Clone, Copy, PartialEq, Eq)]
 pub(crate) enum InfoKind {
+    /// What a device does: the number of the line is 100.
     State,
+    /// What a device is: 101.
     Init,
+    /// That a device is gone: 102.
     Term,
 }
 

@@ -9,6 +9,7 @@ use crate::change::Change;
 use crate::key::Group;
 use crate::value::Value;
 
+/// Whether a byte can stand in a word of a text: it is no control byte, space or DEL.
 fn is_text_byte(byte: u8) -> bool
     ensures { result ≡ is_text_byte byte }
 {
@@ -21,6 +22,7 @@ fn are_text_bytes(bytes: &[u8]) -> bool
     bytes.iter().all(|byte| is_text_byte(*byte))
 }
 
+/// Whether a word is one of a text: such a byte or more.
 fn is_text_word(word: &[u8]) -> bool
     ensures { result ≡ is_text_word word.now }
 {
@@ -33,6 +35,7 @@ fn is_space(byte: u8) -> bool
     byte == b' '
 }
 
+/// Whether the spaces of a text stand between words, one between each two.
 fn are_text_words(text: &[u8]) -> bool
     ensures { result ≡ list_all is_text_word (slice_split is_space text.now) }
 {
@@ -54,6 +57,7 @@ fn is_between(low: u32, high: u32, number: u32) -> bool
     low <= number && number <= high
 }
 
+/// Whether the group has a device of this address on this bus.
 fn is_address(group: Group, bus: u8, address: u32) -> bool
     ensures { IsTrue result ↔ IsAddress group bus address }
 {
@@ -67,6 +71,7 @@ fn is_address(group: Group, bus: u8, address: u32) -> bool
     }
 }
 
+/// Whether the group is one of locks.
 fn is_lock(group: Group) -> bool
     ensures { result ≡ is_lock group }
 {
@@ -76,6 +81,7 @@ fn is_lock(group: Group) -> bool
     }
 }
 
+/// Whether the devices of the group come and go.
 fn can_go(group: Group) -> bool
     ensures { result ≡ can_go group }
 {
@@ -85,12 +91,15 @@ fn can_go(group: Group) -> bool
     }
 }
 
+/// Whether a locomotive can have this speed: none is above the greatest, unless that is 0, and an
+/// emergency stop has speed 0.
 fn is_speed(mode: u32, v: u32, vmax: u32) -> bool
     ensures { IsTrue result ↔ IsSpeed mode v vmax }
 {
     mode <= 2 && v <= 65535 && vmax <= 65535 && (v <= vmax || vmax == 0) && (mode != 2 || v == 0)
 }
 
+/// Whether the value is one that the row at this group and port can have.
 fn is_value_at(group: Group, port: u8, value: &Value) -> bool
     ensures { IsTrue result ↔ IsValueAt group port value.now }
 {

@@ -192,7 +192,6 @@ pub fn write_change(change: &Change, buffer: &mut LineBuf)
 }
 
 /// Writes a moment and a text as a line.
-
 fn write_text(stamp: u64, text: &[u8], buffer: &mut LineBuf)
     requires short { length text.now ≤ 40 }
     requires empty { buffer.old.items ≡ [] }

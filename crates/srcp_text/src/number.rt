@@ -12,7 +12,8 @@ pub fn read_number(word: &[u8], max: u32) -> Option<u32>
     Some(number as u32)
 }
 
-/// The same without leading zeros, so that each number has one word alone: that of `put_number`.
+/// The number that a word writes without leading zeros, if it is at most `max`: each number has one
+/// such word alone, that of `put_number`. None for any other word.
 pub fn read_plain(word: &[u8], max: u64) -> Option<u64>
     ensures { result ≡ plain_number_of max word.now }
 {
@@ -22,6 +23,7 @@ pub fn read_plain(word: &[u8], max: u64) -> Option<u64>
     number_within(word, max)
 }
 
+// The number that a word of digits writes, leading zeros allowed, if it is at most `max`.
 fn number_within(word: &[u8], max: u64) -> Option<u64>
     ensures { result ≡ number_of max word.now }
 {

@@ -9,7 +9,7 @@ use arrayvec::ArrayVec;
 /// A line that is being written. Its 256 bytes stand in the value itself, so it takes no memory.
 pub type LineBuf = ArrayVec<u8, 256>;
 
-/// Appends bytes as they are.
+/// Appends bytes as they are. The line must have room for them.
 pub fn put_bytes(bytes: &[u8], line: &mut LineBuf)
     requires { array_vec_len line.old + length bytes.now ≤ 256 }
     ensures { line.new.items ≡ line.old.items ++ bytes.now }
@@ -17,7 +17,8 @@ pub fn put_bytes(bytes: &[u8], line: &mut LineBuf)
     line.try_extend_from_slice(bytes).unwrap();
 }
 
-/// Appends a number in decimal, without leading zeros.
+/// Appends a number in decimal, without leading zeros: at most 20 bytes, for which the line must
+/// have room.
 pub fn put_number(number: u64, line: &mut LineBuf)
     requires { array_vec_len line.old + length (decimal number) ≤ 256 }
     ensures { line.new.items ≡ line.old.items ++ decimal number }
@@ -27,7 +28,8 @@ pub fn put_number(number: u64, line: &mut LineBuf)
 }
 
 /// Appends the stamp of a moment of `moment` milliseconds: its seconds in decimal, a point, and the
-/// milliseconds past them in three digits, as `12.050`. It has at most 21 bytes.
+/// milliseconds past them in three digits, as `12.050`: at most 21 bytes, for which the line must
+/// have room.
 pub fn put_stamp(moment: u64, line: &mut LineBuf)
     requires { array_vec_len line.old + length (stamp moment) ≤ 256 }
     ensures { line.new.items ≡ line.old.items ++ stamp moment }

@@ -143,12 +143,14 @@ impl LineReader {
     }
 }
 
+// Where the first LF of some bytes stands.
 fn first_lf(bytes: &[u8]) -> Option<usize>
     ensures { result ≡ position is_lf bytes.now }
 {
     bytes.iter().position(|byte| *byte == b'\n')
 }
 
+// The text without a CR at its end.
 fn without_cr(text: &[u8]) -> &[u8]
     ensures { result.now ≡ without_cr text.now }
 {

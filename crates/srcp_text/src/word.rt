@@ -29,6 +29,7 @@ pub(crate) fn first_blank(text: &[u8]) -> Option<usize>
     text.iter().position(|byte| is_blank_byte(*byte))
 }
 
+// Whether a byte parts words: space and tab do.
 fn is_blank_byte(byte: u8) -> bool
     ensures { result ≡ is_blank byte }
 {

@@ -1,15 +1,15 @@
 use Rattle.std.proofs.Common.{ℕ, arith, length-append}
-use Rattle.srcp_info.proofs.LineLaws.{stamp_most}
+use Rattle.srcp_text.proofs.StampLaws.{length-stamp-le}
 use Rattle.srcp_info.proofs.write.write_text.Goals as goal
 
 pub put_stamp-requires : goal.put_stamp-requires
-put_stamp-requires c = rw c.requires.empty (omega (arith, stamp_most c.args.stamp (omega arith)))
+put_stamp-requires c = rw c.requires.empty (omega (arith, length-stamp-le c.args.stamp (omega arith)))
 
 pub put_word-requires : goal.put_word-requires
-put_word-requires c = rw (c.put_stamp.ensures, c.requires.empty) (omega (arith, c.requires.short, stamp_most c.args.stamp (omega arith)))
+put_word-requires c = rw (c.put_stamp.ensures, c.requires.empty) (omega (arith, c.requires.short, length-stamp-le c.args.stamp (omega arith)))
 
 pub put_bytes-requires : goal.put_bytes-requires
-put_bytes-requires c = rw (c.put_word.ensures, c.put_stamp.ensures, c.requires.empty) (omega (arith, length-append {A = ℕ}, c.requires.short, stamp_most c.args.stamp (omega arith)))
+put_bytes-requires c = rw (c.put_word.ensures, c.put_stamp.ensures, c.requires.empty) (omega (arith, length-append {A = ℕ}, c.requires.short, length-stamp-le c.args.stamp (omega arith)))
 
 pub returns-clause-most : goal.returns-clause-most
-returns-clause-most c = rw (c.put_bytes.ensures, c.put_word.ensures, c.put_stamp.ensures, c.requires.empty) (omega (arith, length-append {A = ℕ}, c.requires.short, stamp_most c.args.stamp (omega arith)))
+returns-clause-most c = rw (c.put_bytes.ensures, c.put_word.ensures, c.put_stamp.ensures, c.requires.empty) (omega (arith, length-append {A = ℕ}, c.requires.short, length-stamp-le c.args.stamp (omega arith)))

@@ -1,4 +1,4 @@
-use Rattle.std.proofs.Common.{sym, ◌∙◌, ◌≢◌, subst}
+use Rattle.std.proofs.Common.{◌∙◌}
 use Rattle.srcp_feed.proofs.FeedLaws.{tell_holds}
 use Rattle.srcp_feed.proofs.feed.InfoFeed.tell.Goals as goal
 
