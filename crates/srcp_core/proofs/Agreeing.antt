@@ -1,6 +1,7 @@
 -- What the answers of a core's calls say of the course that it stands for.
 use Rattle.std.proofs.Common.{◌≡◌, ◌≢◌, ℕ, suc, ◌+◌, Bool, true, false, List, [], ◌∷◌, ◌++◌, length, refl, ap, sym, ◌∙◌, arith, ◌⊎◌, inl, inr}
-use Rattle.std.proofs.lemmas.Bool.Decides.{nat_tests}
+use Rattle.std.proofs.lemmas.Option.{none-some}
+use Rattle.std.proofs.lemmas.Bool.{le-ltb}
 use Rattle.std.specs.List.{filter}
 use Rattle.std.specs.Option.{option_map_or}
 use Rattle.std.specs.Prelude.{Option, Some, None, is_none, is_some, count_by, nat_lt, slice_get, slice_index_or, not, ◌&&◌, ◌||◌, if◌then◌else◌, Result, Ok, Err, MatchResult, IfOk, IfErr, IsErr, IsErrOf, IsSome, ◌↔◌}
@@ -28,9 +29,6 @@ use Rattle.srcp_core.proofs.SessionLaws.{anything, at_number, opening_in_order}
 use Rattle.srcp_core.proofs.Standing.{Anything, Fine, Found, found_at}
 use Rattle.srcp_core.proofs.Telling.{count_by_cons}
 use Rattle.srcp_core.proofs.Worlds.{sound}
-
-none_some : {A : Type 0} (x : A) → None ≡ Some x → ⊥
-none_some x e = cc
 
 -- every course has sound connections
 fine : (buses : List Bus) (layout : IsLayout buses) (events : List Event) → IsFine buses (opening_in_order buses layout) (course buses events)
@@ -103,7 +101,7 @@ module _ (buses : List Bus) (layout : IsLayout buses) (events : List Event) (key
   there_is = ap (absent_fault buses) its.opened
 
   is_there : at held key ≡ None → ⊥
-  is_there gone = none_some (place_of its.reader (history buses w) its.conn) (sym gone ∙ its.place)
+  is_there gone = none-some (place_of its.reader (history buses w) its.conn) (sym gone ∙ its.place)
 
   -- its place, by what is known of that
   last_is : (p : Place) → at held key ≡ Some p → p.overran ≡ overran its.conn (history buses w) → p.ended ≡ its.conn.ended → (overran its.conn (history buses w) ≡ false → p.unsent ≡ unsent its.conn)
@@ -157,9 +155,6 @@ pub ready_takes : (key : ℕ) (held : Held) (answer : Bool) → answer ≡ is_no
 ready_takes key held answer is buses events keys n layout named s accepts piece few =
     from (open_connection (course buses events) n) (sym (ready_agrees key held answer is buses events keys n layout named s) ∙ accepts)
   where
-    short : nat_lt 256 (length piece) ≡ false
-    short = grind (arith, nat_tests)
-
     from : (o : Option Connection) → is_none (course_fault buses (course buses events) o []) ≡ true → course_fault buses (course buses events) o piece ≡ None
     from None e = cc
     from (Some conn) e = by (conn.ended || overran conn (history buses (course buses events))) (is_nil (unsent conn)) e
@@ -168,7 +163,7 @@ ready_takes key held answer is buses events keys n layout named s accepts piece 
             → (if over then Some ClosingFault else (if not idle then Some Busy else (if nat_lt 256 (length piece) then Some PieceTooLong else None))) ≡ None
         by true idle e = cc
         by false false e = cc
-        by false true e = ap (λ t. if t then Some PieceTooLong else None) short
+        by false true e = ap (λ t. if t then Some PieceTooLong else None) (le-ltb 256 (length piece) few)
 
 pub closing_agrees : (key : ℕ) (held : Held) (answer : Bool) → answer ≡ is_closing key held → OfConnection key held (λ buses events n. answer ≡ closes buses (course buses events) n)
 closing_agrees key held answer is buses events keys n layout named s = is ∙ closing_is buses layout events keys n key named held s

@@ -1,5 +1,6 @@
 -- A core that stands for a course answers a line as the course does.
 use Rattle.std.proofs.Common.{◌≡◌, ℕ, ◌+◌, ◌≤◌, Bool, true, false, List, [], ◌∷◌, ◌++◌, length, refl, ap, sym, ◌∙◌, subst}
+use Rattle.std.proofs.Math.Bool.{and-false}
 use Rattle.std.specs.Option.{option_map}
 use Rattle.std.specs.Prelude.{Option, Some, None, ◌&&◌, ◌||◌, ◌==◌, nat_lt, Result, Ok, Err, if◌then◌else◌}
 use Rattle.srcp_info.specs.Line.{reply_line}
@@ -28,12 +29,21 @@ use Rattle.srcp_core.specs.declared.record.Step.TheVariants.{Obeyed, Began, Ende
 use Rattle.srcp_core.proofs.Placing.{replied_still, chosen_place, ended_place, entered_place_of, is_over_place, untold_shut, place_mode, place_session, place_info, place_ended}
 use Rattle.srcp_core.proofs.SessionLaws.{anything, at_number}
 use Rattle.srcp_core.proofs.Sessions.{untold_by}
-use Rattle.srcp_core.proofs.Slow.{numbered_with}
+use Rattle.srcp_core.proofs.Numbers.{numbered_with}
 use Rattle.srcp_core.proofs.Standing.{Anything, Fine, AllFine, found_at, stands_at, stands_did}
 use Rattle.srcp_core.proofs.Worlds.{IsSound, sound_did, sound_at, sound_replied, concerning_start}
 
 abbrev pub IsFine : (buses : List Bus) → IsInOrder (shown_rows (opening buses 0)) → World → Type 0
 IsFine buses order w = IsSound buses order Anything (anything (shown_rows (opening buses 0))) w
+
+-- a line asks the same of a place and of a connection that are in the same state
+pub asked_alike : (buses held_buses : List Bus) (p : Place) (conn : Connection) (mark : Mark) → held_buses ≡ buses → p.info ≡ conn.info → p.ended ≡ conn.ended → p.session ≡ conn.session
+    → asked_of held_buses p mark ≡ (if conn.info || conn.ended then Dropped else (if conn.session == 0 then Greets (greets mark) else Commands (command_of buses mark)))
+asked_alike buses held_buses p conn mark same info ended session =
+    ap (λ b. asked_of b p mark) same
+    ∙ ap (λ t. if t || p.ended then Dropped else (if p.session == 0 then Greets (greets mark) else Commands (command_of buses mark))) info
+    ∙ ap (λ t. if conn.info || t then Dropped else (if p.session == 0 then Greets (greets mark) else Commands (command_of buses mark))) ended
+    ∙ ap (λ n. if conn.info || conn.ended then Dropped else (if n == 0 then Greets (greets mark) else Commands (command_of buses mark))) session
 
 module _ (buses : List Bus) (order : IsInOrder (shown_rows (opening buses 0))) (read : ℕ → List ℕ → List ℕ) (keys : List (Option ℕ)) (n key : ℕ) (named : key_of n keys ≡ Some key) where
   pub fine_of : (w : World) → IsFine buses order w → AllFine buses w
@@ -97,14 +107,10 @@ module _ (buses : List Bus) (order : IsInOrder (shown_rows (opening buses 0))) (
       let nothing : untold begins (history buses w2) ≡ [] =
       untold_shut begins (history buses w2) shut ∙ ap (λ d. untold_by (length w2.steps) conn.items d (history buses w2)) p.1 ∙ ap (λ is. untold_by (length w2.steps) is None (history buses w2)) p.0 ∙ concerning_start (length w2.steps) 0 (history buses w2) in
       stands_replied (begun key id conn.mode held) (entered buses n id w2) begins (Go id) e (numbered_at w2 conn (λ conn. record conn { session = id; info = is_info conn.mode; go_step = length w2.steps }) there) p.0
-      (ap (λ cs. is_info conn.mode && nat_lt 256 (length cs)) nothing ∙ never (is_info conn.mode)) f.within
+      (ap (λ cs. is_info conn.mode && nat_lt 256 (length cs)) nothing ∙ and-false (is_info conn.mode)) f.within
     where
       updates : Held → List Update
       updates held = began id held.moment conn.mode ∷ []
-
-      never : (t : Bool) → (t && false) ≡ false
-      never true = refl
-      never false = refl
 
   stands_goes : (held : Held) (w : World) (conn : Connection) → IsFine buses order w → StandsBy buses read keys held w → numbered n w.connections ≡ Some conn → conn.shut ≡ None → conn.info ≡ false
       → StandsBy buses read keys (goes true key conn.mode held) (course_goes buses n conn.mode w)
@@ -196,11 +202,7 @@ module _ (buses : List Bus) (order : IsInOrder (shown_rows (opening buses 0))) (
       let e : p.ended ≡ h.conn.ended = ap (λ (p : Place). p.ended) (sym same) ∙ place_ended h.reader (history buses w) h.conn in
       let z : p.session ≡ h.conn.session = ap (λ (p : Place). p.session) (sym same) ∙ place_session h.reader (history buses w) h.conn in
       let m : p.mode ≡ h.conn.mode = ap (λ (p : Place). p.mode) (sym same) ∙ place_mode h.reader (history buses w) h.conn in
-      let asks : asked_of held.buses p mark ≡ (if h.conn.info || h.conn.ended then Dropped else (if h.conn.session == 0 then Greets (greets mark) else Commands (command_of buses mark))) =
-      ap (λ b. asked_of b p mark) s.layout
-      ∙ ap (λ t. if t || p.ended then Dropped else (if p.session == 0 then Greets (greets mark) else Commands (command_of buses mark))) i
-      ∙ ap (λ t. if h.conn.info || t then Dropped else (if p.session == 0 then Greets (greets mark) else Commands (command_of buses mark))) e
-      ∙ ap (λ n. if h.conn.info || h.conn.ended then Dropped else (if n == 0 then Greets (greets mark) else Commands (command_of buses mark))) z in
+      let asks = asked_alike buses held.buses p h.conn mark s.layout i e z in
       subst (λ (o : Option Connection). StandsBy buses read keys (answered true key (asked_of held.buses p mark) held) (answered_as buses n o mark w)) (sym h.opened)
       (subst (λ (asked : Asked). StandsBy buses read keys (answered true key asked held) (answered_as buses n (Some h.conn) mark w)) (sym asks)
       (subst (λ (o : Option Place). StandsBy buses read keys (answered_from true key (if h.conn.info || h.conn.ended then Dropped else (if h.conn.session == 0 then Greets (greets mark) else Commands (command_of buses mark))) held o) (answered_as buses n (Some h.conn) mark w)) (sym here)

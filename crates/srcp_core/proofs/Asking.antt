@@ -1,6 +1,7 @@
 -- What a line asks for, and of whom.
-use Rattle.std.proofs.Common.{◌≡◌, List, ◌<◌, Bool, true, false, refl, sym, subst, arith}
-use Rattle.std.proofs.lemmas.Bool.Decides.{nat_tests}
+use Rattle.std.proofs.Common.{◌≡◌, List, Bool, true, false, refl, sym, subst}
+use Rattle.std.proofs.lemmas.Bool.{eqb-false}
+use Rattle.std.proofs.Math.Nat.{pos_of_ne-zero}
 use Rattle.std.specs.Prelude.{◌||◌, ◌==◌, if◌then◌else◌, Result, IfOk}
 use Rattle.srcp_info.specs.declared.change.Code.{Code}
 use Rattle.srcp_rules.specs.Command.{IsCommandOf}
@@ -27,13 +28,10 @@ pub record IsAskedBy (buses : List Bus) (p : Place) (command : Result Command Co
 pub asked_by : (buses : List Bus) → IsLayout buses → (p : Place) (mark : Mark) (command : Result Command Code) → Commands command ≡ asked_of buses p mark → IsAskedBy buses p command
 asked_by buses layout p mark command e = by p.info p.ended refl (p.session == 0) refl e
   where
-    low : (p.session == 0) ≡ false → 0 < p.session
-    low t = grind (arith, nat_tests)
-
     by : (i n : Bool) → p.ended ≡ n → (z : Bool) → (p.session == 0) ≡ z → Commands command ≡ (if i || n then Dropped else (if z then Greets (greets mark) else Commands (command_of buses mark))) → IsAskedBy buses p command
     by true n h z q e = cc
     by false true h z q e = cc
     by false false h true q e = cc
     by false false h false q e =
         let same : command ≡ command_of buses mark = cc in
-        record { live = record { began = low q; not_ended = h }; of = subst (λ r. IfOk r (IsCommandOf buses)) (sym same) (fits buses layout mark) }
+        record { live = record { began = pos_of_ne-zero (eqb-false p.session 0 q); not_ended = h }; of = subst (λ r. IfOk r (IsCommandOf buses)) (sym same) (fits buses layout mark) }

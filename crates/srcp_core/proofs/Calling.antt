@@ -1,6 +1,7 @@
 -- A core that stands for a course, and the events of connections and moments.
 use Rattle.std.proofs.Common.{◌≡◌, ◌≢◌, ⊎_elim, inl, inr, ◌⊎◌, ℕ, zero, suc, ◌+◌, ◌<◌, max, Bool, true, false, cond, List, [], ◌∷◌, ◌++◌, length, length-append, refl, ap, sym, ◌∙◌, subst, arith}
 use Rattle.std.proofs.lemmas.Bool.Decides.{nat_tests}
+use Rattle.std.proofs.lemmas.Bool.{false≢true}
 use Rattle.std.specs.List.{filter}
 use Rattle.std.specs.Prelude.{Option, Some, None, not, ◌&&◌, ◌||◌, ◌==◌, nat_lt, slice_set, is_some, count_by, if◌then◌else◌}
 use Rattle.srcp_text.specs.Reading.{nothing_read}
@@ -18,13 +19,13 @@ use Rattle.srcp_core.specs.declared.record.CoreFault.TheVariants.{Full, Busy, Pi
 use Rattle.srcp_core.specs.declared.record.Refusal.{Refusal}
 use Rattle.srcp_core.specs.declared.record.Step.TheVariants.{Moment, Ended}
 use Rattle.srcp_core.proofs.Answering.{IsFine}
-use Rattle.srcp_core.proofs.Covers.{Where, Here, Away, where_is, place_set, place_set_here}
+use Rattle.srcp_core.proofs.Covers.{Where, Here, Away, where_is, place_set, place_set_here, no_place}
 use Rattle.srcp_core.proofs.Numbers.{opens, one_if, opens_with, opens_push, length_with, length_without, without_here, without_other, key_within, key_push, key_push_last, key_push_is, numbered_push_is, numbered_within}
 use Rattle.srcp_core.proofs.Placing.{is_over_place, untold_shut, place_session, place_ended, place_overran, place_unsent}
 use Rattle.srcp_core.proofs.Registry.{length_history}
 use Rattle.srcp_core.proofs.SessionLaws.{anything, at_number}
 use Rattle.srcp_core.proofs.Sessions.{untold_by}
-use Rattle.srcp_core.proofs.Standing.{Anything, Fine, AllFine, Found, found_at, stands_did}
+use Rattle.srcp_core.proofs.Standing.{Anything, Fine, AllFine, Found, found_at, stands_did, other_key}
 use Rattle.srcp_core.proofs.Telling.{count_by_cons}
 use Rattle.srcp_core.proofs.WholeCourses.{Source, look_with}
 use Rattle.srcp_core.proofs.Worlds.{sound_at, stands_shut, concerning_start}
@@ -168,11 +169,7 @@ module _ (buses : List Bus) where
   -- ---- a connection is shut
 
   none_count : (places : List (Option Place)) (key : ℕ) (p : Place) → place_at places key ≡ Some p → count_by is_some (slice_set places key None) + 1 ≡ count_by is_some places
-  none_count [] key p h = absurd (nothing key h)
-    where
-      nothing : (key : ℕ) → place_at [] key ≡ Some p → ⊥
-      nothing zero h = cc
-      nothing (suc key) h = cc
+  none_count [] key p h = absurd (no_place key p h)
   none_count (None ∷ places) zero p h = cc
   none_count (Some x ∷ places) zero p h =
       let a = count_by_cons is_some None places in
@@ -219,21 +216,15 @@ module _ (buses : List Bus) where
           let o = ap one_if found.up in
           omega (arith, a, b, c, o)
 
-      far : (m other : ℕ) → (m ≡ n → ⊥) → key_of m keys ≡ Some other → other ≢ key
-      far m other d e z = d (s.apart m n key (e ∙ ap Some z) named)
-
       at_all : (m : ℕ) (conn : Connection) → is_open conn ≡ true → Source m n f w.connections conn → IsAt (without_key n keys) (slice_set held.places key None) (history buses w) m conn conn.fed
       at_all m conn o from =
           ⊎_elim
           (λ h.
           let a = s.opens m from.x from.there (ap is_open (sym h.1) ∙ o) in
           subst (λ (c : Connection). IsAt (without_key n keys) (slice_set held.places key None) (history buses w) m c c.fed) (sym h.1)
-          (record { key = a.key; reader = a.reader; named = without_other n m keys h.0 ∙ a.named; place = place_set held.places key a.key None (far m a.key h.0 a.named) ∙ a.place; reads = a.reads }))
-          (λ h. let bad : false ≡ true = ap is_open (sym h.1) ∙ o in absurd (apart_bools bad))
+          (record { key = a.key; reader = a.reader; named = without_other n m keys h.0 ∙ a.named; place = place_set held.places key a.key None (other_key buses (λ n fed. fed) keys held w n key s named m a.key h.0 a.named) ∙ a.place; reads = a.reads }))
+          (λ h. let bad : false ≡ true = ap is_open (sym h.1) ∙ o in absurd (false≢true bad))
           from.from
-        where
-          apart_bools : false ≡ true → ⊥
-          apart_bools e = cc
 
       shuts : (m : ℕ) (conn : Connection) → is_open conn ≡ false → Source m n f w.connections conn → key_of m (without_key n keys) ≡ None
       shuts m conn o from =

@@ -41,6 +41,10 @@ covers_across a b c f g key q e =
 
 -- ---- a place is set
 
+pub no_place : (key : ℕ) (p : Place) → place_at [] key ≡ Some p → ⊥
+no_place zero p e = cc
+no_place (suc key) p e = cc
+
 pub place_set : (places : List (Option Place)) (key m : ℕ) (slot : Option Place) → m ≢ key → place_at (slice_set places key slot) m ≡ place_at places m
 place_set [] key m slot h = refl
 place_set (x ∷ places) zero zero slot h = absurd (h refl)
@@ -49,11 +53,7 @@ place_set (x ∷ places) (suc key) zero slot h = refl
 place_set (x ∷ places) (suc key) (suc m) slot h = place_set places key m slot (λ e. h (ap (λ n. suc n) e))
 
 pub place_set_here : (places : List (Option Place)) (key : ℕ) (p : Place) (slot : Option Place) → place_at places key ≡ Some p → place_at (slice_set places key slot) key ≡ slot
-place_set_here [] key p slot h = absurd (nothing key h)
-  where
-    nothing : (key : ℕ) → place_at [] key ≡ Some p → ⊥
-    nothing zero h = cc
-    nothing (suc key) h = cc
+place_set_here [] key p slot h = absurd (no_place key p h)
 place_set_here (x ∷ places) zero p slot h = refl
 place_set_here (x ∷ places) (suc key) p slot h = place_set_here places key p slot h
 

@@ -1,10 +1,13 @@
 -- Bytes that go out: the line that is put in, and the bytes that are taken, by the course.
 use Rattle.std.proofs.Common.{◌≡◌, ℕ, suc, min, ◌+◌, ◌-◌, ◌≤◌, Bool, true, false, List, [], ◌∷◌, ◌++◌, map, take, drop, length, refl, ap, sym, ◌∙◌, subst, arith, append-nil, append_assoc}
+use Rattle.std.proofs.lemmas.Bool.{le-leb, le-ltb}
 use Rattle.std.proofs.lemmas.Bool.Decides.{nat_tests}
 use Rattle.std.proofs.lemmas.List.{drop-append-le, take-append-le}
+use Rattle.std.proofs.Math.Bool.{and-false}
+use Rattle.std.proofs.Math.Nat.{le_refl}
 use Rattle.std.specs.List.{flat_map}
 use Rattle.std.specs.Option.{option_or}
-use Rattle.std.specs.Prelude.{Option, Some, None, ◌&&◌, ◌||◌, nat_lt, nat_le, is_none, IfSome, if◌then◌else◌}
+use Rattle.std.specs.Prelude.{Option, Some, None, ◌&&◌, ◌||◌, nat_lt, is_none, IfSome, if◌then◌else◌}
 use Rattle.srcp_info.specs.declared.change.Change.{Change}
 use Rattle.srcp_info.specs.declared.change.Cursor.{Cursor}
 use Rattle.srcp_info.specs.declared.change.Cursor.TheVariants.{Done}
@@ -23,10 +26,10 @@ use Rattle.srcp_core.specs.Recording.{told_of, with_item}
 use Rattle.srcp_core.specs.Stands.{placed, place_of}
 use Rattle.srcp_core.specs.declared.record.ConnRecord.{ConnRecord}
 use Rattle.srcp_core.specs.declared.record.Item.{Item}
-use Rattle.srcp_core.proofs.Adding.{owed_plain, fitting_none}
+use Rattle.srcp_core.proofs.Adding.{owed_plain, none_taken}
 use Rattle.srcp_core.proofs.Histories.{rows_after, cursor_by}
 use Rattle.srcp_core.proofs.Placing.{plain_place, plain_is, is_over_place, untold_shut}
-use Rattle.srcp_core.proofs.Rooms.{text_items, done_owes, nothing_owed}
+use Rattle.srcp_core.proofs.Rooms.{text_items, done_owes, nothing_owed, fitting_none}
 use Rattle.srcp_core.proofs.Sessions.{Fits, untold_by, owed_by, cursor_told, cursor_item, fits_told, fits_listed, not_done}
 
 -- ---- an information session that did not overrun
@@ -49,24 +52,18 @@ with_given steps (Some (Told change)) told = with_item steps (Told change) told
 with_given steps (Some (Listed row)) told = with_item steps (Listed row) told
 with_given steps (Some Settled) told = told
 
-none_below : (n : ℕ) → nat_lt n 0 ≡ false
-none_below n = grind (arith, nat_tests)
-
-plus_none : (taken size : ℕ) → taken + min 0 size ≡ taken
-plus_none taken size = omega arith
-
 -- where something is unsent nothing is put in
 took_still : (n : ℕ) (nexts : List Next) (conn : Connection) (byte : ℕ) (bytes : List ℕ) → unsent conn ≡ byte ∷ bytes → took 0 n nexts conn ≡ conn
 took_still n nexts conn byte bytes e =
     ap (λ (items : List Item). record conn { items = items; taken = conn.taken + min 0 (length (available (unsent conn) nexts)); done = (took 0 n nexts conn).done }) (ap (λ left. conn.items ++ items_of n (fitting 0 left nexts)) e ∙ none (0 - length (byte ∷ bytes)) refl)
-    ∙ ap (λ taken. record conn { taken = taken; done = (took 0 n nexts conn).done }) (plus_none conn.taken (length (available (unsent conn) nexts)))
+    ∙ ap (λ taken. record conn { taken = taken; done = (took 0 n nexts conn).done }) (none_taken conn.taken (length (available (unsent conn) nexts)))
     ∙ ap (λ end. record conn { done = end }) (ap (λ left. if conn.info && exhausts 0 left nexts then option_or conn.done (Some n) else conn.done) e ∙ ap (λ t. if conn.info && t then option_or conn.done (Some n) else conn.done) not_yet ∙ never conn.info)
   where
     none : (k : ℕ) → k ≡ 0 - length (byte ∷ bytes) → conn.items ++ items_of n (front (0 - length (byte ∷ bytes)) nexts) ≡ conn.items
     none k e = let z : 0 - length (byte ∷ bytes) ≡ 0 = omega arith in ap (λ m. conn.items ++ items_of n (front m nexts)) z ∙ append-nil conn.items
 
     not_yet : exhausts 0 (byte ∷ bytes) nexts ≡ false
-    not_yet = ap (λ t. t || false) (none_below (length (available (byte ∷ bytes) nexts)))
+    not_yet = ap (λ t. t || false) (le-ltb (length (available (byte ∷ bytes) nexts)) 0 (omega arith))
 
     never : (info : Bool) → (if info && false then option_or conn.done (Some n) else conn.done) ≡ conn.done
     never true = refl
@@ -76,9 +73,9 @@ took_still n nexts conn byte bytes e =
 took_one : (n : ℕ) (nexts : List Next) (conn : Connection) → unsent conn ≡ [] → took 0 n nexts conn ≡ record conn { items = conn.items ++ items_of n (take 1 nexts); done = if conn.info && is_nil nexts then option_or conn.done (Some n) else conn.done }
 took_one n nexts conn e =
     ap (λ (items : List Item). record conn { items = items; taken = conn.taken + min 0 (length (available (unsent conn) nexts)); done = (took 0 n nexts conn).done }) (ap (λ left. conn.items ++ items_of n (fitting 0 left nexts)) e)
-    ∙ ap (λ taken. record conn { items = conn.items ++ items_of n (take 1 nexts); taken = taken; done = (took 0 n nexts conn).done }) (plus_none conn.taken (length (available (unsent conn) nexts)))
+    ∙ ap (λ taken. record conn { items = conn.items ++ items_of n (take 1 nexts); taken = taken; done = (took 0 n nexts conn).done }) (none_taken conn.taken (length (available (unsent conn) nexts)))
     ∙ ap (λ end. record conn { items = conn.items ++ items_of n (take 1 nexts); done = end })
-    (ap (λ left. if conn.info && exhausts 0 left nexts then option_or conn.done (Some n) else conn.done) e ∙ ap (λ t. if conn.info && (t || is_nil nexts) then option_or conn.done (Some n) else conn.done) (none_below (length (available [] nexts))))
+    (ap (λ left. if conn.info && exhausts 0 left nexts then option_or conn.done (Some n) else conn.done) e ∙ ap (λ t. if conn.info && (t || is_nil nexts) then option_or conn.done (Some n) else conn.done) (le-ltb (length (available [] nexts)) 0 (omega arith)))
 
 -- what is unsent and what was sent once more was given
 unsent_more : (conn : Connection) (n : ℕ) (nexts : List Next) (end : Option ℕ) → conn.taken ≤ length (given conn) → unsent (record conn { items = conn.items ++ items_of n nexts; done = end }) ≡ unsent conn ++ flat_map line_of nexts
@@ -120,33 +117,25 @@ module _ (first : List Shown) (history : History) (conn : Connection) (shut : co
   gave_one info none (change ∷ changes) u b e =
       let one = fits_told first history conn.go_step conn.items conn.done change changes fits (sym (untold_shut conn history shut) ∙ u) in
       let later : Connection = record conn { items = conn.items ++ items_of n (Told change ∷ []); done = conn.done } in
-      let is : after (map Told (change ∷ changes) ++ map Listed b) ≡ later = ap (λ t. record conn { items = conn.items ++ items_of n (Told change ∷ []); done = if t then option_or conn.done (Some n) else conn.done }) (never conn.info) in
+      let is : after (map Told (change ∷ changes) ++ map Listed b) ≡ later = ap (λ t. record conn { items = conn.items ++ items_of n (Told change ∷ []); done = if t then option_or conn.done (Some n) else conn.done }) (and-false conn.info) in
       subst (λ (c : Connection). Gave history conn c (Told change)) (sym is) (record {
         unsent_is = unsent_more conn n (Told change ∷ []) conn.done within ∙ ap (λ bytes. bytes ++ flat_map line_of (Told change ∷ [])) none ∙ append-nil (line_of (Told change));
         cursor_is = cursor_told history conn.items conn.done change fits.numbers;
         untold_is = untold_shut later history shut ∙ one.waiting ∙ ap (drop 1) (sym u);
         told_is = ap (λ bytes. record (told_of conn) { sent = bytes; items = conn.items ++ items_of n (Told change ∷ []) }) (sent_more conn n (Told change ∷ []) conn.done within);
       })
-    where
-      never : (t : Bool) → (t && false) ≡ false
-      never true = refl
-      never false = refl
   gave_one info none [] u (row ∷ left) e =
       let bare = sym (untold_shut conn history shut) ∙ u in
       let one = fits_listed first history conn.go_step conn.items conn.done row left order fits bare e in
       let undone : conn.done ≡ None = not_done first history conn.go_step conn.items conn.done row left fits e in
       let later : Connection = record conn { items = conn.items ++ items_of n (Listed row ∷ []); done = conn.done } in
-      let is : after (map Told [] ++ map Listed (row ∷ left)) ≡ later = ap (λ t. record conn { items = conn.items ++ items_of n (Listed row ∷ []); done = if t then option_or conn.done (Some n) else conn.done }) (never conn.info) in
+      let is : after (map Told [] ++ map Listed (row ∷ left)) ≡ later = ap (λ t. record conn { items = conn.items ++ items_of n (Listed row ∷ []); done = if t then option_or conn.done (Some n) else conn.done }) (and-false conn.info) in
       subst (λ (c : Connection). Gave history conn c (Listed row)) (sym is) (record {
         unsent_is = unsent_more conn n (Listed row ∷ []) conn.done within ∙ ap (λ bytes. bytes ++ flat_map line_of (Listed row ∷ [])) none ∙ append-nil (line_of (Listed row));
         cursor_is = ap (λ d. cursor_by d (conn.items ++ items_of n (Listed row ∷ [])) n) undone ∙ cursor_item history conn.items (Listed row) fits.numbers ∙ ap (λ d. moved (cursor_by d conn.items n) (Listed row)) (sym undone);
         untold_is = untold_shut later history shut ∙ one.waiting ∙ ap (drop 1) (sym u);
         told_is = ap (λ bytes. record (told_of conn) { sent = bytes; items = conn.items ++ items_of n (Listed row ∷ []) }) (sent_more conn n (Listed row ∷ []) conn.done within);
       })
-    where
-      never : (t : Bool) → (t && false) ≡ false
-      never true = refl
-      never false = refl
   gave_one info none [] u [] e =
       let bare : untold_by conn.go_step conn.items conn.done history ≡ [] = sym (untold_shut conn history shut) ∙ u in
       let owes : owed_by conn.go_step conn.items conn.done history rows_now ≡ [] = ap (λ u. map Told u ++ map Listed (beyond (cursor_at conn n) rows_now)) bare ∙ ap (map Listed) e in
@@ -161,14 +150,8 @@ module _ (first : List Shown) (history : History) (conn : Connection) (shut : co
       })
     where
       done_now : (end : Option ℕ) → IfSome end (λ m. m ≤ length history) → cursor_by (option_or end (Some (length history))) conn.items (length history) ≡ Done
-      done_now None h = ap (λ t. if t then Done else cursor_by None conn.items (length history)) (self (length history))
-        where
-          self : (m : ℕ) → nat_le m m ≡ true
-          self m = grind (arith, nat_tests)
-      done_now (Some m) h = ap (λ t. if t then Done else cursor_by None conn.items (length history)) (yes h)
-        where
-          yes : m ≤ length history → nat_le m (length history) ≡ true
-          yes h = grind (arith, nat_tests)
+      done_now None h = ap (λ t. if t then Done else cursor_by None conn.items (length history)) (le-leb (length history) (length history) (le_refl (length history)))
+      done_now (Some m) h = ap (λ t. if t then Done else cursor_by None conn.items (length history)) (le-leb m (length history) h)
 
   -- a room for no bytes puts in what the code puts in
   pub record IsFilled (reader : Reading) (later : Connection) : Type 0 where
@@ -216,7 +199,7 @@ module _ (first : List Shown) (history : History) (conn : Connection) (shut : co
   took_plain plain =
       ap (λ (items : List Item). record conn { items = items; taken = conn.taken + min 0 (length (available (unsent conn) (owed conn history rows_now))); done = (took 0 n (owed conn history rows_now) conn).done })
       (ap (λ nexts. conn.items ++ items_of n (fitting 0 (unsent conn) nexts)) (owed_plain conn history rows_now plain) ∙ ap (λ nexts. conn.items ++ items_of n nexts) (fitting_none 0 (unsent conn)) ∙ append-nil conn.items)
-      ∙ ap (λ taken. record conn { taken = taken; done = (took 0 n (owed conn history rows_now) conn).done }) (plus_none conn.taken (length (available (unsent conn) (owed conn history rows_now))))
+      ∙ ap (λ taken. record conn { taken = taken; done = (took 0 n (owed conn history rows_now) conn).done }) (none_taken conn.taken (length (available (unsent conn) (owed conn history rows_now))))
       ∙ ap (λ t. record conn { done = if t && exhausts 0 (unsent conn) (owed conn history rows_now) then option_or conn.done (Some n) else conn.done }) plain
 
   fills_plain : (reader : Reading) → conn.info ≡ false → (bytes : List ℕ) → unsent conn ≡ bytes → IsFilled reader conn

@@ -19,12 +19,13 @@ pub record IsGranted (granted : Bool) (key : ℕ) (asked : Asked) (held : Held) 
   pub steps : steps_answered_from granted asked held o ≡ steps_answered_from true asked held o
   pub before : held.denied ≡ 0
 
-counted : (held : Held) → min (held.denied + 1) 18446744073709551615 ≡ 0 → ⊥
-counted held e = omega (arith, e)
+-- a count that was raised is not 0
+pub counts : (k : ℕ) → min (k + 1) 18446744073709551615 ≡ 0 → ⊥
+counts k e = omega (arith, e)
 
 module _ (key : ℕ) (held : Held) where
   refused_not : (key : ℕ) → (denied_line key held).denied ≡ 0 → ⊥
-  refused_not key e = counted held e
+  refused_not key e = counts held.denied e
 
   goes_granted : (granted : Bool) (mode : Mode) → (goes granted key mode held).denied ≡ 0 → (goes granted key mode held ≡ goes true key mode held) × ((steps_gone granted mode held ≡ steps_gone true mode held) × (held.denied ≡ 0))
   goes_granted granted mode e = by (nat_lt held.last_id 4294967295) granted e

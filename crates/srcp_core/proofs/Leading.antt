@@ -22,9 +22,7 @@ use Rattle.srcp_core.proofs.Running.{fine_course, open_happens, full_happens, at
 use Rattle.srcp_core.proofs.SessionLaws.{opening_in_order}
 use Rattle.srcp_core.proofs.Standing.{found_at}
 use Rattle.srcp_core.proofs.Taking.{filled_kept, taken_kept, Kept}
-
-counts : (k : ℕ) → min (k + 1) 18446744073709551615 ≡ 0 → ⊥
-counts k e = omega (arith, e)
+use Rattle.srcp_core.proofs.Granting.{counts}
 
 -- what a run would have told of the course
 abbrev pub telling : List (Option ℕ) → World → Recording

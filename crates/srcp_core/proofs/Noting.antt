@@ -1,5 +1,5 @@
 -- What the recorder notes of the answer to a line is what the course gains.
-use Rattle.std.proofs.Common.{◌≡◌, ℕ, zero, suc, ◌+◌, ◌≤◌, Bool, true, false, List, [], ◌∷◌, ◌++◌, map, take, length, refl, ap, sym, ◌∙◌, subst, append-nil, append_assoc}
+use Rattle.std.proofs.Common.{◌≡◌, ℕ, zero, suc, ◌+◌, ◌≤◌, Bool, true, false, List, [], ◌∷◌, ◌++◌, map, take, length, refl, ap, sym, ◌∙◌, subst, append_assoc}
 use Rattle.std.proofs.lemmas.List.{take-append-le}
 use Rattle.std.specs.Option.{option_map}
 use Rattle.std.specs.Prelude.{Option, Some, None, ◌||◌, ◌&&◌, ◌==◌, nat_lt, slice_get, Result, Ok, Err, if◌then◌else◌}
@@ -14,7 +14,7 @@ use Rattle.srcp_rules.specs.declared.command.Command.{Command}
 use Rattle.srcp_rules.specs.Effect.{Effect, effect}
 use Rattle.srcp_rules.specs.State.{State, opening, shown_rows}
 use Rattle.srcp_feed.proofs.Steps.{IsInOrder}
-use Rattle.srcp_core.specs.Connection.{Connection, given, sent, text}
+use Rattle.srcp_core.specs.Connection.{Connection, given, sent}
 use Rattle.srcp_core.specs.Course.{World, numbered, with_numbered, at_connection, did, is_info, state, history, command_of, replied, entered, goes, greeted, ended, commanded, answered_as, answered}
 use Rattle.srcp_core.specs.Handshake.{Greeting, Speaks, Chooses, Goes, Refuses, greets}
 use Rattle.srcp_core.specs.Held.{Place, Held, at}
@@ -27,10 +27,10 @@ use Rattle.srcp_core.specs.declared.asked.Asked.TheVariants.{Dropped, Greets, Co
 use Rattle.srcp_core.specs.declared.record.ConnRecord.{ConnRecord}
 use Rattle.srcp_core.specs.declared.record.Step.{Step}
 use Rattle.srcp_core.specs.declared.record.Step.TheVariants.{Obeyed, Began, Ended}
-use Rattle.srcp_core.proofs.Answering.{IsFine}
-use Rattle.srcp_core.proofs.Placing.{place_mode, place_session, place_info, place_ended}
+use Rattle.srcp_core.proofs.Answering.{IsFine, asked_alike}
+use Rattle.srcp_core.proofs.Placing.{place_mode, place_session, place_info, place_ended, given_reply}
 use Rattle.srcp_core.proofs.SessionLaws.{at_number}
-use Rattle.srcp_core.proofs.Slow.{numbered_with}
+use Rattle.srcp_core.proofs.Numbers.{numbered_with}
 use Rattle.srcp_core.proofs.Standing.{Fine, found_at}
 
 -- ---- the records of connections
@@ -56,12 +56,7 @@ told_same (suc (suc n)) f (x ∷ xs) h = ap (λ ts. told_of x ∷ ts) (told_same
 
 -- a reply does not change what was sent
 pub sent_reply : (conn : Connection) (line : List ℕ) → conn.items ≡ [] → conn.taken ≤ length (given conn) → sent (record conn { out = conn.out ++ line }) ≡ sent conn
-sent_reply conn line none within =
-    let bare : text conn.items ≡ [] = ap text none in
-    let left : (conn.out ++ line) ++ text conn.items ≡ conn.out ++ line = ap (λ t. (conn.out ++ line) ++ t) bare ∙ append-nil (conn.out ++ line) in
-    let right : conn.out ++ text conn.items ≡ conn.out = ap (λ t. conn.out ++ t) bare ∙ append-nil conn.out in
-    let few : conn.taken ≤ length conn.out = subst (λ bytes. conn.taken ≤ length bytes) right within in
-    ap (take conn.taken) left ∙ take-append-le conn.taken conn.out line few ∙ ap (take conn.taken) (sym right)
+sent_reply conn line none within = ap (take conn.taken) (given_reply conn line none) ∙ take-append-le conn.taken (given conn) line within
 
 told_reply : (conn : Connection) (line : List ℕ) → conn.items ≡ [] → conn.taken ≤ length (given conn) → told_of (record conn { out = conn.out ++ line }) ≡ told_of conn
 told_reply conn line none within = ap (λ bytes. record (told_of conn) { sent = bytes }) (sent_reply conn line none within)
@@ -171,11 +166,7 @@ tells_answered buses order read keys n key r held w mark p a s named here t =
     let z : p.session ≡ h.conn.session = ap (λ (p : Place). p.session) (sym same) ∙ place_session h.reader (history buses w) h.conn in
     let m : p.mode ≡ h.conn.mode = ap (λ (p : Place). p.mode) (sym same) ∙ place_mode h.reader (history buses w) h.conn in
     let f : Fine buses (history buses w) h.conn = at_number (Fine buses (history buses w)) n w.connections h.conn a h.there in
-    let asks : asked_of held.buses p mark ≡ (if h.conn.info || h.conn.ended then Dropped else (if h.conn.session == 0 then Greets (greets mark) else Commands (command_of buses mark))) =
-    ap (λ b. asked_of b p mark) s.layout
-    ∙ ap (λ t. if t || p.ended then Dropped else (if p.session == 0 then Greets (greets mark) else Commands (command_of buses mark))) i
-    ∙ ap (λ t. if h.conn.info || t then Dropped else (if p.session == 0 then Greets (greets mark) else Commands (command_of buses mark))) e
-    ∙ ap (λ n. if h.conn.info || h.conn.ended then Dropped else (if n == 0 then Greets (greets mark) else Commands (command_of buses mark))) z in
+    let asks = asked_alike buses held.buses p h.conn mark s.layout i e z in
     subst (λ (o : Option Connection). Tells (noted n (steps_answered_from true (asked_of held.buses p mark) held (Some p)) r) (answered_as buses n o mark w)) (sym h.opened)
     (subst (λ (asked : Asked). Tells (noted n (steps_answered_from true asked held (Some p)) r) (answered_as buses n (Some h.conn) mark w)) (sym asks)
     (tells_asked buses n r w h.conn held mark p h.conn.info h.conn.ended (h.conn.session == 0) s.moment s.last_id s.rows (λ plain. (h.there, ((f.plain plain).0, f.within))) t m z))

@@ -2,7 +2,7 @@
 use Rattle.std.proofs.Common.{◌≡◌, ◌≢◌, ℕ, zero, suc, ◌+◌, ◌<◌, ◌≤◌, ⊎_elim, inl, inr, ◌⊎◌, Bool, true, false, cond, List, [], ◌∷◌, ◌++◌, length, length-append, refl, ap, sym, ◌∙◌, arith}
 use Rattle.std.proofs.lemmas.List.Elements.{filter-append}
 use Rattle.std.specs.List.{filter}
-use Rattle.std.specs.Prelude.{Option, Some, None, slice_index_or}
+use Rattle.std.specs.Prelude.{Option, Some, None, option_map}
 use Rattle.srcp_core.specs.Connection.{Connection, is_open}
 use Rattle.srcp_core.specs.Course.{numbered, with_numbered}
 use Rattle.srcp_core.specs.Recording.{key_of, without_key}
@@ -14,6 +14,24 @@ length_with n f [] = refl
 length_with zero f (x ∷ xs) = refl
 length_with (suc zero) f (x ∷ xs) = refl
 length_with (suc (suc n)) f (x ∷ xs) = ap (λ k. suc k) (length_with (suc n) f xs)
+
+pub numbered_with : (n : ℕ) (f : Connection → Connection) (xs : List Connection) → numbered n (with_numbered n f xs) ≡ option_map f (numbered n xs)
+numbered_with zero f [] = refl
+numbered_with zero f (x ∷ xs) = refl
+numbered_with (suc n) f [] = refl
+numbered_with (suc zero) f (x ∷ xs) = refl
+numbered_with (suc (suc n)) f (x ∷ xs) = numbered_with (suc n) f xs
+
+-- a change that changes nothing
+pub with_itself : (n : ℕ) (xs : List Connection) → with_numbered n (λ c. c) xs ≡ xs
+with_itself n [] = refl
+with_itself zero (x ∷ xs) = refl
+with_itself (suc zero) (x ∷ xs) = refl
+with_itself (suc (suc n)) (x ∷ xs) = ap (λ ys. x ∷ ys) (with_itself (suc n) xs)
+
+pub no_connection : (n : ℕ) (conn : Connection) → numbered n [] ≡ Some conn → ⊥
+no_connection zero conn e = cc
+no_connection (suc n) conn e = cc
 
 -- how many are open
 abbrev pub opens : List Connection → ℕ
@@ -69,13 +87,14 @@ numbered_none (suc (suc n)) (y ∷ xs) p e = let q : 0 < suc n = omega arith in 
 
 -- ---- keys
 
+pub no_key : (n key : ℕ) → key_of n [] ≡ Some key → ⊥
+no_key zero key e = cc
+no_key (suc zero) key e = cc
+no_key (suc (suc n)) key e = cc
+
 pub key_within : (n : ℕ) (keys : List (Option ℕ)) (key : ℕ) → key_of n keys ≡ Some key → (0 < n) × (n ≤ length keys)
 key_within zero keys key e = cc
-key_within (suc n) [] key e = absurd (nothing n e)
-  where
-    nothing : (n : ℕ) → slice_index_or [] n None ≡ Some key → ⊥
-    nothing zero e = cc
-    nothing (suc n) e = cc
+key_within (suc n) [] key e = absurd (no_key (suc n) key e)
 key_within (suc zero) (k ∷ keys) key e = (omega arith, omega arith)
 key_within (suc (suc n)) (k ∷ keys) key e = let ih = key_within (suc n) keys key e in let l = ih.1 in (omega arith, omega (arith, l))
 
@@ -115,11 +134,7 @@ key_push_last (k ∷ keys) key = key_push_last keys key
 pub key_push_is : (n : ℕ) (keys : List (Option ℕ)) (key other : ℕ) → key_of n (keys ++ Some key ∷ []) ≡ Some other → (key_of n keys ≡ Some other) ⊎ ((n ≡ suc (length keys)) × (other ≡ key))
 key_push_is zero keys key other e = cc
 key_push_is (suc zero) [] key other e = let same : key ≡ other = cc in inr (refl, sym same)
-key_push_is (suc (suc n)) [] key other e = absurd (nothing n e)
-  where
-    nothing : (n : ℕ) → slice_index_or [] n None ≡ Some other → ⊥
-    nothing zero e = cc
-    nothing (suc n) e = cc
+key_push_is (suc (suc n)) [] key other e = absurd (no_key (suc n) other e)
 key_push_is (suc zero) (k ∷ keys) key other e = inl e
 key_push_is (suc (suc n)) (k ∷ keys) key other e = ⊎_elim (λ h. inl h) (λ h. inr (ap (λ k. suc k) h.0, h.1)) (key_push_is (suc n) keys key other e)
 

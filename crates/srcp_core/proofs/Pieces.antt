@@ -1,7 +1,10 @@
 -- A core that stands for a course takes a piece as the course does.
 use Rattle.std.proofs.Common.{◌≡◌, ◌≢◌, ℕ, zero, suc, ◌+◌, ◌<◌, ◌≤◌, Bool, true, false, List, [], ◌∷◌, ◌++◌, take, drop, length, refl, ap, sym, ◌∙◌, subst, arith, append-nil}
-use Rattle.std.proofs.lemmas.Bool.Decides.{nat_tests}
+use Rattle.std.proofs.lemmas.Bool.{eqb-true, eq-eqb}
 use Rattle.std.proofs.lemmas.List.{drop_all}
+use Rattle.std.proofs.lemmas.List.Sums.{fold-append}
+use Rattle.std.proofs.lemmas.Option.{none-some}
+use Rattle.std.proofs.Math.Nat.{le_refl}
 use Rattle.std.specs.List.{fold}
 use Rattle.std.specs.Option.{option_map}
 use Rattle.std.specs.Prelude.{Option, Some, None, ◌||◌, ◌==◌, nat_lt, slice_set, slice_range, Result, Ok, Err, if◌then◌else◌}
@@ -23,7 +26,7 @@ use Rattle.srcp_rules.specs.Effect.{Effect, effect}
 use Rattle.srcp_rules.specs.State.{opening, shown_rows}
 use Rattle.srcp_feed.proofs.Steps.{IsInOrder}
 use Rattle.srcp_core.specs.Connection.{Connection}
-use Rattle.srcp_core.specs.Course.{World, numbered, with_numbered, at_connection, did, is_info, state, history, command_of, replied, entered, goes, greeted, ended, obeyed, commanded, answered_as, answered as course_answered, open_connection, new_marks}
+use Rattle.srcp_core.specs.Course.{World, numbered, at_connection, did, is_info, state, history, command_of, replied, entered, goes, greeted, ended, obeyed, commanded, answered_as, answered as course_answered, open_connection, new_marks}
 use Rattle.srcp_core.specs.Handshake.{Greeting, Speaks, Chooses, Goes, Refuses, greets}
 use Rattle.srcp_core.specs.Held.{Place, Held, at, place_at}
 use Rattle.srcp_core.specs.Machine.{asked_of, heard_from, heard_in, heard_at, line_taken, steps_of_line, answered, steps_answered, steps_answered_from}
@@ -34,16 +37,12 @@ use Rattle.srcp_core.proofs.Answering.{IsFine, stands_answered}
 use Rattle.srcp_core.specs.declared.record.Step.TheVariants.{Obeyed, Began}
 use Rattle.srcp_core.proofs.Covers.{Where, Here, Away, where_is, place_set_here}
 use Rattle.srcp_core.proofs.Granting.{granted_from}
-use Rattle.srcp_core.proofs.Histories.{fold_append}
 use Rattle.srcp_core.proofs.Noting.{Tells, tells_answered}
 use Rattle.srcp_core.proofs.Placing.{place_reader, place_read}
 use Rattle.srcp_core.proofs.SessionLaws.{anything}
-use Rattle.srcp_core.proofs.Slow.{numbered_with}
+use Rattle.srcp_core.proofs.Numbers.{numbered_with, with_itself}
 use Rattle.srcp_core.proofs.Standing.{Anything, found_at, stands_changed}
 use Rattle.srcp_core.proofs.Worlds.{sound_answered, sound_at}
-
-none_some : {A : Type 0} (x : A) → None ≡ Some x → ⊥
-none_some x e = cc
 
 -- ---- the bytes that were accepted
 
@@ -52,30 +51,18 @@ fed_of n w = option_map (λ (c : Connection). c.fed) (numbered n w.connections)
 
 -- ---- the reader alone
 
-pub with_itself : (n : ℕ) (xs : List Connection) → with_numbered n (λ c. c) xs ≡ xs
-with_itself n [] = refl
-with_itself zero (x ∷ xs) = refl
-with_itself (suc zero) (x ∷ xs) = refl
-with_itself (suc (suc n)) (x ∷ xs) = ap (λ ys. x ∷ ys) (with_itself (suc n) xs)
-
 -- of a number these bytes were read, of the others all
 abbrev pub partly : ℕ → List ℕ → ℕ → List ℕ → List ℕ
 partly n bytes m fed = if m == n then bytes else fed
 
 partly_here : (n : ℕ) (bytes fed : List ℕ) → partly n bytes n fed ≡ bytes
-partly_here n bytes fed = ap (λ t. if t then bytes else fed) same
-  where
-    same : (n == n) ≡ true
-    same = grind (arith, nat_tests)
+partly_here n bytes fed = ap (λ t. if t then bytes else fed) (eq-eqb n n refl)
 
 partly_other : (n m : ℕ) (bytes fed : List ℕ) → m ≢ n → partly n bytes m fed ≡ fed
 partly_other n m bytes fed d = by (m == n) refl
   where
-    equal : (m == n) ≡ true → m ≡ n
-    equal e = grind (arith, nat_tests)
-
     by : (t : Bool) → (m == n) ≡ t → (if t then bytes else fed) ≡ fed
-    by true e = absurd (d (equal e))
+    by true e = absurd (d (eqb-true m n e))
     by false e = refl
 
 module _ (buses : List Bus) (keys : List (Option ℕ)) (n key : ℕ) (named : key_of n keys ≡ Some key) where
@@ -170,7 +157,7 @@ module _ (buses : List Bus) (order : IsInOrder (shown_rows (opening buses 0))) (
       let le : start ≤ stop = omega (arith, onward) in
       let both = fed_to_stop fed piece start stop (mark ∷ []) p.reader reader le adds moves stood in
       let more : marks_upto stop ≡ marks_upto start ++ mark ∷ [] = later_marks fed (take start piece) (marks (fed ++ take stop piece)) (mark ∷ []) both.0 in
-      let next : world_upto stop ≡ course_answered buses n (world_upto start) mark = ap (fold (course_answered buses n) w) more ∙ fold_append (course_answered buses n) w (marks_upto start) (mark ∷ []) in
+      let next : world_upto stop ≡ course_answered buses n (world_upto start) mark = ap (fold (course_answered buses n) w) more ∙ fold-append (course_answered buses n) w (marks_upto start) (mark ∷ []) in
       let mid = record held { places = slice_set held.places key (Some (record p { reader = reader })) } in
       let reads : StandsBy buses (partly n (fed ++ take stop piece)) keys mid (world_upto start) =
       stands_read buses keys n key named (partly n (fed ++ take start piece)) (partly n (fed ++ take stop piece)) held (world_upto start) p reader u.stands here
@@ -285,8 +272,8 @@ module _ (buses : List Bus) (order : IsInOrder (shown_rows (opening buses 0))) (
           (is ∙ ap (λ (o : Option Place). heard_in key piece start held o) here ∙ ap (λ (x : Fed × Reading). let y : Option (ℕ × Asked) × Held = finds held p x.0 x.1 in y) e)
         where
           by : (result : Fed) (reading : Reading) → ◌≡◌ {A = Fed × Reading} (feed_of p.reader piece start) (result, reading) → ◌≡◌ {A = Option (ℕ × Asked) × Held} (None, new) (finds held p result reading) → IsEnded new (world_upto start)
-          by (FoundLine s) reading e finding = absurd (none_some (s, asked_of held.buses p (Line reading.line)) (ap (λ (x : Option (ℕ × Asked) × Held). x.0) finding))
-          by (FoundTooLong s) reading e finding = absurd (none_some (s, asked_of held.buses p TooLong) (ap (λ (x : Option (ℕ × Asked) × Held). x.0) finding))
+          by (FoundLine s) reading e finding = absurd (none-some (s, asked_of held.buses p (Line reading.line)) (ap (λ (x : Option (ℕ × Asked) × Held). x.0) finding))
+          by (FoundTooLong s) reading e finding = absurd (none-some (s, asked_of held.buses p TooLong) (ap (λ (x : Option (ℕ × Asked) × Held). x.0) finding))
           by More reading e finding =
               let new_is : new ≡ record held { places = slice_set held.places key (Some (record p { reader = reading })) } = ap (λ (x : Option (ℕ × Asked) × Held). x.1) finding in
               let both = fed_to_end fed piece start [] p.reader reading (λ bytes stood. marks-fed bytes p.reader reading piece start More (sym e) stood) (λ bytes stood. stands-fed bytes p.reader reading piece start More (sym e) stood) stood in
@@ -320,7 +307,7 @@ piece_begun buses order keys n key named piece held w conn a s there =
     let h = found_at buses (λ n fed. fed) keys held w n key s named in
     let f : Connection → Connection = λ c. record c { fed = c.fed ++ piece } in
     let same : h.conn ≡ conn = let both : Some h.conn ≡ Some conn = sym h.there ∙ there in cc in
-    let none : drop (length (marks conn.fed)) (marks (conn.fed ++ [])) ≡ [] = ap (λ bytes. drop (length (marks conn.fed)) (marks bytes)) (append-nil conn.fed) ∙ drop_all (length (marks conn.fed)) (marks conn.fed) (le_self (length (marks conn.fed))) in
+    let none : drop (length (marks conn.fed)) (marks (conn.fed ++ [])) ≡ [] = ap (λ bytes. drop (length (marks conn.fed)) (marks bytes)) (append-nil conn.fed) ∙ drop_all (length (marks conn.fed)) (marks conn.fed) (le_refl (length (marks conn.fed))) in
     let world : fold (course_answered buses n) (accepting n piece w) (drop (length (marks conn.fed)) (marks (conn.fed ++ []))) ≡ accepting n piece w = ap (fold (course_answered buses n) (accepting n piece w)) none in
     let p = place_of h.reader (history buses w) h.conn in
     let changed : StandsBy buses (partly n (conn.fed ++ [])) keys (record held { places = slice_set held.places key (Some p) }) (accepting n piece w) =
@@ -337,6 +324,3 @@ piece_begun buses order keys n key named piece held w conn a s there =
       },
       world,
     )
-  where
-    le_self : (k : ℕ) → k ≤ k
-    le_self k = omega arith

@@ -1,5 +1,5 @@
 -- What a call makes of the place of one connection.
-use Rattle.std.proofs.Common.{◌≡◌, ℕ, ◌+◌, ◌≤◌, Bool, true, false, cond, List, [], ◌∷◌, ◌++◌, length, length-append, drop, refl, ap, sym, ◌∙◌, subst, arith, append-nil, append_assoc}
+use Rattle.std.proofs.Common.{◌≡◌, ℕ, ◌+◌, ◌≤◌, Bool, true, false, cond, List, [], ◌∷◌, ◌++◌, length, length-append, drop, refl, ap, sym, ◌∙◌, arith, append-nil, append_assoc}
 use Rattle.std.proofs.lemmas.Bool.Decides.{nat_tests}
 use Rattle.std.proofs.lemmas.List.{length_push, drop-append-le}
 use Rattle.std.specs.List.{filter, fold}
@@ -110,14 +110,16 @@ plain_place reader mode session ended bytes = record { reader = reader; mode = m
 pub plain_is : (reader : Reading) (history : History) (conn : Connection) → conn.info ≡ false → place_of reader history conn ≡ plain_place reader conn.mode conn.session conn.ended (unsent conn)
 plain_is reader history conn e = ap (λ i. placed reader conn.mode conn.session i conn.ended (unsent conn) (cursor_at conn (length history)) (untold conn history)) e
 
--- a reply is put at the end of what is unsent
-pub unsent_reply : (conn : Connection) (line : List ℕ) → conn.items ≡ [] → conn.taken ≤ length (given conn) → unsent (record conn { out = conn.out ++ line }) ≡ unsent conn ++ line
-unsent_reply conn line none within =
+-- a reply to a connection that was given no lines is put at the end of what was given to it
+pub given_reply : (conn : Connection) (line : List ℕ) → conn.items ≡ [] → given (record conn { out = conn.out ++ line }) ≡ given conn ++ line
+given_reply conn line none =
     let bare : text conn.items ≡ [] = ap text none in
-    let left : (conn.out ++ line) ++ text conn.items ≡ conn.out ++ line = ap (λ t. (conn.out ++ line) ++ t) bare ∙ append-nil (conn.out ++ line) in
-    let right : conn.out ++ text conn.items ≡ conn.out = ap (λ t. conn.out ++ t) bare ∙ append-nil conn.out in
-    let few : conn.taken ≤ length conn.out = subst (λ bytes. conn.taken ≤ length bytes) right within in
-    ap (drop conn.taken) left ∙ drop-append-le conn.taken conn.out line few ∙ ap (λ t. drop conn.taken t ++ line) (sym right)
+    let before : given conn ≡ conn.out = ap (λ t. conn.out ++ t) bare ∙ append-nil conn.out in
+    ap (λ t. (conn.out ++ line) ++ t) bare ∙ append-nil (conn.out ++ line) ∙ ap (λ bytes. bytes ++ line) (sym before)
+
+-- and of what is unsent
+pub unsent_reply : (conn : Connection) (line : List ℕ) → conn.items ≡ [] → conn.taken ≤ length (given conn) → unsent (record conn { out = conn.out ++ line }) ≡ unsent conn ++ line
+unsent_reply conn line none within = ap (drop conn.taken) (given_reply conn line none) ∙ drop-append-le conn.taken (given conn) line within
 
 pub replied_place : (reader : Reading) (history : History) (conn : Connection) (line : List ℕ) → conn.info ≡ false → conn.items ≡ [] → conn.taken ≤ length (given conn)
     → with_unsent line (place_of reader history conn) ≡ place_of reader history (record conn { out = conn.out ++ line })

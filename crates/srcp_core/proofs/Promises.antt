@@ -1,6 +1,7 @@
 -- What a run tells has the laws of every course.
 use Rattle.std.proofs.Common.{◌≡◌, ℕ, zero, suc, List, [], ◌∷◌, map, ◌+◌, ◌≤◌, length, take, refl, ap, sym, ◌∙◌, subst, arith}
 use Rattle.std.proofs.lemmas.List.{take_all}
+use Rattle.std.proofs.Math.Nat.{le_refl}
 use Rattle.std.specs.List.{AllByRecursion}
 use Rattle.std.specs.Prelude.{Some, slice_get, Result, Ok, Err, IfOk}
 use Rattle.srcp_rules.specs.declared.layout.Bus.{Bus}
@@ -18,10 +19,7 @@ use Rattle.srcp_core.proofs.Told.{all_front}
 
 -- the registry as it is
 whole_now : (buses : List Bus) (w : World) → IsWholeWorld buses w → IsWhole buses (state buses w)
-whole_now buses w whole = subst (λ steps. IsWhole buses (state_after (opening buses 0) steps)) (take_all (length w.steps) w.steps le_self) (whole.states (length w.steps))
-  where
-    le_self : length w.steps ≤ length w.steps
-    le_self = omega arith
+whole_now buses w whole = subst (λ steps. IsWhole buses (state_after (opening buses 0) steps)) (take_all (length w.steps) w.steps (le_refl (length w.steps))) (whole.states (length w.steps))
 
 -- the connection that is told of
 record Told (f : Connection → ConnRecord) (number : ℕ) (conns : List Connection) (one : ConnRecord) : Type 0 where

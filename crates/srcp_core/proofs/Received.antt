@@ -148,7 +148,7 @@ answered_gains granted key asked held p mark there is s = by asked is granted (a
         given false = most 64 126 (at held key) (at (denied_line key held) key) (omega arith) (denied_gains key held s.moment)
         given true =
             let same : q ≡ p = cc in
-            let a = asked_by held.buses s.layout p mark (Ok command) is in
+            let a = asked_by held.buses s.whole.laid_out p mark (Ok command) is in
             let own : p.session ≡ q.session = sym (ap (λ (r : Place). r.session) same) in
             let row : is_there (session_device q.session) held.rows ≡ true = subst (λ n. is_there (session_device n) held.rows ≡ true) own (s.sessions.there key p there a.live) in
             obeyed_gains key q.session (effect held.rows q.session held.moment command) held s.moment

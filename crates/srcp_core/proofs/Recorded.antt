@@ -1,6 +1,7 @@
 -- The record of a run is that of the course of its events.
 use Rattle.std.proofs.Common.{◌≡◌, ℕ, zero, suc, ◌+◌, ◌<◌, ◌≤◌, Bool, true, false, List, [], ◌∷◌, ◌++◌, map, take, length, refl, ap, sym, ◌∙◌, subst, arith, add-one}
 use Rattle.std.proofs.lemmas.List.{take_all}
+use Rattle.std.proofs.lemmas.List.Sums.{fold-append}
 use Rattle.std.specs.List.{fold}
 use Rattle.std.specs.Prelude.{Option, Some, None, ◌&&◌, ◌||◌, ◌==◌, nat_lt, slice_get, slice_index_or, Result, Ok, Err, if◌then◌else◌}
 use Rattle.srcp_info.specs.declared.change.Code.{Code}
@@ -16,7 +17,7 @@ use Rattle.srcp_rules.specs.Effect.{Effect, effect}
 use Rattle.srcp_core.specs.Connection.{Connection, History, is_open, is_nil, overran, unsent, recorded}
 use Rattle.srcp_core.specs.Course.{World, start, numbered, at_connection, did, state, history, counted, fault, open_connection, command_of, replied, entered, goes, greeted, ended, obeyed, commanded, answered_as, answered, new_marks, fed_to, shut_as, accepted, or_refused, happens, course}
 use Rattle.srcp_core.specs.Handshake.{Greeting, Speaks, Chooses, Goes, Refuses, greets}
-use Rattle.srcp_core.specs.Held.{Place, Held, at, place_at}
+use Rattle.srcp_core.specs.Held.{Place, Held, at}
 use Rattle.srcp_core.specs.Laws.{IsRecordOf}
 use Rattle.srcp_core.specs.Machine.{finish_at, finish_from}
 use Rattle.srcp_core.specs.Recording.{Recording, key_of, told_of, changed_record, changed_in, finished, finished_by, with_refusal, nothing_told}
@@ -31,11 +32,12 @@ use Rattle.srcp_core.specs.declared.record.Finish.TheVariants.{Live, Closing, Ov
 use Rattle.srcp_core.specs.declared.record.Record.{Record}
 use Rattle.srcp_core.specs.declared.record.Step.TheVariants.{Obeyed, Began, Ended}
 use Rattle.srcp_core.proofs.Calling.{over_is}
-use Rattle.srcp_core.proofs.Histories.{fold_append}
 use Rattle.srcp_core.proofs.Placing.{place_ended, place_overran, place_unsent}
 use Rattle.srcp_core.proofs.SessionLaws.{anything, at_number, opening_in_order, open_shut}
 use Rattle.srcp_core.proofs.Standing.{Anything, Fine}
 use Rattle.srcp_core.proofs.Worlds.{sound}
+use Rattle.srcp_core.proofs.Numbers.{no_connection, no_key}
+use Rattle.srcp_core.proofs.Covers.{no_place}
 
 -- ---- how each connection stands in the end
 
@@ -217,12 +219,12 @@ pub runs_on : (buses : List Bus) (events : List Event) (event : Event) (refusal 
     → Happened buses event refusal r held (counted (course buses events)) → Runs buses (with_fault number refusal r) held (course buses (events ++ event ∷ []))
 runs_on buses events event None number r held e h =
     let w = counted (course buses events) in
-    let is : course buses (events ++ event ∷ []) ≡ accepted buses event w = fold_append (happens buses) start events (event ∷ []) ∙ ap (λ o. or_refused buses o event w) h.0 in
+    let is : course buses (events ++ event ∷ []) ≡ accepted buses event w = fold-append (happens buses) start events (event ∷ []) ∙ ap (λ o. or_refused buses o event w) h.0 in
     subst (λ (v : World). Runs buses r held v) (sym is) h.1
 runs_on buses events event (Some cause) number r held e h =
     let w = counted (course buses events) in
     let now : w.events ≡ number = ap (λ k. k + 1) (events_course buses events) ∙ sym e in
-    let is : course buses (events ++ event ∷ []) ≡ record w { refused = w.refused ++ record { event = w.events; fault = cause } ∷ [] } = fold_append (happens buses) start events (event ∷ []) ∙ ap (λ o. or_refused buses o event w) h.0 in
+    let is : course buses (events ++ event ∷ []) ≡ record w { refused = w.refused ++ record { event = w.events; fault = cause } ∷ [] } = fold-append (happens buses) start events (event ∷ []) ∙ ap (λ o. or_refused buses o event w) h.0 in
     let s = h.1.stands in
     let t = h.1.tells in
     subst (λ (v : World). Runs buses (with_refusal number cause r) held v) (sym is)
@@ -270,19 +272,6 @@ runs_start buses r held e h =
       };
       tells = record { steps = refl; refused = refl; connections = refl };
     }))
-  where
-    no_connection : (n : ℕ) (conn : Connection) → numbered n [] ≡ Some conn → ⊥
-    no_connection zero conn e = cc
-    no_connection (suc n) conn e = cc
-
-    no_place : (key : ℕ) (p : Place) → place_at [] key ≡ Some p → ⊥
-    no_place zero p e = cc
-    no_place (suc key) p e = cc
-
-    no_key : (n key : ℕ) → key_of n [] ≡ Some key → ⊥
-    no_key zero key e = cc
-    no_key (suc zero) key e = cc
-    no_key (suc (suc n)) key e = cc
 
 -- once all events happened
 pub runs_all : (buses : List Bus) (events : List Event) (index : ℕ) (r : Recording) (held : Held) → length events ≤ index → Runs buses r held (course buses (take index events)) → Runs buses r held (course buses events)

@@ -1,8 +1,8 @@
 -- What is unsent, and whose session goes on, while lines are answered.
 use Rattle.std.proofs.Common.{◌≡◌, ℕ, ◌+◌, ◌<◌, ◌≤◌, true, false, cond, List, [], ◌∷◌, map, length, refl, ap, sym, ◌∙◌, subst, arith}
 use Rattle.std.specs.Option.{option_map}
-use Rattle.std.specs.Prelude.{◌&&◌, nat_lt, if◌then◌else◌, Option, Some, None}
-use Rattle.std.proofs.lemmas.Bool.Decides.{nat_tests}
+use Rattle.std.specs.Prelude.{◌&&◌, if◌then◌else◌, Option, Some, None}
+use Rattle.std.proofs.lemmas.Bool.{lt-ltb}
 use Rattle.srcp_info.specs.declared.change.Code.TheVariants.{C500}
 use Rattle.srcp_info.specs.Line.{reply_line}
 use Rattle.srcp_info.specs.declared.change.Change.{Change}
@@ -115,7 +115,4 @@ session_row session key held s h = subst (λ n. is_there (session_device n) held
 pub goes_granted : (held : Held) (key : ℕ) (mode : Mode) (last : ℕ) (mid new : Held) → last < 4294967295 → last ≡ held.last_id → mid ≡ begun key (last + 1) mode held → new ≡ replied key (Go (last + 1)) mid → new ≡ goes true key mode held
 goes_granted held key mode last mid new low is m n =
     n ∙ ap (replied key (Go (last + 1))) m ∙ ap (λ k. replied key (Go (k + 1)) (begun key (k + 1) mode held)) is
-    ∙ sym (ap (λ t. if t then replied key (Go (held.last_id + 1)) (begun key (held.last_id + 1) mode held) else replied key (Refused C500) held) (test held.last_id (subst (λ k. k < 4294967295) is low)))
-  where
-    test : (k : ℕ) → k < 4294967295 → nat_lt k 4294967295 ≡ true
-    test k h = grind (arith, nat_tests)
+    ∙ sym (ap (λ t. if t then replied key (Go (held.last_id + 1)) (begun key (held.last_id + 1) mode held) else replied key (Refused C500) held) (lt-ltb held.last_id 4294967295 (subst (λ k. k < 4294967295) is low)))

@@ -8,9 +8,10 @@ use Rattle.std.specs.Prelude.{List, Result, Ok, Err, IfOk}
 use Rattle.std.specs.List.{AllByRecursion}
 use Rattle.srcp_info.specs.WellFormed.{IsWellFormedShown}
 use Rattle.srcp_rules.specs.declared.layout.Bus.{Bus}
-use Rattle.srcp_rules.specs.State.{State, IsRising, IsRowOf, IsWhole, row_after}
+use Rattle.srcp_rules.specs.State.{State, IsRising, IsWhole, row_after, shown_rows}
 use Rattle.srcp_rules.proofs.SoughtLaws.{beyond, beyond-next, beyond-none}
 use Rattle.srcp_rules.proofs.StateLaws.{each_found}
+use Rattle.srcp_core.proofs.Registry.{all_shown}
 
 pub beyond_start : (state : State) → beyond Start state ≡ state
 beyond_start [] = refl
@@ -27,11 +28,13 @@ all_listed told at state none all = sym (append-nil told) ∙ ap (λ (rows : Sta
 pub fewer_left : (at : Cursor) (state : State) (row : Row) → IsRising state → row_after at state ≡ Some row → length (beyond (After row.shown.key) state) < length (beyond at state)
 fewer_left at state row rising next = let e = ap (λ (rows : State). length rows) (beyond-next at row state rising next) in omega (arith, e)
 
-well_formed : (buses : List Bus) (rows : State) → AllByRecursion (IsRowOf buses) rows → AllByRecursion (λ row. IsWellFormedShown row.shown) rows
-well_formed buses [] a = tt
-well_formed buses (row ∷ rows) a = (a.0.shown, well_formed buses rows a.1)
-
 -- each row of a whole registry can be written
+rows_well_formed : (buses : List Bus) (state : State) → IsWhole buses state → AllByRecursion (λ row. IsWellFormedShown row.shown) state
+rows_well_formed buses state whole = each_found (λ row. IsWellFormedShown row.shown) state whole.rising (λ key row h. (whole.rows key row h).shown)
+
+pub shown_tellable : (buses : List Bus) (state : State) → IsWhole buses state → AllByRecursion IsWellFormedShown (shown_rows state)
+shown_tellable buses state whole = all_shown IsWellFormedShown state (rows_well_formed buses state whole)
+
 pub told_well_formed : {E : Type 0} (buses : List Bus) (state : State) (told : Result State E) → IsWhole buses state → IfOk told (λ rows. rows ≡ state) → IfOk told (AllByRecursion (λ row. IsWellFormedShown row.shown))
-told_well_formed buses state (Ok rows) whole is = subst (AllByRecursion (λ row. IsWellFormedShown row.shown)) (sym is) (well_formed buses state (each_found (IsRowOf buses) state whole.rising whole.rows))
+told_well_formed buses state (Ok rows) whole is = subst (AllByRecursion (λ row. IsWellFormedShown row.shown)) (sym is) (rows_well_formed buses state whole)
 told_well_formed buses state (Err e) whole is = tt

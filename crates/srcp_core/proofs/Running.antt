@@ -1,9 +1,11 @@
 -- A run over one more event.
-use Rattle.std.proofs.Common.{◌≡◌, ◌≢◌, ℕ, zero, suc, min, max, ◌+◌, ◌-◌, ◌<◌, ◌≤◌, Bool, true, false, List, [], ◌∷◌, ◌++◌, take, length, refl, ap, sym, ◌∙◌, subst, arith, append-nil, ◌⊎◌, inl, inr}
-use Rattle.std.proofs.lemmas.Bool.Decides.{nat_tests}
+use Rattle.std.proofs.Common.{◌≡◌, ◌≢◌, ℕ, zero, suc, min, max, ◌-◌, ◌<◌, ◌≤◌, Bool, true, false, List, [], ◌∷◌, ◌++◌, take, length, refl, ap, sym, ◌∙◌, subst, arith, append-nil, ◌⊎◌, inl, inr}
+use Rattle.std.proofs.lemmas.Bool.{ltb-false}
 use Rattle.std.specs.List.{fold}
 use Rattle.std.specs.Prelude.{Option, Some, None, not, ◌||◌, ◌==◌, nat_lt, slice_get, slice_set, if◌then◌else◌}
 use Rattle.std.proofs.lemmas.List.{map-append}
+use Rattle.std.proofs.lemmas.Option.{none-some}
+use Rattle.std.proofs.Math.Nat.{pos_of_ne-zero, zero-min}
 use Rattle.srcp_rules.specs.declared.layout.Bus.{Bus}
 use Rattle.srcp_rules.specs.Layout.{IsLayout}
 use Rattle.srcp_rules.specs.State.{opening, shown_rows}
@@ -27,7 +29,7 @@ use Rattle.srcp_core.specs.declared.record.Step.{Step}
 use Rattle.srcp_core.specs.declared.record.Step.TheVariants.{Obeyed, Began, Moment, Ended}
 use Rattle.srcp_core.proofs.Answering.{IsFine}
 use Rattle.srcp_core.proofs.Calling.{absent_at, fault_same, full_fault, free_fault, stands_counted, stands_advanced, stands_opened, stands_hung_up}
-use Rattle.srcp_core.proofs.Granting.{granted_from}
+use Rattle.srcp_core.proofs.Granting.{granted_from, counts}
 use Rattle.srcp_core.proofs.Hearing.{nothing_begun}
 use Rattle.srcp_core.proofs.Noting.{tells_same, tells_did, tells_changed}
 use Rattle.srcp_core.proofs.Pieces.{accepting, IsUpTo, world_upto, lined, lines_ended, piece_begun}
@@ -73,9 +75,6 @@ full_happens r old new full same buses events layout d s =
 -- where memory was refused nothing is said
 pub memory_happens : (event : Event) (refusal : Option CoreFault) (r : Recording) (old new : Held) → new ≡ one_denied old → HappensAs event refusal r old r new
 memory_happens event refusal r old new same buses events layout d s = absurd (counts old.denied (sym (ap (λ (x : Held). x.denied) same) ∙ d))
-  where
-    counts : (k : ℕ) → min (k + 1) 18446744073709551615 ≡ 0 → ⊥
-    counts k e = omega (arith, e)
 
 -- ---- a moment
 
@@ -134,10 +133,7 @@ hung_up_denied key held (Some p) = elim ((p.session == 0) || p.ended) as (λ t. 
 pub gone_happens : (event : Event) (refusal : Option CoreFault) (n key : ℕ) (r : Recording) (held : Held) (later_r : Recording) (later : Held) → key_of n r.keys ≡ Some key → at held key ≡ None → HappensAs event refusal r held later_r later
 gone_happens event refusal n key r held later_r later named gone buses events layout d s =
     let h = found_at buses (λ n fed. fed) r.keys held (course buses events) n key s.stands named in
-    absurd (none_some (place_of h.reader (history buses (course buses events)) h.conn) (sym gone ∙ h.place))
-  where
-    none_some : (p : Place) → None ≡ Some p → ⊥
-    none_some p e = cc
+    absurd (none-some (place_of h.reader (history buses (course buses events)) h.conn) (sym gone ∙ h.place))
 
 pub shut_keys : (n : ℕ) (o : Option ℕ) (m : ℕ) (r : Recording) → (with_end o m (shut n r)).keys ≡ without_key n r.keys
 shut_keys n None m r = refl
@@ -191,9 +187,6 @@ bytes_refused n key piece r held cause named e buses events layout d s =
 pub bytes_room : (key : ℕ) (piece : List ℕ) (held : Held) → bytes_fault key piece held ≡ None → (length piece ≤ 256) × HasRoom key piece 0 held
 bytes_room key piece held e = by (at held key) refl e
   where
-    few : nat_lt 256 (length piece) ≡ false → length piece ≤ 256
-    few t = grind (arith, nat_tests)
-
     some_none : (cause : CoreFault) → Some cause ≡ None → ⊥
     some_none cause e = cc
 
@@ -202,7 +195,7 @@ bytes_room key piece held e = by (at held key) refl e
     with p true idle long h i l e = absurd (some_none Closing e)
     with p false false long h i l e = absurd (some_none Busy e)
     with p false true true h i l e = absurd (some_none PieceTooLong e)
-    with p false true false h i l e = (few l, nothing_begun key piece held (ap unsent_of h ∙ nil_is p.unsent i))
+    with p false true false h i l e = (ltb-false 256 (length piece) l, nothing_begun key piece held (ap unsent_of h ∙ nil_is p.unsent i))
       where
         nil_is : (xs : List ℕ) → is_nil xs ≡ true → xs ≡ []
         nil_is [] e = refl
@@ -350,16 +343,12 @@ gives_more n key bytes first_r first left r held some more gives buses events la
 pub gives_as : (n key bytes : ℕ) (first_r : Recording) (first : Held) (left : ℕ) (r : Recording) (held : Held) (count : ℕ) (later_r : Recording) (later : Held) → count ≡ count_at key left held → later_r ≡ taking n key left held r → later ≡ taken_at key left held
     → left - count ≢ 0 → count ≢ 0 → GivesOn n key bytes first_r first left r held → GivesOn n key bytes first_r first (left - count) later_r later
 gives_as n key bytes first_r first left r held count later_r later e f h more some gives =
-    let a : 0 < count = positive count some in
-    let b : 0 < left - count = positive (left - count) more in
+    let a : 0 < count = pos_of_ne-zero some in
+    let b : 0 < left - count = pos_of_ne-zero more in
     subst (λ k. GivesOn n key bytes first_r first (left - k) later_r later) (sym e)
     (subst (λ (x : Recording). GivesOn n key bytes first_r first (left - count_at key left held) x later) (sym f)
     (subst (λ (x : Held). GivesOn n key bytes first_r first (left - count_at key left held) (taking n key left held r) x) (sym h)
     (gives_more n key bytes first_r first left r held (subst (λ k. 0 < k) e a) (subst (λ k. 0 < left - k) e b) gives)))
-  where
-    positive : (k : ℕ) → k ≢ 0 → 0 < k
-    positive zero d = absurd (d refl)
-    positive (suc k) d = omega arith
 
 pub room_happens : (n key bytes : ℕ) (first_r : Recording) (first : Held) (left : ℕ) (r : Recording) (held : Held) → (left - count_at key left held ≡ 0) ⊎ (count_at key left held ≡ 0)
     → GivesOn n key bytes first_r first left r held → HappensAs (Room n bytes) None first_r first (taking n key left held r) (taken_at key left held)
@@ -399,7 +388,7 @@ pub taking_none : (n key most : ℕ) (held : Held) (r : Recording) → at held k
 taking_none n key most held r e =
     let gone : let_out key held ≡ held = ap (λ (o : Option Place). record held { places = changed_places_in key (filled (shown_rows held.rows)) held.places o }) e in
     let bytes : unsent_at key (let_out key held) ≡ [] = ap (unsent_at key) gone ∙ ap unsent_of e in
-    let none : count_at key most held ≡ 0 = ap (λ bytes. min (length bytes) most) bytes ∙ least most in (
+    let none : count_at key most held ≡ 0 = ap (λ bytes. min (length bytes) most) bytes ∙ zero-min most in (
       ap (λ k. took n (take k (unsent_at key (let_out key held))) (gave n (item_at key held) r)) none
           ∙ ap (λ (o : Option Place). took n [] (gave n (item_of (shown_rows held.rows) o) r)) e
           ∙ ap (λ tolds. record r { connections = tolds }) (changed_same n (λ told. record told { sent = told.sent ++ [] }) (λ told. ap (λ bytes. record told { sent = bytes }) (append-nil told.sent)) r.connections),
@@ -409,6 +398,3 @@ taking_none n key most held r e =
         none,
       ),
     )
-  where
-    least : (m : ℕ) → min 0 m ≡ 0
-    least m = omega arith

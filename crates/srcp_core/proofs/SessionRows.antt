@@ -1,5 +1,5 @@
 -- The rows of sessions in a registry.
-use Rattle.std.proofs.Common.{◌≡◌, ℕ, Bool, true, false, cond, List, [], ◌∷◌, ◌++◌, map, refl, ap, sym, ◌∙◌, subst, true≢false}
+use Rattle.std.proofs.Common.{◌≡◌, ℕ, Bool, true, false, cond, List, [], ◌∷◌, map, refl, ap, sym, ◌∙◌, subst, true≢false}
 use Rattle.std.specs.List.{AllByRecursion, range_with_len}
 use Rattle.std.specs.Prelude.{Option, Some, None, is_some}
 use Rattle.std.specs.Ordering.{eq_by_cmp}
@@ -7,14 +7,11 @@ use Rattle.srcp_info.specs.Key.{key_cmp, first_key}
 use Rattle.srcp_info.specs.declared.change.Row.{Row}
 use Rattle.srcp_info.specs.declared.key.Key.{Key}
 use Rattle.srcp_info.specs.declared.value.Value.TheVariants as value
+use Rattle.srcp_info.proofs.ClientLaws.{all_append}
 use Rattle.srcp_rules.specs.declared.layout.Bus.{Bus}
 use Rattle.srcp_rules.specs.State.{State, row_at, is_there, session_device, power_device, fb_device, first_row, opening, opening_on}
 use Rattle.srcp_rules.proofs.StateLaws.{row_at_key}
 use Rattle.srcp_rules.proofs.StepLaws.{is_session}
-
-all_append : (P : Row → Type 0) (xs ys : State) → AllByRecursion P xs → AllByRecursion P ys → AllByRecursion P (xs ++ ys)
-all_append P [] ys a b = b
-all_append P (x ∷ xs) ys a b = (a.0, all_append P xs ys a.1 b)
 
 all_made : (P : Row → Type 0) (f : ℕ → Row) → ((n : ℕ) → P (f n)) → (ns : List ℕ) → AllByRecursion P (map f ns)
 all_made P f h [] = tt

@@ -1,14 +1,12 @@
 -- What holds of every core is kept.
-use Rattle.std.proofs.Common.{inl, inr, ◌⊎◌, ◌≡◌, ◌≢◌, ℕ, zero, suc, ◌+◌, ◌<◌, ◌≤◌, Bool, true, false, List, [], ◌∷◌, map, refl, ap, sym, ◌∙◌, subst, arith}
-use Rattle.std.specs.List.{AllByRecursion}
-use Rattle.std.specs.Prelude.{Option, Some, None, is_some, slice_set, count_by}
+use Rattle.std.proofs.Common.{inl, inr, ◌⊎◌, ◌≡◌, ◌≢◌, ℕ, ◌+◌, ◌<◌, ◌≤◌, Bool, true, false, List, [], ◌∷◌, map, refl, ap, sym, ◌∙◌, subst, arith}
+use Rattle.std.specs.Prelude.{◌==◌, ◌&&◌, ◌||◌, if◌then◌else◌, Option, Some, None, is_some, slice_set, count_by}
 use Rattle.srcp_info.specs.Key.{first_key}
 use Rattle.srcp_info.specs.WellFormed.{IsMoment}
 use Rattle.srcp_info.specs.declared.change.Change.{Change}
 use Rattle.srcp_rules.specs.declared.layout.Bus.{Bus}
 use Rattle.srcp_rules.specs.Layout.{IsLayout}
 use Rattle.srcp_rules.specs.State.{State, Update, IsWhole, opening, updated_all, session_device, is_there}
-use Rattle.srcp_rules.proofs.OpeningLaws.{opening_whole}
 use Rattle.srcp_core.specs.Held.{Place, Held, place_at, at, open_count, IsLive, AreSessions, IsSound, IsSessionAt}
 use Rattle.srcp_info.specs.declared.value.Mode.{Mode}
 use Rattle.srcp_info.specs.declared.value.Value.TheVariants as value
@@ -23,30 +21,22 @@ use Rattle.srcp_rules.proofs.EffectLaws.{effect_kept}
 use Rattle.srcp_rules.proofs.SessionLaws.{session_row-updated_all, effect_elsewhere, due_elsewhere, freed_others}
 use Rattle.srcp_rules.proofs.StateLaws.{row_at-put_same, row_at-put_other}
 use Rattle.srcp_rules.proofs.KeyLaws.{same_key, same_key-true}
-use Rattle.std.proofs.lemmas.Bool.{le-leb}
-use Rattle.std.specs.Prelude.{◌&&◌}
-use Rattle.srcp_core.specs.Machine.{changed_at, changed_in, changed_places, carried, told_all, told_each, freed_of, freed_place, entered_place, begun}
-use Rattle.srcp_info.specs.WellFormed.{IsWellFormedShown}
+use Rattle.std.proofs.lemmas.Bool.{le-leb, eqb-false}
+use Rattle.std.proofs.Math.Nat.{pos_of_ne-zero}
+use Rattle.srcp_core.specs.Machine.{changed_at, changed_in, changed_places, carried, told_all, told_each, freed_of, freed_place, entered_place, begun, filled, filled_from, live_session_of}
 use Rattle.srcp_info.specs.declared.change.Shown.{Shown}
-use Rattle.srcp_rules.specs.State.{IsRowOf, shown_rows}
-use Rattle.srcp_rules.proofs.StateLaws.{each_found}
 use Rattle.srcp_feed.specs.Feed.{Feed}
-use Rattle.srcp_core.specs.Machine.{filled, filled_from}
 use Rattle.srcp_core.proofs.Walks.{change_in}
-use Rattle.srcp_core.proofs.Covers.{IsMild, mild_itself, mild_live, Covers, covers_itself, covers_set, covers_free, covers_told_each, told_each_count, set_count, free_other, sessions_covered, place_set, place_set_here, where_is, Where, Here, Away}
+use Rattle.srcp_core.proofs.Covers.{IsMild, mild_itself, mild_live, Covers, covers_itself, covers_set, covers_free, covers_told_each, told_each_count, set_count, free_other, sessions_covered, place_set, place_set_here, where_is, Where, Here, Away, no_place}
 use Rattle.srcp_core.proofs.SessionRows.{no_session-opening}
-
-no_place : (key : ℕ) (p : Place) → place_at [] key ≡ Some p → ⊥
-no_place zero p e = cc
-no_place (suc key) p e = cc
+use Rattle.srcp_core.proofs.Wholes.{whole_opening}
 
 pub sound_opening : (buses : List Bus) → IsLayout buses → (moment : ℕ) → IsMoment moment → (last_id : ℕ) (state : State) → state ≡ opening buses 0 → (places : List (Option Place)) → places ≡ []
     → IsSound (record { buses = buses; rows = state; moment = moment; last_id = last_id; places = places; denied = 0 })
 sound_opening buses layout moment now last_id state is places none = record {
-  layout = layout;
   moment = now;
   few = rw none (omega arith);
-  whole = rw is (opening_whole buses layout 0 (omega arith));
+  whole = rw is (whole_opening buses layout);
   sessions = rw (is, none) (record {
     ids = λ key p e. absurd (no_place key p e);
     apart = λ m n p q e f l s. absurd (no_place m p e);
@@ -58,7 +48,7 @@ sound_opening buses layout moment now last_id state is places none = record {
 -- ---- places
 
 pub sound_places : (held : Held) (places : List (Option Place)) → Covers held.places places → count_by is_some places ≤ count_by is_some held.places → IsSound held → IsSound (record held { places = places })
-sound_places held places covers fewer s = record { layout = s.layout; moment = s.moment; few = omega (arith, s.few, fewer); whole = s.whole; sessions = sessions_covered held.last_id held.rows held.places places covers s.sessions }
+sound_places held places covers fewer s = record { moment = s.moment; few = omega (arith, s.few, fewer); whole = s.whole; sessions = sessions_covered held.last_id held.rows held.places places covers s.sessions }
 
 pub covers_changed : (key : ℕ) (change : Place → Place) (places : List (Option Place)) → ((p : Place) → IsMild p (change p)) → Covers places (changed_places key change places)
 covers_changed key change places mild = by (place_at places key) refl
@@ -86,7 +76,6 @@ sound_carried updates held whole same s =
     let places = told_each (map change_in updates) held.places in
     let a = sessions_covered held.last_id held.rows held.places places (covers_told_each (map change_in updates) held.places) s.sessions in
     record {
-      layout = s.layout;
       moment = s.moment;
       few = let c = told_each_count (map change_in updates) held.places in omega (arith, c, s.few);
       whole = whole;
@@ -118,7 +107,6 @@ sound_freed session held now known over s =
     let others : (id : ℕ) → id ≢ session → is_there (session_device id) (updated_all updates held.rows) ≡ is_there (session_device id) held.rows =
     λ id apart. ap is_some (freed_others held.buses held.rows s.whole held.moment session id apart) in
     record {
-      layout = s.layout;
       moment = s.moment;
       few = let c = told_each_count (map change_in updates) held.places in omega (arith, c, s.few);
       whole = freed_kept held.buses held.moment held.rows s.whole session;
@@ -211,7 +199,6 @@ sound_begun key id mode held now next high s =
     let told = told_each_count (map change_in (update ∷ [])) held.places in
     let count = changed_count key (entered_place id mode) mid.places in
     record {
-      layout = s.layout;
       moment = s.moment;
       few = omega (arith, s.few, told, count);
       whole = began_kept held.buses held.moment now id mode held.rows (session_place held.buses id (omega (arith, next)) high) s.whole;
@@ -274,7 +261,15 @@ sound_ended key session held now here s =
     ended_here p e = ap (λ (o : Option Place). place_at (changed_in key (λ q. record q { ended = true }) held.places o) key) e ∙ place_set_here held.places key p (Some (record p { ended = true })) e
 
 pub sound_moment : (held : Held) (moment : ℕ) → IsMoment moment → IsSound held → IsSound (record held { moment = moment })
-sound_moment held moment now s = record { layout = s.layout; moment = now; few = s.few; whole = s.whole; sessions = s.sessions }
+sound_moment held moment now s = record { moment = now; few = s.few; whole = s.whole; sessions = s.sessions }
+
+pub live_session_is : (p : Place) (session : ℕ) → Some session ≡ live_session_of (Some p) → (session ≡ p.session) × (0 < session)
+live_session_is p session e = by (p.session == 0) refl p.ended e
+  where
+    by : (none : Bool) → (p.session == 0) ≡ none → (ended : Bool) → Some session ≡ (if none || ended then None else Some p.session) → (session ≡ p.session) × (0 < session)
+    by true q ended e = cc
+    by false q true e = cc
+    by false q false e = let own : session ≡ p.session = cc in (own, subst (λ n. 0 < n) (sym own) (pos_of_ne-zero (eqb-false p.session 0 q)))
 
 -- a connection that is taken out, and then its session
 pub sound_hung_up : (key : ℕ) (held : Held) (p : Place) (session : ℕ) → at held key ≡ Some p → session ≡ p.session → 0 < session → open_count (freed_place key held) ≤ open_count held → IsSound held → IsSound (freed_of session (freed_place key held))
@@ -282,14 +277,6 @@ sound_hung_up key held p session e own began fewer s =
     sound_freed session (freed_place key held) s.moment (subst (λ n. n ≤ held.last_id) (sym own) (s.sessions.ids key p e))
     (subst (λ n. IsOver n (freed_place key held).places) (sym own) (over_free key held p e (subst (λ n. 0 < n) own began) s))
     (sound_free key held p e fewer s)
-
--- what a whole registry shows can be told
-all_shown : (buses : List Bus) (rows : State) → AllByRecursion (IsRowOf buses) rows → AllByRecursion IsWellFormedShown (shown_rows rows)
-all_shown buses [] a = tt
-all_shown buses (row ∷ rows) a = (a.0.shown, all_shown buses rows a.1)
-
-pub shown_tellable : (buses : List Bus) (rows : State) → IsWhole buses rows → AllByRecursion IsWellFormedShown (shown_rows rows)
-shown_tellable buses rows whole = all_shown buses rows (each_found (IsRowOf buses) rows whole.rising whole.rows)
 
 pub filled_mild : (rows : List Shown) (p : Place) → IsMild p (filled rows p)
 filled_mild rows p = by p.unsent p.feed

@@ -1,5 +1,6 @@
 -- A core that stands for a course, after the place of one connection changed, and after a step.
 use Rattle.std.proofs.Common.{◌≡◌, ◌≢◌, ℕ, ⊎_elim, Bool, true, false, cond, List, [], ◌∷◌, ◌++◌, map, refl, ap, sym, ◌∙◌, subst, arith}
+use Rattle.std.proofs.lemmas.List.Sums.{fold-append}
 use Rattle.std.specs.Option.{option_map}
 use Rattle.std.specs.Prelude.{Option, Some, None, slice_set}
 use Rattle.srcp_info.specs.declared.change.Change.{Change}
@@ -15,7 +16,6 @@ use Rattle.srcp_core.specs.Stands.{StandsBy, IsAt, IsOwned, place_of}
 use Rattle.srcp_core.specs.declared.record.Item.{Item}
 use Rattle.srcp_core.specs.declared.record.Step.{Step}
 use Rattle.srcp_core.proofs.Covers.{Where, Here, Away, where_is, place_set, place_set_here, set_count, told_each_count}
-use Rattle.srcp_core.proofs.Histories.{fold_append}
 use Rattle.srcp_core.proofs.Numbers.{opens_same, length_with, key_within, numbered_none}
 use Rattle.srcp_core.proofs.Placing.{told_places, told_each_at, told_place_of}
 use Rattle.srcp_core.proofs.Registry.{history_push}
@@ -73,6 +73,10 @@ module _ (buses : List Bus) where
           absurd (omega (arith, short, long, most))
       by (Some conn) e = with conn (is_open conn) e refl
 
+  -- another number has another key
+  pub other_key : (read : ℕ → List ℕ → List ℕ) (keys : List (Option ℕ)) (held : Held) (w : World) (n key : ℕ) → StandsBy buses read keys held w → key_of n keys ≡ Some key → (m other : ℕ) → m ≢ n → key_of m keys ≡ Some other → other ≢ key
+  other_key read keys held w n key s named m other d e z = d (s.apart m n key (e ∙ ap Some z) named)
+
   -- ---- one connection
 
   pub stands_changed : (read later : ℕ → List ℕ → List ℕ) (keys : List (Option ℕ)) (held : Held) (w : World) (n key : ℕ) (conn : Connection) (f : Connection → Connection) (p : Place) (reader : Reading)
@@ -102,9 +106,6 @@ module _ (buses : List Bus) where
       was : place_at held.places key ≡ Some old
       was = found.place
 
-      far : (m other : ℕ) → (m ≡ n → ⊥) → key_of m keys ≡ Some other → other ≢ key
-      far m other d e z = d (s.apart m n key (e ∙ ap Some z) k)
-
       at_all : (m : ℕ) (c : Connection) → numbered m (at_connection n f w).connections ≡ Some c → is_open c ≡ true → IsAt keys (slice_set held.places key (Some p)) (history buses w) m c (later m c.fed)
       at_all m c e o =
           let from = look_with m n f w.connections c e in
@@ -112,7 +113,7 @@ module _ (buses : List Bus) where
           (λ h.
           let a = s.opens m from.x from.there (ap is_open (sym h.1) ∙ o) in
           subst (λ (c : Connection). IsAt keys (slice_set held.places key (Some p)) (history buses w) m c (later m c.fed)) (sym h.1)
-          (record { key = a.key; reader = a.reader; named = a.named; place = place_set held.places key a.key (Some p) (far m a.key h.0 a.named) ∙ a.place; reads = subst (λ bytes. StandsAt bytes a.reader) (sym (same_read m from.x.fed h.0)) a.reads }))
+          (record { key = a.key; reader = a.reader; named = a.named; place = place_set held.places key a.key (Some p) (other_key read keys held w n key s k m a.key h.0 a.named) ∙ a.place; reads = subst (λ bytes. StandsAt bytes a.reader) (sym (same_read m from.x.fed h.0)) a.reads }))
           (λ h.
           let same : conn ≡ from.x = let both : Some conn ≡ Some from.x = sym there ∙ ap (λ j. numbered j w.connections) (sym h.0) ∙ from.there in cc in
           let image : c ≡ f conn = h.1 ∙ ap f (sym same) in
@@ -157,7 +158,7 @@ module _ (buses : List Bus) where
   stands_did read keys held w step fine s =
       subst (λ (updates : List Update). StandsBy buses read keys (carried updates held) (did step w)) (ap (λ rows. updates_of rows step) (sym s.rows)) (record {
         layout = s.layout;
-        rows = ap (updated_all updates) s.rows ∙ sym (fold_append stepped (opening buses 0) w.steps (step ∷ []));
+        rows = ap (updated_all updates) s.rows ∙ sym (fold-append stepped (opening buses 0) w.steps (step ∷ []));
         moment = s.moment;
         last_id = s.last_id;
         count = told_each_count changes held.places ∙ s.count;

@@ -1,6 +1,6 @@
 -- Room for bytes, as many takings of what is unsent, each after the next line is put in.
 use Rattle.std.proofs.Common.{◌≡◌, ℕ, zero, suc, min, ◌+◌, ◌-◌, ◌<◌, ◌≤◌, Bool, true, false, List, [], ◌∷◌, ◌++◌, take, drop, length, length-append, refl, ap, sym, ◌∙◌, subst, arith, append-nil}
-use Rattle.std.proofs.lemmas.Bool.Decides.{nat_tests}
+use Rattle.std.proofs.lemmas.Bool.{le-ltb}
 use Rattle.std.proofs.lemmas.List.{drop-drop}
 use Rattle.std.specs.List.{flat_map}
 use Rattle.std.specs.Option.{option_map, option_or}
@@ -27,13 +27,14 @@ use Rattle.srcp_core.proofs.Calling.{over_is}
 use Rattle.srcp_core.proofs.Giving.{IsFilled, fills, with_given}
 use Rattle.srcp_core.proofs.Histories.{rows_after}
 use Rattle.srcp_core.proofs.Noting.{Tells, tells_same, tells_changed}
-use Rattle.srcp_core.proofs.Pieces.{with_itself, set_same}
+use Rattle.srcp_core.proofs.Pieces.{set_same}
 use Rattle.srcp_core.proofs.Placing.{is_over_place, place_unsent}
 use Rattle.srcp_core.proofs.Registry.{shown_after, length_history}
 use Rattle.srcp_core.proofs.SessionLaws.{anything, at_number, fits_open}
-use Rattle.srcp_core.proofs.Slow.{numbered_with}
+use Rattle.srcp_core.proofs.Numbers.{numbered_with, with_itself}
 use Rattle.srcp_core.proofs.Standing.{Anything, Fine, found_at}
 use Rattle.srcp_core.proofs.Worlds.{sound_at, stands_room, in_order_after}
+use Rattle.srcp_core.proofs.Rooms.{pos-eqb}
 
 -- ---- one connection
 
@@ -64,16 +65,13 @@ room_unsent : (count : ℕ) (history : History) (rows : List Shown) (conn : Conn
 room_unsent count history rows conn still some few =
     ap (λ t. if t then conn else took_room count (length history) (owed conn history rows) conn) still
     ∙ ap (λ (items : List Item). record conn { items = items; taken = conn.taken + min count (length (available (unsent conn) (owed conn history rows))); done = (took_room count (length history) (owed conn history rows) conn).done })
-    (ap (λ t. conn.items ++ items_of (length history) (if t && is_nil (unsent conn) then take 1 (owed conn history rows) else front (count - length (unsent conn)) (owed conn history rows))) not_zero
+    (ap (λ t. conn.items ++ items_of (length history) (if t && is_nil (unsent conn) then take 1 (owed conn history rows) else front (count - length (unsent conn)) (owed conn history rows))) (pos-eqb count some)
     ∙ ap (λ m. conn.items ++ items_of (length history) (front m (owed conn history rows))) none_left ∙ append-nil conn.items)
     ∙ ap (λ taken. record conn { taken = taken; done = (took_room count (length history) (owed conn history rows) conn).done }) all_taken
     ∙ ap (λ end. record conn { taken = conn.taken + count; done = end })
     (ap (λ t. if conn.info && (t || ((count == 0) && (is_nil (unsent conn) && is_nil (owed conn history rows)))) then option_or conn.done (Some (length history)) else conn.done) enough
-    ∙ ap (λ t. if conn.info && (t && (is_nil (unsent conn) && is_nil (owed conn history rows))) then option_or conn.done (Some (length history)) else conn.done) not_zero ∙ never conn.info)
+    ∙ ap (λ t. if conn.info && (t && (is_nil (unsent conn) && is_nil (owed conn history rows))) then option_or conn.done (Some (length history)) else conn.done) (pos-eqb count some) ∙ never conn.info)
   where
-    not_zero : (count == 0) ≡ false
-    not_zero = grind (arith, nat_tests)
-
     none_left : count - length (unsent conn) ≡ 0
     none_left = omega (arith, few)
 
@@ -84,10 +82,7 @@ room_unsent count history rows conn still some few =
     all_taken = let z = size in omega (arith, z, few)
 
     enough : nat_lt (length (available (unsent conn) (owed conn history rows))) count ≡ false
-    enough = let z = size in at_least (length (available (unsent conn) (owed conn history rows))) (omega (arith, z, few))
-      where
-        at_least : (m : ℕ) → count ≤ m → nat_lt m count ≡ false
-        at_least m h = grind (arith, nat_tests)
+    enough = let z = size in le-ltb (length (available (unsent conn) (owed conn history rows))) count (omega (arith, z, few))
 
     never : (info : Bool) → (if info && false then option_or conn.done (Some (length history)) else conn.done) ≡ conn.done
     never true = refl

@@ -4,7 +4,6 @@ use Rattle.srcp_info.specs.WellFormed.{IsMoment}
 use Rattle.srcp_info.specs.declared.value.Mode.{Mode}
 use Rattle.srcp_text.specs.Reading.{Reading}
 use Rattle.srcp_rules.specs.declared.layout.Bus.{Bus}
-use Rattle.srcp_rules.specs.Layout.{IsLayout}
 use Rattle.srcp_rules.specs.State.{State, IsWhole, session_device, is_there}
 use Rattle.srcp_feed.specs.Feed.{Feed}
 
@@ -53,7 +52,6 @@ pub record AreSessions (last_id : ℕ) (rows : State) (places : List (Option Pla
 
 -- what holds of every core
 pub record IsSound (held : Held) : Type 0 where
-  pub layout : IsLayout held.buses
   pub moment : IsMoment held.moment
   pub few : open_count held ≤ 64
   pub whole : IsWhole held.buses held.rows

@@ -1,12 +1,11 @@
 //! What is kept of one connection.
-ghost use Rattle.std.specs.Prelude.{◌≡◌, ◌≤◌, ◌<◌, ◌+◌, [], ◌∷◌, ◌++◌, length, drop, Bool, List, true, false, ◌||◌, IfOk, Some, None, vec_capacity, if◌then◌else◌};
-ghost use Rattle.srcp_core.specs.Course.{welcome};
+ghost use Rattle.std.specs.Prelude.{◌≡◌, ◌≤◌, ◌+◌, [], length, drop, true, ◌&&◌, ◌||◌, IfOk, Some, vec_capacity};
 ghost use Rattle.srcp_rules.specs.State.{shown_rows};
 ghost use Rattle.std.specs.List.{AllByRecursion};
 ghost use Rattle.srcp_info.specs.WellFormed.{IsWellFormed, IsWellFormedShown};
 ghost use Rattle.srcp_text.specs.Marks.{Line, TooLong};
-ghost use Rattle.srcp_core.specs.Connection.{line_of};
-ghost use Rattle.srcp_core.specs.Machine.{fresh_place, with_unsent, without_sent, entered_place, feed_for, told_place, filled, item_from, IsTellable, asked_of, heard};
+ghost use Rattle.srcp_core.specs.Connection.{is_nil, line_of};
+ghost use Rattle.srcp_core.specs.Machine.{fresh_place, with_unsent, without_sent, entered_place, feed_for, told_place, filled, item_from, IsTellable, asked_of, heard, live_session_of};
 
 use crate::asked::Asked;
 use crate::greeting::Greeting;
@@ -33,7 +32,7 @@ pub struct Connection {
     info: bool,
     ended: bool,
     overran: bool,
-    // What was sent stands before `start`.
+    // The bytes from `start` on are unsent.
     reply: Vec<u8>,
     start: usize,
     feed: Option<InfoFeed>,
@@ -87,11 +86,21 @@ impl Connection {
         self.overran
     }
 
-    /// Whether its session ended by its own command.
-    pub(crate) fn ended(&self) -> bool
-        ensures { result ≡ self.now.ended }
+    /// Whether its session ended by its own command and all its replies are sent.
+    pub(crate) fn is_done(&self) -> bool
+        ensures { result ≡ (self.now.ended && is_nil self.now.unsent) }
     {
-        self.ended
+        self.ended && self.unsent().is_empty()
+    }
+
+    /// Its session, where that began and did not end by its own command.
+    pub(crate) fn live_session(&self) -> Option<u32>
+        ensures { result ≡ live_session_of (Some self.now) }
+    {
+        if self.session == 0 || self.ended {
+            return None;
+        }
+        Some(self.session)
     }
 
     /// Its session's id, 0 before it begins.
@@ -109,7 +118,7 @@ impl Connection {
         &self.reply[self.start..]
     }
 
-    /// More bytes are to be sent.
+    /// Puts bytes at the end of what is to be sent.
     pub(crate) fn put(&mut self, line: &[u8])
         requires { length self.old.unsent + length line.now ≤ 16640 }
         ensures { self.new ≡ with_unsent line.now self.old }
@@ -119,7 +128,7 @@ impl Connection {
         self.reply.extend_from_slice(line).unwrap();
     }
 
-    /// So many of the unsent bytes were sent.
+    /// Drops so many of the unsent bytes, which were sent.
     pub(crate) fn took(&mut self, count: usize)
         requires { count ≤ length self.old.unsent }
         ensures { self.new ≡ without_sent count self.old }

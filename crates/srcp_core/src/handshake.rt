@@ -1,5 +1,5 @@
 //! What a line before the session asks for.
-ghost use Rattle.std.specs.Prelude.{◌≡◌, codes};
+ghost use Rattle.std.specs.Prelude.{◌≡◌};
 ghost use Rattle.std.specs.Char.{is_ascii_digit};
 ghost use Rattle.std.specs.List.{list_all};
 ghost use Rattle.srcp_text.specs.Marks.{Line};
@@ -95,6 +95,7 @@ fn is_version(word: &[u8]) -> bool
     are_digits(&word[4..])
 }
 
+/// Whether the text has no byte but ASCII digits.
 fn are_digits(text: &[u8]) -> bool
     ensures { result ≡ list_all is_ascii_digit text.now }
 {

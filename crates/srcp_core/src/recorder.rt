@@ -1,10 +1,10 @@
 //! What a run tells, as it is put together.
-ghost use Rattle.std.specs.Prelude.{◌≡◌, ◌∷◌, ◌++◌, [], OnOk, IfOk, Some};
+ghost use Rattle.std.specs.Prelude.{◌≡◌, ◌∷◌, ◌++◌, [], OnOk, IfOk};
 ghost use Rattle.std.specs.List.{AllByRecursion};
 ghost use Rattle.srcp_info.specs.WellFormed.{IsWellFormedShown};
 ghost use Rattle.srcp_core.specs.Course.{is_info};
 ghost use Rattle.srcp_core.specs.Machine.{listed};
-ghost use Rattle.srcp_core.specs.Recording.{key_of, nothing_told, opened, shut, began, noted, gave, took, with_item, without_key, changed, changed_record, finished};
+ghost use Rattle.srcp_core.specs.Recording.{key_of, nothing_told, opened, shut, began, noted, gave, took, with_item, without_key, changed_record, finished};
 
 use crate::answered::LineSteps;
 use crate::entries::Entries;
@@ -54,11 +54,7 @@ impl Recorder {
         ensures { result ≡ key_of conn self.now.keys }
     {
         let index = conn.checked_sub(1)?;
-        if index < self.keys.len() {
-            self.keys[index]
-        } else {
-            None
-        }
+        *self.keys.get(index)?
     }
 
     /// A connection was opened at a place.

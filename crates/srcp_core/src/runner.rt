@@ -1,18 +1,16 @@
 //! A run over a list of events.
-ghost use Rattle.std.specs.Prelude.{◌≡◌, ◌≤◌, IfOk, OnOk, Some, None};
+ghost use Rattle.std.specs.Prelude.{◌≡◌, ◌≤◌, IfOk, OnOk};
 ghost use Rattle.std.specs.List.{AllByRecursion};
 ghost use Rattle.srcp_info.specs.WellFormed.{IsMoment, IsWellFormedShown};
 ghost use Rattle.srcp_rules.specs.Layout.{IsLayout};
 ghost use Rattle.srcp_core.specs.Headline.{ToldSessions, ToldReplies, ToldRooms, IsToldRegistry};
 ghost use Rattle.srcp_core.specs.Laws.{AllMoments, HasMoment, IsRecordOf};
-ghost use Rattle.srcp_core.specs.Recording.{key_of};
 ghost use Rattle.srcp_core.specs.Run.{HappensAs, FollowsAs, count_at, taken_at, taking};
 
 use crate::event::Event;
 use crate::record::{CoreFault, Record, Step};
 use crate::recorder::Recorder;
 use crate::table::Core;
-use srcp_feed::Next;
 use srcp_rules::{Layout, Memory, Rows};
 use std::alloc::Global;
 
@@ -55,7 +53,7 @@ fn carry_out<R: Rows>(alloc: Global, layout: &Layout, events: &[Event]) -> Resul
     ensures moments { IfOk result (λ _. AllMoments events.now) }
     ensures laid_out { IfOk result (λ _. IsLayout layout.now) }
 {
-    // Asks for a layout's limits.
+    // Called for its contract, which says the layout's limits.
     let _ = layout.buses();
     let mut core = Core::<R>::new(alloc, layout, 0, 0)?;
     let mut recorder = Recorder::new(alloc);
@@ -101,6 +99,7 @@ fn happen<R: Rows>(
     }
 }
 
+/// Opens a connection, and notes its key. Answers why it is refused, if it is, as each of these does.
 fn open<R: Rows>(
     core: &mut Core<'_, R>,
     recorder: &mut Recorder,
@@ -117,6 +116,7 @@ fn open<R: Rows>(
     }
 }
 
+/// Takes a piece line by line, and notes the steps of each.
 fn bytes<R: Rows>(
     core: &mut Core<'_, R>,
     recorder: &mut Recorder,
@@ -140,6 +140,7 @@ fn bytes<R: Rows>(
     Ok(None)
 }
 
+/// Takes bytes of a connection until it took so many, or nothing is owed to it.
 fn room<R: Rows>(
     core: &mut Core<'_, R>,
     recorder: &mut Recorder,
@@ -193,6 +194,7 @@ fn take<R: Rows>(
     Ok(count)
 }
 
+/// Takes a moment, and notes it as a step.
 fn advance<R: Rows>(
     core: &mut Core<'_, R>,
     recorder: &mut Recorder,
@@ -207,6 +209,7 @@ fn advance<R: Rows>(
     Ok(None)
 }
 
+/// Hangs up a connection, and notes the end of its session, where that goes on.
 fn shut<R: Rows>(
     core: &mut Core<'_, R>,
     recorder: &mut Recorder,

@@ -1,8 +1,7 @@
 //! The core: the registry, and the connections with their sessions.
-ghost use Rattle.std.specs.Prelude.{◌⊎◌, ◌≡◌, ◌≢◌, ◌+◌, ◌≤◌, ◌<◌, ◌↔◌, ◌||◌, Bool, true, false, Some, None, IfOk, OnErr, IsErr, IsErrOf, IfSome, MatchResult, IfErr, is_some, is_none, length, List, [], Option, count_by};
-ghost use Rattle.srcp_core.specs.Connection.{is_nil};
-ghost use Rattle.srcp_core.specs.Held.{at, open_count};
-ghost use Rattle.srcp_core.specs.Machine.{IsAdmitted, refused_connect, is_closing, one_denied, unsent_at, bytes_fault};
+ghost use Rattle.std.specs.Prelude.{◌⊎◌, ◌≡◌, ◌≤◌, ◌↔◌, true, None, IfOk, IsErrOf, MatchResult, IfErr, is_none, []};
+ghost use Rattle.srcp_core.specs.Held.{open_count};
+ghost use Rattle.srcp_core.specs.Machine.{IsAdmitted, refused_connect, is_closing, bytes_fault};
 ghost use Rattle.srcp_core.specs.Agrees.{OfCourse, OfConnection, IsWhyNotOpened, NamesNewest, CountsOpen, TakesPieces, closes};
 ghost use Rattle.srcp_core.specs.Course.{course, fault};
 ghost use Rattle.srcp_core.specs.Run.{LeadsTo, LeadsToOpen};
@@ -80,7 +79,7 @@ impl<'a, R: Rows> Core<'a, R> {
     ) -> Result<Core<'a, R>, Memory>
         ensures { IfOk result (λ core. core ≡ record { buses = layout.now; rows = opening layout.now 0; moment = moment; last_id = last_id; places = []; denied = 0 }) }
     {
-        // Asks for a layout's limits.
+        // Called for its contract, which says the layout's limits.
         let _ = layout.buses();
         let rows = Timed::empty(alloc, layout)?;
         let connections = Slab::with_capacity(alloc, MOST_CONNECTIONS)?;
@@ -140,6 +139,7 @@ impl<'a, R: Rows> Core<'a, R> {
         self.is_ready(conn)
     }
 
+    /// Whether a connection is there, goes on and has nothing unsent.
     fn is_ready(&self, conn: usize) -> bool
         ensures { result ≡ is_none (bytes_fault conn [] self.now) }
     {
@@ -158,13 +158,12 @@ impl<'a, R: Rows> Core<'a, R> {
         self.is_closing(conn)
     }
 
+    /// Whether a connection is there and is to be closed.
     fn is_closing(&self, conn: usize) -> bool
         ensures { result ≡ is_closing conn self.now }
     {
         match self.connections.get(conn) {
-            Some(connection) => {
-                connection.overran() || connection.ended() && connection.unsent().is_empty()
-            }
+            Some(connection) => connection.overran() || connection.is_done(),
             None => false,
         }
     }

@@ -1,13 +1,12 @@
 //! How the lines of a connection are answered.
-ghost use Rattle.std.specs.Prelude.{◌≡◌, ◌≢◌, ℕ, ◌+◌, ◌≤◌, ◌∷◌, [], true, false, length, Ok, OnOk, OnErr, OnSome, IfNone, IfSome, IfOk};
+ghost use Rattle.std.specs.Prelude.{◌≡◌, ◌≢◌, ◌+◌, ◌≤◌, true, false, length, Ok, OnOk, OnErr, OnSome, IfNone, IfSome, IfOk};
 ghost use Rattle.srcp_info.specs.WellFormed.{IsWellFormedReply};
 ghost use Rattle.srcp_info.specs.declared.change.Code.TheVariants.{C500};
 ghost use Rattle.srcp_info.specs.declared.change.Reply.TheVariants.{Refused};
 ghost use Rattle.srcp_rules.specs.Command.{IsCommandOf};
-ghost use Rattle.srcp_rules.specs.Due.{began};
 ghost use Rattle.srcp_rules.specs.Effect.{adds_rows, effect};
 ghost use Rattle.srcp_rules.specs.State.{session_device, is_there};
-ghost use Rattle.srcp_core.specs.Held.{Place, at, IsSessionAt};
+ghost use Rattle.srcp_core.specs.Held.{IsSessionAt};
 ghost use Rattle.srcp_core.specs.Machine.{feed_for, changed_at, unsent_at, one_denied, replied, denied_line, begun, goes, greeted, carried, freed_of, commanded, longest, steps_gone, steps_greeted, steps_commanded, listed};
 
 use super::walk::{free_all, tell_all, tell_each};

@@ -1,12 +1,9 @@
 //! Moments, and the end of a connection.
-ghost use Rattle.std.specs.Prelude.{◌≡◌, ℕ, ◌+◌, ◌*◌, ◌≤◌, ◌<◌, [], true, false, length, Some, None, Ok, IfOk, IsErr, ◌↔◌, IsSome, IfSome, MatchResult, OnErr, OnOk, Option};
-ghost use Rattle.srcp_rules.specs.Command.{IsCommandOf};
-ghost use Rattle.srcp_rules.specs.State.{is_there, session_device};
-ghost use Rattle.srcp_text.specs.Marks.{Mark};
+ghost use Rattle.std.specs.Prelude.{◌≡◌, None, IsSome, MatchResult};
 ghost use Rattle.srcp_core.specs.Agrees.{OfConnection};
 ghost use Rattle.srcp_core.specs.Course.{course, fault};
-ghost use Rattle.srcp_core.specs.Held.{Place, IsSessionAt, at};
-ghost use Rattle.srcp_core.specs.Machine.{asked_of, answered, commanded, longest_answer, unsent_at, bytes_fault, hung_up, advanced, changed_at, without_sent};
+ghost use Rattle.srcp_core.specs.Held.{at};
+ghost use Rattle.srcp_core.specs.Machine.{hung_up, advanced};
 ghost use Rattle.srcp_core.specs.Run.{LeadsTo, LeadsToFree};
 ghost use Rattle.srcp_core.specs.declared.event.Event.TheVariants.{At, Shut};
 
@@ -54,8 +51,7 @@ impl<'a, R: Rows> Core<'a, R> {
         let Some(connection) = self.connections.try_remove(conn) else {
             return Err(CoreFault::NoSuch);
         };
-        let session = connection.session();
-        if session != 0 && !connection.ended() {
+        if let Some(session) = connection.live_session() {
             free_all(&mut self.rows, &mut self.connections, session, self.moment);
         }
         Ok(())

@@ -1,5 +1,5 @@
 //! What is told of the core as it stands.
-ghost use Rattle.std.specs.Prelude.{◌≡◌, OnOk, IfOk};
+ghost use Rattle.std.specs.Prelude.{◌≡◌, IfOk};
 ghost use Rattle.std.specs.List.{AllByRecursion};
 ghost use Rattle.srcp_info.specs.WellFormed.{IsWellFormedShown};
 ghost use Rattle.srcp_rules.specs.Layout.{IsLayout};
@@ -9,7 +9,7 @@ ghost use Rattle.srcp_core.specs.Machine.{finish_at, live_session};
 use super::Core;
 use crate::entries::Entries;
 use crate::record::{Finish, Rows as RowEntries};
-use srcp_info::{Cursor, Shown};
+use srcp_info::Cursor;
 use srcp_rules::{Memory, Rows};
 use std::alloc::Global;
 
@@ -33,11 +33,7 @@ impl<'a, R: Rows> Core<'a, R> {
     pub(crate) fn live_session(&self, conn: usize) -> Option<u32>
         ensures { result ≡ live_session conn self.now }
     {
-        let connection = self.connections.get(conn)?;
-        if connection.session() == 0 || connection.ended() {
-            return None;
-        }
-        Some(connection.session())
+        self.connections.get(conn)?.live_session()
     }
 
     /// How a connection stands. `Shut` where there is none at the place.
@@ -47,9 +43,7 @@ impl<'a, R: Rows> Core<'a, R> {
         match self.connections.get(conn) {
             None => Finish::Shut,
             Some(connection) if connection.overran() => Finish::Overrun,
-            Some(connection) if connection.ended() && connection.unsent().is_empty() => {
-                Finish::Closing
-            }
+            Some(connection) if connection.is_done() => Finish::Closing,
             Some(_) => Finish::Live,
         }
     }
@@ -63,6 +57,7 @@ impl<'a, R: Rows> Core<'a, R> {
     }
 }
 
+/// All rows of a keeper, in key order.
 fn all_rows<R: Rows>(alloc: Global, rows: &R) -> Result<RowEntries, Memory>
     requires { IsRising (R.state rows.now) }
     ensures { IfOk result (λ told. told ≡ R.state rows.now) }

@@ -1,5 +1,5 @@
 //! Bytes that go out.
-ghost use Rattle.std.specs.Prelude.{◌≡◌, ◌≤◌, ◌<◌, [], ◌∷◌, ◌++◌, length, Some, None, IsErr, IsSome, IfOk, IfErr, MatchResult, ◌↔◌};
+ghost use Rattle.std.specs.Prelude.{◌≡◌, ◌≤◌, ◌<◌, [], ◌∷◌, ◌++◌, length, None, IsErr, IsSome, IfOk, MatchResult, ◌↔◌};
 ghost use Rattle.srcp_core.specs.Agrees.{OfConnection, lent};
 ghost use Rattle.srcp_core.specs.Course.{course};
 ghost use Rattle.srcp_core.specs.Held.{Held, at};
@@ -63,7 +63,8 @@ impl<'a, R: Rows> Core<'a, R> {
         }
     }
 
-    /// So many of the bytes that are to be sent of a connection were sent.
+    /// Drops so many of the bytes that are to be sent of a connection, which were sent. The connection is there, and
+    /// no more bytes than it lends.
     pub fn sent(&mut self, conn: usize, count: usize)
         requires open { IsSome (at self.old conn) }
         requires unsent { count ≤ length (unsent_at conn self.old) }
@@ -76,7 +77,7 @@ impl<'a, R: Rows> Core<'a, R> {
         self.drop_sent(conn, count);
     }
 
-    /// So many of the bytes that are to be sent are there no more.
+    /// Drops so many of the bytes that are to be sent.
     fn drop_sent(&mut self, conn: usize, count: usize)
         requires open { IsSome (at self.old conn) }
         requires unsent { count ≤ length (unsent_at conn self.old) }

@@ -8,7 +8,7 @@ use slab::Slab;
 use srcp_feed::InfoFeed;
 use srcp_info::Mode;
 
-/// More bytes are to be sent.
+/// Puts bytes at the end of what is to be sent.
 pub(super) fn put(connections: &mut Slab<Connection>, conn: usize, line: &[u8])
     requires { length (unsent_of (place_at connections.old.slots conn)) + length line.now ≤ 16640 }
     ensures slots { connections.new.slots ≡ changed_places conn (with_unsent line.now) connections.old.slots }
@@ -19,7 +19,7 @@ pub(super) fn put(connections: &mut Slab<Connection>, conn: usize, line: &[u8])
     }
 }
 
-/// The mode of the session to come is chosen.
+/// Chooses the mode of the session to come.
 pub(super) fn choose(connections: &mut Slab<Connection>, conn: usize, mode: Mode)
     ensures slots { connections.new.slots ≡ changed_places conn (λ p. record p { mode = mode }) connections.old.slots }
     ensures capacity { connections.new.capacity ≡ connections.old.capacity }
@@ -29,7 +29,7 @@ pub(super) fn choose(connections: &mut Slab<Connection>, conn: usize, mode: Mode
     }
 }
 
-/// A session of the mode begins under the id.
+/// Begins a session of the mode under the id.
 pub(super) fn enter(
     connections: &mut Slab<Connection>,
     conn: usize,
@@ -46,7 +46,7 @@ pub(super) fn enter(
     }
 }
 
-/// The session ended by its own command.
+/// Notes that the session ended by its own command.
 pub(super) fn end(connections: &mut Slab<Connection>, conn: usize)
     ensures slots { connections.new.slots ≡ changed_places conn (λ p. record p { ended = true }) connections.old.slots }
     ensures capacity { connections.new.capacity ≡ connections.old.capacity }
@@ -56,7 +56,7 @@ pub(super) fn end(connections: &mut Slab<Connection>, conn: usize)
     }
 }
 
-/// So many bytes were sent.
+/// Drops so many of the unsent bytes, which were sent.
 pub(super) fn took(connections: &mut Slab<Connection>, conn: usize, count: usize)
     requires { count ≤ length (unsent_of (place_at connections.old.slots conn)) }
     ensures slots { connections.new.slots ≡ changed_places conn (without_sent count) connections.old.slots }

@@ -98,9 +98,7 @@ impl<'a, R: Rows> Core<'a, R> {
         ensures heard { (result, self.new) ≡ heard_at conn piece.now start self.old }
         ensures sound { IsSound self.new }
     {
-        let Some(connection) = self.connections.get_mut(conn) else {
-            return None;
-        };
+        let connection = self.connections.get_mut(conn)?;
         connection.hear(piece, start, self.layout)
     }
 

@@ -1,7 +1,7 @@
 //! Walks over all connections, and over the changes of a moment and of a session's end.
 ghost use Rattle.std.specs.Prelude.{◌≡◌, map};
 ghost use Rattle.std.specs.List.{AllByRecursion};
-ghost use Rattle.srcp_info.specs.WellFormed.{IsWellFormed, IsMoment};
+ghost use Rattle.srcp_info.specs.WellFormed.{IsWellFormed};
 ghost use Rattle.srcp_rules.specs.Due.{due, freed};
 ghost use Rattle.srcp_rules.specs.State.{IsWhole, updated_all};
 ghost use Rattle.srcp_core.specs.Machine.{told_all, told_each};

@@ -10,7 +10,7 @@ pub command-requires-clause-session : goal.command-requires-clause-session
 command-requires-clause-session g c =
     let there : at c.args.self.now c.args.conn ≡ Some c.in-Some.connection.now = sym (ap (λ (h : Held). at h c.args.conn) c.self.view_is) ∙ sym c.get.ensures ∙ ap option_copied c.in-Some.is in
     let mark = c.requires.asked c.in-Some.connection.now there in
-    let by = asked_by c.args.self.now.buses (subst (λ (h : Held). IsLayout h.buses) c.self.view_is c.self.invariant.0.layout) c.in-Some.connection.now mark.0 c.in-Commands.command (sym c.in-Commands.is ∙ mark.1) in
+    let by = asked_by c.args.self.now.buses (subst (λ (h : Held). IsLayout h.buses) c.self.view_is c.self.invariant.0.whole.laid_out) c.in-Some.connection.now mark.0 c.in-Commands.command (sym c.in-Commands.is ∙ mark.1) in
     record { place = c.in-Some.connection.now; here = there; own = sym c.session-session.ensures; live = by.live }
 
 pub command-requires-clause-row : goal.command-requires-clause-row
@@ -20,4 +20,4 @@ pub command-requires-clause-command : goal.command-requires-clause-command
 command-requires-clause-command g c =
     let there : at c.args.self.now c.args.conn ≡ Some c.in-Some.connection.now = sym (ap (λ (h : Held). at h c.args.conn) c.self.view_is) ∙ sym c.get.ensures ∙ ap option_copied c.in-Some.is in
     let mark = c.requires.asked c.in-Some.connection.now there in
-    (asked_by c.args.self.now.buses (subst (λ (h : Held). IsLayout h.buses) c.self.view_is c.self.invariant.0.layout) c.in-Some.connection.now mark.0 c.in-Commands.command (sym c.in-Commands.is ∙ mark.1)).of
+    (asked_by c.args.self.now.buses (subst (λ (h : Held). IsLayout h.buses) c.self.view_is c.self.invariant.0.whole.laid_out) c.in-Some.connection.now mark.0 c.in-Commands.command (sym c.in-Commands.is ∙ mark.1)).of

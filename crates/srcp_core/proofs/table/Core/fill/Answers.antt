@@ -3,8 +3,9 @@ use Rattle.std.specs.Option.{option_copied_mut}
 use Rattle.srcp_rules.specs.State.{shown_rows}
 use Rattle.srcp_core.specs.Held.{Held, at}
 use Rattle.srcp_core.proofs.Covers.{IsMild}
-use Rattle.srcp_core.proofs.Sound.{shown_tellable, filled_mild, sound_place}
+use Rattle.srcp_core.proofs.Sound.{filled_mild, sound_place}
 use Rattle.srcp_core.proofs.table.Core.fill.Goals as goal
+use Rattle.srcp_core.proofs.RowLists.{shown_tellable}
 
 pub fill-requires : goal.fill-requires
 fill-requires g c = shown_tellable c.self.inside.layout.now (g.R.Rows.state c.self.inside.rows) c.self.invariant.0.whole
