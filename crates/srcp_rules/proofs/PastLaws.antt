@@ -66,7 +66,7 @@ module _ (buses : List Bus) where
 
 -- ---- the last key of a group
 
-group_tie : (a b : Group) → group_cmp a b ≡ Equal → a ≡ b
+pub group_tie : (a b : Group) → group_cmp a b ≡ Equal → a ≡ b
 group_tie a b e = ap (λ (key : Key). key.group) (key_tie (record { bus = 0; group = a; address = 0; port = 0 }) (record { bus = 0; group = b; address = 0; port = 0 }) (ap (λ o. ordering_then o Equal) e))
 
 -- a key of another group or bus stands to the last key of a group as it does to each key of it
@@ -168,10 +168,10 @@ module _ (buses : List Bus) (at : Cursor) (state : State) (rising : IsRising sta
       by false f = sym (not_true (has_reached last other.shown.key) e) ∙ reached_below last other.shown.key key f (last_reached buses row of)
 
   -- past the row, and past the rest of its group, fewer rows are left
-  pub fewer_past : (kind : Sought) (counts : Bool) → length (beyond (past counts key) state) < length (beyond at state)
-  fewer_past kind true = fewer_beyond kind at state rising row next
-  fewer_past kind false =
-      let less = fewer_beyond kind at state rising row next in
+  pub fewer_past : (counts : Bool) → length (beyond (past counts key) state) < length (beyond at state)
+  fewer_past true = fewer_beyond (sought.Due 0) at state rising row next
+  fewer_past false =
+      let less = fewer_beyond (sought.Due 0) at state rising row next in
       let most = length-filter-le (λ (other : Row). not (has_reached last other.shown.key)) (λ other. not (has_reached (cursor.After key) other.shown.key)) state (each-weaken {P = IsRowOf buses} (λ other o. still_left other) state rows) in
       omega (arith, less, most)
 

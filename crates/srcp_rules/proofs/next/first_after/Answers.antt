@@ -13,7 +13,7 @@ pub loop-row-smaller : goal.loop-row-smaller
 loop-row-smaller g c =
     let buses = g.R.Rows.buses c.args.rows.now in
     let state = g.R.Rows.state c.args.rows.now in
-    rw c.past-at.ensures (fewer_past buses c.loop-row.at state c.requires.rising (each_of buses state c.requires) c.in-Some.row.now (sym c.in-Some.ensures) c.args.sought (may_be_in c.args.sought c.in-Some.row.now.shown.key.group))
+    rw c.past-at.ensures (fewer_past buses c.loop-row.at state c.requires.rising (each_of buses state c.requires) c.in-Some.row.now (sym c.in-Some.ensures) (may_be_in c.args.sought c.in-Some.row.now.shown.key.group))
 
 pub loop-row-preserved : goal.loop-row-preserved
 loop-row-preserved g c =
