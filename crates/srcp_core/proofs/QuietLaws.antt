@@ -1,21 +1,26 @@
 -- Until which moment no row is due, through the calls of a keeper and from row to row.
-use Rattle.std.specs.Prelude.{◌≡◌, ℕ, ◌≤◌, ◌<◌, Bool, true, false, not, cond, nat_le, map, List, [], ◌∷◌, Option, Some, None, IfSome}
-use Rattle.std.proofs.Common.{refl, sym, ap, arith}
+use Rattle.std.specs.Prelude.{◌≡◌, ◌⊎◌, ℕ, ◌≤◌, ◌<◌, Bool, true, false, not, cond, nat_le, map, filter, List, [], ◌∷◌, Option, Some, None, IfSome}
+use Rattle.std.proofs.Common.{refl, sym, ap, ◌∙◌, arith, true≢false, inl, inr}
 use Rattle.std.proofs.Math.Nat.{min-le_left, min-le_right}
 use Rattle.std.proofs.lemmas.Bool.{lt-leb}
-use Rattle.std.specs.List.{range_with_len}
+use Rattle.std.specs.List.{range_with_len, AllByRecursion}
+use Rattle.std.specs.Ordering.{is_gt}
+use Rattle.std.specs.declared.cmp.Ordering.{Ordering}
 use Rattle.std.specs.Option.{option_map_or}
 use Rattle.srcp_info.specs.declared.key.Device.{Device}
+use Rattle.srcp_info.specs.declared.key.Key.{Key}
 use Rattle.srcp_info.specs.declared.change.Cursor.{Cursor}
 use Rattle.srcp_info.specs.declared.change.Cursor.TheVariants.{After}
 use Rattle.srcp_info.specs.declared.change.Row.{Row}
 use Rattle.srcp_info.specs.declared.value.Value.TheVariants as value
-use Rattle.srcp_info.specs.Key.{owns}
+use Rattle.srcp_info.specs.Key.{owns, has_reached}
+use Rattle.srcp_info.specs.WellFormed.{IsMoment}
 use Rattle.srcp_info.proofs.ClientLaws.{all_append, all_filter, all_put, all_weaker, filter_no_one}
 use Rattle.srcp_rules.specs.declared.layout.Bus.{Bus}
-use Rattle.srcp_rules.specs.Due.{due, due_change, is_due}
+use Rattle.srcp_rules.specs.Due.{due, due_change, is_due, last_of_group, may_be_due, past}
 use Rattle.srcp_rules.specs.Rows.{put_rows}
-use Rattle.srcp_rules.specs.State.{State, IsRising, first_row, fb_device, opening, opening_on, power_device, put_row, row_after, without}
+use Rattle.srcp_rules.specs.State.{State, IsRising, IsRowOf, MayBeDue, first_row, fb_device, opening, opening_on, power_device, put_row, row_after, without}
+use Rattle.srcp_rules.proofs.PastLaws.{apart_cmp, due_group, group_tie}
 use Rattle.srcp_rules.proofs.SoughtLaws.{beyond, beyond-next, beyond-none}
 use Rattle.srcp_rules.proofs.StateLaws.{row_key}
 use Rattle.srcp_core.specs.Quiet.{IsQuietUntil, sooner, soonest}
@@ -107,9 +112,47 @@ module _ (until : ℕ) (state : State) (quiet : IsQuietUntil until state) where
   pub quiet_add : (rows : State) → IsQuietUntil (soonest until rows) (put_rows rows state)
   quiet_add rows = quiet_put_rows (soonest until rows) rows state (quiet_soonest until rows) (quiet_sooner until (soonest until rows) (soonest_below until rows) state quiet)
 
--- the row that is found is the next
-pub soonest_on : (moment : ℕ) (at : Cursor) (state : State) (row : Row) → IsRising state → row_after at state ≡ Some row → soonest (sooner moment row.due) (beyond (After row.shown.key) state) ≡ soonest moment (beyond at state)
-soonest_on moment at state row rising next = ap (soonest moment) (sym (beyond-next at row state rising next))
+-- ---- from row to row
+
+-- what one test keeps and the other does not is never due
+module _ (p q : Row → Bool) where
+  soonest_kept : (moment : ℕ) (rows : State) → AllByRecursion (λ row. (p row ≡ q row) ⊎ (row.due ≡ None)) rows → soonest moment (filter p rows) ≡ soonest moment (filter q rows)
+  soonest_kept moment [] h = refl
+  soonest_kept moment (row ∷ rows) h = by (p row) (q row) h.0 (soonest_kept (sooner moment row.due) rows h.1) (soonest_kept moment rows h.1)
+    where
+      later : row.due ≡ None → sooner moment row.due ≡ moment
+      later none = ap (sooner moment) none
+
+      by : (a b : Bool) → (a ≡ b) ⊎ (row.due ≡ None) → soonest (sooner moment row.due) (filter p rows) ≡ soonest (sooner moment row.due) (filter q rows) → soonest moment (filter p rows) ≡ soonest moment (filter q rows)
+          → soonest moment (cond a (row ∷ filter p rows) (filter p rows)) ≡ soonest moment (cond b (row ∷ filter q rows) (filter q rows))
+      by true true k sooner_ones same = sooner_ones
+      by false false k sooner_ones same = same
+      by true false (inl e) sooner_ones same = absurd (true≢false e)
+      by true false (inr none) sooner_ones same = ap (λ m. soonest m (filter p rows)) (later none) ∙ same
+      by false true (inl e) sooner_ones same = absurd (true≢false (sym e))
+      by false true (inr none) sooner_ones same = same ∙ ap (λ m. soonest m (filter q rows)) (sym (later none))
+
+module _ (buses : List Bus) where
+  never_due : (row : Row) (o : Option ℕ) → row.due ≡ o → IfSome o (λ due. IsMoment due × MayBeDue row.shown.value) → IsRowOf buses row → may_be_due row.shown.key.group ≡ false → o ≡ None
+  never_due row None is may of group = refl
+  never_due row (Some due) is may of group = absurd (true≢false (sym (due_group row.shown.key.group row.shown.key.port row.shown.value may.1 of.shown.value) ∙ group))
+
+  module _ (key : Key) (none : may_be_due key.group ≡ false) where
+    kept_or_never : (row : Row) → IsRowOf buses row → (not (has_reached (After (last_of_group key)) row.shown.key) ≡ not (has_reached (After key) row.shown.key)) ⊎ (row.due ≡ None)
+    kept_or_never row of = by (may_be_due row.shown.key.group) refl
+      where
+        by : (b : Bool) → may_be_due row.shown.key.group ≡ b → (not (has_reached (After (last_of_group key)) row.shown.key) ≡ not (has_reached (After key) row.shown.key)) ⊎ (row.due ≡ None)
+        by true e = inl (ap (λ (o : Ordering). not (not (is_gt o))) (apart_cmp row.shown.key key (λ tie. true≢false (sym e ∙ ap may_be_due (group_tie row.shown.key.group key.group tie) ∙ none))))
+        by false e = inr (never_due row row.due refl of.due of e)
+
+  -- the row that is found is the next, and the rest of a group without due moments is passed
+  pub soonest_on : (moment : ℕ) (at : Cursor) (state : State) (row : Row) → IsRising state → AllByRecursion (IsRowOf buses) state → row_after at state ≡ Some row → (counts : Bool) → may_be_due row.shown.key.group ≡ counts
+      → soonest (sooner moment row.due) (beyond (past counts row.shown.key) state) ≡ soonest moment (beyond at state)
+  soonest_on moment at state row rising rows next true e = ap (soonest moment) (sym (beyond-next at row state rising next))
+  soonest_on moment at state row rising rows next false e =
+      soonest_kept (λ other. not (has_reached (After (last_of_group row.shown.key)) other.shown.key)) (λ other. not (has_reached (After row.shown.key) other.shown.key)) (sooner moment row.due) state
+      (all_weaker (IsRowOf buses) (λ other. (not (has_reached (After (last_of_group row.shown.key)) other.shown.key) ≡ not (has_reached (After row.shown.key) other.shown.key)) ⊎ (other.due ≡ None)) (kept_or_never row.shown.key e) state rows)
+      ∙ ap (soonest moment) (sym (beyond-next at row state rising next))
 
 -- and where none is found, none is left
 pub soonest_all : (moment : ℕ) (at : Cursor) (state : State) → row_after at state ≡ None → moment ≡ soonest moment (beyond at state)

@@ -1,10 +1,10 @@
 //! The rows of a registry with a moment before which no row is due, so that until then they need not be walked.
 ghost use Rattle.std.specs.Prelude.{◌≡◌, true, []};
 ghost use Rattle.srcp_core.specs.Quiet.{sooner, soonest};
-ghost use Rattle.srcp_rules.specs.Due.{due};
-ghost use Rattle.srcp_rules.specs.State.{IsRising};
+ghost use Rattle.srcp_rules.specs.Due.{due, may_be_due, past};
+ghost use Rattle.srcp_rules.specs.State.{IsWhole};
 
-use srcp_info::{Cursor, Device, Key, Row};
+use srcp_info::{Cursor, Device, Group, Key, Row};
 use srcp_rules::{Layout, Memory, Rows};
 use std::alloc::Global;
 use std::marker::Model;
@@ -71,9 +71,9 @@ impl<R: Rows> Timed<R> {
         moment < self.quiet_until
     }
 
-    /// Finds the least moment at which a row will be due, in one walk over all rows.
+    /// Finds the least moment at which a row will be due, in one walk over accessories and locks.
     pub(crate) fn look_ahead(&mut self)
-        requires { IsRising (R.state self.old) }
+        requires { IsWhole (R.buses self.old) (R.state self.old) }
         ensures { self.new ≡ self.old }
     {
         self.quiet_until = soonest_due(&self.rows);
@@ -103,14 +103,28 @@ fn sooner_of_all(moment: u64, rows: &[Row]) -> u64
 
 /// The least due moment of all rows; the greatest moment where none is ever due.
 fn soonest_due<R: Rows>(rows: &R) -> u64
-    requires { IsRising (R.state rows.now) }
+    requires { IsWhole (R.buses rows.now) (R.state rows.now) }
     ensures { result ≡ soonest 18446744073709551615 (R.state rows.now) }
 {
     let mut soonest = u64::MAX;
     let mut at = Cursor::Start;
     while let Some(row) = rows.row_after(at) {
         soonest = sooner(soonest, row.due);
-        at = Cursor::After(row.shown.key);
+        at = past(row.shown.key);
     }
     soonest
+}
+
+/// A cursor past the row at the key, and past the rest of its group on its bus where no row is ever due.
+fn past(key: Key) -> Cursor
+    ensures { result ≡ past (may_be_due key.group) key }
+{
+    match key.group {
+        Group::Ga | Group::LockGl | Group::LockGa => Cursor::After(key),
+        _ => Cursor::After(Key {
+            address: u32::MAX,
+            port: u8::MAX,
+            ..key
+        }),
+    }
 }

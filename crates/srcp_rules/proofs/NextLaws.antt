@@ -16,7 +16,7 @@ use Rattle.srcp_rules.specs.declared.next.Sought.TheVariants as sought
 use Rattle.srcp_rules.specs.State.{State, Update, AddsNoRow, IsWhole, IsRowOf, MayBeDue, row_at, is_there, session_device, updated}
 use Rattle.srcp_rules.specs.Effect.{gone_at}
 use Rattle.srcp_rules.specs.Due.{due_after, due_change, is_due, is_held_by, freed, sought_after}
-use Rattle.srcp_rules.proofs.FindLaws.{found_holds, find_passes, each-weaken}
+use Rattle.srcp_rules.proofs.FindLaws.{found_holds, find_passes, find_same, each-weaken}
 use Rattle.srcp_rules.proofs.StateLaws.{row_at_key, each_found}
 use Rattle.srcp_rules.proofs.SoughtLaws.{find-both}
 use Rattle.srcp_rules.proofs.DueLaws.{due_may, due_step}
@@ -32,10 +32,6 @@ module _ {X Y : Type 0} (f : X → Y) where
       taken : (b : Bool) → cond b (Some (f x)) (option_map f (find (λ y. t (f y)) xs)) ≡ option_map f (cond b (Some x) (find (λ y. t (f y)) xs))
       taken true = refl
       taken false = refl
-
-find_same : {X : Type 0} (p q : X → Bool) (xs : List X) → AllByRecursion (λ x. p x ≡ q x) xs → find p xs ≡ find q xs
-find_same p q [] h = refl
-find_same p q (x ∷ xs) h = λ i. cond (h.0 i) (Some x) (find_same p q xs h.1 i)
 
 -- a lock has one row
 lock_key : (key : Key) → key.port ≡ 0 → first_key (device_of key) ≡ key

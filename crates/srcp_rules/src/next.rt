@@ -1,12 +1,12 @@
 ghost use Rattle.std.specs.Prelude.{◌≡◌, ◌≤◌, IfSome, option_copied, option_map, slice_get};
 ghost use Rattle.srcp_info.specs.WellFormed.{IsWellFormed};
-ghost use Rattle.srcp_rules.specs.Due.{due_after, due_change, freed, is_sought, sought_after};
-ghost use Rattle.srcp_rules.specs.State.{AddsNoRow, IsRising, IsWhole, MayBeDue, row_at, updated, updated_if};
+ghost use Rattle.srcp_rules.specs.Due.{due_after, due_change, freed, is_sought, may_be_in, past, sought_after};
+ghost use Rattle.srcp_rules.specs.State.{AddsNoRow, IsWhole, MayBeDue, row_at, updated, updated_if};
 
 use crate::device::session_device;
 use crate::registry::{is_there, put, remove};
 use crate::rows::Rows;
-use srcp_info::{Change, Cursor, Row, Value};
+use srcp_info::{Change, Cursor, Group, Key, Row, Value};
 
 /// Carries out the first of the changes that the moment brings beyond the cursor, in key order: a
 /// lock that has run out ends, and a port that has been on for its time becomes 0.
@@ -90,11 +90,36 @@ impl Sought {
             },
         }
     }
+
+    /// Whether rows of this group may be sought.
+    fn may_be_in(&self, group: Group) -> bool
+        ensures { result ≡ may_be_in self.now group }
+    {
+        match self {
+            Sought::Due(_) => matches!(group, Group::Ga | Group::LockGl | Group::LockGa),
+            Sought::HeldBy(_) => matches!(group, Group::LockGl | Group::LockGa),
+        }
+    }
+
+    /// A cursor past the row at the key, and past the rest of its group on its bus where none of that is sought.
+    fn past(&self, key: Key) -> Cursor
+        ensures { result ≡ past (may_be_in self.now key.group) key }
+    {
+        if self.may_be_in(key.group) {
+            Cursor::After(key)
+        } else {
+            Cursor::After(Key {
+                address: u32::MAX,
+                port: u8::MAX,
+                ..key
+            })
+        }
+    }
 }
 
-/// The first row beyond the cursor that is sought.
+/// The first row beyond the cursor that is sought. Of a group where there can be none, one row of each bus is looked at.
 fn first_after<R: Rows>(rows: &R, cursor: Cursor, sought: Sought) -> Option<&Row>
-    requires { IsRising (R.state rows.now) }
+    requires { IsWhole (R.buses rows.now) (R.state rows.now) }
     ensures { option_copied result ≡ sought_after sought cursor (R.state rows.now) }
 {
     let mut at = cursor;
@@ -102,7 +127,7 @@ fn first_after<R: Rows>(rows: &R, cursor: Cursor, sought: Sought) -> Option<&Row
         if sought.is_met_by(row) {
             return Some(row);
         }
-        at = Cursor::After(row.shown.key);
+        at = sought.past(row.shown.key);
     }
     None
 }

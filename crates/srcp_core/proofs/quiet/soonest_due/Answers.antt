@@ -1,21 +1,29 @@
-use Rattle.std.proofs.Common.{sym, ap, ◌∙◌}
+use Rattle.std.proofs.Common.{refl, sym, ap, ◌∙◌}
+use Rattle.srcp_info.specs.declared.change.Cursor.{Cursor}
+use Rattle.srcp_rules.specs.Due.{may_be_due, past}
+use Rattle.srcp_rules.proofs.PastLaws.{each_of, fewer_past}
 use Rattle.srcp_rules.proofs.SoughtLaws.{beyond}
-use Rattle.srcp_info.specs.declared.change.Cursor.TheVariants.{After}
 use Rattle.srcp_core.specs.Quiet.{soonest}
 use Rattle.srcp_core.proofs.QuietLaws.{soonest_on, soonest_all}
-use Rattle.srcp_core.proofs.RowLists.{beyond_start, fewer_left}
+use Rattle.srcp_core.proofs.RowLists.{beyond_start}
 use Rattle.srcp_core.proofs.quiet.soonest_due.Goals as goal
 
 pub loop-row-init : goal.loop-row-init
 loop-row-init g c = ap (soonest 18446744073709551615) (beyond_start (g.R.Rows.state c.args.rows.now))
 
 pub loop-row-smaller : goal.loop-row-smaller
-loop-row-smaller g c = fewer_left c.loop-row.at (g.R.Rows.state c.args.rows.now) c.in-Some.row.now c.requires (sym c.in-Some.ensures)
+loop-row-smaller g c =
+    let buses = g.R.Rows.buses c.args.rows.now in
+    let state = g.R.Rows.state c.args.rows.now in
+    rw c.past-at.ensures (fewer_past buses c.loop-row.at state c.requires.rising (each_of buses state c.requires) c.in-Some.row.now (sym c.in-Some.ensures) (may_be_due c.in-Some.row.now.shown.key.group))
 
 pub loop-row-preserved : goal.loop-row-preserved
 loop-row-preserved g c =
-    ap (λ moment. soonest moment (beyond (After c.in-Some.row.now.shown.key) (g.R.Rows.state c.args.rows.now))) c.sooner-soonest.ensures
-    ∙ soonest_on c.loop-row.soonest c.loop-row.at (g.R.Rows.state c.args.rows.now) c.in-Some.row.now c.requires (sym c.in-Some.ensures)
+    let buses = g.R.Rows.buses c.args.rows.now in
+    let state = g.R.Rows.state c.args.rows.now in
+    ap (λ (at : Cursor). soonest c.sooner-soonest.result (beyond at state)) c.past-at.ensures
+    ∙ ap (λ moment. soonest moment (beyond (past (may_be_due c.in-Some.row.now.shown.key.group) c.in-Some.row.now.shown.key) state)) c.sooner-soonest.ensures
+    ∙ soonest_on buses c.loop-row.soonest c.loop-row.at state c.in-Some.row.now c.requires.rising (each_of buses state c.requires) (sym c.in-Some.ensures) (may_be_due c.in-Some.row.now.shown.key.group) refl
     ∙ c.loop-row.invariant
 
 pub returns : goal.returns

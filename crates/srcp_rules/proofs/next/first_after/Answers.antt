@@ -1,17 +1,27 @@
-use Rattle.std.proofs.Common.{sym, ◌∙◌}
-use Rattle.srcp_rules.proofs.SoughtLaws.{sought_here, sought_later, sought_none, fewer_beyond}
+use Rattle.std.proofs.Common.{refl, sym, ap, ◌∙◌}
+use Rattle.srcp_info.specs.declared.change.Cursor.{Cursor}
+use Rattle.srcp_rules.specs.Due.{may_be_in, sought_after}
+use Rattle.srcp_rules.proofs.PastLaws.{each_of, fewer_past, sought_past}
+use Rattle.srcp_rules.proofs.SoughtLaws.{sought_here, sought_none}
 use Rattle.srcp_rules.proofs.next.first_after.Goals as goal
 
 pub returns-then-is_met_by : goal.returns-then-is_met_by
 returns-then-is_met_by g c =
-    sym (sought_here c.args.sought c.loop-row.at (g.R.Rows.state c.args.rows.now) c.requires c.in-Some.row.now (sym c.in-Some.ensures) (sym c.is_met_by.ensures ∙ c.if-is_met_by.true)) ∙ c.loop-row.invariant
+    sym (sought_here c.args.sought c.loop-row.at (g.R.Rows.state c.args.rows.now) c.requires.rising c.in-Some.row.now (sym c.in-Some.ensures) (sym c.is_met_by.ensures ∙ c.if-is_met_by.true)) ∙ c.loop-row.invariant
 
 pub loop-row-smaller : goal.loop-row-smaller
-loop-row-smaller g c = fewer_beyond c.args.sought c.loop-row.at (g.R.Rows.state c.args.rows.now) c.requires c.in-Some.row.now (sym c.in-Some.ensures)
+loop-row-smaller g c =
+    let buses = g.R.Rows.buses c.args.rows.now in
+    let state = g.R.Rows.state c.args.rows.now in
+    rw c.past-at.ensures (fewer_past buses c.loop-row.at state c.requires.rising (each_of buses state c.requires) c.in-Some.row.now (sym c.in-Some.ensures) (may_be_in c.args.sought c.in-Some.row.now.shown.key.group))
 
 pub loop-row-preserved : goal.loop-row-preserved
 loop-row-preserved g c =
-    sought_later c.args.sought c.loop-row.at (g.R.Rows.state c.args.rows.now) c.requires c.in-Some.row.now (sym c.in-Some.ensures) (sym c.is_met_by.ensures ∙ c.if-is_met_by.false) ∙ c.loop-row.invariant
+    let buses = g.R.Rows.buses c.args.rows.now in
+    let state = g.R.Rows.state c.args.rows.now in
+    ap (λ (at : Cursor). sought_after c.args.sought at state) c.past-at.ensures
+    ∙ sought_past buses c.loop-row.at state c.requires.rising (each_of buses state c.requires) c.in-Some.row.now (sym c.in-Some.ensures) c.args.sought (sym c.is_met_by.ensures ∙ c.if-is_met_by.false) (may_be_in c.args.sought c.in-Some.row.now.shown.key.group) refl
+    ∙ c.loop-row.invariant
 
 pub returns : goal.returns
 returns g c = sym (sought_none c.args.sought c.loop-row.at (g.R.Rows.state c.args.rows.now) (sym c.in_default.ensures)) ∙ c.loop-row.invariant
