@@ -2,7 +2,8 @@
 """bench_registry.py PROGRAM: how the cost of commands and of a listing grows with the registry, in replays.
 
 A throttle makes devices, locks each, sets each once, and a panel is listed them all: 1,000 devices, 10,000, and all that
-one bus may have. It fails where a reply is none of acceptance or a row is not listed.
+one bus may have. It fails where a reply is none of acceptance or a row is not listed. And what stalls a server for a
+while: a moment at which a port falls back, and the end of the session that holds all the locks.
 """
 import os
 import random
@@ -14,6 +15,7 @@ import tempfile
 LOCOMOTIVES, ACCESSORIES = 10_239, 2_044
 CONFIG = b'[[bus]]\nnumber = 1\ngroups = ["GL", "GA"]\ngl_max = 10239\nga_max = 2044\n'
 ROWS = {b"GL": 2, b"GA": 3}
+MOMENTS = 100
 
 
 def devices(count):
@@ -47,6 +49,15 @@ def listed(count):
     """A panel's part."""
     yield from (b"open", b"room 2 1000", b"bytes 2 SET CONNECTIONMODE SRCP INFO\\n", b"room 2 1000", b"bytes 2 GO\\n")
     yield from (b"room 2 10000" for _ in range(count // 30 + 2))
+
+
+def falling(count):
+    """Moments of which each brings one port back."""
+    address = next(address for group, address in devices(count) if group == b"GA")
+    for moment in range(MOMENTS):
+        yield b"bytes 1 SET 1 GA %d 0 1 10\\n" % address
+        yield b"room 1 1000"
+        yield b"at %d" % (20 * moment + 20)
 
 
 def replayed(program, room, events):
@@ -83,8 +94,12 @@ def main():
             wanted = sum(ROWS[group] + 1 for group, _ in devices(count))
             if accepted != 3 * count or lines != wanted:
                 sys.exit(f"{count} devices: {accepted} commands accepted of {3 * count}, {lines} rows listed of {wanted}")
+            moments, _, _ = replayed(program, room, list(driven(count)) + list(falling(count)))
+            ending, _, _ = replayed(program, room, list(driven(count)) + [b"shut 1"])
             print(f"{count:,} devices: {3 * count:,} commands in {driving:.2f} s, {driving / count / 3 * 1e6:.1f} us each; "
-                  f"{lines:,} rows listed in {max(whole - driving, 0):.2f} s; {peak} KiB at most")
+                  f"{lines:,} rows listed in {max(whole - driving, 0):.2f} s; {peak} KiB at most; "
+                  f"a port back in {max(moments - driving, 0) / MOMENTS * 1e3:.2f} ms; "
+                  f"{count:,} locks gone in {max(ending - driving, 0):.2f} s")
 
 
 if __name__ == "__main__":
