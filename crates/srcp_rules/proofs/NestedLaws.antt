@@ -1,12 +1,11 @@
 -- The rows of all buses: look-ups, changes, and how they begin.
-use Rattle.std.specs.Prelude.{◌≡◌, ℕ, zero, suc, ◌+◌, ◌<◌, ◌≤◌, Bool, true, false, ◌&&◌, ◌==◌, cond, is_some, not, List, [], ◌∷◌, ◌++◌, length, map, flat_map, take, drop, find, slice_index_or, Option, Some, None, IsTrue, Result, Ok, Err, OnOk, OnErr, slice_get}
+use Rattle.std.specs.Prelude.{◌≡◌, ℕ, zero, suc, ◌+◌, ◌<◌, Bool, true, false, ◌&&◌, ◌==◌, cond, is_some, not, List, [], ◌∷◌, ◌++◌, length, map, flat_map, take, drop, find, slice_index_or, Option, Some, None, IsTrue, Result, Ok, Err, OnOk, OnErr}
 use Rattle.std.proofs.Common.{refl, sym, ap, subst, ◌∙◌, arith, append_assoc, true≢false}
 use Rattle.std.proofs.lemmas.Bool.{eqb-true}
 use Rattle.std.proofs.lemmas.Cmp.{nat_cmp_total, tied_itself}
 use Rattle.std.proofs.lemmas.List.{append-nil}
 use Rattle.std.specs.Cmp.{second_so}
 use Rattle.std.specs.List.{AllByRecursion}
-use Rattle.std.specs.List.Sorted.{IsStrictlySortedBy}
 use Rattle.std.specs.Map.{keys_of, set_value}
 use Rattle.std.specs.Option.{option_map_or}
 use Rattle.std.specs.Ordering.{nat_cmp, is_eq, match_ordering}
@@ -20,7 +19,7 @@ use Rattle.srcp_info.specs.declared.key.Key.{Key}
 use Rattle.srcp_info.specs.declared.key.Device.{Device}
 use Rattle.srcp_info.specs.declared.change.Row.{Row}
 use Rattle.srcp_info.specs.declared.change.Cursor.{Cursor}
-use Rattle.srcp_info.specs.Key.{key_cmp, device_of, first_key, has_reached, owns}
+use Rattle.srcp_info.specs.Key.{key_cmp, first_key, has_reached, owns}
 use Rattle.srcp_info.specs.WellFormed.{can_go}
 use Rattle.srcp_info.proofs.ClientLaws.{filter_every}
 use Rattle.srcp_rules.specs.declared.layout.Bus.{Bus}
@@ -29,7 +28,7 @@ use Rattle.srcp_rules.specs.State.{State, fb_device, has_row, is_there, key_at, 
 use Rattle.srcp_rules.specs.Rows.{put_rows}
 use Rattle.srcp_rules.specs.declared.nested.bus_rows.BusRows.{BusRows}
 use Rattle.srcp_rules.specs.Nested.{AreDevices, AreRowsOfBus, AreRowsOfLayout, AreSorted, IsIn, all_rows, bus_rows, device_rows, entry_at, listed}
-use Rattle.srcp_rules.proofs.FindLaws.{each-weaken, find_passes, found_holds}
+use Rattle.srcp_rules.proofs.FindLaws.{each-weaken, found_holds}
 use Rattle.srcp_rules.proofs.LayoutLaws.{between, within_step}
 use Rattle.srcp_rules.proofs.OpeningLaws.{Rising, opening_whole}
 use Rattle.srcp_rules.proofs.PlaceLaws.{each_at}
@@ -259,23 +258,6 @@ module _ (buses : List Bus) where
   server_group device e h =
       session_on device.group device.address
       (subst (λ n. 0 < option_map_or (λ bus. rows_on bus device.group device.address) (find (λ bus. bus.number == n) (server ∷ buses)) 0) e h)
-
-  first_true : (b c : Bool) → (b && c) ≡ true → b ≡ true
-  first_true true c e = refl
-  first_true false c e = e
-
-  no_session_on : (n a : ℕ) (o : Option Bus) → find (λ bus. bus.number == n) (server ∷ buses) ≡ o → (n ≡ 0 → ⊥) → 0 < option_map_or (λ bus. rows_on bus group.Session a) o 0 → ⊥
-  no_session_on n a None e h count = omega (arith, count)
-  no_session_on n a (Some bus) e h count =
-      let here : bus.number ≡ n = eqb-true bus.number n (find_passes (λ b. b.number == n) (server ∷ buses) bus e) in
-      let none : bus.number ≡ 0 = eqb-true bus.number 0 (first_true (bus.number == 0) (is_within 1 4294967295 a) (within_step (bus.number == 0 && is_within 1 4294967295 a) 1 count)) in
-      h (sym here ∙ none)
-
-  -- and no other bus has any
-  pub no_session : (device : Device) → (device.bus ≡ 0 → ⊥) → 0 < row_count buses device → device.group ≡ group.Session → ⊥
-  no_session device h count e =
-      no_session_on device.bus device.address (find (λ bus. bus.number == device.bus) (server ∷ buses)) refl h
-      (subst (λ g. 0 < option_map_or (λ bus. rows_on bus g device.address) (find (λ bus. bus.number == device.bus) (server ∷ buses)) 0) e count)
 
   found_step : {X : Type 0} (n m : ℕ) (x : X) (o : Option X) (c : Bool) → (m == n) ≡ c → (c ≡ false → is_some o ≡ true) → is_some (cond (is_eq (nat_cmp n m)) (Some x) o) ≡ true
   found_step n m x o true e h = ap (λ r. is_some (cond (is_eq r) (Some x) o)) (ap (nat_cmp n) (eqb-true m n e) ∙ tied_itself nat_cmp_total n)

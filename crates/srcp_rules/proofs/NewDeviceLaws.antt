@@ -4,7 +4,6 @@ use Rattle.std.proofs.Common.{refl, sym, ap, subst, ◌∙◌, arith}
 use Rattle.std.proofs.lemmas.Option.{none-some, same_Some}
 use Rattle.std.specs.List.{AllByRecursion, range_with_len}
 use Rattle.std.specs.Option.{option_map_or}
-use Rattle.std.specs.declared.cmp.Ordering.TheVariants.{Less}
 use Rattle.srcp_info.specs.declared.key.Group.{Group}
 use Rattle.srcp_info.specs.declared.key.Group.TheVariants as group
 use Rattle.srcp_info.specs.declared.key.Key.{Key}

@@ -6,8 +6,8 @@ use Rattle.std.proofs.lemmas.Map.Keys.{sorted_from_strictly_increasing}
 use Rattle.srcp_info.proofs.ClientLaws.{all_append}
 use Rattle.srcp_rules.specs.declared.layout.Bus.{Bus}
 use Rattle.srcp_rules.specs.Layout.{IsLayout}
-use Rattle.srcp_rules.specs.State.{State, opening_on}
-use Rattle.srcp_rules.specs.Nested.{AreRowsOfBus, AreSorted, bus_rows, listed}
+use Rattle.srcp_rules.specs.State.{opening_on}
+use Rattle.srcp_rules.specs.Nested.{AreRowsOfBus, bus_rows, listed}
 use Rattle.srcp_rules.proofs.OpeningLaws.{Rising, rising_buses}
 use Rattle.srcp_rules.proofs.NestedLaws.{before_rising, flat_map_last, map-append}
 use Rattle.srcp_rules.proofs.nested.opening_buses.Goals as goal

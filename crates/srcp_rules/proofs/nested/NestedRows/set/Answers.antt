@@ -1,4 +1,4 @@
-use Rattle.std.proofs.Common.{◌≡◌, is_some, sym, ap, subst, ◌∙◌, true≢false, arith}
+use Rattle.std.proofs.Common.{is_some, sym, ap, subst, ◌∙◌, true≢false, arith}
 use Rattle.srcp_info.specs.declared.key.Group.TheVariants as group
 use Rattle.srcp_rules.specs.State.{has_row, put_row}
 use Rattle.srcp_rules.specs.Rows.{Kept}

@@ -1,6 +1,5 @@
-use Rattle.std.proofs.Common.{List, sym, subst}
+use Rattle.std.proofs.Common.{sym, subst}
 use Rattle.std.specs.Option.{option_to_list}
-use Rattle.srcp_info.specs.declared.change.Row.{Row}
 use Rattle.srcp_info.specs.declared.key.Group.TheVariants as group
 use Rattle.srcp_rules.specs.Nested.{AreOfGroup}
 use Rattle.srcp_rules.proofs.BusRowsLaws.{fb_of_group, power_of_group}

@@ -1,4 +1,4 @@
-use Rattle.std.proofs.Common.{refl, Some, sym, ap, subst, ◌∙◌, true≢false, arith}
+use Rattle.std.proofs.Common.{refl, Some, sym, subst, ◌∙◌, true≢false, arith}
 use Rattle.srcp_info.specs.declared.key.Group.{Group}
 use Rattle.srcp_info.specs.declared.key.Group.TheVariants as group
 use Rattle.srcp_rules.specs.declared.nested.bus_rows.BusRows.{BusRows}
