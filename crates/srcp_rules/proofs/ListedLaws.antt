@@ -124,7 +124,8 @@ module _ {X : Type 0} (rows : X → State) (tag : Key → ℕ) (P : Key → Type
   entry_below : (n : ℕ) (e : ℕ × X) → e.0 < n → IsTagged e → Below n (rows e.1)
   entry_below n e h a = each-weaken {P = λ row. P row.shown.key × (tag row.shown.key ≡ e.0)} (λ row t. (t.0, lower n e.0 (tag row.shown.key) h t.1)) (rows e.1) a
 
-  listed_above : (n : ℕ) (es : List (ℕ × X)) → AllByRecursion IsTagged es → AllByRecursion (λ k. nat_cmp n k ≡ Less) (keys_of es) → Above n (listed rows es)
+  -- the rows of entries above a number are above it
+  pub listed_above : (n : ℕ) (es : List (ℕ × X)) → AllByRecursion IsTagged es → AllByRecursion (λ k. nat_cmp n k ≡ Less) (keys_of es) → Above n (listed rows es)
   listed_above n [] a h = tt
   listed_above n (e ∷ es) a h = all_append (λ row. P row.shown.key × (n < tag row.shown.key)) (rows e.1) (listed rows es) (entry_above n e (below_of n e.0 h.0) a.0) (listed_above n es a.1 h.1)
 

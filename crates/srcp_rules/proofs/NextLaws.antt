@@ -38,7 +38,7 @@ lock_key : (key : Key) → key.port ≡ 0 → first_key (device_of key) ≡ key
 lock_key key h = λ i. record { bus = key.bus; group = key.group; address = key.address; port = sym h i }
 
 -- the change that a row brings stands at the row
-change_key : (moment : ℕ) (key : Key) (shows : Value) → MayBeDue shows → IsValueAt key.group key.port shows → key_of (due_change moment key shows).change ≡ key
+pub change_key : (moment : ℕ) (key : Key) (shows : Value) → MayBeDue shows → IsValueAt key.group key.port shows → key_of (due_change moment key shows).change ≡ key
 change_key moment key (value.Session mode) may fits = absurd may
 change_key moment key (value.Power on text) may fits = absurd may
 change_key moment key (value.GlInit letter version steps functions) may fits = absurd may

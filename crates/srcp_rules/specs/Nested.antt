@@ -1,36 +1,26 @@
--- How a keeper lays out rows: by bus and group, and the devices that come and go by address.
-use Rattle.std.specs.Prelude.{◌≡◌, ℕ, ◌+◌, ◌*◌, ◌<◌, List, ◌++◌, length, map, flat_map, Option, IsSome}
+-- How a keeper lays out rows: a record for each bus, and in it the devices that come and go by address.
+use Rattle.std.specs.Prelude.{◌≡◌, ℕ, ◌<◌, false, IsTrue, List, [], ◌∷◌, ◌++◌, length, map, flat_map, Option}
 use Rattle.std.specs.List.{AllByRecursion}
 use Rattle.std.specs.List.Sorted.{IsStrictlySortedBy}
 use Rattle.std.specs.Map.{keys_of, lookup}
+use Rattle.std.specs.Option.{option_to_list}
 use Rattle.std.specs.Ordering.{nat_cmp}
 use Rattle.std.specs.BTreeMap.{is_at}
 use Rattle.srcp_info.specs.declared.key.Key.{Key}
 use Rattle.srcp_info.specs.declared.key.Group.{Group}
+use Rattle.srcp_info.specs.declared.key.Group.TheVariants.{Session, Power, Gl, Ga, Fb, LockGl, LockGa}
 use Rattle.srcp_info.specs.declared.key.Device.{Device}
-use Rattle.srcp_info.specs.Key.{group_place}
+use Rattle.srcp_info.specs.WellFormed.{can_go}
 use Rattle.srcp_rules.specs.declared.layout.Bus.{Bus}
-use Rattle.srcp_rules.specs.Layout.{row_count}
-use Rattle.srcp_rules.specs.State.{State, IsRising}
-use Rattle.srcp_rules.specs.declared.nested.bus_group.BusGroup.{BusGroup}
-use Rattle.srcp_rules.specs.declared.nested.part.Part.{Part}
-use Rattle.srcp_rules.specs.declared.nested.part.Part.TheVariants.{Fixed, ComeAndGo}
+use Rattle.srcp_rules.specs.Layout.{IsLayout, row_count}
+use Rattle.srcp_rules.specs.State.{State, IsRising, is_there}
+use Rattle.srcp_rules.specs.declared.nested.bus_rows.BusRows.{BusRows}
 
--- the number of the part that has the rows of this group of this bus
-abbrev pub number_in : (bus : ℕ) → Group → ℕ
-number_in bus group = 8 * bus + group_place group
+-- the key is of the group of the bus
+abbrev pub IsIn : (bus : ℕ) → Group → Key → Type 0
+IsIn bus group key = (key.bus ≡ bus) × (key.group ≡ group)
 
--- the number of the part that has the row at the key
-abbrev pub number_of : Key → ℕ
-number_of key = number_in key.bus key.group
-
--- where the group of the bus stands among those of all buses
-abbrev pub rank : BusGroup → ℕ
-rank place = number_in place.bus place.group
-
--- entries by the ranks of their groups
-abbrev pub by_rank : {X : Type 0} → List (BusGroup × X) → List (ℕ × X)
-by_rank entries = map (λ e. (rank e.0, e.1)) entries
+-- ---- entries by number
 
 -- the rows of all entries, one after another
 abbrev pub listed : {X : Type 0} → (X → State) → List (ℕ × X) → State
@@ -44,58 +34,75 @@ AreSorted entries = IsStrictlySortedBy nat_cmp (keys_of entries)
 abbrev pub entry_at : {X : Type 0} → ℕ → List (ℕ × X) → Option X
 entry_at number entries = lookup (is_at (nat_cmp number)) entries
 
+-- ---- devices that come and go
+
 -- the rows of devices by address
 abbrev pub device_rows : List (ℕ × State) → State
 device_rows devices = listed (λ rows. rows) devices
 
--- the rows of a part
-abbrev pub part_rows : Part → State
-part_rows (Fixed rows) = rows.items
-part_rows (ComeAndGo devices) = device_rows devices.by_address.entries
-
--- the rows of parts by number
-abbrev pub all_rows : List (ℕ × Part) → State
-all_rows parts = listed part_rows parts
-
--- these are rows of the device at the address in the part of the number, by rising port
-pub record AreOfDevice (number address : ℕ) (rows : State) : Type 0 where
+-- these are rows of the device at the address in the group of the bus, by rising port
+pub record AreOfDevice (bus : ℕ) (group : Group) (address : ℕ) (rows : State) : Type 0 where
   pub rising : IsRising rows
-  pub each : AllByRecursion (λ row. (number_of row.shown.key ≡ number) × (row.shown.key.address ≡ address)) rows
+  pub each : AllByRecursion (λ row. IsIn bus group row.shown.key × (row.shown.key.address ≡ address)) rows
   pub some : 0 < length rows
 
--- these are the devices of the part of the number, by address
-pub record AreDevices (number : ℕ) (devices : List (ℕ × State)) : Type 0 where
-  pub each : AllByRecursion (λ e. AreOfDevice number e.0 e.1) devices
+-- these are devices of the group of the bus, by address
+pub record AreDevices (bus : ℕ) (group : Group) (devices : List (ℕ × State)) : Type 0 where
+  pub each : AllByRecursion (λ e. AreOfDevice bus group e.0 e.1) devices
   pub sorted : AreSorted devices
 
--- these are rows of the part of the number, by rising key
-pub record AreInPart (number : ℕ) (rows : State) : Type 0 where
+-- ---- the rows of a bus
+
+-- these are rows of the group of the bus, by rising key
+pub record AreOfGroup (bus : ℕ) (group : Group) (rows : State) : Type 0 where
   pub rising : IsRising rows
-  pub each : AllByRecursion (λ row. number_of row.shown.key ≡ number) rows
+  pub each : AllByRecursion (λ row. IsIn bus group row.shown.key) rows
 
--- this is the part of the number
-abbrev pub IsPart : (number : ℕ) → Part → Type 0
-IsPart number (Fixed rows) = AreInPart number rows.items
-IsPart number (ComeAndGo devices) = AreDevices number devices.by_address.entries
+-- these are rows of the bus, each in its group
+pub record AreRowsOfBus (bus : ℕ) (rows : BusRows) : Type 0 where
+  pub power : AreOfGroup bus Power (option_to_list rows.power)
+  pub locomotives : AreDevices bus Gl rows.locomotives.by_address.entries
+  pub accessories : AreDevices bus Ga rows.accessories.by_address.entries
+  pub feedback : AreOfGroup bus Fb rows.feedback.items
+  pub locomotive_locks : AreDevices bus LockGl rows.locomotive_locks.by_address.entries
+  pub accessory_locks : AreDevices bus LockGa rows.accessory_locks.by_address.entries
 
--- these are parts for these buses
-pub record AreParts (buses : List Bus) (parts : List (ℕ × Part)) : Type 0 where
-  pub each : AllByRecursion (λ e. IsPart e.0 e.1) parts
-  pub sorted : AreSorted parts
-  pub has : (device : Device) → 0 < row_count buses device → IsSome (entry_at (number_in device.bus device.group) parts)
+-- the groups of a bus, in the order of a listing
+abbrev pub bus_groups : List Group
+bus_groups = Power ∷ Gl ∷ Ga ∷ Fb ∷ LockGl ∷ LockGa ∷ []
 
--- these are parts whose numbers are below the limit
-pub record AreUpTo (limit : ℕ) (parts : List (ℕ × Part)) : Type 0 where
-  pub each : AllByRecursion (λ e. IsPart e.0 e.1) parts
-  pub sorted : AreSorted parts
-  pub below : AllByRecursion (λ e. e.0 < limit) parts
+-- the rows of one group of a bus
+abbrev pub group_rows : BusRows → Group → State
+group_rows rows Session = []
+group_rows rows Power = option_to_list rows.power
+group_rows rows Gl = device_rows rows.locomotives.by_address.entries
+group_rows rows Ga = device_rows rows.accessories.by_address.entries
+group_rows rows Fb = rows.feedback.items
+group_rows rows LockGl = device_rows rows.locomotive_locks.by_address.entries
+group_rows rows LockGa = device_rows rows.accessory_locks.by_address.entries
 
--- the parts have these rows more, and their numbers are below the limit
-pub record AreGrown (limit : ℕ) (more : State) (before after : List (ℕ × Part)) : Type 0 where
-  pub upto : AreUpTo limit after
-  pub rows : all_rows after ≡ all_rows before ++ more
-  pub kept : (number : ℕ) → IsSome (entry_at number before) → IsSome (entry_at number after)
+-- the rows of a bus
+abbrev pub bus_rows : BusRows → State
+bus_rows rows = flat_map (group_rows rows) bus_groups
 
--- the bus has a part for each group but sessions
-abbrev pub HasGroups : (bus : ℕ) → List (ℕ × Part) → Type 0
-HasGroups bus parts = (group : Group) → 0 < group_place group → IsSome (entry_at (number_in bus group) parts)
+-- how many rows a device of the group has at most
+abbrev pub most_rows : Group → ℕ
+most_rows Gl = 2
+most_rows Ga = 9
+most_rows other = 1
+
+-- ---- the rows of all buses
+
+-- the rows of the server's own bus, and then those of each bus by number
+abbrev pub all_rows : (sessions : List (ℕ × State)) → List (ℕ × BusRows) → State
+all_rows sessions buses = device_rows sessions ++ listed bus_rows buses
+
+-- these are the sessions of a registry and the rows of each of its buses
+pub record AreRowsOfLayout (buses : List Bus) (sessions : List (ℕ × State)) (rows : List (ℕ × BusRows)) : Type 0 where
+  pub laid_out : IsLayout buses
+  pub server : AreDevices 0 Session sessions
+  pub each : AllByRecursion (λ e. AreRowsOfBus e.0 e.1) rows
+  pub sorted : AreSorted rows
+  pub numbers : keys_of rows ≡ map (λ bus. bus.number) buses
+  -- what never goes is there
+  pub stays : (device : Device) → can_go device.group ≡ false → 0 < row_count buses device → IsTrue (is_there device (all_rows sessions rows))

@@ -7,7 +7,7 @@ use crate::command::Named;
 use crate::layout::{Bus, Layout};
 
 /// Bus 0, which is the server itself.
-const SERVER: Bus = Bus {
+pub(crate) const SERVER: Bus = Bus {
     number: 0,
     power: false,
     gl_max: 0,

@@ -1,19 +1,19 @@
-ghost use Rattle.std.specs.Prelude.{◌≡◌, ◌≤◌, IsTrue, length, option_copied};
+ghost use Rattle.std.specs.Prelude.{◌≡◌, ◌≤◌, IsTrue, length};
 ghost use Rattle.srcp_rules.specs.State.{IsRising, has_row, put_row};
 
 use crate::sorted_rows::place_of;
 use srcp_info::Row;
 use std::marker::Model;
 
-/// The rows of one device by rising port: at most 9, which stand in the value itself. Contracts see
+/// The rows of one device by rising port: at most N, which stand in the value itself. Contracts see
 /// it as the list of them.
 #[derive(Drop)]
-pub(crate) struct DeviceRows {
-    rows: [Row; 9],
+pub(crate) struct DeviceRows<const N: usize> {
+    rows: [Row; N],
     count: usize,
 }
 
-impl Model for DeviceRows {
+impl<const N: usize> Model for DeviceRows<N> {
     ghost use Rattle.std.specs.Prelude.{◌≡◌, ◌≤◌, length, take};
     ghost use Rattle.srcp_rules.specs.State.{State};
 
@@ -21,16 +21,16 @@ impl Model for DeviceRows {
 
     ghost view = { λ d. take d.count d.rows };
 
-    ghost invariant = { λ d. (d.count ≤ 9) × (length d.rows ≡ 9) };
+    ghost invariant = { λ d. (d.count ≤ N) × (length d.rows ≡ N) };
 }
 
-impl DeviceRows {
+impl<const N: usize> DeviceRows<N> {
     /// These rows, of which the first is one.
-    pub(crate) fn of(first: &Row, rows: &[Row]) -> DeviceRows
-        requires { length rows.now ≤ 9 }
+    pub(crate) fn of(first: &Row, rows: &[Row]) -> DeviceRows<N>
+        requires { length rows.now ≤ N }
         ensures { result ≡ rows.now }
     {
-        let mut places = [*first; 9];
+        let mut places = [*first; N];
         places[..rows.len()].copy_from_slice(rows);
         DeviceRows {
             rows: places,

@@ -1,13 +1,13 @@
 use Rattle.std.proofs.Common.{◌≡◌}
 use Rattle.std.specs.List.{AllByRecursion}
 use Rattle.srcp_rules.specs.State.{row_after}
-use Rattle.srcp_rules.specs.Nested.{IsPart, all_rows, by_rank}
+use Rattle.srcp_rules.specs.Nested.{AreRowsOfBus, bus_rows, listed}
 use Rattle.srcp_rules.proofs.nested.NestedRows.row_after.Given as goal
 
-abbrev pub invariant-loop-place : goal.invariant-loop-place
-invariant-loop-place l = record {
-  can : (goal.iterator-loop-place).can_next l.place-iterator;
-  finite : (goal.iterator-loop-place).is_finite l.place-iterator;
-  each : AllByRecursion (λ e. IsPart e.0 e.1) (by_rank l.place-iterator);
-  rest : row_after l.cursor l.self.state ≡ row_after l.cursor (all_rows (by_rank l.place-iterator));
+abbrev pub invariant-loop-number : goal.invariant-loop-number
+invariant-loop-number l = record {
+  can : (goal.iterator-loop-number).can_next l.number-iterator;
+  finite : (goal.iterator-loop-number).is_finite l.number-iterator;
+  each : AllByRecursion (λ e. AreRowsOfBus e.0 e.1) l.number-iterator;
+  rest : row_after l.cursor l.self.state ≡ row_after l.cursor (listed bus_rows l.number-iterator);
 }

@@ -1,0 +1,106 @@
+-- Rows in entries by rising number, where keys go by that number: the entries after a row is set, a device added or taken out.
+use Rattle.std.specs.Prelude.{◌≡◌, ℕ, ◌<◌, Bool, true, false, List, [], ◌++◌, Some, None}
+use Rattle.std.proofs.Common.{refl, sym, ap, arith}
+use Rattle.std.specs.List.{AllByRecursion}
+use Rattle.std.specs.Map.{set_value, remove_entry}
+use Rattle.std.specs.Ordering.{nat_cmp}
+use Rattle.std.specs.BTreeMap.{is_at, insert_entry}
+use Rattle.std.specs.declared.cmp.Ordering.TheVariants.{Less}
+use Rattle.srcp_info.specs.declared.key.Key.{Key}
+use Rattle.srcp_info.specs.declared.key.Device.{Device}
+use Rattle.srcp_info.specs.declared.change.Row.{Row}
+use Rattle.srcp_info.specs.Key.{key_cmp, owns}
+use Rattle.srcp_rules.specs.State.{State, put_row, row_at, without}
+use Rattle.srcp_rules.specs.Rows.{put_rows}
+use Rattle.srcp_rules.specs.Nested.{AreSorted, entry_at, listed}
+use Rattle.srcp_rules.proofs.FindLaws.{each-weaken}
+use Rattle.srcp_rules.proofs.KeyLaws.{same_key, same_key-true}
+use Rattle.srcp_rules.proofs.PutLaws.{find_past, find_before, put_row-before, put_row-past, put_rows-before, put_rows-past, without-before, without-past}
+use Rattle.srcp_rules.proofs.ListedLaws.{IsTagged, Above, Below, listed-absent, listed-insert_entry, listed-remove_entry, listed-set_value}
+
+unequal : (m n : ℕ) → m < n → n ≡ m → ⊥
+unequal m n h e = omega (arith, h, e)
+
+module _ {X : Type 0} (rows : X → State) (tag : Key → ℕ) (P : Key → Type 0) (order : (a b : Key) → P a → P b → tag a < tag b → key_cmp a b ≡ Less) where
+  -- ---- looking up
+
+  other_key : (a b : Key) → (tag a ≡ tag b → ⊥) → (c : Bool) → same_key a b ≡ c → same_key a b ≡ false
+  other_key a b h true e = absurd (h (ap tag (same_key-true a b e)))
+  other_key a b h false e = e
+
+  -- a key is not among rows above it or below it
+  pub row_at-left : (key : Key) (xs ys : State) → Above rows tag P (tag key) ys → row_at key (xs ++ ys) ≡ row_at key xs
+  row_at-left key xs ys h =
+      find_before (λ row. same_key row.shown.key key) xs ys
+      (each-weaken {P = λ y. P y.shown.key × (tag key < tag y.shown.key)} (λ y t. other_key y.shown.key key (λ e. unequal (tag key) (tag y.shown.key) t.1 e) (same_key y.shown.key key) refl) ys h)
+
+  pub row_at-right : (key : Key) (xs ys : State) → Below rows tag P (tag key) xs → row_at key (xs ++ ys) ≡ row_at key ys
+  row_at-right key xs ys h =
+      find_past (λ row. same_key row.shown.key key) xs ys
+      (each-weaken {P = λ x. P x.shown.key × (tag x.shown.key < tag key)} (λ x t. other_key x.shown.key key (λ e. unequal (tag x.shown.key) (tag key) t.1 (sym e)) (same_key x.shown.key key) refl) xs h)
+
+  -- ---- setting a row
+
+  module _ (row : Row) (here : P row.shown.key) where
+    pub put_left : (xs ys : State) → Above rows tag P (tag row.shown.key) ys → put_row row (xs ++ ys) ≡ put_row row xs ++ ys
+    put_left xs ys h = put_row-before row xs ys (each-weaken {P = λ y. P y.shown.key × (tag row.shown.key < tag y.shown.key)} (λ y t. order row.shown.key y.shown.key here t.0 t.1) ys h)
+
+    pub put_right : (xs ys : State) → Below rows tag P (tag row.shown.key) xs → put_row row (xs ++ ys) ≡ xs ++ put_row row ys
+    put_right xs ys h = put_row-past row xs ys (each-weaken {P = λ x. P x.shown.key × (tag x.shown.key < tag row.shown.key)} (λ x t. order x.shown.key row.shown.key t.0 here t.1) xs h)
+
+    pub listed-put_row : (es : List (ℕ × X)) → AllByRecursion (IsTagged rows tag P) es → AreSorted es → (x w : X) → entry_at (tag row.shown.key) es ≡ Some x → rows w ≡ put_row row (rows x)
+        → listed rows (set_value (is_at (nat_cmp (tag row.shown.key))) es w) ≡ put_row row (listed rows es)
+    listed-put_row es a s x w e is = listed-set_value rows tag P (tag row.shown.key) (put_row row) put_left put_right es a s x w e is
+
+  -- ---- taking out a device
+
+  module _ (device : Device) (n : ℕ) (apart : (key : Key) → P key → (tag key ≡ n → ⊥) → owns device key ≡ false) where
+    pub drop_left : (xs ys : State) → Above rows tag P n ys → without device (xs ++ ys) ≡ without device xs ++ ys
+    drop_left xs ys h = without-before device xs ys (each-weaken {P = λ y. P y.shown.key × (n < tag y.shown.key)} (λ y t. apart y.shown.key t.0 (λ e. unequal n (tag y.shown.key) t.1 e)) ys h)
+
+    pub drop_right : (xs ys : State) → Below rows tag P n xs → without device (xs ++ ys) ≡ xs ++ without device ys
+    drop_right xs ys h = without-past device xs ys (each-weaken {P = λ x. P x.shown.key × (tag x.shown.key < n)} (λ x t. apart x.shown.key t.0 (λ e. unequal (tag x.shown.key) n t.1 (sym e))) xs h)
+
+    pub listed-without : (es : List (ℕ × X)) → AllByRecursion (IsTagged rows tag P) es → AreSorted es → (x w : X) → entry_at n es ≡ Some x → rows w ≡ without device (rows x)
+        → listed rows (set_value (is_at (nat_cmp n)) es w) ≡ without device (listed rows es)
+    listed-without es a s x w e is = listed-set_value rows tag P n (without device) drop_left drop_right es a s x w e is
+
+    pub listed-without_none : (es : List (ℕ × X)) → AllByRecursion (IsTagged rows tag P) es → AreSorted es → entry_at n es ≡ None → listed rows es ≡ without device (listed rows es)
+    listed-without_none es a s e = listed-absent rows tag P n (without device) drop_left drop_right refl es a s e
+
+    pub listed-without_all : (es : List (ℕ × X)) → AllByRecursion (IsTagged rows tag P) es → AreSorted es → AllByRecursion (λ e. n ≡ e.0 → without device (rows e.1) ≡ []) es
+        → listed rows (remove_entry (is_at (nat_cmp n)) es) ≡ without device (listed rows es)
+    listed-without_all es a s gone = listed-remove_entry rows tag P n (without device) drop_left drop_right refl es a s gone
+
+  -- ---- adding a device
+
+  module _ (n : ℕ) (added : State) (new : AllByRecursion (λ row. P row.shown.key × (tag row.shown.key ≡ n)) added) where
+    pub add_left : (xs ys : State) → Above rows tag P n ys → put_rows added (xs ++ ys) ≡ put_rows added xs ++ ys
+    add_left xs ys h =
+        put_rows-before added xs ys
+        (each-weaken {P = λ row. P row.shown.key × (tag row.shown.key ≡ n)}
+        (λ row r. each-weaken {P = λ y. P y.shown.key × (n < tag y.shown.key)} (λ y t. order row.shown.key y.shown.key r.0 t.0 (below (tag row.shown.key) n (tag y.shown.key) r.1 t.1)) ys h) added new)
+      where
+        below : (l m n : ℕ) → l ≡ m → m < n → l < n
+        below l m n e h = omega (arith, e, h)
+
+    pub add_right : (xs ys : State) → Below rows tag P n xs → put_rows added (xs ++ ys) ≡ xs ++ put_rows added ys
+    add_right xs ys h =
+        put_rows-past added xs ys
+        (each-weaken {P = λ row. P row.shown.key × (tag row.shown.key ≡ n)}
+        (λ row r. each-weaken {P = λ x. P x.shown.key × (tag x.shown.key < n)} (λ x t. order x.shown.key row.shown.key t.0 r.0 (below (tag x.shown.key) n (tag row.shown.key) t.1 r.1)) xs h) added new)
+      where
+        below : (l m n : ℕ) → l < m → n ≡ m → l < n
+        below l m n h e = omega (arith, h, e)
+
+    pub listed-put_rows : (es : List (ℕ × X)) → AllByRecursion (IsTagged rows tag P) es → AreSorted es → (x w : X) → entry_at n es ≡ Some x → rows w ≡ put_rows added (rows x)
+        → listed rows (set_value (is_at (nat_cmp n)) es w) ≡ put_rows added (listed rows es)
+    listed-put_rows es a s x w e is = listed-set_value rows tag P n (put_rows added) add_left add_right es a s x w e is
+
+    pub listed-put_rows_new : (es : List (ℕ × X)) → AllByRecursion (IsTagged rows tag P) es → AreSorted es → (w : X) → entry_at n es ≡ None → put_rows added [] ≡ rows w
+        → listed rows (insert_entry nat_cmp es n w) ≡ put_rows added (listed rows es)
+    listed-put_rows_new es a s w e is = listed-insert_entry rows tag P n (put_rows added) add_left add_right es a s w e is
+
+  -- where the rows of an entry are as before, so are all
+  pub listed-same : (n : ℕ) (es : List (ℕ × X)) → AllByRecursion (IsTagged rows tag P) es → AreSorted es → (x w : X) → entry_at n es ≡ Some x → rows w ≡ rows x → listed rows (set_value (is_at (nat_cmp n)) es w) ≡ listed rows es
+  listed-same n es a s x w e is = listed-set_value rows tag P n (λ state. state) (λ xs ys h. refl) (λ xs ys h. refl) es a s x w e is

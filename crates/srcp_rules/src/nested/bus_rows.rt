@@ -1,0 +1,141 @@
+ghost use Rattle.std.specs.Prelude.{◌≡◌, ◌≢◌, ◌≤◌, ℕ, false, map, IsTrue, IfOk, OnOk, OnErr, length, option_copied};
+ghost use Rattle.std.specs.List.{range_with_len};
+ghost use Rattle.srcp_info.specs.declared.value.Value.TheVariants as value;
+ghost use Rattle.srcp_info.specs.declared.key.Group.TheVariants as group;
+ghost use Rattle.srcp_info.specs.Key.{device_of};
+ghost use Rattle.srcp_info.specs.WellFormed.{can_go};
+ghost use Rattle.srcp_rules.specs.Rows.{put_rows};
+ghost use Rattle.srcp_rules.specs.State.{fb_device, first_row, has_row, key_at, opening_on, put_row, row_after, row_at, without};
+ghost use Rattle.srcp_rules.specs.Nested.{AreOfDevice, AreRowsOfBus, bus_rows, most_rows};
+
+use crate::first_rows::{power_row, push_ports};
+use crate::layout::Bus;
+use crate::nested::devices::Devices;
+use crate::obeyed::Memory;
+use crate::sorted_rows::{row_after_in, row_in, set_in};
+use srcp_info::{Cursor, Device, Group, Key, Row};
+use std::alloc::Global;
+
+/// The rows of one bus.
+#[derive(Drop)]
+pub(crate) struct BusRows {
+    /// Its power row, if the bus has one.
+    power: Option<Row>,
+    locomotives: Devices<2>,
+    accessories: Devices<9>,
+    /// The rows of its feedback ports, by rising port.
+    feedback: Vec<Row>,
+    locomotive_locks: Devices<1>,
+    accessory_locks: Devices<1>,
+}
+
+impl BusRows {
+    /// The rows of the bus at the moment 0.
+    pub(crate) fn opening(alloc: Global, bus: &Bus) -> Result<BusRows, Memory>
+        ensures bus { IfOk result (AreRowsOfBus bus.now.number) }
+        ensures rows { IfOk result (λ rows. bus_rows rows ≡ opening_on 0 bus.now) }
+    {
+        let feedback = feedback_rows(alloc, bus)?;
+        Ok(BusRows {
+            power: power_row(bus),
+            locomotives: Devices::new(alloc),
+            accessories: Devices::new(alloc),
+            feedback,
+            locomotive_locks: Devices::new(alloc),
+            accessory_locks: Devices::new(alloc),
+        })
+    }
+
+    /// The row at the key.
+    pub(crate) fn row(&self, key: &Key) -> Option<&Row>
+        requires { (bus : ℕ) × AreRowsOfBus bus self.now }
+        ensures { option_copied result ≡ row_at key.now (bus_rows self.now) }
+    {
+        match key.group {
+            Group::Session => None,
+            Group::Power => row_in(self.power.as_slice(), key),
+            Group::Gl => self.locomotives.row(key),
+            Group::Ga => self.accessories.row(key),
+            Group::Fb => row_in(&self.feedback, key),
+            Group::LockGl => self.locomotive_locks.row(key),
+            Group::LockGa => self.accessory_locks.row(key),
+        }
+    }
+
+    /// The row with the least key beyond the cursor, where these are rows of this bus.
+    pub(crate) fn row_after(&self, bus: u8, cursor: Cursor) -> Option<&Row>
+        requires { AreRowsOfBus bus self.now }
+        ensures { option_copied result ≡ row_after cursor (bus_rows self.now) }
+    {
+        row_after_in(self.power.as_slice(), cursor)
+            .or_else(|| self.locomotives.row_after(bus, Group::Gl, cursor))
+            .or_else(|| self.accessories.row_after(bus, Group::Ga, cursor))
+            .or_else(|| row_after_in(&self.feedback, cursor))
+            .or_else(|| self.locomotive_locks.row_after(bus, Group::LockGl, cursor))
+            .or_else(|| self.accessory_locks.row_after(bus, Group::LockGa, cursor))
+    }
+
+    /// Adds the rows of a device that is not there, of a group that comes and goes.
+    pub(crate) fn add(&mut self, first: &Row, added: &[Row]) -> Result<(), Memory>
+        requires bus { AreRowsOfBus first.now.shown.key.bus self.old }
+        requires comes { IsTrue (can_go first.now.shown.key.group) }
+        requires no_session { first.now.shown.key.group ≢ group.Session }
+        requires device { AreOfDevice first.now.shown.key.bus first.now.shown.key.group first.now.shown.key.address added.now }
+        requires few { length added.now ≤ most_rows first.now.shown.key.group }
+        requires free { (port : ℕ) → has_row (key_at (device_of first.now.shown.key) port) (bus_rows self.old) ≡ false }
+        ensures ok { OnOk result (bus_rows self.new ≡ put_rows added.now (bus_rows self.old)) }
+        ensures err { OnErr result (bus_rows self.new ≡ bus_rows self.old) }
+        ensures bus { AreRowsOfBus first.now.shown.key.bus self.new }
+    {
+        match first.shown.key.group {
+            Group::Gl => self.locomotives.add(first, added),
+            Group::Ga => self.accessories.add(first, added),
+            Group::LockGl => self.locomotive_locks.add(first, added),
+            Group::LockGa => self.accessory_locks.add(first, added),
+            Group::Session | Group::Power | Group::Fb => unreachable!(),
+        }
+    }
+
+    /// Sets a row that is there.
+    pub(crate) fn set(&mut self, row: Row)
+        requires bus { AreRowsOfBus row.shown.key.bus self.old }
+        requires there { IsTrue (has_row row.shown.key (bus_rows self.old)) }
+        ensures rows { bus_rows self.new ≡ put_row row (bus_rows self.old) }
+        ensures bus { AreRowsOfBus row.shown.key.bus self.new }
+    {
+        match row.shown.key.group {
+            Group::Session => {}
+            Group::Power => self.power = Some(row),
+            Group::Gl => self.locomotives.set(row),
+            Group::Ga => self.accessories.set(row),
+            Group::Fb => set_in(&mut self.feedback, row),
+            Group::LockGl => self.locomotive_locks.set(row),
+            Group::LockGa => self.accessory_locks.set(row),
+        }
+    }
+
+    /// Takes out the rows of a device of a group that comes and goes.
+    pub(crate) fn drop_device(&mut self, device: Device)
+        requires bus { AreRowsOfBus device.bus self.old }
+        requires goes { IsTrue (can_go device.group) }
+        ensures rows { bus_rows self.new ≡ without device (bus_rows self.old) }
+        ensures bus { AreRowsOfBus device.bus self.new }
+    {
+        match device.group {
+            Group::Gl => self.locomotives.drop_device(device),
+            Group::Ga => self.accessories.drop_device(device),
+            Group::LockGl => self.locomotive_locks.drop_device(device),
+            Group::LockGa => self.accessory_locks.drop_device(device),
+            Group::Session | Group::Power | Group::Fb => {}
+        }
+    }
+}
+
+/// The rows of a bus's feedback ports, each 0.
+fn feedback_rows(alloc: Global, bus: &Bus) -> Result<Vec<Row>, Memory>
+    ensures { IfOk result (λ rows. rows.items ≡ map (λ port. first_row 0 (fb_device bus.now.number port) (value.Fb false)) (range_with_len 1 bus.now.fb_ports)) }
+{
+    let mut rows = Vec::new(alloc);
+    push_ports(&mut rows, bus.number, bus.fb_ports)?;
+    Ok(rows)
+}
