@@ -9,19 +9,19 @@ use Rattle.srcp_info.specs.declared.change.Cursor.{Cursor}
 use Rattle.srcp_info.specs.declared.change.Cursor.TheVariants.{Start, After}
 use Rattle.srcp_info.specs.declared.change.Row.{Row}
 use Rattle.srcp_info.specs.declared.key.Key.{Key}
-use Rattle.srcp_info.specs.declared.value.Value.{Value}
-use Rattle.srcp_info.specs.declared.value.Value.TheVariants as value
 use Rattle.srcp_info.specs.Client.{IsRisingBy}
-use Rattle.srcp_info.specs.Key.{key_cmp, key_of, device_of, first_key, has_reached}
-use Rattle.srcp_info.specs.WellFormed.{IsMoment, IsValueAt}
+use Rattle.srcp_info.specs.Key.{key_cmp, key_of, has_reached}
+use Rattle.srcp_info.specs.WellFormed.{IsMoment}
 use Rattle.srcp_info.proofs.ClientLaws.{after_from_less, all_weaker, rising_filter}
 use Rattle.srcp_rules.specs.declared.layout.Bus.{Bus}
 use Rattle.srcp_rules.specs.Due.{due, due_after, due_change, is_due}
-use Rattle.srcp_rules.specs.State.{State, Update, IsRowOf, IsWhole, MayBeDue, updated, updated_if}
+use Rattle.srcp_rules.specs.State.{State, Update, IsRowOf, IsWhole, updated, updated_if}
 use Rattle.srcp_rules.proofs.DueLaws.{due_may}
 use Rattle.srcp_rules.proofs.DueStepLaws.{due_later}
 use Rattle.srcp_rules.proofs.FindLaws.{each_filtered}
-use Rattle.srcp_rules.proofs.StateLaws.{each_found, row_key}
+use Rattle.srcp_rules.proofs.NextLaws.{change_key}
+use Rattle.srcp_rules.proofs.PastLaws.{each_of}
+use Rattle.srcp_rules.proofs.StateLaws.{row_key}
 use Rattle.srcp_rules.proofs.ToldLaws.{AreTold, due_told}
 use Rattle.srcp_core.specs.Held.{Place}
 use Rattle.srcp_core.proofs.Walks.{GoesOn, Stops, change_in, goes_on, stops}
@@ -50,19 +50,6 @@ others_ahead update updates rising =
 
 -- ---- they rise
 
-lock_key : (key : Key) → key.port ≡ 0 → first_key (device_of key) ≡ key
-lock_key key h = λ i. record { bus = key.bus; group = key.group; address = key.address; port = sym h i }
-
-due_key : (moment : ℕ) (key : Key) (shows : Value) → MayBeDue shows → IsValueAt key.group key.port shows → update_key (due_change moment key shows) ≡ key
-due_key moment key (value.Session mode) may fits = absurd may
-due_key moment key (value.Power on text) may fits = absurd may
-due_key moment key (value.GlInit letter version steps functions) may fits = absurd may
-due_key moment key (value.GlState mode v vmax functions) may fits = absurd may
-due_key moment key (value.GaInit letter) may fits = absurd may
-due_key moment key (value.GaPort on) may fits = refl
-due_key moment key (value.Fb on) may fits = absurd may
-due_key moment key (value.Lock seconds session) may fits = lock_key key fits.1
-
 module _ (brings : Row → Update) where
   abbrev IsAtRow : Row → Type 0
   IsAtRow row = update_key (brings row) ≡ row.shown.key
@@ -81,8 +68,8 @@ due_rise buses state whole moment =
     let brings = λ (row : Row). due_change moment row.shown.key row.shown.value in
     brought_rise brings (filter (is_due moment) state)
     (all_weaker (λ row. IsRowOf buses row × (is_due moment row ≡ true)) (IsAtRow brings)
-    (λ row h. due_key moment row.shown.key row.shown.value (due_may moment row row.due refl h.0.due h.1) h.0.shown.value) (filter (is_due moment) state)
-    (each_filtered (IsRowOf buses) (is_due moment) state (each_found (IsRowOf buses) state whole.rising whole.rows)))
+    (λ row h. change_key moment row.shown.key row.shown.value (due_may moment row row.due refl h.0.due h.1) h.0.shown.value) (filter (is_due moment) state)
+    (each_filtered (IsRowOf buses) (is_due moment) state (each_of buses state whole)))
     (rising_filter row_key (is_due moment) state whole.rising)
 
 -- ---- one change after another
