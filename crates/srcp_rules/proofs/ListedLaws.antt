@@ -1,5 +1,5 @@
 -- Rows in entries by rising number: what a look-up and a change of them come to at the entry of one number.
-use Rattle.std.specs.Prelude.{◌≡◌, ℕ, ◌<◌, Bool, true, false, not, ◌&&◌, cond, is_some, List, [], ◌∷◌, ◌++◌, Some, None}
+use Rattle.std.specs.Prelude.{◌≡◌, ℕ, ◌<◌, Bool, true, false, not, ◌&&◌, cond, List, [], ◌∷◌, ◌++◌, Some, None}
 use Rattle.std.proofs.Common.{refl, sym, ap, subst, ◌∙◌, arith, true≢false, inl, inr, ◌⊎◌}
 use Rattle.std.proofs.lemmas.Cmp.{nat_cmp_total, ranked, tied_itself}
 use Rattle.std.proofs.lemmas.List.{append-nil}
@@ -254,20 +254,6 @@ module _ {X : Type 0} (rows : X → State) (tag : Key → ℕ) (P : Key → Type
     unfolding IsStrictlySortedBy
     listed-absent none [] a s h = sym none
     listed-absent none (e ∷ es) a s h = absent_rows none e es a.0 a.1 s.0 (λ g. listed-absent none es a.1 s.1 g) (nat_cmp n e.0) refl h
-
--- ---- that a number has an entry, after another entry is set
-
-module _ {X : Type 0} where
-  keeps_step : (m n : ℕ) (w : X) (e : ℕ × X) (es : List (ℕ × X)) → (is_some (entry_at m es) ≡ true → is_some (entry_at m (set_value (is_at (nat_cmp n)) es w)) ≡ true)
-      → (b c : Bool) → is_at (nat_cmp m) e.0 ≡ c → is_some (cond c (Some e.1) (entry_at m es)) ≡ true → is_some (entry_at m (cond b ((e.0, w) ∷ es) (e ∷ set_value (is_at (nat_cmp n)) es w))) ≡ true
-  keeps_step m n w e es ih true true p h = ap (λ t. is_some (cond t (Some w) (entry_at m es))) p
-  keeps_step m n w e es ih true false p h = ap (λ t. is_some (cond t (Some w) (entry_at m es))) p ∙ h
-  keeps_step m n w e es ih false true p h = ap (λ t. is_some (cond t (Some e.1) (entry_at m (set_value (is_at (nat_cmp n)) es w)))) p
-  keeps_step m n w e es ih false false p h = ap (λ t. is_some (cond t (Some e.1) (entry_at m (set_value (is_at (nat_cmp n)) es w)))) p ∙ ih h
-
-  pub has-set_value : (m n : ℕ) (w : X) (es : List (ℕ × X)) → is_some (entry_at m es) ≡ true → is_some (entry_at m (set_value (is_at (nat_cmp n)) es w)) ≡ true
-  has-set_value m n w [] h = h
-  has-set_value m n w (e ∷ es) h = keeps_step m n w e es (has-set_value m n w es) (is_at (nat_cmp n) e.0) (is_at (nat_cmp m) e.0) refl h
 
 -- ---- walking along entries
 
