@@ -14,6 +14,7 @@ import resource
 import subprocess
 import sys
 import tempfile
+import time
 from pathlib import Path
 
 from serving import SERVING_CASES
@@ -190,9 +191,34 @@ def run_in_little_memory(program):
     return None if seen == {0, 1} else f"statuses {seen}"
 
 
+def full_bus_that_stalls_nobody(program):
+    """With 10,000 locomotives, a thousand ports that fall back and the end of a session with 10,000 locks take less
+    than a second; they would take a minute if each of them went over all rows."""
+    def said(*commands):
+        return b"bytes 1 " + b"".join(command + b"\\n" for command in commands) + b"\nroom 1 1000\n"
+
+    addresses, moments = range(1, 10_240), range(20, 20_020, 20)
+    script = (b"open\nroom 1 100\n" + said(b"GO", b"INIT 1 GA 1 N")
+              + b"".join(said(b"INIT 1 GL %d N 1 28 0" % address) for address in addresses)
+              + b"".join(said(b"SET 1 GA 1 0 1 10") + b"at %d\n" % moment for moment in moments)
+              + b"".join(said(b"SET 1 LOCK GL %d 0" % address) for address in addresses) + b"shut 1\n")
+    with tempfile.NamedTemporaryFile() as config:
+        config.write(b'[[bus]]\nnumber = 1\ngroups = ["GL", "GA"]\ngl_max = 10239\nga_max = 1\n')
+        config.flush()
+        started = time.monotonic()
+        done = subprocess.run([program, "replay", "--config", config.name], input=script, capture_output=True,
+                              timeout=SECONDS)
+        seconds = time.monotonic() - started
+    accepted = len(re.findall(rb"^\d+\.\d{3} 200 OK\n", done.stdout, re.M))
+    if done.returncode != 0 or accepted != 1 + 2 * len(addresses) + len(moments):
+        return f"status {done.returncode}, {accepted} commands accepted"
+    return None if seconds < 15 else f"it took {seconds:.1f} s"
+
+
 STREAM_CASES = (input_past_its_limit, input_at_its_limit, input_that_cannot_be_read, output_that_cannot_be_written,
                 words_that_are_unknown, configuration_at_its_limit, configuration_past_its_limit, script_past_its_limit,
-                script_at_its_limit, script_that_cannot_be_read, run_that_cannot_be_written, run_in_little_memory)
+                script_at_its_limit, script_that_cannot_be_read, run_that_cannot_be_written, run_in_little_memory,
+                full_bus_that_stalls_nobody)
 
 
 def main():
