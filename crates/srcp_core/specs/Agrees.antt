@@ -17,19 +17,24 @@ use Rattle.srcp_core.specs.declared.record.Finish.TheVariants as finish
 
 -- this holds of the course of any events that the core stands for
 abbrev pub OfCourse : Held → (List Bus → List Event → Type 0) → Type 0
-OfCourse held Fact = (buses : List Bus) (events : List Event) (keys : List (Option ℕ)) → IsLayout buses → StandsFor buses keys held (course buses events) → Fact buses events
+OfCourse held Fact = (buses : List Bus) (events : List Event) (keys : List (Option ℕ)) → IsLayout buses
+    → StandsFor buses keys held (course buses events) → Fact buses events
 
 -- and this of the connection that has the key, by its number
 abbrev pub OfConnection : ℕ → Held → (List Bus → List Event → ℕ → Type 0) → Type 0
-OfConnection key held Fact = (buses : List Bus) (events : List Event) (keys : List (Option ℕ)) (n : ℕ) → IsLayout buses → key_of n keys ≡ Some key → StandsFor buses keys held (course buses events) → Fact buses events n
+OfConnection key held Fact = (buses : List Bus) (events : List Event) (keys : List (Option ℕ)) (n : ℕ) → IsLayout buses
+    → key_of n keys ≡ Some key → StandsFor buses keys held (course buses events) → Fact buses events n
 
 -- the key of a connection that was opened is that of the newest number
 abbrev pub NamesNewest : ℕ → Held → Type 0
-NamesNewest key held = (buses : List Bus) (events : List Event) (keys : List (Option ℕ)) → StandsFor buses keys held (course buses events) → key_of (length (course buses events).connections + 1) (keys ++ Some key ∷ []) ≡ Some key
+NamesNewest key held = (buses : List Bus) (events : List Event) (keys : List (Option ℕ))
+    → StandsFor buses keys held (course buses events)
+    → key_of (length (course buses events).connections + 1) (keys ++ Some key ∷ []) ≡ Some key
 
 -- as many numbers have keys as connections are open
 abbrev pub CountsOpen : Held → Type 0
-CountsOpen held = (buses : List Bus) (events : List Event) (keys : List (Option ℕ)) → StandsFor buses keys held (course buses events) → count_by is_some keys ≡ open_count held
+CountsOpen held = (buses : List Bus) (events : List Event) (keys : List (Option ℕ))
+    → StandsFor buses keys held (course buses events) → count_by is_some keys ≡ open_count held
 
 -- why a connection is not opened: the course says so, unless memory was refused
 abbrev pub IsWhyNotOpened : CoreFault → Option CoreFault → Type 0

@@ -22,9 +22,12 @@ told_at (suc n) tolds = slice_get tolds n
 module _ (buses : List Bus) where
   -- what is told of an information session is what came of a connection of the course, however its writes were cut:
   -- while the registry stood still it was sent a front of its replies and the listing, and all of that once it was settled;
-  -- when commands came between, each row of a device that was there from the session's beginning until it was settled is listed exactly once, and none twice;
-  -- once it is settled a client that applies all lines sent holds exactly the registry, and before that what the listing has passed;
-  -- rows are listed in the order of their keys and as the registry held them, and what was sent after the replies are whole lines and a line that has begun
+  -- when commands came between, each row of a device that was there from the session's beginning until it was settled is
+  -- listed exactly once, and none twice;
+  -- once it is settled a client that applies all lines sent holds exactly the registry, and before that what the listing
+  -- has passed;
+  -- rows are listed in the order of their keys and as the registry held them, and what was sent after the replies are
+  -- whole lines and a line that has begun
   pub record IsToldSession (events : List Event) (number : ℕ) (told : ConnRecord) : Type 0 where
     pub conn : Connection
     pub session : IsSession buses events number conn
@@ -34,8 +37,10 @@ module _ (buses : List Bus) where
     pub once : (first more : List Event) (early : Connection) → events ≡ first ++ more → IsSession buses first number early
         → is_settled early (history buses (course buses first)) (rows buses (course buses first)) ≡ true
         → (device : Device) → IsThereFrom buses (course buses first) early (length (course buses first).steps) device
-        → (key : Key) → owns device key ≡ true → has_key key (rows buses (course buses first)) ≡ true → times_listed key told.items ≡ 1
-    pub registry : is_settled conn (history buses (course buses events)) (rows buses (course buses events)) ≡ true → HoldsRegistry buses (course buses events) conn
+        → (key : Key) → owns device key ≡ true → has_key key (rows buses (course buses first)) ≡ true
+        → times_listed key told.items ≡ 1
+    pub registry : is_settled conn (history buses (course buses events)) (rows buses (course buses events)) ≡ true
+        → HoldsRegistry buses (course buses events) conn
     pub passed : HoldsPassed buses (course buses events) conn
     pub rising : ListsRising buses (course buses events) conn
     pub held : ListsHeld buses (course buses events) conn
@@ -43,7 +48,8 @@ module _ (buses : List Bus) where
 
   -- so it is of each
   abbrev pub ToldSessions : List Event → Record → Type 0
-  ToldSessions events told = (number : ℕ) (one : ConnRecord) → told_at number told.connections ≡ Some one → one.info ≡ true → IsToldSession events number one
+  ToldSessions events told = (number : ℕ) (one : ConnRecord) → told_at number told.connections ≡ Some one → one.info ≡ true
+      → IsToldSession events number one
 
   -- ---- handshakes and command sessions
 
@@ -55,37 +61,47 @@ module _ (buses : List Bus) where
     pub is : told ≡ recorded (history buses (course buses events)) conn
     pub no_items : told.items ≡ []
     pub front : IsPrefixOf told.sent conn.out
-    pub all : (first : List Event) (bytes : ℕ) (early : Connection) → events ≡ first ++ Room number bytes ∷ [] → numbered number (course buses first).connections ≡ Some early → early.info ≡ false → is_open early ≡ true
+    pub all : (first : List Event) (bytes : ℕ) (early : Connection) → events ≡ first ++ Room number bytes ∷ []
+        → numbered number (course buses first).connections ≡ Some early → early.info ≡ false → is_open early ≡ true
         → length (unsent early) ≤ bytes → told.sent ≡ conn.out
 
   abbrev pub ToldReplies : List Event → Record → Type 0
-  ToldReplies events told = (number : ℕ) (one : ConnRecord) → told_at number told.connections ≡ Some one → one.info ≡ false → IsToldReplies events number one
+  ToldReplies events told = (number : ℕ) (one : ConnRecord) → told_at number told.connections ≡ Some one → one.info ≡ false
+      → IsToldReplies events number one
 
   -- ---- rooms and overruns
 
-  -- what is told of any connection: no more was taken of it than it was given; a room gave an information session the front of what it was owed, and settled it
-  -- where it was for more than there is; rooms add up, however they are cut; an information session overruns exactly where a change finds 256 waiting; and
-  -- nothing was sent after an overrun or a shut
+  -- what is told of any connection: no more was taken of it than it was given; a room gave an information session the
+  -- front of what it was owed, and settled it where it was for more than there is; rooms add up, however they are cut; an
+  -- information session overruns exactly where a change finds 256 waiting; and nothing was sent after an overrun or a
+  -- shut
   pub record IsToldRooms (events : List Event) (number : ℕ) (told : ConnRecord) : Type 0 where
     pub conn : Connection
     pub there : numbered number (course buses events).connections ≡ Some conn
     pub is : told ≡ recorded (history buses (course buses events)) conn
     pub within : conn.taken ≤ length (given conn)
-    pub settles : (first : List Event) (bytes : ℕ) (early : Connection) → events ≡ first ++ Room number bytes ∷ [] → IsSession buses first number early → is_open early ≡ true
+    pub settles : (first : List Event) (bytes : ℕ) (early : Connection) → events ≡ first ++ Room number bytes ∷ []
+        → IsSession buses first number early → is_open early ≡ true
         → overran early (history buses (course buses first)) ≡ false → GivesOwed buses (course buses first) bytes early conn
     pub rooms : is_open conn ≡ true → AddsUp buses (course buses events) conn
-    pub one_room : (first : List Event) (a b : ℕ) (early : Connection) → events ≡ first ++ Room number a ∷ Room number b ∷ [] → numbered number (course buses first).connections ≡ Some early → is_open early ≡ true → 0 < b
+    pub one_room : (first : List Event) (a b : ℕ) (early : Connection) → events ≡ first ++ Room number a ∷ Room number b ∷ []
+        → numbered number (course buses first).connections ≡ Some early → is_open early ≡ true → 0 < b
         → without_events (course buses events) ≡ without_events (course buses (first ++ Room number (a + b) ∷ []))
-    pub overruns : conn.info ≡ true → is_open conn ≡ true → overran conn (history buses (course buses events)) ≡ false → (changes : List Change) → OverrunsWhereFull buses (course buses events) conn changes
-    pub no_more : (first more : List Event) (early : Connection) → events ≡ first ++ more → numbered number (course buses first).connections ≡ Some early → is_over early (history buses (course buses first)) ≡ true
+    pub overruns : conn.info ≡ true → is_open conn ≡ true → overran conn (history buses (course buses events)) ≡ false
+        → (changes : List Change) → OverrunsWhereFull buses (course buses events) conn changes
+    pub no_more : (first more : List Event) (early : Connection) → events ≡ first ++ more
+        → numbered number (course buses first).connections ≡ Some early
+        → is_over early (history buses (course buses first)) ≡ true
         → (told.items ≡ early.items) × (told.sent ≡ sent early)
 
   abbrev pub ToldRooms : List Event → Record → Type 0
-  ToldRooms events told = (number : ℕ) (one : ConnRecord) → told_at number told.connections ≡ Some one → IsToldRooms events number one
+  ToldRooms events told = (number : ℕ) (one : ConnRecord) → told_at number told.connections ≡ Some one
+      → IsToldRooms events number one
 
   -- ---- the registry
 
-  -- the rows that are told are a whole registry, as it was after each step, and no step gave a device that was there a key that it had not
+  -- the rows that are told are a whole registry, as it was after each step, and no step gave a device that was there a
+  -- key that it had not
   pub record IsToldRegistry (events : List Event) (told : Record) : Type 0 where
     pub rows_whole : IsWhole buses told.rows
     pub world : IsWholeWorld buses (course buses events)

@@ -46,8 +46,10 @@ pub record IsLive (place : Place) : Type 0 where
 -- the sessions of the places: each has an id of its own, and its row until it ends; a later id has none
 pub record AreSessions (last_id : ℕ) (rows : State) (places : List (Option Place)) : Type 0 where
   pub ids : (key : ℕ) (place : Place) → place_at places key ≡ Some place → place.session ≤ last_id
-  pub apart : (m n : ℕ) (p q : Place) → place_at places m ≡ Some p → place_at places n ≡ Some q → 0 < p.session → p.session ≡ q.session → m ≡ n
-  pub there : (key : ℕ) (place : Place) → place_at places key ≡ Some place → IsLive place → is_there (session_device place.session) rows ≡ true
+  pub apart : (m n : ℕ) (p q : Place) → place_at places m ≡ Some p → place_at places n ≡ Some q → 0 < p.session
+      → p.session ≡ q.session → m ≡ n
+  pub there : (key : ℕ) (place : Place) → place_at places key ≡ Some place → IsLive place
+      → is_there (session_device place.session) rows ≡ true
   pub later : (id : ℕ) → last_id < id → is_there (session_device id) rows ≡ false
 
 -- what holds of every core

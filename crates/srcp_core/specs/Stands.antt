@@ -10,8 +10,8 @@ use Rattle.srcp_core.specs.Course.{World, numbered, state, history}
 use Rattle.srcp_core.specs.Held.{Place, Held, place_at, open_count}
 use Rattle.srcp_core.specs.Recording.{key_of}
 
--- what is held of a connection, by its reader, its mode, its session, the unsent bytes, and the cursor and the queue of its feed; where more wait
--- than may, the bytes and the feed are given up
+-- what is held of a connection, by its reader, its mode, its session, the unsent bytes, and the cursor and the queue of
+-- its feed; where more wait than may, the bytes and the feed are given up
 abbrev pub placed : Reading → Mode → ℕ → Bool → Bool → List ℕ → Cursor → List Change → Place
 placed reader mode session info ended bytes cursor queue =
     if info && nat_lt 256 (length queue)
@@ -36,7 +36,8 @@ pub record IsOwned (keys : List (Option ℕ)) (key : ℕ) : Type 0 where
   pub named : key_of number keys ≡ Some key
 
 module _ (buses : List Bus) where
-  -- the keys of the connections by their numbers, and the core, stand for that course, where of the bytes that were accepted of a number these were read
+  -- the keys of the connections by their numbers, and the core, stand for that course, where of the bytes that were
+  -- accepted of a number these were read
   pub record StandsBy (read : ℕ → List ℕ → List ℕ) (keys : List (Option ℕ)) (held : Held) (w : World) : Type 0 where
     pub layout : held.buses ≡ buses
     pub rows : held.rows ≡ state buses w
@@ -44,7 +45,8 @@ module _ (buses : List Bus) where
     pub last_id : held.last_id ≡ w.last_id
     pub count : open_count held ≡ length (filter is_open w.connections)
     pub long : length keys ≡ length w.connections
-    pub opens : (n : ℕ) (conn : Connection) → numbered n w.connections ≡ Some conn → is_open conn ≡ true → IsAt keys held.places (history buses w) n conn (read n conn.fed)
+    pub opens : (n : ℕ) (conn : Connection) → numbered n w.connections ≡ Some conn → is_open conn ≡ true
+        → IsAt keys held.places (history buses w) n conn (read n conn.fed)
     pub closed : (n : ℕ) (conn : Connection) → numbered n w.connections ≡ Some conn → is_open conn ≡ false → key_of n keys ≡ None
     pub apart : (m n key : ℕ) → key_of m keys ≡ Some key → key_of n keys ≡ Some key → m ≡ n
     pub owned : (key : ℕ) (place : Place) → place_at held.places key ≡ Some place → IsOwned keys key

@@ -31,11 +31,13 @@ LinesDiffer = (c d : Change) → IsWellFormed c → IsWellFormed d → line c �
 
 -- what was written is what is read
 abbrev pub LinesReadAgain : Type 0
-LinesReadAgain = (change : Change) (text : List ℕ) (result : Option Change) → IsWellFormed change → line change ≡ text ++ codes "\n" → Reads text result → result ≡ Some change
+LinesReadAgain = (change : Change) (text : List ℕ) (result : Option Change) → IsWellFormed change
+    → line change ≡ text ++ codes "\n" → Reads text result → result ≡ Some change
 
 -- bytes hold the lines of one list of changes
 abbrev pub BytesHoldOnce : Type 0
-BytesHoldOnce = (bytes : List ℕ) (xs ys : List Change) (begun rest : List ℕ) → HoldsLines bytes xs begun → HoldsLines bytes ys rest → (xs ≡ ys) × (begun ≡ rest)
+BytesHoldOnce = (bytes : List ℕ) (xs ys : List Change) (begun rest : List ℕ) → HoldsLines bytes xs begun
+    → HoldsLines bytes ys rest → (xs ≡ ys) × (begun ≡ rest)
 
 -- a client's rows go by rising key
 abbrev pub ClientRises : Type 0

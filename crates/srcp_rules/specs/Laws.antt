@@ -35,7 +35,8 @@ UpdatesKeepRising = (update : Update) (state : State) → IsRising state → IsR
 
 -- the updates of a command, taken together, leave the registry whole
 abbrev pub CommandsKeepWhole : Type 0
-CommandsKeepWhole = (buses : List Bus) (state : State) (session moment : ℕ) (command : Command) → MayObey buses state session command → IsMoment moment
+CommandsKeepWhole = (buses : List Bus) (state : State) (session moment : ℕ) (command : Command)
+    → MayObey buses state session command → IsMoment moment
     → IsWhole buses (updated_all (effect state session moment command).updates state)
 
 -- those of a moment do so one by one: after the first k of them it is whole, and the others are still to come
@@ -51,7 +52,8 @@ EndsKeepWhole = (buses : List Bus) (state : State) (session moment k : ℕ) → 
 
 -- and a session's beginning
 abbrev pub BeginningsKeepWhole : Type 0
-BeginningsKeepWhole = (buses : List Bus) (state : State) (session moment : ℕ) (mode : Mode) → IsWhole buses state → IsMoment moment → 1 ≤ session → session < 2 ^ 32
+BeginningsKeepWhole = (buses : List Bus) (state : State) (session moment : ℕ) (mode : Mode) → IsWhole buses state
+    → IsMoment moment → 1 ≤ session → session < 2 ^ 32
     → IsWhole buses (updated (began session moment mode) state)
 
 -- ---- the rows of a device come and go together
@@ -62,7 +64,8 @@ AddNoRow state updates = AllByRecursion (λ update. AddsNoRow state update.chang
 
 -- no Put of a command does so
 abbrev pub CommandsAddNoRow : Type 0
-CommandsAddNoRow = (buses : List Bus) (state : State) (session moment : ℕ) (command : Command) → IsWhole buses state → IsCommandOf buses command
+CommandsAddNoRow = (buses : List Bus) (state : State) (session moment : ℕ) (command : Command) → IsWhole buses state
+    → IsCommandOf buses command
     → AddNoRow state (effect state session moment command).updates
 
 -- nor one of a moment
@@ -75,7 +78,8 @@ EndsAddNoRow = (state : State) (session moment : ℕ) → AddNoRow state (freed 
 
 -- nor that of a session's beginning
 abbrev pub BeginningsAddNoRow : Type 0
-BeginningsAddNoRow = (buses : List Bus) (state : State) (session moment : ℕ) (mode : Mode) → IsWhole buses state → 1 ≤ session → session < 2 ^ 32
+BeginningsAddNoRow = (buses : List Bus) (state : State) (session moment : ℕ) (mode : Mode) → IsWhole buses state → 1 ≤ session
+    → session < 2 ^ 32
     → AddsNoRow state (began session moment mode).change
 
 -- ---- what is told
@@ -91,20 +95,24 @@ CanBeTold updates = AllByRecursion (λ update. IsWellFormed update.change) updat
 
 -- the changes of a command can be told, and so can its reply
 abbrev pub CommandsCanBeTold : Type 0
-CommandsCanBeTold = (buses : List Bus) (state : State) (session moment : ℕ) (command : Command) → MayObey buses state session command → IsMoment moment
+CommandsCanBeTold = (buses : List Bus) (state : State) (session moment : ℕ) (command : Command)
+    → MayObey buses state session command → IsMoment moment
     → CanBeTold (effect state session moment command).updates × IsWellFormedReply (effect state session moment command).reply
 
 -- so can those of a moment
 abbrev pub MomentsCanBeTold : Type 0
-MomentsCanBeTold = (buses : List Bus) (state : State) (moment : ℕ) → IsWhole buses state → IsMoment moment → CanBeTold (due state moment)
+MomentsCanBeTold = (buses : List Bus) (state : State) (moment : ℕ) → IsWhole buses state → IsMoment moment
+    → CanBeTold (due state moment)
 
 -- and those of a session's end
 abbrev pub EndsCanBeTold : Type 0
-EndsCanBeTold = (buses : List Bus) (state : State) (session moment : ℕ) → IsWhole buses state → IsMoment moment → CanBeTold (freed state session moment)
+EndsCanBeTold = (buses : List Bus) (state : State) (session moment : ℕ) → IsWhole buses state → IsMoment moment
+    → CanBeTold (freed state session moment)
 
 -- and that of a session's beginning
 abbrev pub BeginningsCanBeTold : Type 0
-BeginningsCanBeTold = (session moment : ℕ) (mode : Mode) → IsMoment moment → 1 ≤ session → session < 2 ^ 32 → IsWellFormed (began session moment mode).change
+BeginningsCanBeTold = (session moment : ℕ) (mode : Mode) → IsMoment moment → 1 ≤ session → session < 2 ^ 32
+    → IsWellFormed (began session moment mode).change
 
 -- ---- what a command does not do
 
@@ -115,7 +123,8 @@ pub record ChangesNothing (did : Effect) : Type 0 where
 
 -- a command that is refused does so
 abbrev pub RefusalsChangeNothing : Type 0
-RefusalsChangeNothing = (state : State) (session moment : ℕ) (command : Command) (code : Code) → (effect state session moment command).reply ≡ Refused code
+RefusalsChangeNothing = (state : State) (session moment : ℕ) (command : Command) (code : Code)
+    → (effect state session moment command).reply ≡ Refused code
     → ChangesNothing (effect state session moment command)
 
 -- the SET that a CHECK is about
@@ -141,12 +150,15 @@ ChecksAnswerAsSets = (state : State) (session moment : ℕ) (command : Command)
 
 -- the rows of the device, and of its lock, are as before
 pub record IsKept (group : Lockable) (bus address : ℕ) (before after : State) : Type 0 where
-  pub device : (port : ℕ) → row_at (key_at (device_in group bus address) port) after ≡ row_at (key_at (device_in group bus address) port) before
-  pub lock : (port : ℕ) → row_at (key_at (lock_on group bus address) port) after ≡ row_at (key_at (lock_on group bus address) port) before
+  pub device : (port : ℕ)
+      → row_at (key_at (device_in group bus address) port) after ≡ row_at (key_at (device_in group bus address) port) before
+  pub lock : (port : ℕ)
+      → row_at (key_at (lock_on group bus address) port) after ≡ row_at (key_at (lock_on group bus address) port) before
 
 -- no command of a session changes a device, or its lock, that another session has locked
 abbrev pub LocksHold : Type 0
-LocksHold = (state : State) (session moment : ℕ) (command : Command) (group : Lockable) (bus address : ℕ) → IsTrue (is_locked state session group bus address)
+LocksHold = (state : State) (session moment : ℕ) (command : Command) (group : Lockable) (bus address : ℕ)
+    → IsTrue (is_locked state session group bus address)
     → IsKept group bus address state (updated_all (effect state session moment command).updates state)
 
 -- ---- sessions
@@ -165,11 +177,13 @@ MomentsKeepSessions = (buses : List Bus) (state : State) (moment id : ℕ) → I
 pub record IsFreed (session : ℕ) (before after : State) : Type 0 where
   pub gone : is_there (session_device session) after ≡ false
   pub locks : (key : Key) → ForSome (row_at key after) (λ row. is_held_by session row ≡ false)
-  pub others : (id : ℕ) → id ≢ session → row_at (first_key (session_device id)) after ≡ row_at (first_key (session_device id)) before
+  pub others : (id : ℕ) → id ≢ session
+      → row_at (first_key (session_device id)) after ≡ row_at (first_key (session_device id)) before
 
 -- the end of a session takes out its locks and its row, and no other session's row
 abbrev pub EndsFreeAll : Type 0
-EndsFreeAll = (buses : List Bus) (state : State) (session moment : ℕ) → IsWhole buses state → IsFreed session state (updated_all (freed state session moment) state)
+EndsFreeAll = (buses : List Bus) (state : State) (session moment : ℕ) → IsWhole buses state
+    → IsFreed session state (updated_all (freed state session moment) state)
 
 -- ---- moments that are due
 
@@ -193,28 +207,33 @@ port_key bus address port = key_at (device_in lockable.Ga bus address) (1 + port
 
 -- after a SET that is accepted the port has its due moment or none, whatever it had
 abbrev pub PortsAreSet : Type 0
-PortsAreSet = (state : State) (session moment bus address port : ℕ) (on : Bool) (time : Option ℕ) → (effect state session moment (SetGa bus address port on time)).reply ≡ Accepted
+PortsAreSet = (state : State) (session moment bus address port : ℕ) (on : Bool) (time : Option ℕ)
+    → (effect state session moment (SetGa bus address port on time)).reply ≡ Accepted
     → row_at (port_key bus address port) (updated_all (effect state session moment (SetGa bus address port on time)).updates state)
     ≡ Some (row_put moment (port_key bus address port) (value.GaPort on) (port_end moment on time))
 
 -- and so has a lock
 abbrev pub LocksAreSet : Type 0
-LocksAreSet = (state : State) (session moment : ℕ) (group : Lockable) (bus address seconds : ℕ) → (effect state session moment (SetLock bus group address seconds)).reply ≡ Accepted
+LocksAreSet = (state : State) (session moment : ℕ) (group : Lockable) (bus address seconds : ℕ)
+    → (effect state session moment (SetLock bus group address seconds)).reply ≡ Accepted
     → row_at (first_key (lock_on group bus address)) (updated_all (effect state session moment (SetLock bus group address seconds)).updates state)
     ≡ Some (row_put moment (first_key (lock_on group bus address)) (value.Lock seconds session) (lock_end moment seconds))
 
 -- a port that was set to 1 for some milliseconds is 1 at each moment before their end, and 0 at each from it on
 abbrev pub PortsFallBack : Type 0
-PortsFallBack = (buses : List Bus) (state : State) (session moment later bus address port milliseconds : ℕ) → MayObey buses state session (SetGa bus address port true (Some milliseconds)) → IsMoment moment → IsMoment later
+PortsFallBack = (buses : List Bus) (state : State) (session moment later bus address port milliseconds : ℕ)
+    → MayObey buses state session (SetGa bus address port true (Some milliseconds)) → IsMoment moment → IsMoment later
     → 0 < milliseconds → (effect state session moment (SetGa bus address port true (Some milliseconds))).reply ≡ Accepted
-    → (after : State) → after ≡ updated_all (effect state session moment (SetGa bus address port true (Some milliseconds))).updates state
+    → (after : State)
+    → after ≡ updated_all (effect state session moment (SetGa bus address port true (Some milliseconds))).updates state
     → row_at (port_key bus address port) (updated_all (due after later) after)
     ≡ (if nat_le (moment_after moment milliseconds) later then Some (row_put later (port_key bus address port) (value.GaPort false) None)
     else Some (row_put moment (port_key bus address port) (value.GaPort true) (Some (moment_after moment milliseconds))))
 
 -- a lock that was set for some seconds is there at each moment before their end, and gone at each from it on
 abbrev pub LocksRunOut : Type 0
-LocksRunOut = (buses : List Bus) (state : State) (session moment later : ℕ) (group : Lockable) (bus address seconds : ℕ) → MayObey buses state session (SetLock bus group address seconds) → IsMoment moment → IsMoment later
+LocksRunOut = (buses : List Bus) (state : State) (session moment later : ℕ) (group : Lockable) (bus address seconds : ℕ)
+    → MayObey buses state session (SetLock bus group address seconds) → IsMoment moment → IsMoment later
     → 0 < seconds → (effect state session moment (SetLock bus group address seconds)).reply ≡ Accepted
     → (after : State) → after ≡ updated_all (effect state session moment (SetLock bus group address seconds)).updates state
     → row_at (first_key (lock_on group bus address)) (updated_all (due after later) after)

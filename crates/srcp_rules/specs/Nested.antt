@@ -105,4 +105,5 @@ pub record AreRowsOfLayout (buses : List Bus) (sessions : List (ℕ × State)) (
   pub sorted : AreSorted rows
   pub numbers : keys_of rows ≡ map (λ bus. bus.number) buses
   -- what never goes is there
-  pub stays : (device : Device) → can_go device.group ≡ false → 0 < row_count buses device → IsTrue (is_there device (all_rows sessions rows))
+  pub stays : (device : Device) → can_go device.group ≡ false → 0 < row_count buses device
+      → IsTrue (is_there device (all_rows sessions rows))

@@ -159,20 +159,26 @@ module _ (buses : List Bus) (stand : Stand) (old : Option (List Call)) (told : L
       pub opened : length (turned buses stand calls).guests ≡ length stand.guests + one_if opens
 
 -- whatever the stand was, so it is afterwards, where no memory was refused and the door tells its calls
-abbrev pub HostsOn : (List Bus → Stand → List (Option ℕ) → List Call → Type 0) → (old : Held) (owns : List (Option Own)) (new : Held) (told_new : Option (List Call)) → Type 0
-HostsOn So old owns new told_new = (buses : List Bus) (stand : Stand) (keys : List (Option ℕ)) (told : List Call) → IsHosting buses stand keys old owns → new.denied ≡ 0 → told_new ≡ Some told → So buses stand keys told
+abbrev pub HostsOn : (List Bus → Stand → List (Option ℕ) → List Call → Type 0)
+    → (old : Held) (owns : List (Option Own)) (new : Held) (told_new : Option (List Call)) → Type 0
+HostsOn So old owns new told_new = (buses : List Bus) (stand : Stand) (keys : List (Option ℕ)) (told : List Call)
+    → IsHosting buses stand keys old owns → new.denied ≡ 0 → told_new ≡ Some told → So buses stand keys told
 
 abbrev pub TakesMoment : (old : Held) (told_old : Option (List Call)) (new : Held) (told_new : Option (List Call)) → Type 0
-TakesMoment old told_old new told_new = (owns : List (Option Own)) → HostsOn (λ buses stand keys told. IsTimed buses stand told_old told new keys) old owns new told_new
+TakesMoment old told_old new told_new = (owns : List (Option Own))
+    → HostsOn (λ buses stand keys told. IsTimed buses stand told_old told new keys) old owns new told_new
 
-abbrev pub SeatsPeer : (peer : ℕ) (old : Held) (told_old : Option (List Call)) (owns_old : List (Option Own)) (new : Held) (told_new : Option (List Call)) (owns_new : List (Option Own)) (opens : Bool) → Type 0
+abbrev pub SeatsPeer : (peer : ℕ) (old : Held) (told_old : Option (List Call)) (owns_old : List (Option Own)) (new : Held) (told_new : Option (List Call)) (owns_new : List (Option Own)) (opens : Bool)
+    → Type 0
 SeatsPeer peer old told_old owns_old new told_new owns_new opens = HostsOn (λ buses stand keys told. AllByRecursion (IsNotOf peer) stand.places → IsWelcomed buses stand told_old told new owns_new peer opens) old owns_old new told_new
 
 -- all that have a place are of the newcomers, and no peer came in twice
-abbrev pub LetsIn : (old : Held) (told_old : Option (List Call)) (owns_old : List (Option Own)) (new : Held) (told_new : Option (List Call)) (owns_new : List (Option Own)) (opens : Bool) → Type 0
+abbrev pub LetsIn : (old : Held) (told_old : Option (List Call)) (owns_old : List (Option Own)) (new : Held) (told_new : Option (List Call)) (owns_new : List (Option Own)) (opens : Bool)
+    → Type 0
 LetsIn old told_old owns_old new told_new owns_new opens = HostsOn (λ buses stand keys told. (before : List Call) → told_old ≡ Some before → PeersDiffer buses told → AllByRecursion (IsOneOf (filter_map newcomer_of before)) stand.places → IsBegun buses stand told_old told new owns_new opens) old owns_old new told_new
 
-abbrev pub VisitsPlace : (place : ℕ) (old : Held) (told_old : Option (List Call)) (owns_old : List (Option Own)) (new : Held) (told_new : Option (List Call)) (owns_new : List (Option Own)) → Type 0
+abbrev pub VisitsPlace : (place : ℕ) (old : Held) (told_old : Option (List Call)) (owns_old : List (Option Own)) (new : Held) (told_new : Option (List Call)) (owns_new : List (Option Own))
+    → Type 0
 VisitsPlace place old told_old owns_old new told_new owns_new =
     HostsOn (λ buses stand keys told. (front : List (Option Seat)) (seat : Option Seat) (ahead : List (Option Seat)) → length front ≡ place → stand.places ≡ front ++ seat ∷ ahead → AreVisited buses stand told_old told new owns_new front (seat ∷ []) ahead) old owns_old new told_new
 
@@ -184,13 +190,16 @@ pub record AreVisitedSoFar (buses : List Bus) (stand : Stand) (old : Option (Lis
   pub many : length seats ≡ count
   pub visited : AreVisited buses stand old told held owns [] seats ahead
 
-abbrev pub VisitsSoFar : (count : ℕ) (old : Held) (told_old : Option (List Call)) (owns_old : List (Option Own)) (now : Held) (told_now : Option (List Call)) (owns_now : List (Option Own)) → Type 0
+abbrev pub VisitsSoFar : (count : ℕ) (old : Held) (told_old : Option (List Call)) (owns_old : List (Option Own)) (now : Held) (told_now : Option (List Call)) (owns_now : List (Option Own))
+    → Type 0
 VisitsSoFar count old told_old owns_old now told_now owns_now = HostsOn (λ buses stand keys told. AreVisitedSoFar buses stand told_old told now owns_now count) old owns_old now told_now
 
-abbrev pub VisitsPlaces : (old : Held) (told_old : Option (List Call)) (owns_old : List (Option Own)) (new : Held) (told_new : Option (List Call)) (owns_new : List (Option Own)) → Type 0
+abbrev pub VisitsPlaces : (old : Held) (told_old : Option (List Call)) (owns_old : List (Option Own)) (new : Held) (told_new : Option (List Call)) (owns_new : List (Option Own))
+    → Type 0
 VisitsPlaces old told_old owns_old new told_new owns_new = HostsOn (λ buses stand keys told. AreVisited buses stand told_old told new owns_new [] stand.places []) old owns_old new told_new
 
-abbrev pub MakesTurn : (old : Held) (told_old : Option (List Call)) (owns_old : List (Option Own)) (new : Held) (told_new : Option (List Call)) (owns_new : List (Option Own)) (opens : Bool) → Type 0
+abbrev pub MakesTurn : (old : Held) (told_old : Option (List Call)) (owns_old : List (Option Own)) (new : Held) (told_new : Option (List Call)) (owns_new : List (Option Own)) (opens : Bool)
+    → Type 0
 MakesTurn old told_old owns_old new told_new owns_new opens = HostsOn (λ buses stand keys told. (before : List Call) → told_old ≡ Some before → PeersDiffer buses told → AllByRecursion (IsOneOf (filter_map newcomer_of before)) stand.places → IsTurnMade buses stand told_old told new owns_new opens) old owns_old new told_new
 
 -- ---- serving
@@ -204,13 +213,18 @@ pub record IsServing (buses : List Bus) (count opens : ℕ) (told : List Call) (
   pub opened : length (stand_after buses told).guests ≡ opens
 
 -- a core that stands for no events, over a door that had told nothing, where no memory was refused and no peer came in twice
-abbrev pub Begins : (List Bus → List Call → Type 0) → (old : Held) (told_old : Option (List Call)) (new : Held) (told_new : Option (List Call)) → Type 0
-Begins So old told_old new told_new = (buses : List Bus) (told : List Call) → IsLayout buses → StandsFor buses [] old (course buses []) → new.denied ≡ 0 → told_old ≡ Some [] → told_new ≡ Some told → PeersDiffer buses told → So buses told
+abbrev pub Begins : (List Bus → List Call → Type 0)
+    → (old : Held) (told_old : Option (List Call)) (new : Held) (told_new : Option (List Call)) → Type 0
+Begins So old told_old new told_new = (buses : List Bus) (told : List Call) → IsLayout buses
+    → StandsFor buses [] old (course buses []) → new.denied ≡ 0 → told_old ≡ Some [] → told_new ≡ Some told
+    → PeersDiffer buses told → So buses told
 
-abbrev pub ServesSoFar : (count opens : ℕ) (old : Held) (told_old : Option (List Call)) (new : Held) (told_new : Option (List Call)) (owns : List (Option Own)) → Type 0
+abbrev pub ServesSoFar : (count opens : ℕ) (old : Held) (told_old : Option (List Call)) (new : Held) (told_new : Option (List Call)) (owns : List (Option Own))
+    → Type 0
 ServesSoFar count opens old told_old new told_new owns = Begins (λ buses told. IsServing buses count opens told new owns) old told_old new told_new
 
--- the calls are those of exactly so many turns, each write handed what the course leaves unsent; the core stands for the events that the answers make; and what each connection was sent by them is to the byte what the door took of its peer
+-- the calls are those of exactly so many turns, each write handed what the course leaves unsent; the core stands for the
+-- events that the answers make; and what each connection was sent by them is to the byte what the door took of its peer
 pub record IsOfCourse (buses : List Bus) (count opens : ℕ) (told : List Call) (held : Held) : Type 0 where
   pub keys : List (Option ℕ)
   pub served : IsServed buses count told
@@ -218,5 +232,6 @@ pub record IsOfCourse (buses : List Bus) (count opens : ℕ) (told : List Call) 
   pub opened : opens ≡ length (course buses (events_of buses told)).connections  -- one for each Open that is accepted
   pub taken : SendsWhatIsTaken buses told
 
-abbrev pub ServesCourse : (count opens : ℕ) (old : Held) (told_old : Option (List Call)) (new : Held) (told_new : Option (List Call)) → Type 0
+abbrev pub ServesCourse : (count opens : ℕ) (old : Held) (told_old : Option (List Call)) (new : Held) (told_new : Option (List Call))
+    → Type 0
 ServesCourse count opens old told_old new told_new = Begins (λ buses told. IsOfCourse buses count opens told new) old told_old new told_new

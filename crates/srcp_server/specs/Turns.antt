@@ -1,4 +1,5 @@
--- Which calls a turn of serving makes of the door, whatever the core decides: the moment, one newcomer, and then what peers are asked.
+-- Which calls a turn of serving makes of the door, whatever the core decides: the moment, one newcomer, and then what
+-- peers are asked.
 use Rattle.std.specs.Prelude.{◌≡◌, ℕ, Bool, true, false, List, [], ◌∷◌, length, flat_map, Option, Some, Result}
 use Rattle.std.specs.List.{list_all, AllByRecursion}
 use Rattle.srcp_server.specs.Calls.{Call, NowCall, AcceptCall, ReadCall, WriteCall, CloseCall}

@@ -1,4 +1,5 @@
--- What the calls of a visit tell and do, step by step: over a core that stands for the course of any events, where no memory was refused.
+-- What the calls of a visit tell and do, step by step: over a core that stands for the course of any events, where no
+-- memory was refused.
 use Rattle.std.specs.Prelude.{◌≡◌, ℕ, ◌<◌, Bool, false, true, not, if◌then◌else◌, ◌⊎◌, List, [], ◌∷◌, ◌++◌, map, take, length, filter_map, Option, Some, None, Result, Ok, Err}
 use Rattle.std.specs.List.{list_any, AllByRecursion}
 use Rattle.srcp_rules.specs.Layout.{IsLayout}
@@ -135,25 +136,33 @@ module _ (buses : List Bus) (events : List Event) (keys : List (Option ℕ)) (n 
 -- ---- the functions of a visit
 
 -- whatever the events were, so it is afterwards, where no memory was refused and the door tells its calls
-abbrev pub Follows : (List Bus → List Event → List (Option ℕ) → ℕ → List Call → Type 0) → (key : ℕ) (old new : Held) (told_new : Option (List Call)) → Type 0
-Follows So key old new told_new = (buses : List Bus) (events : List Event) (keys : List (Option ℕ)) (n : ℕ) (told : List Call) → IsSeated buses events keys n key old → new.denied ≡ 0 → told_new ≡ Some told → So buses events keys n told
+abbrev pub Follows : (List Bus → List Event → List (Option ℕ) → ℕ → List Call → Type 0)
+    → (key : ℕ) (old new : Held) (told_new : Option (List Call)) → Type 0
+Follows So key old new told_new = (buses : List Bus) (events : List Event) (keys : List (Option ℕ)) (n : ℕ) (told : List Call)
+    → IsSeated buses events keys n key old → new.denied ≡ 0 → told_new ≡ Some told → So buses events keys n told
 
-abbrev pub ReadsIn : (peer key : ℕ) (old : Held) (told_old : Option (List Call)) (new : Held) (told_new : Option (List Call)) (stays : Bool) → Type 0
+abbrev pub ReadsIn : (peer key : ℕ) (old : Held) (told_old : Option (List Call)) (new : Held) (told_new : Option (List Call)) (stays : Bool)
+    → Type 0
 ReadsIn peer key old told_old new told_new stays = Follows (λ buses events keys n told. IsReadFrom buses events keys n peer told_old told new stays) key old new told_new
 
-abbrev pub WritesOnce : (peer key : ℕ) (old : Held) (told_old : Option (List Call)) (new : Held) (told_new : Option (List Call)) (wrote : Wrote) → Type 0
+abbrev pub WritesOnce : (peer key : ℕ) (old : Held) (told_old : Option (List Call)) (new : Held) (told_new : Option (List Call)) (wrote : Wrote)
+    → Type 0
 WritesOnce peer key old told_old new told_new wrote = Follows (λ buses events keys n told. HasWritten buses events keys n peer told_old told new wrote) key old new told_new
 
-abbrev pub WritesOut : (peer key : ℕ) (old : Held) (told_old : Option (List Call)) (new : Held) (told_new : Option (List Call)) (stays : Bool) → Type 0
+abbrev pub WritesOut : (peer key : ℕ) (old : Held) (told_old : Option (List Call)) (new : Held) (told_new : Option (List Call)) (stays : Bool)
+    → Type 0
 WritesOut peer key old told_old new told_new stays = Follows (λ buses events keys n told. IsWrittenTo buses events keys n peer told_old told new stays) key old new told_new
 
-abbrev pub Exchanges : (peer key : ℕ) (old : Held) (told_old : Option (List Call)) (new : Held) (told_new : Option (List Call)) (stays : Bool) → Type 0
+abbrev pub Exchanges : (peer key : ℕ) (old : Held) (told_old : Option (List Call)) (new : Held) (told_new : Option (List Call)) (stays : Bool)
+    → Type 0
 Exchanges peer key old told_old new told_new stays = Follows (λ buses events keys n told. IsExchanged buses events keys n peer told_old told new stays) key old new told_new
 
-abbrev pub LetsGo : (peer key : ℕ) (old : Held) (told_old : Option (List Call)) (new : Held) (told_new : Option (List Call)) → Type 0
+abbrev pub LetsGo : (peer key : ℕ) (old : Held) (told_old : Option (List Call)) (new : Held) (told_new : Option (List Call))
+    → Type 0
 LetsGo peer key old told_old new told_new = Follows (λ buses events keys n told. IsLetGo buses events keys n peer told_old told new) key old new told_new
 
-abbrev pub Visits : (peer key : ℕ) (old : Held) (told_old : Option (List Call)) (new : Held) (told_new : Option (List Call)) (stays : Bool) → Type 0
+abbrev pub Visits : (peer key : ℕ) (old : Held) (told_old : Option (List Call)) (new : Held) (told_new : Option (List Call)) (stays : Bool)
+    → Type 0
 Visits peer key old told_old new told_new stays = Follows (λ buses events keys n told. IsVisited buses events keys n peer told_old told new stays) key old new told_new
 
 -- no memory was refused, and the door told its calls
