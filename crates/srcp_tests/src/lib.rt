@@ -12,6 +12,8 @@ mod fixture;
 #[cfg(test)]
 mod last_id;
 #[cfg(test)]
+mod memory;
+#[cfg(test)]
 mod mirrors;
 #[cfg(test)]
 mod moments;
@@ -21,7 +23,5 @@ mod panels;
 mod pieces;
 #[cfg(test)]
 mod places;
-#[cfg(test)]
-mod refused_growths;
 #[cfg(test)]
 mod runs;

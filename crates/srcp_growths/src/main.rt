@@ -1,0 +1,101 @@
+//! One trial of what a refused growth leaves, for `tests/run_growths.py`. Standard input names the trial and says how many
+//! growths are made before it. `rt try --fail-alloc N` refuses the Nth growth of a program, so this says which growth of the
+//! trial is refused. What came of it is printed; without a name all trials are made, and each has to be granted.
+#![tactic(auto)]
+
+mod calls;
+mod door;
+mod outcome;
+mod play;
+
+use crate::outcome::{Outcome, Refused};
+use srcp_rules::{Flat, Nested};
+use srcp_text::{read_number, words};
+use std::alloc::Global;
+use std::io::Read;
+use std::process::ExitCode;
+use std::vec::Vec;
+
+/// How many growths may be made before a trial.
+const MOST_BEFORE: u32 = 10_000;
+
+/// The names of the trials.
+const TRIALS: [&[u8]; 11] = [
+    b"ring",
+    b"feed",
+    b"mirror",
+    b"layout",
+    b"connect",
+    b"configuration",
+    b"script",
+    b"words",
+    b"serve",
+    b"play-flat",
+    b"play-nested",
+];
+
+/// Makes the trial that is asked for.
+fn main(rt: HostRuntime) -> ExitCode {
+    let mut asked = [0; 64];
+    let count = match rt.stdin().read(&mut asked) {
+        Ok(count) => count,
+        Err(_) => return ExitCode::FAILURE,
+    };
+    let mut words = words(&asked[..count]);
+    match words.next() {
+        Some(name) => {
+            let before = words.next().and_then(|word| read_number(word, MOST_BEFORE));
+            let outcome = trial_after(rt.alloc(), name, before.unwrap_or(0));
+            let _ = println!(rt; "{outcome}");
+        }
+        None => {
+            for name in TRIALS {
+                let outcome = trial_after(rt.alloc(), name, 0);
+                let _ = println!(rt; "{outcome}");
+            }
+        }
+    }
+    ExitCode::SUCCESS
+}
+
+/// Makes so many growths, and then the trial of that name.
+fn trial_after(alloc: Global, name: &[u8], before: u32) -> Outcome {
+    let made = growths(alloc, before);
+    let outcome = match trial(alloc, name) {
+        Ok(outcome) => outcome,
+        Err(Refused) => Outcome::Unprepared,
+    };
+    match made {
+        Ok(_) => outcome,
+        Err(Refused) => Outcome::Unprepared,
+    }
+}
+
+/// One growth, and then so many.
+fn growths(alloc: Global, count: u32) -> Result<Vec<Vec<u32>>, Refused> {
+    let mut made = Vec::with_capacity(alloc, MOST_BEFORE as usize)?;
+    for index in 0..count {
+        let mut one = Vec::new(alloc);
+        one.push(index)?;
+        made.push(one)?;
+    }
+    Ok(made)
+}
+
+/// Makes the trial of that name.
+fn trial(alloc: Global, name: &[u8]) -> Result<Outcome, Refused> {
+    match name {
+        b"ring" => Ok(calls::ring(alloc)),
+        b"feed" => calls::feed(alloc),
+        b"mirror" => Ok(calls::mirror(alloc)),
+        b"layout" => Ok(calls::layout(alloc)),
+        b"connect" => calls::connect(alloc),
+        b"configuration" => Ok(calls::configuration(alloc)),
+        b"script" => Ok(calls::script(alloc)),
+        b"words" => calls::words(alloc),
+        b"serve" => door::serve(alloc),
+        b"play-flat" => play::play::<Flat>(alloc),
+        b"play-nested" => play::play::<Nested>(alloc),
+        _ => Ok(Outcome::Broken),
+    }
+}
