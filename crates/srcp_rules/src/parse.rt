@@ -1,9 +1,10 @@
 //! A whole line as a command.
 
-ghost use Rattle.std.specs.Prelude.{◌≡◌, option_and_then};
+ghost use Rattle.std.specs.Prelude.{◌≡◌, IfOk, option_and_then};
 ghost use Rattle.std.specs.Option.{ok_or};
 ghost use Rattle.srcp_info.specs.declared.change.Code.TheVariants.{C412 as WrongValue};
 ghost use Rattle.srcp_text.specs.Words.{number_of};
+ghost use Rattle.srcp_rules.specs.Command.{IsCommandOf};
 ghost use Rattle.srcp_rules.specs.Grammar.{directed, reads};
 ghost use Rattle.srcp_rules.specs.Layout.{bus_at};
 
@@ -44,18 +45,20 @@ fn directed(layout: &Layout, operation: Operation, mut words: Words<'_>) -> Resu
 }
 
 /// The command of the layout that a line of a command session is. Keywords are read in capital or
-/// small letters, and words are parted by spaces and tabs. `Err` is the first refusal from left to
-/// right:
+/// small letters, and words are parted by spaces and tabs. `Err` is the first of these refusals;
+/// which has which code, and their order, are our own choice:
 /// 1. 410 where the first word is no operation, or there is none;
 /// 2. 419 where the bus or the group is missing;
-/// 3. 412 where the layout has no bus of this number;
+/// 3. 412 where the second word is no number, or neither 0, the server itself, nor a bus of the
+///    layout;
 /// 4. 421 where the third word is no group;
 /// 5. 422 where the group is not on the bus;
 /// 6. 423 where the group does not have the operation;
 /// 7. 419 or 418 where words are missing or too many;
 /// 8. 412 or 420 at the first word that is no value of its place.
 pub fn parse_command(line: &[u8], layout: &Layout) -> Result<Command, Code>
-    ensures { result ≡ reads layout.now line.now }
+    ensures reads { result ≡ reads layout.now line.now }
+    ensures fits { IfOk result (IsCommandOf layout.now) }
 {
     let mut words = words(line);
     let Some(first) = words.next() else {
