@@ -1,6 +1,6 @@
 ghost use Rattle.std.specs.Prelude.{◌≡◌};
-ghost use Rattle.srcp_rules.specs.Effect.{is_locked, lock_end, lock_refusals, moment_after, refusals, term_lock, done};
-ghost use Rattle.srcp_rules.specs.Obeyed.{IsObeyed, IsTold, MayObey, Took, first_refusal, refused_or_not};
+ghost use Rattle.srcp_rules.specs.Effect.{first_refusal, is_locked, lock_end, lock_refusals, moment_after, refusals, refused_or_not, term_lock, done};
+ghost use Rattle.srcp_rules.specs.Obeyed.{IsObeyed, IsTold, MayObey, Took};
 
 use crate::command::{Command, Lockable};
 use crate::device::{device_in, lock_on};

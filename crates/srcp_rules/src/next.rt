@@ -1,7 +1,8 @@
 ghost use Rattle.std.specs.Prelude.{◌≡◌, ◌≤◌, IfSome, option_copied, option_map, slice_get};
 ghost use Rattle.srcp_info.specs.WellFormed.{IsWellFormed};
-ghost use Rattle.srcp_rules.specs.Due.{due_after, due_change, freed, is_sought, may_be_in, past, sought_after};
-ghost use Rattle.srcp_rules.specs.State.{AddsNoRow, IsWhole, MayBeDue, row_at, updated, updated_if};
+ghost use Rattle.srcp_rules.specs.Due.{due_after, due_change, freed};
+ghost use Rattle.srcp_rules.specs.Sought.{is_sought, may_be_in, past, sought_after};
+ghost use Rattle.srcp_rules.specs.State.{AddsNoRow, IsWhole, MayFall, row_at, updated, updated_if};
 
 use crate::device::session_device;
 use crate::registry::{is_there, put, remove};
@@ -33,7 +34,7 @@ pub fn due_next<R: Rows>(rows: &mut R, moment: u64, cursor: Cursor) -> Option<Ch
 fn carry_out<R: Rows>(rows: &mut R, moment: u64, row: &Row) -> Change
     requires whole { IsWhole (R.buses rows.old) (R.state rows.old) }
     requires there { row_at row.now.shown.key (R.state rows.old) ≡ Some row.now }
-    requires may { MayBeDue row.now.shown.value }
+    requires may { MayFall row.now.shown.value }
     ensures change { result ≡ (due_change moment row.now.shown.key row.now.shown.value).change }
     ensures rows { R.state rows.new ≡ updated (due_change moment row.now.shown.key row.now.shown.value) (R.state rows.old) }
     ensures layout { R.buses rows.new ≡ R.buses rows.old }

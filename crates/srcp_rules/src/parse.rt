@@ -5,7 +5,7 @@ ghost use Rattle.std.specs.Option.{ok_or};
 ghost use Rattle.srcp_info.specs.declared.change.Code.TheVariants.{C412 as WrongValue};
 ghost use Rattle.srcp_text.specs.Words.{number_of};
 ghost use Rattle.srcp_rules.specs.Command.{IsCommandOf};
-ghost use Rattle.srcp_rules.specs.Grammar.{directed, reads};
+ghost use Rattle.srcp_rules.specs.Grammar.{commanded, directed, reads};
 ghost use Rattle.srcp_rules.specs.Layout.{bus_at};
 
 use crate::asked::asked_of;
@@ -18,30 +18,40 @@ use srcp_info::Code;
 use srcp_text::{Words, read_number, words};
 
 /// The bus that the word is the number of; any other word is 412.
-fn bus_of(layout: &Layout, word: &[u8]) -> Result<Bus, Code>
-    ensures { result ≡ ok_or (option_and_then (bus_at layout.now) (number_of 250 word.now)) WrongValue }
+fn bus_of(buses: &[Bus], word: &[u8]) -> Result<Bus, Code>
+    ensures { result ≡ ok_or (option_and_then (bus_at buses.now) (number_of 250 word.now)) WrongValue }
 {
     let Some(number) = read_number(word, 250) else {
         return Err(Code::C412);
     };
-    match bus_at(layout, number as u8) {
+    match bus_at(buses, number as u8) {
         Some(bus) => Ok(bus),
         None => Err(Code::C412),
     }
 }
 
 /// The bus, then the group, which has to be on it.
-fn directed(layout: &Layout, operation: Operation, mut words: Words<'_>) -> Result<Command, Code>
-    ensures { result ≡ directed layout.now operation words.entry }
+fn directed(buses: &[Bus], operation: Operation, mut words: Words<'_>) -> Result<Command, Code>
+    ensures { result ≡ directed buses.now operation words.entry }
 {
     let first = next_word(&mut words)?;
     let second = next_word(&mut words)?;
-    let bus = bus_of(layout, first)?;
+    let bus = bus_of(buses, first)?;
     let group = group_of(second)?;
     if !has_group(&bus, group) {
         return Err(Code::C422);
     }
     asked_of(operation, group, &bus, words)
+}
+
+/// The operation, then what it is directed at.
+fn commanded(buses: &[Bus], mut words: Words<'_>) -> Result<Command, Code>
+    ensures { result ≡ commanded buses.now words.entry }
+{
+    let Some(first) = words.next() else {
+        return Err(Code::C410);
+    };
+    directed(buses, operation_of(first)?, words)
 }
 
 /// The command of the layout that a line of a command session is. Keywords are read in capital or
@@ -60,9 +70,5 @@ pub fn parse_command(line: &[u8], layout: &Layout) -> Result<Command, Code>
     ensures reads { result ≡ reads layout.now line.now }
     ensures fits { IfOk result (IsCommandOf layout.now) }
 {
-    let mut words = words(line);
-    let Some(first) = words.next() else {
-        return Err(Code::C410);
-    };
-    directed(layout, operation_of(first)?, words)
+    commanded(layout.buses(), words(line))
 }
