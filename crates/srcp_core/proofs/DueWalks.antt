@@ -22,9 +22,10 @@ use Rattle.srcp_rules.proofs.FindLaws.{each_filtered}
 use Rattle.srcp_rules.proofs.NextLaws.{change_key}
 use Rattle.srcp_rules.proofs.PastLaws.{each_of}
 use Rattle.srcp_rules.proofs.StateLaws.{row_key}
-use Rattle.srcp_rules.proofs.ToldLaws.{AreTold, due_told}
+use Rattle.srcp_rules.proofs.ToldLaws.{due_told}
 use Rattle.srcp_core.specs.Held.{Place}
 use Rattle.srcp_core.proofs.Walks.{GoesOn, Stops, change_in, goes_on, stops}
+use Rattle.srcp_rules.specs.Laws.{CanBeTold}
 
 abbrev pub update_key : Update → Key
 update_key update = key_of update.change
@@ -81,7 +82,7 @@ module _ (buses : List Bus) (moment : ℕ) (now : IsMoment moment) where
   abbrev pub later : (state : State) → IsWhole buses state → (update : Update) (updates : List Update) → brings state ≡ update ∷ updates → IsWhole buses (updated update state) × (brings (updated update state) ≡ updates)
   later state whole = due_later buses state whole moment now
 
-  abbrev pub tells : (state : State) → IsWhole buses state → AreTold (brings state)
+  abbrev pub tells : (state : State) → IsWhole buses state → CanBeTold (brings state)
   tells state whole = due_told buses state whole moment now
 
   module _ (state : State) (at : Cursor) (ahead : AreAhead at (due state moment)) where

@@ -17,9 +17,10 @@ use Rattle.srcp_info.specs.Key.{owns, has_reached}
 use Rattle.srcp_info.specs.WellFormed.{IsMoment}
 use Rattle.srcp_info.proofs.ClientLaws.{all_append, all_filter, all_put, all_weaker, filter_no_one}
 use Rattle.srcp_rules.specs.declared.layout.Bus.{Bus}
-use Rattle.srcp_rules.specs.Due.{due, due_change, is_due, last_of_group, may_be_due, past}
+use Rattle.srcp_rules.specs.Due.{due, due_change, is_due}
+use Rattle.srcp_rules.specs.Sought.{last_of_group, may_be_due, past}
 use Rattle.srcp_rules.specs.Rows.{put_rows}
-use Rattle.srcp_rules.specs.State.{State, IsRising, IsRowOf, MayBeDue, first_row, fb_device, opening, opening_on, power_device, put_row, row_after, without}
+use Rattle.srcp_rules.specs.State.{State, IsRising, IsRowOf, MayFall, first_row, fb_device, opening, opening_on, power_device, put_row, row_after, without}
 use Rattle.srcp_rules.proofs.PastLaws.{apart_cmp, due_group, group_tie}
 use Rattle.srcp_rules.proofs.SoughtLaws.{beyond, beyond-next, beyond-none}
 use Rattle.srcp_rules.proofs.StateLaws.{row_key}
@@ -133,7 +134,7 @@ module _ (p q : Row → Bool) where
       by false true (inr none) sooner_ones same = same ∙ ap (λ m. soonest m (filter q rows)) (sym (later none))
 
 module _ (buses : List Bus) where
-  never_due : (row : Row) (o : Option ℕ) → row.due ≡ o → IfSome o (λ due. IsMoment due × MayBeDue row.shown.value) → IsRowOf buses row → may_be_due row.shown.key.group ≡ false → o ≡ None
+  never_due : (row : Row) (o : Option ℕ) → row.due ≡ o → IfSome o (λ due. IsMoment due × MayFall row.shown.value) → IsRowOf buses row → may_be_due row.shown.key.group ≡ false → o ≡ None
   never_due row None is may of group = refl
   never_due row (Some due) is may of group = absurd (true≢false (sym (due_group row.shown.key.group row.shown.key.port row.shown.value may.1 of.shown.value) ∙ group))
 

@@ -6,7 +6,7 @@ use Rattle.srcp_info.specs.WellFormed.{IsWellFormed}
 use Rattle.srcp_info.specs.declared.change.Change.{Change}
 use Rattle.srcp_rules.specs.declared.layout.Bus.{Bus}
 use Rattle.srcp_rules.specs.State.{State, Update, IsWhole, updated, updated_all}
-use Rattle.srcp_rules.proofs.ToldLaws.{AreTold}
+use Rattle.srcp_rules.specs.Laws.{CanBeTold}
 use Rattle.srcp_core.specs.Held.{Place}
 use Rattle.srcp_core.specs.Machine.{told_all, told_each}
 
@@ -15,7 +15,7 @@ change_in update = update.change
 
 module _ (buses : List Bus) (brings : State → List Update)
     (later : (state : State) → IsWhole buses state → (update : Update) (updates : List Update) → brings state ≡ update ∷ updates → IsWhole buses (updated update state) × (brings (updated update state) ≡ updates))
-    (tells : (state : State) → IsWhole buses state → AreTold (brings state))
+    (tells : (state : State) → IsWhole buses state → CanBeTold (brings state))
   where
     -- after the first of the changes that a registry brings
     pub record GoesOn (state : State) (change : Change) (new : State) (places : List (Option Place)) : Type 0 where
@@ -29,7 +29,7 @@ module _ (buses : List Bus) (brings : State → List Update)
         → new ≡ option_map_or (λ update. updated update state) (slice_get (brings state) 0) state → GoesOn state change new places
     goes_on state whole change new places is after = by (brings state) refl (tells state whole) is after
       where
-        by : (updates : List Update) → brings state ≡ updates → AreTold updates → Some change ≡ option_map change_in (slice_get updates 0)
+        by : (updates : List Update) → brings state ≡ updates → CanBeTold updates → Some change ≡ option_map change_in (slice_get updates 0)
             → new ≡ option_map_or (λ update. updated update state) (slice_get updates 0) state → GoesOn state change new places
         by [] e t is after = let bad : Some change ≡ None = is in cc
         by (update ∷ updates) e t is after =

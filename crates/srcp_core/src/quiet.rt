@@ -1,7 +1,8 @@
 //! The rows of a registry with a moment before which no row is due, so that until then they need not be walked.
 ghost use Rattle.std.specs.Prelude.{◌≡◌, true, []};
 ghost use Rattle.srcp_core.specs.Quiet.{sooner, soonest};
-ghost use Rattle.srcp_rules.specs.Due.{due, may_be_due, past};
+ghost use Rattle.srcp_rules.specs.Due.{due};
+ghost use Rattle.srcp_rules.specs.Sought.{may_be_due, past};
 ghost use Rattle.srcp_rules.specs.State.{IsWhole};
 
 use srcp_info::{Cursor, Device, Group, Key, Row};

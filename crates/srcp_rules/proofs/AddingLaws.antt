@@ -11,10 +11,10 @@ use Rattle.srcp_info.specs.Key.{first_key}
 use Rattle.srcp_info.specs.WellFormed.{IsMoment}
 use Rattle.srcp_rules.specs.declared.layout.Bus.{Bus}
 use Rattle.srcp_rules.specs.Layout.{row_count, rows_if, is_within}
-use Rattle.srcp_rules.specs.State.{State, IsWhole, IsRowOf, has_row, is_there, key_at, session_device}
-use Rattle.srcp_rules.specs.Effect.{row_put}
+use Rattle.srcp_rules.specs.State.{State, IsWhole, IsRowOf, has_row, is_there, key_at, session_device, row_put}
 use Rattle.srcp_rules.specs.Rows.{AreNewRowsOf}
 use Rattle.srcp_rules.proofs.StepLaws.{IsRowOf-put}
+use Rattle.srcp_rules.proofs.LayoutLaws.{within}
 
 -- a device of the layout that is not there has no row
 pub none_there : (buses : List Bus) (state : State) → IsWhole buses state → (device : Device) → is_there device state ≡ false → 0 < row_count buses device → (port : ℕ) → has_row (key_at device port) state ≡ false
@@ -25,9 +25,6 @@ none_there buses state whole device absent some port = by (has_row (key_at devic
     by false e = refl
 
 -- ---- sessions
-
-within : (least most n : ℕ) → least ≤ n → n ≤ most → is_within least most n ≡ true
-within least most n low high = λ i. le-leb least n low i && le-leb n most high i
 
 -- each id is one of a device with one row
 pub session_rows : (buses : List Bus) (session : ℕ) → 1 ≤ session → session ≤ 4294967295 → row_count buses (session_device session) ≡ 1

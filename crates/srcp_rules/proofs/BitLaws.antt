@@ -1,7 +1,7 @@
 -- Functions that are read one by one.
 use Rattle.std.specs.Prelude.{◌≡◌, ℕ, ◌+◌, Bool, List, [], ◌∷◌, ◌++◌, length, Result, Ok, Err, IfOk}
 use Rattle.std.proofs.Common.{refl, arith, length-append}
-use Rattle.std.proofs.lemmas.List.{append-nil, append_assoc}
+use Rattle.std.proofs.lemmas.List.{append_assoc}
 use Rattle.srcp_info.specs.declared.change.Code.{Code}
 use Rattle.srcp_rules.specs.Grammar.{◌>>=◌, and_bit, bit_of, bits_of}
 
@@ -11,14 +11,6 @@ and_bits before words = do
   bits ← before
   others ← bits_of words
   Ok (bits ++ others)
-
--- none before
-pub and_bits-none : (words : List (List ℕ)) → bits_of words ≡ and_bits (Ok []) words
-and_bits-none words = by (bits_of words)
-  where
-    by : (r : Result (List Bool) Code) → r ≡ (r >>= (λ others. Ok ([] ++ others)))
-    by (Ok others) = refl
-    by (Err code) = refl
 
 -- one word after another
 pub and_bits-cons : (before : Result (List Bool) Code) (word : List ℕ) (words : List (List ℕ)) → and_bits before (word ∷ words) ≡ and_bits (and_bit before word) words
@@ -30,11 +22,6 @@ and_bits-cons (Ok bits) word words = by (bit_of word) (bits_of words)
     by (Ok bit) (Err code) = refl
     by (Err code) others = refl
 and_bits-cons (Err code) word words = refl
-
--- no word left
-pub and_bits-end : (before : Result (List Bool) Code) → and_bits before [] ≡ before
-and_bits-end (Ok bits) = rw append-nil
-and_bits-end (Err code) = refl
 
 -- each word is one bit
 pub and_bit-length : (count : ℕ) (before : Result (List Bool) Code) (word : List ℕ) → IfOk before (λ bits. length bits ≡ count) → IfOk (and_bit before word) (λ bits. length bits ≡ count + 1)

@@ -2,7 +2,7 @@
 use Rattle.std.specs.Prelude.{◌≡◌, ℕ, ◌<◌, ◌≤◌, Bool, true, false, ◌||◌, ◌==◌, nat_lt, List, [], ◌∷◌, ◌++◌, length, map, filter, find, insert, is_some, cond, slice_index_or, Option, Some}
 use Rattle.std.proofs.Common.{refl, sym, ◌∙◌, true≢false, arith}
 use Rattle.std.specs.Cmp.{nat_cmp_is}
-use Rattle.std.specs.List.{AllByRecursion}
+use Rattle.std.specs.List.{AllByRecursion, list_any}
 use Rattle.std.specs.List.Sorted.{IsStrictlySortedBy, IsPartitionPoint, IsPartitionedBy}
 use Rattle.std.specs.Ordering.{nat_cmp}
 use Rattle.std.specs.declared.cmp.Ordering.TheVariants.{Less}
@@ -22,10 +22,14 @@ found_step : (b o : Bool) (bus : Bus) (r : Option Bus) → o ≡ is_some r → (
 found_step true o bus r e = refl
 found_step false o bus r e = e
 
+-- one has the number where it is found
+any_found : (buses : List Bus) (n : ℕ) → list_any (λ bus. bus.number == n) buses ≡ has_number buses n
+any_found [] n = refl
+any_found (bus ∷ buses) n = found_step (bus.number == n) (list_any (λ other. other.number == n) buses) bus (find (λ other. other.number == n) buses) (any_found buses n)
+
 -- a bus of a number is there where it is found
 pub has_number-found : (buses : List Bus) (n : ℕ) → has_number buses n ≡ is_some (find (λ bus. bus.number == n) buses)
-has_number-found [] n = refl
-has_number-found (bus ∷ buses) n = found_step (bus.number == n) (has_number buses n) bus (find (λ other. other.number == n) buses) (has_number-found buses n)
+has_number-found buses n = refl
 
 rises_sorted : (bs : List Bus) → Rising bs → IsStrictlySortedBy nat_cmp (map (λ bus. bus.number) bs)
 unfolding IsStrictlySortedBy
@@ -88,7 +92,7 @@ module _ (bus : Bus) where
       let no_high = front_each (λ other. above other ≡ false) buses place h (λ k d a b. not_above (slice_index_or buses k d) (parted.0 k d a b)) in
       let no_low = back_each (λ other. below other ≡ false) buses place parted.1 in
       let high = back_each (λ other. above other ≡ true) buses place
-      (λ k d a b. then_above (slice_index_or buses k d) (parted.1 k d a b) (λ e. true≢false (sym (list_any_at (λ other. other.number == bus.number) buses k d b e) ∙ free))) in
+      (λ k d a b. then_above (slice_index_or buses k d) (parted.1 k d a b) (λ e. true≢false (sym (list_any_at (λ other. other.number == bus.number) buses k d b e) ∙ any_found buses bus.number ∙ free))) in
       λ i. sym (filter_front below buses place low no_low) i ++ bus ∷ sym (filter_back above buses place no_high high) i
 
   -- it is a layout again

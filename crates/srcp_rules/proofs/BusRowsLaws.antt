@@ -28,7 +28,7 @@ use Rattle.srcp_rules.proofs.ListedLaws.{IsTagged, each-listed, row_at-listed}
 use Rattle.srcp_rules.proofs.KeyLaws.{same_key, same_key-true}
 use Rattle.srcp_rules.proofs.StateLaws.{row_key}
 use Rattle.srcp_rules.proofs.OrderLaws.{address_order, group_order, owns-other}
-use Rattle.srcp_rules.proofs.TaggedLaws.{listed-put_row, listed-put_rows, listed-same, listed-without, listed-without_none}
+use Rattle.srcp_rules.proofs.TaggedLaws.{listed-put_row, listed-put_rows, listed-without, listed-without_none}
 use Rattle.srcp_rules.proofs.DeviceLaws.{devices_in_group, whole}
 
 abbrev place_of : Key → ℕ
@@ -192,11 +192,6 @@ module _ (bus : ℕ) where
         ap device_rows with_group.0
         ∙ listed-put_rows whole place_of OnBus in_order (group_place g) added
         (placed g added (each-weaken {P = λ row. IsIn bus g row.shown.key × (row.shown.key.address ≡ address)} (λ row t. t.0) added new.each)) (by_place rows) tagged (places_rise rows) (group_rows rows g) (group_rows after g) with_group.1 is
-
-    pub same-group : (g : Group) (after : BusRows) → WithGroup g after → group_rows after g ≡ group_rows rows g → bus_rows after ≡ bus_rows rows
-    same-group g after with_group is =
-        ap device_rows with_group.0
-        ∙ listed-same whole place_of OnBus in_order (group_place g) (by_place rows) tagged (places_rise rows) (group_rows rows g) (group_rows after g) with_group.1 is
 
     -- a device does not own rows of another group
     apart : (device : Device) (key : Key) → (place_of key ≡ group_place device.group → ⊥) → owns device key ≡ false

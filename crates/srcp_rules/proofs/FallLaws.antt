@@ -17,12 +17,13 @@ use Rattle.srcp_rules.specs.declared.layout.Bus.{Bus}
 use Rattle.srcp_rules.specs.declared.command.Lockable.{Lockable}
 use Rattle.srcp_rules.specs.declared.command.Lockable.TheVariants as lockable
 use Rattle.srcp_rules.specs.declared.command.Command.TheVariants.{SetGa, SetLock}
-use Rattle.srcp_rules.specs.State.{State, Update, IsWhole, IsRowOf, MayBeDue, row_at, key_at, device_in, lock_on, updated, updated_all}
-use Rattle.srcp_rules.specs.Effect.{effect, done, unless_refused, refusals, put_at, row_put, port_end, lock_end, moment_after}
+use Rattle.srcp_rules.specs.State.{State, Update, IsWhole, IsRowOf, MayFall, row_at, key_at, device_in, lock_on, updated, updated_all, row_put}
+use Rattle.srcp_rules.specs.Effect.{effect, done, unless_refused, refusals, put_at, port_end, lock_end, moment_after}
 use Rattle.srcp_rules.specs.Due.{due, due_change, is_due}
 use Rattle.srcp_rules.specs.Obeyed.{MayObey}
 use Rattle.srcp_rules.specs.Laws.{EndsInTime, comes_to, fallen}
-use Rattle.srcp_rules.proofs.KeyLaws.{same_key, same_key-true, owns-true}
+use Rattle.srcp_rules.proofs.KeyLaws.{same_key, same_key-true}
+use Rattle.srcp_info.proofs.KeyLaws.{device_from_owns}
 use Rattle.srcp_rules.proofs.FindLaws.{each_filtered, each_unfiltered, found_holds}
 use Rattle.srcp_rules.proofs.StateLaws.{row_at-put_row, row_at-put_same, row_at-without, row_at_key, each_found}
 use Rattle.srcp_rules.proofs.DueLaws.{due_may}
@@ -64,7 +65,7 @@ module _ (buses : List Bus) (moment : ℕ) (now : IsMoment moment) where
     -- a row of its device is its own
     same_lock : (row other : Row) (key : Key) → Known row → is_lock row.shown.key.group ≡ true → owns (device_of row.shown.key) key ≡ true → row_at key state ≡ Some other → other ≡ row
     same_lock row other key k lock e h =
-        let device : device_of key ≡ device_of row.shown.key = owns-true (device_of row.shown.key) key e in
+        let device : device_of key ≡ device_of row.shown.key = device_from_owns (device_of row.shown.key) key e in
         let at_key : other.shown.key ≡ key = row_at_key key state other h in
         let its : is_lock other.shown.key.group ≡ true = ap (λ q. is_lock q.group) at_key ∙ ap (λ d. is_lock d.group) device ∙ lock in
         let port : key.port ≡ row.shown.key.port =
@@ -87,7 +88,7 @@ module _ (buses : List Bus) (moment : ℕ) (now : IsMoment moment) where
     -- ---- any row that is due
 
     -- to carry it out leaves what the moment makes of each row
-    step_by : (row : Row) → Known row → is_due moment row ≡ true → (shows : Value) → row.shown.value ≡ shows → MayBeDue shows → (key : Key)
+    step_by : (row : Row) → Known row → is_due moment row ≡ true → (shows : Value) → row.shown.value ≡ shows → MayFall shows → (key : Key)
         → fate (row_at key (updated (due_change moment row.shown.key shows) state)) ≡ fate (row_at key state)
     step_by row k now_due (value.Session mode) same may key = absurd may
     step_by row k now_due (value.Power on text) same may key = absurd may

@@ -13,8 +13,8 @@ use Rattle.srcp_rules.specs.declared.layout.Bus.{Bus}
 use Rattle.srcp_rules.specs.declared.command.Lockable.TheVariants as lockable
 use Rattle.srcp_rules.specs.declared.command.Command.TheVariants.{InitGl, InitGa}
 use Rattle.srcp_rules.specs.Layout.{row_count}
-use Rattle.srcp_rules.specs.State.{State, IsRowOf, device_in, key_at, put_of}
-use Rattle.srcp_rules.specs.Effect.{row_put, put_at, fresh_ga}
+use Rattle.srcp_rules.specs.State.{State, IsRowOf, device_in, key_at, put_of, row_put}
+use Rattle.srcp_rules.specs.Effect.{put_at, fresh_ga}
 use Rattle.srcp_rules.specs.Obeyed.{MayObey}
 use Rattle.srcp_rules.specs.Rows.{AreRowsOf}
 use Rattle.srcp_rules.proofs.StepLaws.{IsRowOf-put}

@@ -18,18 +18,15 @@ use Rattle.srcp_rules.proofs.StateLaws.{row_at-without, updated_all-append}
 use Rattle.srcp_rules.proofs.StepLaws.{lock_on_gone}
 use Rattle.srcp_rules.proofs.AddingLaws.{none_there}
 use Rattle.srcp_rules.proofs.PutRowsLaws.{updated_all-puts, put_rows-without}
+use Rattle.std.proofs.Math.Bool.{and-false}
 
 abbrev change_of : Update → Change
 change_of update = update.change
 
-and_false : (b : Bool) → (b && false) ≡ false
-and_false true = refl
-and_false false = refl
-
 -- a lock is none of its device's rows
 lock_apart : (g : Lockable) (bus address : ℕ) → owns (lock_on g bus address) (first_key (device_in g bus address)) ≡ false
-lock_apart lockable.Gl bus address = and_false _
-lock_apart lockable.Ga bus address = and_false _
+lock_apart lockable.Gl bus address = and-false _
+lock_apart lockable.Ga bus address = and-false _
 
 module _ (buses : List Bus) (state : State) (whole : IsWhole buses state) (moment : ℕ) (g : Lockable) (bus address : ℕ) where
   abbrev lock_gone : Bool → List Update

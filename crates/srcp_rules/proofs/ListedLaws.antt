@@ -20,6 +20,7 @@ use Rattle.srcp_info.specs.declared.change.Row.{Row}
 use Rattle.srcp_info.specs.declared.change.Cursor.{Cursor}
 use Rattle.srcp_info.specs.Key.{has_reached}
 use Rattle.srcp_info.proofs.ClientLaws.{all_append, all_filter}
+use Rattle.srcp_info.proofs.KeyLaws.{nat_tie}
 use Rattle.srcp_rules.specs.State.{State, row_at, row_after}
 use Rattle.srcp_rules.proofs.KeyLaws.{same_key, same_key-true}
 use Rattle.srcp_rules.proofs.FindLaws.{each-weaken}
@@ -31,16 +32,21 @@ use Rattle.srcp_rules.proofs.PutLaws.{find_past, find_before, find_behind}
 below_of : (m n : ℕ) → nat_cmp m n ≡ Less → m < n
 below_of m n e = ranked m n Less (sym e)
 
-same_of : (m n : ℕ) → nat_cmp m n ≡ Equal → m ≡ n
-same_of m n e = ranked m n Equal (sym e)
-
 above_of : (m n : ℕ) → nat_cmp m n ≡ Greater → n < m
 above_of m n e = ranked m n Greater (sym e)
 
 tied : (m n : ℕ) (o : Ordering) → nat_cmp m n ≡ o → is_eq o ≡ true → m ≡ n
 tied m n Less e h = absurd (true≢false (sym h))
-tied m n Equal e h = same_of m n e
+tied m n Equal e h = nat_tie m n e
 tied m n Greater e h = absurd (true≢false (sym h))
+
+pub unequal : (m n : ℕ) → m < n → n ≡ m → ⊥
+unequal m n h e = omega (arith, h, e)
+
+-- keys of two numbers are two
+pub other_key : (tag : Key → ℕ) (a b : Key) → (tag a ≡ tag b → ⊥) → (c : Bool) → same_key a b ≡ c → same_key a b ≡ false
+other_key tag a b h true e = absurd (h (ap tag (same_key-true a b e)))
+other_key tag a b h false e = e
 
 -- the test of a key finds it
 apart : (m n : ℕ) → is_eq (nat_cmp m n) ≡ false → m ≡ n → ⊥
@@ -60,7 +66,7 @@ module _ {X : Type 0} where
   module _ (Q : ℕ → X → Type 0) where
     found_step : (n : ℕ) (e : ℕ × X) (es : List (ℕ × X)) (x : X) (o : Ordering) → nat_cmp n e.0 ≡ o → Q e.0 e.1 → (entry_at n es ≡ Some x → Q n x) → cond (is_eq o) (Some e.1) (entry_at n es) ≡ Some x → Q n x
     found_step n e es x Less p a ih h = ih h
-    found_step n e es x Equal p a ih h = subst (λ k. Q k x) (sym (same_of n e.0 p)) (subst (Q e.0) (same_Some e.1 x h) a)
+    found_step n e es x Equal p a ih h = subst (λ k. Q k x) (sym (nat_tie n e.0 p)) (subst (Q e.0) (same_Some e.1 x h) a)
     found_step n e es x Greater p a ih h = ih h
 
     -- what holds of each entry holds of the one that is found
@@ -71,7 +77,7 @@ module _ {X : Type 0} where
     set_step : (n : ℕ) (e : ℕ × X) (es rest : List (ℕ × X)) (w : X) (o : Ordering) → nat_cmp n e.0 ≡ o → Q n w → Q e.0 e.1 → AllByRecursion (λ e. Q e.0 e.1) es → AllByRecursion (λ e. Q e.0 e.1) rest
         → AllByRecursion (λ e. Q e.0 e.1) (cond (is_eq o) ((e.0, w) ∷ es) (e ∷ rest))
     set_step n e es rest w Less p new a b ih = (a, ih)
-    set_step n e es rest w Equal p new a b ih = (subst (λ k. Q k w) (same_of n e.0 p) new, b)
+    set_step n e es rest w Equal p new a b ih = (subst (λ k. Q k w) (nat_tie n e.0 p) new, b)
     set_step n e es rest w Greater p new a b ih = (a, ih)
 
     -- each entry after one is set
@@ -91,7 +97,7 @@ module _ {X : Type 0} where
     insert_step : (n : ℕ) (e : ℕ × X) (es rest : List (ℕ × X)) (w : X) (o : Ordering) → nat_cmp n e.0 ≡ o → Q n w → Q e.0 e.1 → AllByRecursion (λ e. Q e.0 e.1) es → AllByRecursion (λ e. Q e.0 e.1) rest
         → AllByRecursion (λ e. Q e.0 e.1) (match_ordering o ((n, w) ∷ e ∷ es) ((e.0, w) ∷ es) (e ∷ rest))
     insert_step n e es rest w Less p new a b ih = (new, (a, b))
-    insert_step n e es rest w Equal p new a b ih = (subst (λ k. Q k w) (same_of n e.0 p) new, b)
+    insert_step n e es rest w Equal p new a b ih = (subst (λ k. Q k w) (nat_tie n e.0 p) new, b)
     insert_step n e es rest w Greater p new a b ih = (a, ih)
 
     -- and after one is inserted
@@ -131,20 +137,13 @@ module _ {X : Type 0} (rows : X → State) (tag : Key → ℕ) (P : Key → Type
 
   -- ---- looking up
 
-  other_key : (a b : Key) → (tag a ≡ tag b → ⊥) → (c : Bool) → same_key a b ≡ c → same_key a b ≡ false
-  other_key a b h true e = absurd (h (ap tag (same_key-true a b e)))
-  other_key a b h false e = e
-
   module _ (key : Key) where
     past_entry : (e : ℕ × X) → (tag key ≡ e.0 → ⊥) → IsTagged e → AllByRecursion (λ row. same_key row.shown.key key ≡ false) (rows e.1)
-    past_entry e h a = each-weaken {P = λ row. P row.shown.key × (tag row.shown.key ≡ e.0)} (λ row t. other_key row.shown.key key (λ p. h (sym p ∙ t.1)) (same_key row.shown.key key) refl) (rows e.1) a
+    past_entry e h a = each-weaken {P = λ row. P row.shown.key × (tag row.shown.key ≡ e.0)} (λ row t. other_key tag row.shown.key key (λ p. h (sym p ∙ t.1)) (same_key row.shown.key key) refl) (rows e.1) a
 
     past_rest : (es : List (ℕ × X)) → AllByRecursion IsTagged es → AllByRecursion (λ k. nat_cmp (tag key) k ≡ Less) (keys_of es) → AllByRecursion (λ row. same_key row.shown.key key ≡ false) (listed rows es)
     past_rest es a h =
-        each-weaken {P = λ row. P row.shown.key × (tag key < tag row.shown.key)} (λ row t. other_key row.shown.key key (λ p. unequal (tag key) (tag row.shown.key) t.1 p) (same_key row.shown.key key) refl) (listed rows es) (listed_above (tag key) es a h)
-      where
-        unequal : (m n : ℕ) → m < n → n ≡ m → ⊥
-        unequal m n h p = omega (arith, h, p)
+        each-weaken {P = λ row. P row.shown.key × (tag key < tag row.shown.key)} (λ row t. other_key tag row.shown.key key (λ p. unequal (tag key) (tag row.shown.key) t.1 p) (same_key row.shown.key key) refl) (listed rows es) (listed_above (tag key) es a h)
 
     row_at_step : (e : ℕ × X) (es : List (ℕ × X)) → IsTagged e → AllByRecursion IsTagged es → AllByRecursion (λ k. nat_cmp e.0 k ≡ Less) (keys_of es) → (row_at key (listed rows es) ≡ option_map_or (λ x. row_at key (rows x)) (entry_at (tag key) es) None)
         → (c : Bool) → is_eq (nat_cmp (tag key) e.0) ≡ c → row_at key (rows e.1 ++ listed rows es) ≡ option_map_or (λ x. row_at key (rows x)) (cond c (Some e.1) (entry_at (tag key) es)) None
@@ -194,7 +193,7 @@ module _ {X : Type 0} (rows : X → State) (tag : Key → ℕ) (P : Key → Type
     set_rows e es a b s x w is ih Less p h = absurd (none-some x (sym (none_above n es (above_trans n e.0 p (keys_of es) s)) ∙ h))
     set_rows e es a b s x w is ih Equal p h =
         ap (λ zs. zs ++ listed rows es) (is ∙ ap (λ y. op (rows y)) (sym (same_Some e.1 x h)))
-        ∙ sym (left (rows e.1) (listed rows es) (listed_above n es b (subst (λ m. AllByRecursion (λ k. nat_cmp m k ≡ Less) (keys_of es)) (sym (same_of n e.0 p)) s)))
+        ∙ sym (left (rows e.1) (listed rows es) (listed_above n es b (subst (λ m. AllByRecursion (λ k. nat_cmp m k ≡ Less) (keys_of es)) (sym (nat_tie n e.0 p)) s)))
     set_rows e es a b s x w is ih Greater p h = ap (λ zs. rows e.1 ++ zs) (ih h) ∙ sym (right (rows e.1) (listed rows es) (entry_below n e (above_of n e.0 p) a))
 
     -- a change where the number has an entry
@@ -227,13 +226,13 @@ module _ {X : Type 0} (rows : X → State) (tag : Key → ℕ) (P : Key → Type
         ∙ sym (untouched none (rows e.1 ++ listed rows es) (listed_above n (e ∷ es) (a, b) (p, rest)))
     remove_rows none e es a b s (inl gone) ih Equal p =
         ap (λ xs. xs ++ listed rows es) (sym gone)
-        ∙ sym (left (rows e.1) (listed rows es) (listed_above n es b (subst (λ m. AllByRecursion (λ k. nat_cmp m k ≡ Less) (keys_of es)) (sym (same_of n e.0 p)) s)))
-    remove_rows none e es a b s (inr other) ih Equal p = absurd (other (same_of n e.0 p))
+        ∙ sym (left (rows e.1) (listed rows es) (listed_above n es b (subst (λ m. AllByRecursion (λ k. nat_cmp m k ≡ Less) (keys_of es)) (sym (nat_tie n e.0 p)) s)))
+    remove_rows none e es a b s (inr other) ih Equal p = absurd (other (nat_tie n e.0 p))
     remove_rows none e es a b s gone ih Greater p = ap (λ zs. rows e.1 ++ zs) ih ∙ sym (right (rows e.1) (listed rows es) (entry_below n e (above_of n e.0 p) a))
 
     gone_or : (e : ℕ × X) → (n ≡ e.0 → op (rows e.1) ≡ []) → (o : Ordering) → nat_cmp n e.0 ≡ o → op (rows e.1) ≡ [] ⊎ (n ≡ e.0 → ⊥)
     gone_or e h Less p = inr (apart n e.0 (ap is_eq p))
-    gone_or e h Equal p = inl (h (same_of n e.0 p))
+    gone_or e h Equal p = inl (h (nat_tie n e.0 p))
     gone_or e h Greater p = inr (apart n e.0 (ap is_eq p))
 
     -- a change that leaves no row of the number

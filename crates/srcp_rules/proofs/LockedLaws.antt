@@ -11,7 +11,7 @@ use Rattle.srcp_info.specs.declared.change.Change.TheVariants.{Put, Gone}
 use Rattle.srcp_info.specs.declared.change.Code.TheVariants.{C414, C415, C416, C418}
 use Rattle.srcp_info.specs.declared.change.Reply.TheVariants.{Accepted}
 use Rattle.srcp_info.specs.Key.{group_place, first_key, key_of, owns}
-use Rattle.srcp_info.proofs.KeyLaws.{owns-device_of}
+use Rattle.srcp_info.proofs.KeyLaws.{owns-device_of, device_from_owns}
 use Rattle.srcp_info.proofs.ClientLaws.{all_append}
 use Rattle.srcp_rules.specs.declared.command.Lockable.{Lockable}
 use Rattle.srcp_rules.specs.declared.command.Lockable.TheVariants as lockable
@@ -21,7 +21,7 @@ use Rattle.srcp_rules.specs.State.{State, Update, row_at, is_there, key_at, sess
 use Rattle.srcp_rules.specs.Command.{kept_v}
 use Rattle.srcp_rules.specs.Effect.{effect, refused, done, refusals, is_locked, put_at, gone_at, removal, removals, lock_end, port_end, set_gl, set_ga, set_lock, fresh_gl, fresh_ga, init_device, has_init, functions_after, term_device, term_session}
 use Rattle.srcp_rules.specs.Laws.{IsKept}
-use Rattle.srcp_rules.proofs.KeyLaws.{same_key, same_key-true, owns-true}
+use Rattle.srcp_rules.proofs.KeyLaws.{same_key, same_key-true}
 use Rattle.srcp_rules.proofs.StateLaws.{row_at-put_other, row_at-without}
 use Rattle.srcp_rules.proofs.StepLaws.{device_group-injective}
 use Rattle.srcp_rules.proofs.EffectLaws.{accepted_updates, checked_updates, showing_updates, choice_updates}
@@ -37,7 +37,7 @@ put_apart device key port h false e = refl
 
 gone_apart : (device other : Device) (port : ℕ) → owns device (first_key other) ≡ false → (b : Bool) → owns other (key_at device port) ≡ b → b ≡ false
 gone_apart device other port h true e =
-    let same : device ≡ other = owns-true other (key_at device port) e in
+    let same : device ≡ other = device_from_owns other (key_at device port) e in
     absurd (true≢false (sym (owns-device_of (first_key device)) ∙ ap (λ d. owns device (first_key d)) same ∙ h))
 gone_apart device other port h false e = refl
 
@@ -119,7 +119,7 @@ module _ (state : State) (session moment : ℕ) (g : Lockable) (bus address : �
     where
       by : (c : Bool) → owns (device_in g bus address) (first_key (device_in h b a)) ≡ c → c ≡ false
       by true e =
-          let same : device_in h b a ≡ device_in g bus address = owns-true (device_in g bus address) (first_key (device_in h b a)) e in
+          let same : device_in h b a ≡ device_in g bus address = device_from_owns (device_in g bus address) (first_key (device_in h b a)) e in
           let kinds : h ≡ g = device_group-injective h g (ap (λ d. d.group) same) in
           let too : is_locked state session h b a ≡ is_locked state session g bus address = λ i. is_locked state session (kinds i) ((same i).bus) ((same i).address) in
           absurd (true≢false (sym locked ∙ sym too ∙ unlocked))

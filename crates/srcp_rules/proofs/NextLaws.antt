@@ -13,16 +13,19 @@ use Rattle.srcp_info.specs.Key.{device_of, first_key, key_of, has_reached}
 use Rattle.srcp_info.specs.WellFormed.{IsMoment, IsValueAt, IsWellFormed}
 use Rattle.srcp_rules.specs.declared.layout.Bus.{Bus}
 use Rattle.srcp_rules.specs.declared.next.Sought.TheVariants as sought
-use Rattle.srcp_rules.specs.State.{State, Update, AddsNoRow, IsWhole, IsRowOf, MayBeDue, row_at, is_there, session_device, updated}
+use Rattle.srcp_rules.specs.State.{State, Update, AddsNoRow, IsWhole, IsRowOf, MayFall, row_at, is_there, session_device, updated}
 use Rattle.srcp_rules.specs.Effect.{gone_at}
-use Rattle.srcp_rules.specs.Due.{due_after, due_change, is_due, is_held_by, freed, sought_after}
-use Rattle.srcp_rules.proofs.FindLaws.{found_holds, find_passes, find_same, each-weaken}
+use Rattle.srcp_rules.specs.Due.{due_after, due_change, is_due, is_held_by, freed}
+use Rattle.srcp_rules.specs.Sought.{sought_after}
+use Rattle.srcp_rules.proofs.FindLaws.{found_holds, find_same, each-weaken}
+use Rattle.srcp_info.proofs.ListingLaws.{find_passes}
 use Rattle.srcp_rules.proofs.StateLaws.{row_at_key, each_found}
 use Rattle.srcp_rules.proofs.SoughtLaws.{find-both}
 use Rattle.srcp_rules.proofs.DueLaws.{due_may, due_step}
-use Rattle.srcp_rules.proofs.ToldLaws.{AreTold, change_told, freed_told}
+use Rattle.srcp_rules.proofs.ToldLaws.{change_told, freed_told}
 use Rattle.srcp_rules.proofs.FreedStepLaws.{freed_later}
 use Rattle.srcp_rules.proofs.AddsNoRowLaws.{AddsNoRow-from_put, due_put}
+use Rattle.srcp_rules.specs.Laws.{CanBeTold}
 
 module _ {X Y : Type 0} (f : X → Y) where
   find-map : (t : Y → Bool) (xs : List X) → find t (map f xs) ≡ option_map f (find (λ x. t (f x)) xs)
@@ -38,7 +41,7 @@ lock_key : (key : Key) → key.port ≡ 0 → first_key (device_of key) ≡ key
 lock_key key h = λ i. record { bus = key.bus; group = key.group; address = key.address; port = sym h i }
 
 -- the change that a row brings stands at the row
-pub change_key : (moment : ℕ) (key : Key) (shows : Value) → MayBeDue shows → IsValueAt key.group key.port shows → key_of (due_change moment key shows).change ≡ key
+pub change_key : (moment : ℕ) (key : Key) (shows : Value) → MayFall shows → IsValueAt key.group key.port shows → key_of (due_change moment key shows).change ≡ key
 change_key moment key (value.Session mode) may fits = absurd may
 change_key moment key (value.Power on text) may fits = absurd may
 change_key moment key (value.GlInit letter version steps functions) may fits = absurd may
@@ -97,7 +100,7 @@ module _ (buses : List Bus) (state : State) (whole : IsWhole buses state) (momen
       row_due : is_due moment row ≡ true
       row_due = second_so (not (has_reached cursor row.shown.key)) (is_due moment row) (find_passes Test state row found)
 
-      pub row_may : MayBeDue row.shown.value
+      pub row_may : MayFall row.shown.value
       row_may = due_may moment row row.due refl row_known.0.due row_due
 
       -- it is there, and the registry is whole after its change
@@ -151,11 +154,11 @@ module _ (state : State) (session moment : ℕ) where
       → IsWhole buses (updated update state) × IsWellFormed update.change
   freed_step buses whole now update later e = (
     (freed_later buses state whole moment session update later e).0,
-    (subst AreTold e (freed_told buses state whole moment now session)).0,
+    (subst CanBeTold e (freed_told buses state whole moment now session)).0,
   )
 
 -- a value that may be due and is no lock is a port
-pub port_value : (shows : Value) → MayBeDue shows → ((seconds session : ℕ) → shows ≡ value.Lock seconds session → ⊥) → (on : Bool) × (shows ≡ value.GaPort on)
+pub port_value : (shows : Value) → MayFall shows → ((seconds session : ℕ) → shows ≡ value.Lock seconds session → ⊥) → (on : Bool) × (shows ≡ value.GaPort on)
 port_value (value.Session mode) may other = absurd may
 port_value (value.Power on text) may other = absurd may
 port_value (value.GlInit letter version steps functions) may other = absurd may

@@ -1,6 +1,7 @@
 -- What is refused and what is accepted of a command, and the rows that it sets.
 use Rattle.std.specs.Prelude.{◌≡◌, ℕ, ◌+◌, ◌≤◌, Bool, true, false, not, cond, List, [], ◌∷◌, length, Option, Some, None, Err}
 use Rattle.std.proofs.Common.{refl, ap, arith}
+use Rattle.std.specs.Result.{result_err}
 use Rattle.srcp_info.specs.declared.key.Device.{Device}
 use Rattle.srcp_info.specs.declared.change.Code.{Code}
 use Rattle.srcp_info.specs.declared.change.Code.TheVariants.{C416}
@@ -13,9 +14,9 @@ use Rattle.srcp_rules.specs.Command.{kept_v}
 use Rattle.srcp_rules.specs.declared.command.Lockable.{Lockable}
 use Rattle.srcp_rules.specs.declared.command.Lockable.TheVariants as lockable
 use Rattle.srcp_rules.specs.declared.command.Command.TheVariants.{SetPower, SetGl, SetGa, SetFb, SetLock}
-use Rattle.srcp_rules.specs.State.{State, Update, IsRowOf, IsWhole, has_row, row_at, is_there, key_at, power_device, fb_device, device_in, lock_on, functions_of}
-use Rattle.srcp_rules.specs.Effect.{done, checked, refused, accepted, unless_refused, row_put, lock_end, port_end, functions_after}
-use Rattle.srcp_rules.specs.Obeyed.{MayObey, first_refusal, refused_or_not}
+use Rattle.srcp_rules.specs.State.{State, Update, IsRowOf, IsWhole, has_row, row_at, is_there, key_at, power_device, fb_device, device_in, lock_on, functions_of, row_put}
+use Rattle.srcp_rules.specs.Effect.{done, checked, first_refusal, refused, refused_or_not, accepted, unless_refused, lock_end, port_end, functions_after}
+use Rattle.srcp_rules.specs.Obeyed.{MayObey}
 use Rattle.srcp_rules.proofs.EffectLaws.{NoneApplies, lock_value, lock_end_fits, port_end_fits, is_not, found_few, as_many}
 use Rattle.srcp_rules.proofs.StepLaws.{IsRowOf-put}
 
@@ -25,7 +26,7 @@ pub refused_done : (refusals : List (Bool × Code)) (updates : List Update) (cod
 refused_done [] updates code e = let bad : Some code ≡ None = e in absurd (let f : ⊥ = cc in f)
 refused_done (refusal ∷ others) updates code e = by refusal.0 (refused_done others updates code) e
   where
-    by : (b : Bool) → (Some code ≡ first_refusal others → refused code ≡ done (unless_refused others updates)) → Some code ≡ cond b (Some refusal.1) (first_refusal others)
+    by : (b : Bool) → (Some code ≡ first_refusal others → refused code ≡ done (unless_refused others updates)) → Some code ≡ result_err (cond b (Err refusal.1) (unless_refused others []))
         → refused code ≡ done (cond b (Err refusal.1) (unless_refused others updates))
     by true later e = let same : code ≡ refusal.1 = cc in ap refused same
     by false later e = later e
@@ -34,7 +35,7 @@ pub accepted_done : (refusals : List (Bool × Code)) (updates : List Update) →
 accepted_done [] updates e = refl
 accepted_done (refusal ∷ others) updates e = by refusal.0 (accepted_done others updates) e
   where
-    by : (b : Bool) → (None ≡ first_refusal others → accepted updates ≡ done (unless_refused others updates)) → None ≡ cond b (Some refusal.1) (first_refusal others)
+    by : (b : Bool) → (None ≡ first_refusal others → accepted updates ≡ done (unless_refused others updates)) → None ≡ result_err (cond b (Err refusal.1) (unless_refused others []))
         → accepted updates ≡ done (cond b (Err refusal.1) (unless_refused others updates))
     by true later e = cc
     by false later e = later e
@@ -43,7 +44,7 @@ pub none_applies : (refusals : List (Bool × Code)) → None ≡ first_refusal r
 none_applies [] e = tt
 none_applies (refusal ∷ others) e = by refusal.0 refl (none_applies others) e
   where
-    by : (b : Bool) → refusal.0 ≡ b → (None ≡ first_refusal others → NoneApplies others) → None ≡ cond b (Some refusal.1) (first_refusal others) → (refusal.0 ≡ false) × NoneApplies others
+    by : (b : Bool) → refusal.0 ≡ b → (None ≡ first_refusal others → NoneApplies others) → None ≡ result_err (cond b (Err refusal.1) (unless_refused others [])) → (refusal.0 ≡ false) × NoneApplies others
     by true t later e = absurd (let f : ⊥ = cc in f)
     by false t later e = (t, later e)
 
@@ -53,7 +54,7 @@ checked_is [] updates = refl
 checked_is (refusal ∷ others) updates = by refusal.0 (checked_is others updates)
   where
     by : (b : Bool) → refused_or_not (first_refusal others) ≡ checked (unless_refused others updates)
-        → refused_or_not (cond b (Some refusal.1) (first_refusal others)) ≡ checked (cond b (Err refusal.1) (unless_refused others updates))
+        → refused_or_not (result_err (cond b (Err refusal.1) (unless_refused others []))) ≡ checked (cond b (Err refusal.1) (unless_refused others updates))
     by true later = refl
     by false later = later
 

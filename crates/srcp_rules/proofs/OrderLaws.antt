@@ -8,10 +8,9 @@ use Rattle.srcp_info.specs.declared.key.Group.{Group}
 use Rattle.srcp_info.specs.declared.key.Key.{Key}
 use Rattle.srcp_info.specs.declared.key.Device.{Device}
 use Rattle.srcp_info.specs.Key.{group_place, group_cmp, key_cmp, device_of, owns}
-use Rattle.srcp_info.proofs.KeyLaws.{owns-device_of}
+use Rattle.srcp_info.proofs.KeyLaws.{owns-device_of, device_from_owns}
 use Rattle.srcp_rules.specs.State.{key_at}
 use Rattle.srcp_rules.specs.Nested.{IsIn}
-use Rattle.srcp_rules.proofs.KeyLaws.{owns-true}
 
 -- ---- numbers
 
@@ -52,7 +51,7 @@ port_order device p q h =
 -- ---- what a device owns
 
 owned_by : (device : Device) (key : Key) → (device_of key ≡ device → ⊥) → (c : Bool) → owns device key ≡ c → owns device key ≡ false
-owned_by device key h true e = absurd (h (owns-true device key e))
+owned_by device key h true e = absurd (h (device_from_owns device key e))
 owned_by device key h false e = e
 
 pub owns-other : (device : Device) (key : Key) → (device_of key ≡ device → ⊥) → owns device key ≡ false

@@ -1,8 +1,7 @@
 -- Past the rest of a group that has none of the rows that count.
 use Rattle.std.specs.Prelude.{◌≡◌, ℕ, ◌≤◌, ◌<◌, Bool, true, false, not, ◌&&◌, cond, List, [], ◌∷◌, length, filter, Some}
 use Rattle.std.proofs.Common.{refl, sym, ap, ◌∙◌, true≢false, arith}
-use Rattle.std.specs.Cmp.{nat_cmp_is}
-use Rattle.std.proofs.lemmas.Cmp.{ranked}
+use Rattle.std.proofs.lemmas.Cmp.{nat_cmp_total, ranked, tied_itself}
 use Rattle.std.specs.List.{AllByRecursion}
 use Rattle.std.specs.Ordering.{nat_cmp, ordering_then, is_gt}
 use Rattle.std.specs.declared.cmp.Ordering.{Ordering}
@@ -22,12 +21,13 @@ use Rattle.srcp_info.proofs.KeyLaws.{key_tie}
 use Rattle.srcp_rules.specs.declared.layout.Bus.{Bus}
 use Rattle.srcp_rules.specs.declared.next.Sought.{Sought}
 use Rattle.srcp_rules.specs.declared.next.Sought.TheVariants as sought
-use Rattle.srcp_rules.specs.Due.{is_sought, last_of_group, may_be_due, may_be_in, past, sought_after}
-use Rattle.srcp_rules.specs.State.{State, IsRising, IsRowOf, IsWhole, MayBeDue, row_after}
+use Rattle.srcp_rules.specs.Sought.{is_sought, last_of_group, may_be_due, may_be_in, past, sought_after}
+use Rattle.srcp_rules.specs.State.{State, IsRising, IsRowOf, IsWhole, MayFall, row_after}
 use Rattle.srcp_rules.proofs.DueLaws.{due_may, held_value}
 use Rattle.srcp_rules.proofs.FindLaws.{each-weaken, find_same, found_holds}
 use Rattle.srcp_rules.proofs.StateLaws.{each_found}
 use Rattle.srcp_rules.proofs.SoughtLaws.{beyond, fewer_beyond, sought_later}
+use Rattle.std.proofs.Math.Bool.{and-false}
 
 -- ---- where rows that count may be
 
@@ -41,7 +41,7 @@ due_lock group.LockGl e = refl
 due_lock group.LockGa e = refl
 
 -- a row that may be due is of one of these groups
-pub due_group : (g : Group) (port : ℕ) (shows : Value) → MayBeDue shows → IsValueAt g port shows → may_be_due g ≡ true
+pub due_group : (g : Group) (port : ℕ) (shows : Value) → MayFall shows → IsValueAt g port shows → may_be_due g ≡ true
 due_group g port (value.Session mode) may fits = absurd may
 due_group g port (value.Power on text) may fits = absurd may
 due_group g port (value.GlInit letter version steps functions) may fits = absurd may
@@ -84,9 +84,6 @@ apart_cmp other key apart = by_bus (nat_cmp other.bus key.bus)
     by_bus Equal = by_group (group_cmp other.group key.group) refl
     by_bus Greater = refl
 
-itself : (n : ℕ) → nat_cmp n n ≡ Equal
-itself n = sym (nat_cmp_is n n Equal refl)
-
 within : (n most : ℕ) → n ≤ most → (o : Ordering) → nat_cmp n most ≡ o → is_gt o ≡ false
 within n most h Less e = refl
 within n most h Equal e = refl
@@ -95,7 +92,7 @@ within n most h Greater e = let above : most < n = ranked n most Greater (sym e)
 -- no key of the group is above it
 last_above : (key : Key) → key.address ≤ 4294967295 → key.port ≤ 255 → is_after key (last_of_group key) ≡ false
 last_above key address port =
-    ap is_gt (ap (λ o. ordering_then o (ordering_then (group_cmp key.group key.group) rest)) (itself key.bus) ∙ ap (λ o. ordering_then o rest) (itself (group_place key.group)))
+    ap is_gt (ap (λ o. ordering_then o (ordering_then (group_cmp key.group key.group) rest)) (tied_itself nat_cmp_total key.bus) ∙ ap (λ o. ordering_then o rest) (tied_itself nat_cmp_total (group_place key.group)))
     ∙ by (nat_cmp key.address 4294967295) (within key.address 4294967295 address (nat_cmp key.address 4294967295) refl)
   where
     rest : Ordering
@@ -183,10 +180,6 @@ module _ (buses : List Bus) (at : Cursor) (state : State) (rising : IsRising sta
       (each-weaken {P = IsRowOf buses} same state rows)
       ∙ sought_later kind at state rising row next e
     where
-      none : (b : Bool) → (b && false) ≡ false
-      none true = refl
-      none false = refl
-
       same : (other : Row) → IsRowOf buses other → (not (has_reached last other.shown.key) && is_sought kind other) ≡ (not (has_reached (cursor.After key) other.shown.key) && is_sought kind other)
       same other o = by (is_sought kind other) refl
         where
@@ -195,4 +188,4 @@ module _ (buses : List Bus) (at : Cursor) (state : State) (rising : IsRising sta
 
           by : (b : Bool) → is_sought kind other ≡ b → (not (has_reached last other.shown.key) && b) ≡ (not (has_reached (cursor.After key) other.shown.key) && b)
           by true s = ap (λ (o : Ordering). not (not (is_gt o)) && true) (apart_cmp other.shown.key key (apart s))
-          by false s = none (not (has_reached last other.shown.key)) ∙ sym (none (not (has_reached (cursor.After key) other.shown.key)))
+          by false s = and-false (not (has_reached last other.shown.key)) ∙ sym (and-false (not (has_reached (cursor.After key) other.shown.key)))

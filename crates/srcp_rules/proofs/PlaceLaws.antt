@@ -3,7 +3,7 @@ use Rattle.std.specs.Prelude.{◌≡◌, ℕ, zero, suc, ◌≤◌, ◌<◌, Boo
 use Rattle.std.proofs.Common.{refl, sym, ap, ◌∙◌, arith}
 use Rattle.std.specs.List.{AllByRecursion, AllWithin}
 use Rattle.std.specs.List.Sorted.{IsPartitionedBy, IsNonDecreasingBy}
-use Rattle.std.proofs.lemmas.List.{take-append-drop}
+use Rattle.std.proofs.lemmas.List.{take-append-drop, append-nil}
 use Rattle.std.proofs.lemmas.List.Elements.{filter-append}
 use Rattle.srcp_info.proofs.ClientLaws.{filter_every, filter_no_one}
 
@@ -25,11 +25,7 @@ module _ {X : Type 0} where
   -- what passes a test, where it is what stands before a place, or what stands from it on
   pub filter_front : (p : X → Bool) (xs : List X) (i : ℕ) → AllByRecursion (λ x. p x ≡ true) (take i xs) → AllByRecursion (λ x. p x ≡ false) (drop i xs) → filter p xs ≡ take i xs
   filter_front p xs i a b =
-      ap (filter p) (sym (take-append-drop i xs)) ∙ filter-append p (take i xs) (drop i xs) ∙ (λ k. filter_every p (take i xs) a k ++ filter_no_one p (drop i xs) b k) ∙ append_none (take i xs)
-    where
-      append_none : (ys : List X) → ys ++ [] ≡ ys
-      append_none [] = refl
-      append_none (y ∷ ys) = ap (λ zs. y ∷ zs) (append_none ys)
+      ap (filter p) (sym (take-append-drop i xs)) ∙ filter-append p (take i xs) (drop i xs) ∙ (λ k. filter_every p (take i xs) a k ++ filter_no_one p (drop i xs) b k) ∙ append-nil (take i xs)
 
   pub filter_back : (p : X → Bool) (xs : List X) (i : ℕ) → AllByRecursion (λ x. p x ≡ false) (take i xs) → AllByRecursion (λ x. p x ≡ true) (drop i xs) → filter p xs ≡ drop i xs
   filter_back p xs i a b =

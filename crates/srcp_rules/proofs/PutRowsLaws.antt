@@ -8,16 +8,16 @@ use Rattle.srcp_info.specs.declared.key.Key.{Key}
 use Rattle.srcp_info.specs.declared.key.Device.{Device}
 use Rattle.srcp_info.specs.declared.change.Row.{Row}
 use Rattle.srcp_info.specs.Key.{key_cmp, device_of, first_key, owns}
-use Rattle.srcp_info.proofs.KeyLaws.{key_cmp_total}
+use Rattle.srcp_info.proofs.KeyLaws.{key_cmp_total, device_from_owns}
 use Rattle.srcp_info.proofs.ClientLaws.{rising_put, rising_filter}
 use Rattle.srcp_rules.specs.declared.layout.Bus.{Bus}
 use Rattle.srcp_rules.specs.Layout.{row_count}
 use Rattle.srcp_rules.specs.State.{State, IsRising, IsWhole, IsRowOf, row_at, has_row, is_there, key_at, put_row, put_of, without, updated_all}
 use Rattle.srcp_rules.specs.Rows.{AreRowsOf, put_rows}
-use Rattle.srcp_rules.proofs.KeyLaws.{same_key, same_key-itself, same_key-true, owns-true}
+use Rattle.srcp_rules.proofs.KeyLaws.{same_key, same_key-itself, same_key-true}
 use Rattle.srcp_rules.proofs.FindLaws.{found_holds}
 use Rattle.srcp_rules.proofs.StateLaws.{row_key, row_at_key, row_at-first, row_at-put_row, row_at-without, has_row-put_row}
-use Rattle.srcp_rules.proofs.OpeningLaws.{each_unmapped, each_and}
+use Rattle.srcp_rules.proofs.OpeningLaws.{each_unmapped, each_and, strict}
 
 -- ---- two registries with the same rows
 
@@ -128,9 +128,6 @@ range_any : (device : Device) (port first n : ℕ) → first ≤ port → port <
 range_any device port first zero low high = absurd (omega arith)
 range_any device port first (suc n) low high = by (same_key (key_at device first) (key_at device port)) refl (λ h. range_any device port (first + 1) n (omega (arith, h)) (omega arith))
   where
-    strict : (a b : ℕ) → a ≤ b → (a ≡ b → ⊥) → a < b
-    strict a b h g = omega (arith, h, g)
-
     by : (t : Bool) → same_key (key_at device first) (key_at device port) ≡ t → (first < port → list_any (λ key. same_key key (key_at device port)) (map (key_at device) (range_with_len (first + 1) n)) ≡ true)
         → (t || list_any (λ key. same_key key (key_at device port)) (map (key_at device) (range_with_len (first + 1) n))) ≡ true
     by true s later = refl
@@ -153,7 +150,7 @@ module _ (buses : List Bus) (device : Device) (rows : List Row) (all : AreRowsOf
   covered : (key : Key) → owns device key ≡ true → (o : Option Row) → row_at key state ≡ o → (puts_at key rows ≡ true → ⊥) → o ≡ None
   covered key mine None e apart = refl
   covered key mine (Some row) e apart =
-      let same : device_of key ≡ device = owns-true device key mine in
+      let same : device_of key ≡ device = device_from_owns device key mine in
       let place = subst (λ k. k.port < row_count buses (device_of k)) (row_at_key key state row e) (whole.rows key row e).place in
       let within : key.port < row_count buses device = subst (λ d. key.port < row_count buses d) same place in
       let at : key_at device key.port ≡ key = λ i. record { bus = (sym same i).bus; group = (sym same i).group; address = (sym same i).address; port = key.port } in

@@ -6,18 +6,18 @@ use Rattle.std.proofs.lemmas.List.Folds.{find-append}
 use Rattle.std.specs.Option.{option_or}
 use Rattle.std.specs.List.{AllByRecursion}
 use Rattle.std.specs.List.Sorted.{IsSearchInRange, IsBinarySearchResult, IsNonDecreasingBy, IsPartitionedBy}
-use Rattle.std.specs.Ordering.{ordering_index, is_eq, is_gt, ordering_reverse}
+use Rattle.std.specs.Ordering.{ordering_index, is_eq, ordering_reverse}
 use Rattle.std.specs.declared.cmp.Ordering.{Ordering}
 use Rattle.std.specs.declared.cmp.Ordering.TheVariants.{Less, Equal, Greater}
 use Rattle.srcp_info.specs.declared.key.Key.{Key}
 use Rattle.srcp_info.specs.declared.change.Row.{Row}
 use Rattle.srcp_info.specs.declared.change.Cursor.{Cursor}
-use Rattle.srcp_info.specs.Key.{key_cmp, is_after, has_reached}
+use Rattle.srcp_info.specs.Key.{key_cmp, has_reached}
 use Rattle.srcp_info.proofs.KeyLaws.{key_tie, key_cmp_total}
 use Rattle.srcp_info.proofs.ClientLaws.{put_between, put_over, reached_below}
 use Rattle.srcp_rules.specs.State.{State, IsRising, row_at, put_row}
-use Rattle.srcp_rules.specs.Rows.{IsAt, IsGap}
-use Rattle.srcp_rules.proofs.KeyLaws.{same_key}
+use Rattle.srcp_rules.specs.Place.{IsAt, IsGap}
+use Rattle.srcp_rules.proofs.KeyLaws.{same_key, not_after}
 use Rattle.srcp_rules.proofs.FindLaws.{each-weaken}
 use Rattle.srcp_rules.proofs.StateLaws.{row_key, row_at-first, row_at-later}
 use Rattle.srcp_rules.proofs.PlaceLaws.{front_each, back_each, each_at, Follows, partitioned, non_decreasing}
@@ -115,9 +115,6 @@ insert-put_row state row place gap = sym (put_between row_key row (take place st
 module _ (cursor : Cursor) where
   abbrev pub passed : Row → Bool
   passed row = has_reached cursor row.shown.key
-
-  not_after : (a b : Key) → key_cmp a b ≡ Less → is_after a b ≡ false
-  not_after a b e = ap is_gt e
 
   pub passed_partitioned : (state : State) → IsRising state → IsPartitionedBy passed state
   passed_partitioned state rising =

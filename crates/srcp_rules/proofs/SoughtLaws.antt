@@ -1,17 +1,17 @@
 -- Rows that are sought beyond a cursor.
 use Rattle.std.specs.Prelude.{◌≡◌, ◌<◌, Bool, true, false, not, ◌&&◌, cond, List, [], ◌∷◌, length, filter, find, Option, Some, None}
 use Rattle.std.proofs.Common.{refl, sym, ap, subst, ◌∙◌, true≢false, arith}
-use Rattle.std.specs.Ordering.{is_gt}
 use Rattle.std.specs.declared.cmp.Ordering.TheVariants.{Less}
 use Rattle.srcp_info.specs.declared.key.Key.{Key}
 use Rattle.srcp_info.specs.declared.change.Row.{Row}
 use Rattle.srcp_info.specs.declared.change.Cursor.{Cursor}
 use Rattle.srcp_info.specs.declared.change.Cursor.TheVariants as cursor
-use Rattle.srcp_info.specs.Key.{key_cmp, is_after, has_reached}
+use Rattle.srcp_info.specs.Key.{key_cmp, has_reached}
 use Rattle.srcp_info.proofs.ClientLaws.{filter_every, reached_below, after_from_less, after_not_itself}
 use Rattle.srcp_rules.specs.declared.next.Sought.{Sought}
-use Rattle.srcp_rules.specs.Due.{is_sought, sought_after}
+use Rattle.srcp_rules.specs.Sought.{is_sought, sought_after}
 use Rattle.srcp_rules.specs.State.{State, IsRising, row_after}
+use Rattle.srcp_rules.proofs.KeyLaws.{not_after}
 use Rattle.srcp_rules.proofs.FindLaws.{each-weaken, found_holds}
 
 -- the rows beyond the cursor
@@ -34,9 +34,6 @@ module _ {X : Type 0} (p q : X → Bool) where
       found false = refl
 
 -- ---- the next row
-
-not_after : (a b : Key) → key_cmp a b ≡ Less → is_after a b ≡ false
-not_after a b e = ap is_gt e
 
 still_beyond : (at : Cursor) (low high : Key) → key_cmp low high ≡ Less → has_reached at low ≡ false → (b : Bool) → has_reached at high ≡ b → b ≡ false
 still_beyond at low high less e true f = absurd (true≢false (sym (reached_below at low high (not_after low high less) f) ∙ e))

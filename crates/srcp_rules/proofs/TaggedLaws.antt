@@ -16,28 +16,21 @@ use Rattle.srcp_rules.specs.Nested.{AreSorted, entry_at, listed}
 use Rattle.srcp_rules.proofs.FindLaws.{each-weaken}
 use Rattle.srcp_rules.proofs.KeyLaws.{same_key, same_key-true}
 use Rattle.srcp_rules.proofs.PutLaws.{find_past, find_before, put_row-before, put_row-past, put_rows-before, put_rows-past, without-before, without-past}
-use Rattle.srcp_rules.proofs.ListedLaws.{IsTagged, Above, Below, listed-absent, listed-insert_entry, listed-remove_entry, listed-set_value}
-
-unequal : (m n : ℕ) → m < n → n ≡ m → ⊥
-unequal m n h e = omega (arith, h, e)
+use Rattle.srcp_rules.proofs.ListedLaws.{IsTagged, Above, Below, listed-absent, listed-insert_entry, listed-remove_entry, listed-set_value, other_key, unequal}
 
 module _ {X : Type 0} (rows : X → State) (tag : Key → ℕ) (P : Key → Type 0) (order : (a b : Key) → P a → P b → tag a < tag b → key_cmp a b ≡ Less) where
   -- ---- looking up
-
-  other_key : (a b : Key) → (tag a ≡ tag b → ⊥) → (c : Bool) → same_key a b ≡ c → same_key a b ≡ false
-  other_key a b h true e = absurd (h (ap tag (same_key-true a b e)))
-  other_key a b h false e = e
 
   -- a key is not among rows above it or below it
   pub row_at-left : (key : Key) (xs ys : State) → Above rows tag P (tag key) ys → row_at key (xs ++ ys) ≡ row_at key xs
   row_at-left key xs ys h =
       find_before (λ row. same_key row.shown.key key) xs ys
-      (each-weaken {P = λ y. P y.shown.key × (tag key < tag y.shown.key)} (λ y t. other_key y.shown.key key (λ e. unequal (tag key) (tag y.shown.key) t.1 e) (same_key y.shown.key key) refl) ys h)
+      (each-weaken {P = λ y. P y.shown.key × (tag key < tag y.shown.key)} (λ y t. other_key tag y.shown.key key (λ e. unequal (tag key) (tag y.shown.key) t.1 e) (same_key y.shown.key key) refl) ys h)
 
   pub row_at-right : (key : Key) (xs ys : State) → Below rows tag P (tag key) xs → row_at key (xs ++ ys) ≡ row_at key ys
   row_at-right key xs ys h =
       find_past (λ row. same_key row.shown.key key) xs ys
-      (each-weaken {P = λ x. P x.shown.key × (tag x.shown.key < tag key)} (λ x t. other_key x.shown.key key (λ e. unequal (tag x.shown.key) (tag key) t.1 (sym e)) (same_key x.shown.key key) refl) xs h)
+      (each-weaken {P = λ x. P x.shown.key × (tag x.shown.key < tag key)} (λ x t. other_key tag x.shown.key key (λ e. unequal (tag x.shown.key) (tag key) t.1 (sym e)) (same_key x.shown.key key) refl) xs h)
 
   -- ---- setting a row
 

@@ -17,9 +17,9 @@ use Rattle.srcp_rules.specs.declared.command.Lockable.TheVariants as lockable
 use Rattle.srcp_rules.specs.declared.command.Command.{Command}
 use Rattle.srcp_rules.specs.declared.command.Command.TheVariants.{SetPower, CheckPower, SetGl, CheckGl, SetGa, CheckGa, SetFb, CheckFb, SetLock, CheckLock}
 use Rattle.srcp_rules.specs.Layout.{IsLayout}
-use Rattle.srcp_rules.specs.State.{State, Update, AddsNoRow, IsRising, IsWhole, opening, row_at, is_there, key_at, session_device, device_in, lock_on, updated, updated_all}
+use Rattle.srcp_rules.specs.State.{State, Update, AddsNoRow, IsRising, IsWhole, opening, row_at, is_there, key_at, session_device, device_in, lock_on, updated, updated_all, row_put}
 use Rattle.srcp_rules.specs.Command.{IsCommandOf}
-use Rattle.srcp_rules.specs.Effect.{Effect, effect, is_locked, row_put, port_end, lock_end, moment_after}
+use Rattle.srcp_rules.specs.Effect.{Effect, effect, is_locked, port_end, lock_end, moment_after}
 use Rattle.srcp_rules.specs.Obeyed.{MayObey}
 use Rattle.srcp_rules.specs.Due.{due, freed, began, is_due, is_held_by}
 

@@ -1,13 +1,12 @@
 -- What became of a command, against what the command does.
-use Rattle.std.specs.Prelude.{◌≡◌, ℕ, Bool, IsTrue, ◌⊎◌, List, [], ◌∷◌, map, Option, Some, None, if◌then◌else◌}
-use Rattle.srcp_info.specs.declared.change.Code.{Code}
+use Rattle.std.specs.Prelude.{◌≡◌, ℕ, Bool, IsTrue, ◌⊎◌, List, map}
 use Rattle.srcp_info.specs.declared.change.Code.TheVariants.{C500}
 use Rattle.srcp_rules.specs.declared.obeyed.Obeyed.{Obeyed}
 use Rattle.srcp_rules.specs.declared.command.Command.{Command}
 use Rattle.srcp_rules.specs.declared.layout.Bus.{Bus}
 use Rattle.srcp_rules.specs.Command.{IsCommandOf}
 use Rattle.srcp_rules.specs.State.{State, IsWhole, is_there, session_device, updated_all}
-use Rattle.srcp_rules.specs.Effect.{Effect, effect, adds_rows, refused, accepted}
+use Rattle.srcp_rules.specs.Effect.{Effect, effect, adds_rows, refused}
 
 -- it tells the reply and the changes of the effect, and whether the session ends
 pub record IsTold (did : Effect) (obeyed : Obeyed) : Type 0 where
@@ -38,15 +37,3 @@ pub record MayObey (buses : List Bus) (state : State) (session : ℕ) (command :
   pub whole : IsWhole buses state
   pub begun : IsTrue (is_there (session_device session) state)
   pub of : IsCommandOf buses command
-
--- ---- refusals
-
--- a refusal, or else the acceptance of nothing
-abbrev pub refused_or_not : Option Code → Effect
-refused_or_not (Some code) = refused code
-refused_or_not None = accepted []
-
--- the first refusal that applies
-abbrev pub first_refusal : List (Bool × Code) → Option Code
-first_refusal [] = None
-first_refusal (refusal ∷ others) = if refusal.0 then Some refusal.1 else first_refusal others

@@ -1,11 +1,8 @@
 -- What a keeper of rows has, and what may be added to it.
-use Rattle.std.specs.Prelude.{◌≡◌, ℕ, ◌≤◌, ◌<◌, false, List, map, fold, length, take, drop, slice_index_or}
+use Rattle.std.specs.Prelude.{◌≡◌, ℕ, ◌≤◌, false, List, map, fold, length}
 use Rattle.std.specs.List.{AllByRecursion, range_with_len}
-use Rattle.std.specs.declared.cmp.Ordering.TheVariants.{Less}
-use Rattle.srcp_info.specs.declared.key.Key.{Key}
 use Rattle.srcp_info.specs.declared.key.Device.{Device}
 use Rattle.srcp_info.specs.declared.change.Row.{Row}
-use Rattle.srcp_info.specs.Key.{key_cmp}
 use Rattle.srcp_rules.specs.declared.layout.Bus.{Bus}
 use Rattle.srcp_rules.specs.Layout.{row_count}
 use Rattle.srcp_rules.specs.State.{State, IsRowOf, has_row, key_at, put_row}
@@ -29,16 +26,3 @@ pub record AreRowsOf (buses : List Bus) (device : Device) (rows : List Row) : Ty
 pub record AreNewRowsOf (buses : List Bus) (state : State) (device : Device) (rows : List Row) : Type 0 where
   pub all : AreRowsOf buses device rows
   pub free : (port : ℕ) → has_row (key_at device port) state ≡ false
-
--- ---- places
-
--- the row at the place has the key
-pub record IsAt (state : State) (key : Key) (place : ℕ) : Type 0 where
-  pub within : place < length state
-  pub here : (d : Row) → (slice_index_or state place d).shown.key ≡ key
-
--- the key belongs between the rows before the place and those from it on
-pub record IsGap (state : State) (key : Key) (place : ℕ) : Type 0 where
-  pub within : place ≤ length state
-  pub below : AllByRecursion (λ row. key_cmp row.shown.key key ≡ Less) (take place state)
-  pub above : AllByRecursion (λ row. key_cmp key row.shown.key ≡ Less) (drop place state)

@@ -247,9 +247,16 @@ fn answer<R: Rows>(rows: &mut R, session: u32, moment: u64, command: &Command) -
 }
 
 /// Does what a command of a session does, and says what came of it: the reply, the changes in
-/// order, and whether the session ends. Where the command adds rows (INIT of a device that is not
-/// there, SET of a lock where there is none) and memory is refused for them, the reply is 500 and
-/// nothing has changed; nothing else takes memory.
+/// order, and whether the session ends. A command that is refused changes nothing; its reply is the
+/// first of these refusals; which has which code, and their order, are our own choice:
+/// 1. 416 where what is named is not there: for GET and TERM of a lock the lock, for GET of a session
+///    its row, and else the device, also for SET and CHECK of a lock; INIT asks for none of them;
+/// 2. 418 where SET or CHECK of a locomotive has more functions than the locomotive;
+/// 3. 414 where another session has the device's lock: for SET, CHECK, INIT and TERM of a locomotive,
+///    an accessory or a lock;
+/// 4. 415 where TERM names another session;
+/// 5. 500 where the command adds rows (INIT of a device that is not there, SET of a lock where there
+///    is none) and memory was refused for them; nothing else takes memory.
 pub fn obey<R: Rows>(rows: &mut R, session: u32, moment: u64, command: &Command) -> Obeyed
     requires whole { IsWhole (R.buses rows.old) (R.state rows.old) }
     requires begun { IsTrue (is_there (session_device session) (R.state rows.old)) }

@@ -1,7 +1,7 @@
 ghost use Rattle.std.specs.Prelude.{◌≡◌, ◌≤◌, length};
 ghost use Rattle.srcp_rules.specs.Command.{kept_v};
-ghost use Rattle.srcp_rules.specs.Effect.{done, functions_after, gl_refusals, port_end, set_ga, set_gl};
-ghost use Rattle.srcp_rules.specs.Obeyed.{MayObey, Took, first_refusal};
+ghost use Rattle.srcp_rules.specs.Effect.{done, first_refusal, functions_after, gl_refusals, port_end, set_ga, set_gl};
+ghost use Rattle.srcp_rules.specs.Obeyed.{MayObey, Took};
 ghost use Rattle.srcp_rules.specs.State.{functions_of};
 
 use crate::command::{Command, Lockable};

@@ -8,7 +8,8 @@ ghost use Rattle.srcp_rules.specs.State.{fb_device, first_row, power_device};
 use crate::device::{fb_device, power_device};
 use crate::layout::Bus;
 use crate::obeyed::Memory;
-use srcp_info::{Device, Row, Shown, Text, Value};
+use crate::registry::row_put;
+use srcp_info::{Device, Row, Text, Value};
 
 /// Appends the power row of a bus, if it has one, off.
 pub(crate) fn push_power(rows: &mut Vec<Row>, bus: &Bus) -> Result<(), Memory>
@@ -49,10 +50,5 @@ pub(crate) fn push_ports(rows: &mut Vec<Row>, bus: u8, ports: u32) -> Result<(),
 fn first_row(device: Device, value: Value) -> Row
     ensures { result ≡ first_row 0 device value }
 {
-    let shown = Shown {
-        key: device.first_key(),
-        stamp: 0,
-        value,
-    };
-    Row { shown, due: None }
+    row_put(0, device.first_key(), value, None)
 }

@@ -1,9 +1,8 @@
 ghost use Rattle.std.specs.Prelude.{◌≡◌, ◌≤◌, [], ◌∷◌, false, map, replicate, None};
 ghost use Rattle.std.specs.List.{range_with_len};
 ghost use Rattle.srcp_info.specs.declared.value.Value.TheVariants as value;
-ghost use Rattle.srcp_rules.specs.Effect.{row_put};
 ghost use Rattle.srcp_rules.specs.Obeyed.{IsObeyed, MayObey};
-ghost use Rattle.srcp_rules.specs.State.{key_at};
+ghost use Rattle.srcp_rules.specs.State.{key_at, row_put};
 
 use crate::command::{Command, Lockable};
 use crate::device::{device_in, key_at};

@@ -1,6 +1,6 @@
 ghost use Rattle.std.specs.Prelude.{◌≡◌};
-ghost use Rattle.srcp_rules.specs.Effect.{is_locked, lock_end, lock_refusals, moment_after, refusals, term_lock, done};
-ghost use Rattle.srcp_rules.specs.Obeyed.{IsObeyed, IsTold, MayObey, Took, first_refusal, refused_or_not};
+ghost use Rattle.srcp_rules.specs.Effect.{first_refusal, is_locked, lock_end, lock_refusals, moment_after, refusals, refused_or_not, term_lock, done};
+ghost use Rattle.srcp_rules.specs.Obeyed.{IsObeyed, IsTold, MayObey, Took};
 
 use crate::command::{Command, Lockable};
 use crate::device::{device_in, lock_on};
@@ -61,14 +61,14 @@ pub(crate) fn checked(refusal: Option<Code>) -> Obeyed
     }
 }
 
-/// The moment so many milliseconds later, or the greatest moment.
+/// The moment so many milliseconds later, or the greatest moment, which is our own choice.
 pub(crate) fn moment_after(moment: u64, milliseconds: u64) -> u64
     ensures { result ≡ moment_after moment milliseconds }
 {
     moment.saturating_add(milliseconds)
 }
 
-/// When a lock of so many seconds ends; one of 0 seconds does not end by itself.
+/// When a lock of so many seconds ends; one of 0 seconds does not end by itself (of SRCP 0.8, LOCK).
 fn lock_end(moment: u64, seconds: u32) -> Option<u64>
     ensures { result ≡ lock_end moment seconds }
 {

@@ -1,7 +1,8 @@
 ghost use Rattle.std.specs.Prelude.{◌≡◌, ◌≤◌, IfSome, option_copied, option_map, slice_get};
 ghost use Rattle.srcp_info.specs.WellFormed.{IsWellFormed};
-ghost use Rattle.srcp_rules.specs.Due.{due_after, due_change, freed, is_sought, may_be_in, past, sought_after};
-ghost use Rattle.srcp_rules.specs.State.{AddsNoRow, IsWhole, MayBeDue, row_at, updated, updated_if};
+ghost use Rattle.srcp_rules.specs.Due.{due_after, due_change, freed};
+ghost use Rattle.srcp_rules.specs.Sought.{is_sought, may_be_in, past, sought_after};
+ghost use Rattle.srcp_rules.specs.State.{AddsNoRow, IsWhole, MayFall, row_at, updated, updated_if};
 
 use crate::device::session_device;
 use crate::registry::{is_there, put, remove};
@@ -9,7 +10,10 @@ use crate::rows::Rows;
 use srcp_info::{Change, Cursor, Group, Key, Row, Value};
 
 /// Carries out the first of the changes that the moment brings beyond the cursor, in key order: a
-/// lock that has run out ends, and a port that has been on for its time becomes 0.
+/// lock that has run out ends, and a port that has been on for its time becomes 0. None where the
+/// moment brings no further change, and the rows are as before. That a port falls back after its
+/// time, and a lock ends after its seconds, is of SRCP 0.8 (GA, LOCK); that it happens at the first
+/// moment handed in that is not before the end, in key order, is our own choice.
 pub fn due_next<R: Rows>(rows: &mut R, moment: u64, cursor: Cursor) -> Option<Change>
     requires whole { IsWhole (R.buses rows.old) (R.state rows.old) }
     ensures change { result ≡ option_map (λ update. update.change) (due_after (R.state rows.old) moment cursor) }
@@ -30,7 +34,7 @@ pub fn due_next<R: Rows>(rows: &mut R, moment: u64, cursor: Cursor) -> Option<Ch
 fn carry_out<R: Rows>(rows: &mut R, moment: u64, row: &Row) -> Change
     requires whole { IsWhole (R.buses rows.old) (R.state rows.old) }
     requires there { row_at row.now.shown.key (R.state rows.old) ≡ Some row.now }
-    requires may { MayBeDue row.now.shown.value }
+    requires may { MayFall row.now.shown.value }
     ensures change { result ≡ (due_change moment row.now.shown.key row.now.shown.value).change }
     ensures rows { R.state rows.new ≡ updated (due_change moment row.now.shown.key row.now.shown.value) (R.state rows.old) }
     ensures layout { R.buses rows.new ≡ R.buses rows.old }
@@ -43,7 +47,8 @@ fn carry_out<R: Rows>(rows: &mut R, moment: u64, row: &Row) -> Change
 }
 
 /// Carries out the first of the changes that the end of a session brings: its locks are taken out
-/// in key order, and its own row last.
+/// in key order, and its own row last. None where it has neither locks nor a row, and the rows are
+/// as before. That its locks go with a session is of SRCP 0.8 (LOCK); the order is our own choice.
 pub fn free_next<R: Rows>(rows: &mut R, session: u32, moment: u64) -> Option<Change>
     requires whole { IsWhole (R.buses rows.old) (R.state rows.old) }
     ensures change { result ≡ option_map (λ update. update.change) (slice_get (freed (R.state rows.old) session moment) 0) }

@@ -4,7 +4,7 @@ ghost use Rattle.std.specs.Prelude.{◌≡◌};
 ghost use Rattle.srcp_rules.specs.Layout.{bus_at, has_group};
 
 use crate::command::Named;
-use crate::layout::{Bus, Layout};
+use crate::layout::{Bus, bus_numbered};
 
 /// Bus 0, which is the server itself.
 pub(crate) const SERVER: Bus = Bus {
@@ -17,13 +17,13 @@ pub(crate) const SERVER: Bus = Bus {
 };
 
 /// The bus of this number: the server or a configured one.
-pub(crate) fn bus_at(layout: &Layout, number: u8) -> Option<Bus>
-    ensures { result ≡ bus_at layout.now number }
+pub(crate) fn bus_at(buses: &[Bus], number: u8) -> Option<Bus>
+    ensures { result ≡ bus_at buses.now number }
 {
     if number == SERVER.number {
         return Some(SERVER);
     }
-    layout.bus(number).copied()
+    bus_numbered(buses, number).copied()
 }
 
 /// Whether the group that the third word of a command names is on the bus.

@@ -1,10 +1,11 @@
 //! A whole line as a command.
 
-ghost use Rattle.std.specs.Prelude.{◌≡◌, option_and_then};
+ghost use Rattle.std.specs.Prelude.{◌≡◌, IfOk, option_and_then};
 ghost use Rattle.std.specs.Option.{ok_or};
 ghost use Rattle.srcp_info.specs.declared.change.Code.TheVariants.{C412 as WrongValue};
 ghost use Rattle.srcp_text.specs.Words.{number_of};
-ghost use Rattle.srcp_rules.specs.Grammar.{directed, reads};
+ghost use Rattle.srcp_rules.specs.Command.{IsCommandOf};
+ghost use Rattle.srcp_rules.specs.Grammar.{commanded, directed, reads};
 ghost use Rattle.srcp_rules.specs.Layout.{bus_at};
 
 use crate::asked::asked_of;
@@ -17,25 +18,25 @@ use srcp_info::Code;
 use srcp_text::{Words, read_number, words};
 
 /// The bus that the word is the number of; any other word is 412.
-fn bus_of(layout: &Layout, word: &[u8]) -> Result<Bus, Code>
-    ensures { result ≡ ok_or (option_and_then (bus_at layout.now) (number_of 250 word.now)) WrongValue }
+fn bus_of(buses: &[Bus], word: &[u8]) -> Result<Bus, Code>
+    ensures { result ≡ ok_or (option_and_then (bus_at buses.now) (number_of 250 word.now)) WrongValue }
 {
     let Some(number) = read_number(word, 250) else {
         return Err(Code::C412);
     };
-    match bus_at(layout, number as u8) {
+    match bus_at(buses, number as u8) {
         Some(bus) => Ok(bus),
         None => Err(Code::C412),
     }
 }
 
 /// The bus, then the group, which has to be on it.
-fn directed(layout: &Layout, operation: Operation, mut words: Words<'_>) -> Result<Command, Code>
-    ensures { result ≡ directed layout.now operation words.entry }
+fn directed(buses: &[Bus], operation: Operation, mut words: Words<'_>) -> Result<Command, Code>
+    ensures { result ≡ directed buses.now operation words.entry }
 {
     let first = next_word(&mut words)?;
     let second = next_word(&mut words)?;
-    let bus = bus_of(layout, first)?;
+    let bus = bus_of(buses, first)?;
     let group = group_of(second)?;
     if !has_group(&bus, group) {
         return Err(Code::C422);
@@ -43,23 +44,31 @@ fn directed(layout: &Layout, operation: Operation, mut words: Words<'_>) -> Resu
     asked_of(operation, group, &bus, words)
 }
 
+/// The operation, then what it is directed at.
+fn commanded(buses: &[Bus], mut words: Words<'_>) -> Result<Command, Code>
+    ensures { result ≡ commanded buses.now words.entry }
+{
+    let Some(first) = words.next() else {
+        return Err(Code::C410);
+    };
+    directed(buses, operation_of(first)?, words)
+}
+
 /// The command of the layout that a line of a command session is. Keywords are read in capital or
-/// small letters, and words are parted by spaces and tabs. `Err` is the first refusal from left to
-/// right:
+/// small letters, and words are parted by spaces and tabs. `Err` is the first of these refusals;
+/// which has which code, and their order, are our own choice:
 /// 1. 410 where the first word is no operation, or there is none;
 /// 2. 419 where the bus or the group is missing;
-/// 3. 412 where the layout has no bus of this number;
+/// 3. 412 where the second word is no number, or neither 0, the server itself, nor a bus of the
+///    layout;
 /// 4. 421 where the third word is no group;
 /// 5. 422 where the group is not on the bus;
 /// 6. 423 where the group does not have the operation;
 /// 7. 419 or 418 where words are missing or too many;
 /// 8. 412 or 420 at the first word that is no value of its place.
 pub fn parse_command(line: &[u8], layout: &Layout) -> Result<Command, Code>
-    ensures { result ≡ reads layout.now line.now }
+    ensures reads { result ≡ reads layout.now line.now }
+    ensures fits { IfOk result (IsCommandOf layout.now) }
 {
-    let mut words = words(line);
-    let Some(first) = words.next() else {
-        return Err(Code::C410);
-    };
-    directed(layout, operation_of(first)?, words)
+    commanded(layout.buses(), words(line))
 }

@@ -1,8 +1,8 @@
 ghost use Rattle.std.specs.Prelude.{◌≡◌, [], ◌∷◌, IsTrue};
 ghost use Rattle.srcp_info.specs.WellFormed.{can_go};
-ghost use Rattle.srcp_rules.specs.Effect.{accepted, gone_at, put_at, row_put, shown_at};
+ghost use Rattle.srcp_rules.specs.Effect.{accepted, gone_at, put_at, shown_at};
 ghost use Rattle.srcp_rules.specs.Obeyed.{Took};
-ghost use Rattle.srcp_rules.specs.State.{IsRowOf, has_row, is_there, put_of, updated};
+ghost use Rattle.srcp_rules.specs.State.{IsRowOf, has_row, is_there, put_of, updated, row_put};
 
 use crate::obeyed::Obeyed;
 use crate::rows::Rows;

@@ -10,7 +10,8 @@ use crate::obeyed::Memory;
 use srcp_info::{Cursor, Device, Key, Row};
 use std::alloc::Global;
 
-/// What keeps the rows of a registry, and the layout that they are of.
+/// What keeps the rows of a registry, and the layout that they are of. The order of the rows, by bus,
+/// group, address and port, is our own choice.
 pub trait Rows: Drop {
     /// The buses of the layout.
     ghost buses: { Self → List Bus };
@@ -24,15 +25,16 @@ pub trait Rows: Drop {
         ensures layout { IfOk result (λ kept. buses kept ≡ layout.now) }
         ensures rows { IfOk result (λ kept. state kept ≡ opening layout.now 0) };
 
-    /// The row at the key.
+    /// The row at the key; none where no row has it.
     fn row(&self, key: &Key) -> Option<&Row>
         ensures { option_copied result ≡ row_at key.now (state self.now) };
 
-    /// The row with the least key beyond the cursor; there is none beyond `Done`.
+    /// The row with the least key beyond the cursor; none where it is past the last row, or `Done`.
     fn row_after(&self, cursor: Cursor) -> Option<&Row>
         ensures { option_copied result ≡ row_after cursor (state self.now) };
 
-    /// Adds all the rows of one device that is not there, in key order. `Err` is want of memory.
+    /// Adds all the rows of one device that is not there, in key order. `Err` is want of memory, and
+    /// the rows are as before.
     fn add(&mut self, added: &[Row]) -> Result<(), Memory>
         requires { (device : Device) × AreNewRowsOf (buses self.old) (state self.old) device added.now }
         ensures layout { buses self.new ≡ buses self.old }

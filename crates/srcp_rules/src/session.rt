@@ -9,8 +9,9 @@ use crate::registry::{put_of, row_put};
 use crate::rows::Rows;
 use srcp_info::{Change, Mode, Value};
 
-/// Adds the row of a session that begins, and gives its Put. `Err` is want of memory, and the rows
-/// are as before.
+/// Adds the row of a session that begins, whose id has to be at least 1 and not to be there, and
+/// gives its Put. `Err` is want of memory, and the rows are as before. That ids count from 1 is our
+/// own choice.
 pub fn begin_session<R: Rows>(
     rows: &mut R,
     session: u32,

@@ -1,7 +1,8 @@
 //! Rows in one list, by rising key.
 
 ghost use Rattle.std.specs.Prelude.{◌≡◌, ◌+◌, ◌<◌, ◌≤◌, IsTrue, IfOk, IfErr, OnOk, OnErr, option_copied, vec_len, vec_capacity};
-ghost use Rattle.srcp_rules.specs.Rows.{IsAt, IsGap, put_rows};
+ghost use Rattle.srcp_rules.specs.Rows.{put_rows};
+ghost use Rattle.srcp_rules.specs.Place.{IsAt, IsGap};
 ghost use Rattle.srcp_rules.specs.State.{IsRising, has_row, put_row, row_after, row_at, without};
 
 use crate::obeyed::Memory;

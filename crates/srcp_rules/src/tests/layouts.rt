@@ -12,6 +12,8 @@ fn buses_stand_by_their_numbers(rt: HostRuntime) -> Result<(), Fail> {
     assert_eq!(rt; layout.add(bus(0)), Err(LayoutFault::OutOfRange));
     assert_eq!(rt; layout.add(bus(251)), Err(LayoutFault::OutOfRange));
     assert_eq!(rt; layout.buses().len(), 2);
+    assert_eq!(rt; layout.buses()[0].number, 1);
+    assert_eq!(rt; layout.buses()[1].number, 7);
     assert!(rt; layout.bus(1).is_some());
     assert!(rt; layout.bus(2).is_none());
     Ok(())

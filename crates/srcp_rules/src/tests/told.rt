@@ -3,7 +3,6 @@
 ghost use Rattle.std.specs.Prelude.{◌≡◌};
 ghost use Rattle.std.specs.List.{AllByRecursion};
 ghost use Rattle.srcp_info.specs.WellFormed.{IsWellFormed, IsWellFormedReply};
-ghost use Rattle.srcp_rules.specs.Layout.{IsLayout};
 ghost use Rattle.srcp_rules.specs.State.{IsWhole};
 
 use crate::device::session_device;
@@ -66,7 +65,6 @@ pub(super) fn push_begun<R: Rows>(
     session: u32,
     moment: u64,
 ) -> Result<(), Fail>
-    requires laid_out { IsLayout (R.buses rows.old) }
     requires whole { IsWhole (R.buses rows.old) (R.state rows.old) }
     ensures layout { R.buses rows.new ≡ R.buses rows.old }
     ensures whole { IsWhole (R.buses rows.new) (R.state rows.new) }
@@ -91,7 +89,6 @@ pub(super) fn push_line<R: Rows>(
     line: &[u8],
 ) -> Result<(), Fail>
     requires same { R.buses rows.old ≡ layout.now }
-    requires laid_out { IsLayout (R.buses rows.old) }
     requires whole { IsWhole (R.buses rows.old) (R.state rows.old) }
     ensures layout { R.buses rows.new ≡ R.buses rows.old }
     ensures whole { IsWhole (R.buses rows.new) (R.state rows.new) }
@@ -114,7 +111,6 @@ pub(super) fn push_line<R: Rows>(
 
 /// Appends the changes that a moment brings.
 pub(super) fn push_due<R: Rows>(said: &mut Vec<u8>, rows: &mut R, moment: u64) -> Result<(), Fail>
-    requires laid_out { IsLayout (R.buses rows.old) }
     requires whole { IsWhole (R.buses rows.old) (R.state rows.old) }
     ensures layout { R.buses rows.new ≡ R.buses rows.old }
     ensures whole { IsWhole (R.buses rows.new) (R.state rows.new) }
@@ -137,7 +133,6 @@ pub(super) fn push_end<R: Rows>(
     session: u32,
     moment: u64,
 ) -> Result<(), Fail>
-    requires laid_out { IsLayout (R.buses rows.old) }
     requires whole { IsWhole (R.buses rows.old) (R.state rows.old) }
     ensures layout { R.buses rows.new ≡ R.buses rows.old }
     ensures whole { IsWhole (R.buses rows.new) (R.state rows.new) }

@@ -1,6 +1,6 @@
 use Rattle.std.proofs.Common.{refl, sym, ap, ◌∙◌}
 use Rattle.srcp_info.specs.declared.change.Cursor.{Cursor}
-use Rattle.srcp_rules.specs.Due.{may_be_due, past}
+use Rattle.srcp_rules.specs.Sought.{may_be_due, past}
 use Rattle.srcp_rules.proofs.PastLaws.{each_of, fewer_past}
 use Rattle.srcp_rules.proofs.SoughtLaws.{beyond}
 use Rattle.srcp_core.specs.Quiet.{soonest}

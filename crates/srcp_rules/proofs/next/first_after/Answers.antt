@@ -1,6 +1,6 @@
 use Rattle.std.proofs.Common.{refl, sym, ap, ◌∙◌}
 use Rattle.srcp_info.specs.declared.change.Cursor.{Cursor}
-use Rattle.srcp_rules.specs.Due.{may_be_in, sought_after}
+use Rattle.srcp_rules.specs.Sought.{may_be_in, sought_after}
 use Rattle.srcp_rules.proofs.PastLaws.{each_of, fewer_past, sought_past}
 use Rattle.srcp_rules.proofs.SoughtLaws.{sought_here, sought_none}
 use Rattle.srcp_rules.proofs.next.first_after.Goals as goal

@@ -1,6 +1,6 @@
 use Rattle.std.proofs.Common.{◌≡◌, not, filter, length}
 use Rattle.srcp_info.specs.Key.{has_reached}
-use Rattle.srcp_rules.specs.Due.{sought_after}
+use Rattle.srcp_rules.specs.Sought.{sought_after}
 use Rattle.srcp_rules.proofs.next.first_after.Given as goal
 
 abbrev pub invariant-loop-row : goal.invariant-loop-row

@@ -1,6 +1,6 @@
 use Rattle.std.proofs.Common.{cond, ap, subst, ◌∙◌}
 use Rattle.std.specs.List.{insert}
-use Rattle.srcp_rules.specs.Rows.{IsAt, IsGap}
+use Rattle.srcp_rules.specs.Place.{IsAt, IsGap}
 use Rattle.srcp_rules.proofs.RowPlaceLaws.{set-put_row, insert-put_row}
 use Rattle.srcp_rules.proofs.sorted_rows.put.Goals as goal
 

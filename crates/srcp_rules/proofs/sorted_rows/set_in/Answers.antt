@@ -1,6 +1,6 @@
 use Rattle.std.proofs.Common.{is_some, sym, ap, subst, ◌∙◌, true≢false}
 use Rattle.srcp_rules.specs.State.{row_at}
-use Rattle.srcp_rules.specs.Rows.{IsAt}
+use Rattle.srcp_rules.specs.Place.{IsAt}
 use Rattle.srcp_rules.proofs.RowPlaceLaws.{set-put_row, row_at-gap}
 use Rattle.srcp_rules.proofs.sorted_rows.set_in.Goals as goal
 

@@ -1,6 +1,6 @@
 use Rattle.std.proofs.Common.{◌<◌, length, take, slice_set, is_some, sym, ap, subst, ◌∙◌, true≢false}
 use Rattle.srcp_rules.specs.State.{State, row_at}
-use Rattle.srcp_rules.specs.Rows.{IsAt}
+use Rattle.srcp_rules.specs.Place.{IsAt}
 use Rattle.srcp_rules.proofs.RowPlaceLaws.{set-put_row, row_at-gap}
 use Rattle.srcp_rules.proofs.PutLaws.{take-set}
 use Rattle.srcp_rules.proofs.nested.device_rows.DeviceRows.set.Goals as goal
