@@ -44,11 +44,11 @@ open_leads key old new a buses events keys layout d s =
     (runs_on buses events Open None (length events + 1) (opened key (telling keys w)) new refl h).stands
 
 -- before all events
-pub stands_first : {E : Type 0} (buses : List Bus) (moment last_id : ℕ) (result : Result Held E) → IfOk result (λ core. core ≡ record { buses = buses; rows = opening buses 0; moment = moment; last_id = last_id; places = []; denied = 0 })
+pub stands_first : {E : Type 0} (buses : List Bus) (moment last_id : ℕ) (result : Result Held E) → IfOk result (λ core. core ≡ record { buses = buses; rows = opening buses moment; moment = moment; last_id = last_id; places = []; denied = 0 })
     → moment ≡ 0 → last_id ≡ 0 → IfOk result (λ core. StandsFor buses [] core (course buses []))
 stands_first buses moment last_id (Ok core) e m l =
     let first : core ≡ record { buses = buses; rows = opening buses 0; moment = 0; last_id = 0; places = []; denied = 0 } =
-    e ∙ ap (λ k. record { buses = buses; rows = opening buses 0; moment = k; last_id = last_id; places = []; denied = 0 }) m
+    e ∙ ap (λ k. record { buses = buses; rows = opening buses k; moment = k; last_id = last_id; places = []; denied = 0 }) m
     ∙ ap (λ k. record { buses = buses; rows = opening buses 0; moment = 0; last_id = k; places = []; denied = 0 }) l in
     (runs_start buses nothing_told core refl first).stands
 stands_first buses moment last_id (Err fault) e m l = tt

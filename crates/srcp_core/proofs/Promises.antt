@@ -9,12 +9,12 @@ use Rattle.srcp_rules.specs.Layout.{IsLayout}
 use Rattle.srcp_rules.specs.State.{State, IsWhole, opening}
 use Rattle.srcp_core.specs.Connection.{Connection, recorded}
 use Rattle.srcp_core.specs.Course.{World, course, history, numbered, state, state_after}
-use Rattle.srcp_core.specs.Headline.{told_at, ToldSessions, ToldReplies, ToldRooms, IsToldRegistry}
+use Rattle.srcp_core.specs.Promised.{told_at, ToldSessions, ToldReplies, ToldRooms, IsToldRegistry}
 use Rattle.srcp_core.specs.Laws.{IsRecordOf, IsSession, IsPrefixOf, IsWholeWorld, AllMoments, HasMoment, times_listed, without_events}
 use Rattle.srcp_core.specs.declared.event.Event.{Event}
 use Rattle.srcp_core.specs.declared.record.ConnRecord.{ConnRecord}
 use Rattle.srcp_core.specs.declared.record.Record.{Record}
-use Rattle.srcp_core.proofs.Headline.{told_rightly, served_rightly}
+use Rattle.srcp_core.proofs.EveryCourse.{told_rightly, served_rightly}
 use Rattle.srcp_core.proofs.Told.{all_front}
 
 -- the registry as it is

@@ -30,23 +30,23 @@ row_at-all P key (first ∷ state) a row e = by (eq_by_cmp key_cmp first.shown.k
 abbrev IsOther : Row → Type 0
 IsOther row = is_session row.shown.key.group ≡ false
 
-other_on : (bus : Bus) → AllByRecursion IsOther (opening_on 0 bus)
-other_on bus =
-    all_append IsOther (cond bus.power (first_row 0 (power_device bus.number) (value.Power false []) ∷ []) []) (map (λ port. first_row 0 (fb_device bus.number port) (value.Fb false)) (range_with_len 1 bus.fb_ports))
-    (elim bus.power as (λ t. AllByRecursion IsOther (cond t (first_row 0 (power_device bus.number) (value.Power false []) ∷ []) [])) [ true ↦ (refl, tt) | false ↦ tt ])
-    (all_made IsOther (λ port. first_row 0 (fb_device bus.number port) (value.Fb false)) (λ n. refl) (range_with_len 1 bus.fb_ports))
+other_on : (moment : ℕ) (bus : Bus) → AllByRecursion IsOther (opening_on moment bus)
+other_on moment bus =
+    all_append IsOther (cond bus.power (first_row moment (power_device bus.number) (value.Power false []) ∷ []) []) (map (λ port. first_row moment (fb_device bus.number port) (value.Fb false)) (range_with_len 1 bus.fb_ports))
+    (elim bus.power as (λ t. AllByRecursion IsOther (cond t (first_row moment (power_device bus.number) (value.Power false []) ∷ []) [])) [ true ↦ (refl, tt) | false ↦ tt ])
+    (all_made IsOther (λ port. first_row moment (fb_device bus.number port) (value.Fb false)) (λ n. refl) (range_with_len 1 bus.fb_ports))
 
-other_opening : (buses : List Bus) → AllByRecursion IsOther (opening buses 0)
-other_opening [] = tt
-other_opening (bus ∷ buses) = all_append IsOther (opening_on 0 bus) (opening buses 0) (other_on bus) (other_opening buses)
+other_opening : (moment : ℕ) (buses : List Bus) → AllByRecursion IsOther (opening buses moment)
+other_opening moment [] = tt
+other_opening moment (bus ∷ buses) = all_append IsOther (opening_on moment bus) (opening buses moment) (other_on moment bus) (other_opening moment buses)
 
 -- at the beginning no session has a row
-pub no_session-opening : (buses : List Bus) (id : ℕ) → is_there (session_device id) (opening buses 0) ≡ false
-no_session-opening buses id = by (row_at (first_key (session_device id)) (opening buses 0)) refl
+pub no_session-opening : (buses : List Bus) (moment id : ℕ) → is_there (session_device id) (opening buses moment) ≡ false
+no_session-opening buses moment id = by (row_at (first_key (session_device id)) (opening buses moment)) refl
   where
-    by : (o : Option Row) → row_at (first_key (session_device id)) (opening buses 0) ≡ o → is_some (row_at (first_key (session_device id)) (opening buses 0)) ≡ false
+    by : (o : Option Row) → row_at (first_key (session_device id)) (opening buses moment) ≡ o → is_some (row_at (first_key (session_device id)) (opening buses moment)) ≡ false
     by None e = ap is_some e
     by (Some row) e =
-        let other = row_at-all IsOther (first_key (session_device id)) (opening buses 0) (other_opening buses) row e in
-        let same = ap (λ (k : Key). is_session k.group) (row_at_key (first_key (session_device id)) (opening buses 0) row e) in
+        let other = row_at-all IsOther (first_key (session_device id)) (opening buses moment) (other_opening moment buses) row e in
+        let same = ap (λ (k : Key). is_session k.group) (row_at_key (first_key (session_device id)) (opening buses moment) row e) in
         absurd (true≢false (sym same ∙ other))

@@ -29,19 +29,19 @@ use Rattle.srcp_feed.specs.Feed.{Feed}
 use Rattle.srcp_core.proofs.Walks.{change_in}
 use Rattle.srcp_core.proofs.Covers.{IsMild, mild_itself, mild_live, Covers, covers_itself, covers_set, covers_free, covers_told_each, told_each_count, set_count, free_other, sessions_covered, place_set, place_set_here, where_is, Where, Here, Away, no_place}
 use Rattle.srcp_core.proofs.SessionRows.{no_session-opening}
-use Rattle.srcp_core.proofs.Wholes.{whole_opening}
+use Rattle.srcp_rules.proofs.OpeningLaws.{opening_whole}
 
-pub sound_opening : (buses : List Bus) → IsLayout buses → (moment : ℕ) → IsMoment moment → (last_id : ℕ) (state : State) → state ≡ opening buses 0 → (places : List (Option Place)) → places ≡ []
+pub sound_opening : (buses : List Bus) → IsLayout buses → (moment : ℕ) → IsMoment moment → (last_id : ℕ) (state : State) → state ≡ opening buses moment → (places : List (Option Place)) → places ≡ []
     → IsSound (record { buses = buses; rows = state; moment = moment; last_id = last_id; places = places; denied = 0 })
 sound_opening buses layout moment now last_id state is places none = record {
   moment = now;
   few = rw none (omega arith);
-  whole = rw is (whole_opening buses layout);
+  whole = rw is (opening_whole buses layout moment now);
   sessions = rw (is, none) (record {
     ids = λ key p e. absurd (no_place key p e);
     apart = λ m n p q e f l s. absurd (no_place m p e);
     there = λ key p e l. absurd (no_place key p e);
-    later = λ id h. no_session-opening buses id;
+    later = λ id h. no_session-opening buses moment id;
   });
 }
 

@@ -1,10 +1,10 @@
 -- What the answers of a core's calls say of the course that it stands for.
-use Rattle.std.specs.Prelude.{⊤, ◌≡◌, ℕ, ◌+◌, ◌≤◌, Bool, true, false, if◌then◌else◌, List, [], ◌∷◌, ◌++◌, length, Option, Some, None, is_some, count_by}
+use Rattle.std.specs.Prelude.{⊤, ◌≡◌, ℕ, ◌+◌, ◌≤◌, Bool, true, false, not, ◌&&◌, ◌||◌, nat_le, if◌then◌else◌, List, [], ◌∷◌, ◌++◌, length, Option, Some, None, is_some, count_by}
 use Rattle.std.specs.Option.{option_map_or}
 use Rattle.srcp_rules.specs.declared.layout.Bus.{Bus}
 use Rattle.srcp_rules.specs.Layout.{IsLayout}
-use Rattle.srcp_core.specs.Connection.{Connection, overran, unsent, finish}
-use Rattle.srcp_core.specs.Course.{World, course, fault, history, open_connection}
+use Rattle.srcp_core.specs.Connection.{Connection, is_settled, overran, unsent, finish}
+use Rattle.srcp_core.specs.Course.{World, course, fault, history, open_connection, rows}
 use Rattle.srcp_core.specs.Held.{Held, open_count}
 use Rattle.srcp_core.specs.Recording.{key_of}
 use Rattle.srcp_core.specs.Stands.{StandsFor}
@@ -61,5 +61,17 @@ module _ (buses : List Bus) where
   abbrev pub lent_of : World → Connection → List ℕ
   lent_of w conn = if overran conn (history buses w) then [] else unsent conn
 
+  -- and what the open connection of that number lends
   abbrev pub lent : World → ℕ → List ℕ
   lent w n = option_map_or (lent_of w) (open_connection w n) []
+
+  -- nothing is lent of a connection: it overran, or all its replies are taken and, where it is an information session, it is
+  -- settled
+  abbrev pub lends_none_of : World → Connection → Bool
+  lends_none_of w conn =
+      overran conn (history buses w)
+      || (nat_le (length conn.out) conn.taken && (not conn.info || is_settled conn (history buses w) (rows buses w)))
+
+  -- nothing is lent of the open connection of that number
+  abbrev pub lends_none : World → ℕ → Bool
+  lends_none w n = option_map_or (lends_none_of w) (open_connection w n) true

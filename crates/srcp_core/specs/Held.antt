@@ -31,6 +31,7 @@ pub record Held : Type 0 where
 abbrev pub place_at : List (Option Place) → ℕ → Option Place
 place_at places key = slice_index_or places key None
 
+-- the connection at a place of the core
 abbrev pub at : Held → ℕ → Option Place
 at held key = place_at held.places key
 

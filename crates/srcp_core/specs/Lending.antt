@@ -7,5 +7,6 @@ use Rattle.srcp_rules.specs.declared.rows.Rows.{Ghosts}
 use Rattle.srcp_core.specs.Held.{Held}
 use Rattle.srcp_core.specs.contracts.table.Core.{the_row}
 
+-- once the loan is over, what the core holds is this
 abbrev pub EndsAs : (R : RattleType) → Ghosts R.Denot → MutBor Held → Held → Fml
 EndsAs R g core held = Rests (the_row (record { mir = named 1; lft = [] }) R g) core (λ new. new ≡ held)

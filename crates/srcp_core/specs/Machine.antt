@@ -70,6 +70,7 @@ abbrev pub told_feed : Change → Place → Option Feed → Place
 told_feed change p None = p
 told_feed change p (Some feed) = if concerns feed.cursor change && is_full feed then record p { overran = true; unsent = []; feed = None } else record p { feed = Some (told change feed) }
 
+-- and by the feed that the connection has
 abbrev pub told_place : Change → Place → Place
 told_place change p = told_feed change p p.feed
 
@@ -79,6 +80,7 @@ filled_from rows p (byte ∷ bytes) feed = p
 filled_from rows p [] None = p
 filled_from rows p [] (Some feed) = record p { unsent = line_of (next_of rows feed); feed = Some (after_next rows feed) }
 
+-- and by the unsent bytes and the feed that the connection has
 abbrev pub filled : List Shown → Place → Place
 filled rows p = filled_from rows p p.unsent p.feed
 
@@ -111,6 +113,7 @@ heard_from buses p (More, reading) = (None, record p { reader = reading })
 heard_from buses p (FoundLine stop, reading) = (Some (stop, asked_of buses p (Line reading.line)), record p { reader = reading })
 heard_from buses p (FoundTooLong stop, reading) = (Some (stop, asked_of buses p TooLong), record p { reader = reading })
 
+-- the piece is read on from there by the reader of the connection
 abbrev pub heard : List Bus → List ℕ → ℕ → Place → Option (ℕ × Asked) × Place
 heard buses piece start p = heard_from buses p (feed_of p.reader piece start)
 
@@ -119,6 +122,7 @@ abbrev pub begun_of : Option Place → Option (List ℕ)
 begun_of None = Some []
 begun_of (Some p) = p.reader.begun
 
+-- what is known of the line that has begun at a place of the core
 abbrev pub begun_at : ℕ → Held → Option (List ℕ)
 begun_at key held = begun_of (at held key)
 
@@ -129,9 +133,11 @@ abbrev pub changed_in : ℕ → (Place → Place) → List (Option Place) → Op
 changed_in key change places None = places
 changed_in key change places (Some p) = slice_set places key (Some (change p))
 
+-- the same, by the connection that is there
 abbrev pub changed_places : ℕ → (Place → Place) → List (Option Place) → List (Option Place)
 changed_places key change places = changed_in key change places (place_at places key)
 
+-- the same of the whole core
 abbrev pub changed_at : ℕ → (Place → Place) → Held → Held
 changed_at key change held = record held { places = changed_places key change held.places }
 
@@ -158,6 +164,7 @@ abbrev pub unsent_of : Option Place → List ℕ
 unsent_of None = []
 unsent_of (Some place) = place.unsent
 
+-- the bytes to be sent of a place of the core
 abbrev pub unsent_at : ℕ → Held → List ℕ
 unsent_at key held = unsent_of (at held key)
 
@@ -186,6 +193,7 @@ goes granted key mode held =
     then (if granted then replied key (Go (held.last_id + 1)) (begun key (held.last_id + 1) mode held) else denied_line key held)
     else replied key (Refused C500) held
 
+-- a line before the session, by whether memory was given to it
 abbrev pub greeted : Bool → ℕ → Mode → Greeting → Held → Held
 greeted granted key mode Speaks held = replied key Protocol held
 greeted granted key mode (Chooses chosen) held = replied key ModeReply (changed_at key (λ p. record p { mode = chosen }) held)
@@ -196,9 +204,11 @@ greeted granted key mode (Refuses code) held = replied key (Refused code) held
 abbrev pub freed_of : ℕ → Held → Held
 freed_of session held = carried (freed held.rows session held.moment) held
 
+-- the session ends where its own command ends it
 abbrev pub finished : Bool → ℕ → ℕ → Held → Held
 finished ends key session held = if ends then freed_of session (changed_at key (λ p. record p { ended = true }) held) else held
 
+-- a command is carried out and replied to, and may end its session
 abbrev pub obeyed : ℕ → ℕ → Effect → Held → Held
 obeyed key session result held = finished result.ends key session (replied key result.reply (carried result.updates held))
 
@@ -208,6 +218,7 @@ commanded granted key session (Err code) held = replied key (Refused code) held
 commanded granted key session (Ok command) held =
     if granted || not (adds_rows held.rows command) then obeyed key session (effect held.rows session held.moment command) held else denied_line key held
 
+-- a line is answered, by the connection that is there
 abbrev pub answered_from : Bool → ℕ → Asked → Held → Option Place → Held
 answered_from granted key asked held None = held
 answered_from granted key Dropped held (Some p) = held
@@ -220,14 +231,17 @@ answered granted key asked held = answered_from granted key asked held (at held 
 
 -- ---- the steps of the registry that the answer to a line is
 
+-- the steps in a list
 abbrev pub listed : LineSteps → List Step
 listed Nothing = []
 listed (One step) = step ∷ []
 listed (Two step next) = step ∷ next ∷ []
 
+-- the steps of GO: the beginning of a session, where an id is left and memory was given
 abbrev pub steps_gone : Bool → Mode → Held → List Step
 steps_gone granted mode held = if nat_lt held.last_id 4294967295 && granted then Began (held.last_id + 1) held.moment mode ∷ [] else []
 
+-- the steps of a line before the session
 abbrev pub steps_greeted : Bool → Mode → Greeting → Held → List Step
 steps_greeted granted mode Speaks held = []
 steps_greeted granted mode (Chooses chosen) held = []
@@ -240,12 +254,14 @@ steps_commanded granted session (Err code) held = []
 steps_commanded granted session (Ok command) held =
     Obeyed session held.moment command ∷ (if (granted || not (adds_rows held.rows command)) && (effect held.rows session held.moment command).ends then Ended session held.moment ∷ [] else [])
 
+-- the steps of a line, by the connection that is there
 abbrev pub steps_answered_from : Bool → Asked → Held → Option Place → List Step
 steps_answered_from granted asked held None = []
 steps_answered_from granted Dropped held (Some p) = []
 steps_answered_from granted (Greets greeting) held (Some p) = steps_greeted granted p.mode greeting held
 steps_answered_from granted (Commands command) held (Some p) = steps_commanded granted p.session command held
 
+-- the steps of a line at a place of the core
 abbrev pub steps_answered : Bool → ℕ → Asked → Held → List Step
 steps_answered granted key asked held = steps_answered_from granted asked held (at held key)
 
@@ -254,6 +270,7 @@ abbrev pub longest : Reply → ℕ
 longest (Shows shown) = 126
 longest other = 64
 
+-- how many bytes the answer to a line has at most
 abbrev pub longest_answer : Asked → ℕ
 longest_answer (Commands (Ok command)) = 126
 longest_answer other = 64
@@ -282,6 +299,7 @@ bytes_fault_from piece (Some p) =
     else (if not (is_nil p.unsent) then Some Busy
     else (if nat_lt 256 (length piece) then Some PieceTooLong else None))
 
+-- the same at a place of the core
 abbrev pub bytes_fault : ℕ → List ℕ → Held → Option CoreFault
 bytes_fault key piece held = bytes_fault_from piece (at held key)
 
@@ -291,6 +309,7 @@ heard_in key piece start held None = (None, held)
 heard_in key piece start held (Some p) =
     ((heard held.buses piece start p).0, record held { places = slice_set held.places key (Some (heard held.buses piece start p).1) })
 
+-- the same, by the connection that is there
 abbrev pub heard_at : ℕ → List ℕ → ℕ → Held → Option (ℕ × Asked) × Held
 heard_at key piece start held = heard_in key piece start held (at held key)
 
@@ -332,6 +351,7 @@ abbrev pub is_closing_from : Option Place → Bool
 is_closing_from None = false
 is_closing_from (Some p) = p.overran || (p.ended && is_nil p.unsent)
 
+-- the same at a place of the core
 abbrev pub is_closing : ℕ → Held → Bool
 is_closing key held = is_closing_from (at held key)
 
@@ -340,6 +360,7 @@ abbrev pub live_session_of : Option Place → Option ℕ
 live_session_of None = None
 live_session_of (Some p) = if (p.session == 0) || p.ended then None else Some p.session
 
+-- the same at a place of the core
 abbrev pub live_session : ℕ → Held → Option ℕ
 live_session key held = live_session_of (at held key)
 
@@ -348,6 +369,7 @@ abbrev pub finish_from : Option Place → Finish
 finish_from None = Shut
 finish_from (Some p) = if p.overran then Overrun else (if p.ended && is_nil p.unsent then Finishes else Live)
 
+-- the same at a place of the core
 abbrev pub finish_at : ℕ → Held → Finish
 finish_at key held = finish_from (at held key)
 
@@ -355,10 +377,12 @@ finish_at key held = finish_from (at held key)
 abbrev pub let_out : ℕ → Held → Held
 let_out key held = changed_at key (filled (shown_rows held.rows)) held
 
+-- what is put in then, by the connection that is there
 abbrev pub item_of : List Shown → Option Place → Option Next
 item_of rows None = None
 item_of rows (Some p) = item_from rows p.unsent p.feed
 
+-- what is put in then at a place of the core
 abbrev pub item_at : ℕ → Held → Option Next
 item_at key held = item_of (shown_rows held.rows) (at held key)
 
@@ -366,10 +390,12 @@ item_at key held = item_of (shown_rows held.rows) (at held key)
 abbrev pub freed_place : ℕ → Held → Held
 freed_place key held = record held { places = slice_set held.places key None }
 
+-- a connection is hung up, by what is there
 abbrev pub hung_up_from : ℕ → Held → Option Place → Held
 hung_up_from key held None = held
 hung_up_from key held (Some p) = if (p.session == 0) || p.ended then freed_place key held else freed_of p.session (freed_place key held)
 
+-- the connection at a place of the core is hung up
 abbrev pub hung_up : ℕ → Held → Held
 hung_up key held = hung_up_from key held (at held key)
 

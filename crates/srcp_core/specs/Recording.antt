@@ -14,6 +14,7 @@ use Rattle.srcp_core.specs.declared.record.Refusal.{Refusal}
 use Rattle.srcp_core.specs.declared.record.Step.{Step}
 use Rattle.srcp_core.specs.declared.record.Step.TheVariants.{Obeyed, Began, Moment, Ended}
 
+-- what was told so far
 pub record Recording : Type 0 where
   pub keys : List (Option ℕ)  -- the place of each connection, while it is open
   pub steps : List Step
@@ -39,10 +40,12 @@ abbrev pub changed_in : ℕ → (ConnRecord → ConnRecord) → List ConnRecord 
 changed_in index change records None = records
 changed_in index change records (Some told) = slice_set records index (change told)
 
+-- the same, by the number alone
 abbrev pub changed_record : ℕ → (ConnRecord → ConnRecord) → List ConnRecord → List ConnRecord
 changed_record zero change records = records
 changed_record (suc index) change records = changed_in index change records (slice_get records index)
 
+-- the same of the whole recording
 abbrev pub changed : ℕ → (ConnRecord → ConnRecord) → Recording → Recording
 changed n change r = record r { connections = changed_record n change r.connections }
 
@@ -95,6 +98,7 @@ abbrev pub finished_by : Held → Option ℕ → ConnRecord → ConnRecord
 finished_by held None told = told
 finished_by held (Some key) told = record told { finish = finish_at key held }
 
+-- how all of them stand in the end
 abbrev pub finished : Held → List (Option ℕ) → List ConnRecord → List ConnRecord
 finished held [] tolds = tolds
 finished held (key ∷ keys) [] = []

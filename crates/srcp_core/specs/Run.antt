@@ -44,36 +44,37 @@ module _ (buses : List Bus) where
 abbrev pub HappensAs : Event → Option CoreFault → Recording → Held → Recording → Held → Type 0
 HappensAs event refusal r held later_r later =
     (buses : List Bus) (events : List Event) → IsLayout buses → later.denied ≡ 0 → Runs buses r held (course buses events)
-        → Happened buses event refusal later_r later (counted (course buses events))
+    → Happened buses event refusal later_r later (counted (course buses events))
 
 -- and so with the number of the event, which is noted where it is refused
 abbrev pub FollowsAs : ℕ → Event → Recording → Held → Recording → Held → Type 0
 FollowsAs number event r held later_r later =
     (buses : List Bus) (events : List Event) → IsLayout buses → number ≡ length events + 1 → later.denied ≡ 0
-        → Runs buses r held (course buses events) → Runs buses later_r later (course buses (events ++ event ∷ []))
+    → Runs buses r held (course buses events) → Runs buses later_r later (course buses (events ++ event ∷ []))
 
 -- a call that was refused no memory leads from the course of any events to that with its event
 abbrev pub LeadsTo : Event → Held → Held → Type 0
 LeadsTo event old new =
     (buses : List Bus) (events : List Event) (keys : List (Option ℕ)) → IsLayout buses → new.denied ≡ 0
-        → StandsFor buses keys old (course buses events) → StandsFor buses keys new (course buses (events ++ event ∷ []))
+    → StandsFor buses keys old (course buses events) → StandsFor buses keys new (course buses (events ++ event ∷ []))
 
 -- the same of a call of the connection at a place, which may leave that free
 abbrev pub LeadsAt : ℕ → (ℕ → Event) → Held → Held → Type 0
 LeadsAt key event old new =
     (buses : List Bus) (events : List Event) (keys : List (Option ℕ)) (n : ℕ) → IsLayout buses → new.denied ≡ 0
-        → key_of n keys ≡ Some key → StandsFor buses keys old (course buses events)
-        → StandsFor buses keys new (course buses (events ++ event n ∷ []))
+    → key_of n keys ≡ Some key → StandsFor buses keys old (course buses events)
+    → StandsFor buses keys new (course buses (events ++ event n ∷ []))
 
+-- the same of a hang-up, which leaves the place free
 abbrev pub LeadsToFree : ℕ → Held → Held → Type 0
 LeadsToFree key old new =
     (buses : List Bus) (events : List Event) (keys : List (Option ℕ)) (n : ℕ) → IsLayout buses → new.denied ≡ 0
-        → key_of n keys ≡ Some key → StandsFor buses keys old (course buses events)
-        → StandsFor buses (without_key n keys) new (course buses (events ++ Shut n ∷ []))
+    → key_of n keys ≡ Some key → StandsFor buses keys old (course buses events)
+    → StandsFor buses (without_key n keys) new (course buses (events ++ Shut n ∷ []))
 
 -- and of one that opens a connection at a place
 abbrev pub LeadsToOpen : ℕ → Held → Held → Type 0
 LeadsToOpen key old new =
     (buses : List Bus) (events : List Event) (keys : List (Option ℕ)) → IsLayout buses → new.denied ≡ 0
-        → StandsFor buses keys old (course buses events)
-        → StandsFor buses (keys ++ Some key ∷ []) new (course buses (events ++ Open ∷ []))
+    → StandsFor buses keys old (course buses events)
+    → StandsFor buses (keys ++ Some key ∷ []) new (course buses (events ++ Open ∷ []))

@@ -17,10 +17,11 @@ use srcp_text::{Fed, LineBuf, LineReader};
 use std::alloc::Global;
 use std::marker::Model;
 
-/// How many bytes may be unsent: 64 for each byte of a piece, and 256 for a line that was begun before it.
+/// How many bytes may be unsent: 64 for each byte of a piece, and 256 for a line that was begun before it. Our own
+/// choice.
 pub(crate) const MOST_UNSENT: usize = 16_640;
 
-/// What the server says first.
+/// What the server says first: the welcome line of SRCP 0.8, with our own name and version.
 const WELCOME: &[u8] = b"srcp_server 1.0; SRCP 0.8.4; SRCPOTHER 0.8.3\n";
 
 /// One connection.

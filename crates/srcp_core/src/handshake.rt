@@ -1,4 +1,4 @@
-//! What a line before the session asks for.
+//! What a line before the session asks for: the handshake of SRCP 0.8.
 ghost use Rattle.std.specs.Prelude.{◌≡◌};
 ghost use Rattle.std.specs.Char.{is_ascii_digit};
 ghost use Rattle.std.specs.List.{list_all};
@@ -10,7 +10,8 @@ use crate::greeting::Greeting;
 use srcp_info::{Code, Mode};
 use srcp_text::{Words, words};
 
-/// What the line asks for, or the refusal that answers it.
+/// What the line asks for, or the refusal that answers it. The lines and their codes are of SRCP 0.8; that they may
+/// come in any order, and which refusal comes first, is our own choice.
 pub(crate) fn greet(line: &[u8]) -> Greeting
     ensures { result ≡ greets (Line line.now) }
 {

@@ -3,7 +3,7 @@ ghost use Rattle.std.specs.Prelude.{◌≡◌, ◌≤◌, IfOk, OnOk};
 ghost use Rattle.std.specs.List.{AllByRecursion};
 ghost use Rattle.srcp_info.specs.WellFormed.{IsMoment, IsWellFormedShown};
 ghost use Rattle.srcp_rules.specs.Layout.{IsLayout};
-ghost use Rattle.srcp_core.specs.Headline.{ToldSessions, ToldReplies, ToldRooms, IsToldRegistry};
+ghost use Rattle.srcp_core.specs.Promised.{ToldSessions, ToldReplies, ToldRooms, IsToldRegistry};
 ghost use Rattle.srcp_core.specs.Laws.{AllMoments, HasMoment, IsRecordOf};
 ghost use Rattle.srcp_core.specs.Run.{HappensAs, FollowsAs, count_at, taken_at, taking};
 

@@ -15,6 +15,7 @@ mod finish;
 mod outgoing;
 mod place;
 mod receive;
+mod stamp;
 mod walk;
 
 use crate::connection::Connection;
@@ -25,10 +26,10 @@ use srcp_rules::{Layout, Memory, Rows};
 use std::alloc::Global;
 use std::marker::Model;
 
-/// How many connections may be open at once.
+/// How many connections may be open at once: our own choice.
 const MOST_CONNECTIONS: usize = 64;
 
-/// How many bytes a piece may have.
+/// How many bytes a piece may have: our own choice.
 const MOST_IN_PIECE: usize = 256;
 
 /// The registry of a layout, and the connections to it with their sessions.
@@ -55,16 +56,17 @@ impl<'a, R: Rows> Model for Core<'a, R> {
 }
 
 impl<'a, R: Rows> Core<'a, R> {
-    /// The registry of the layout as it begins, at a moment in milliseconds, and no connection. `last_id` is the
-    /// session id that was used last, 0 where none was. It takes the memory of the registry and of 64 places;
-    /// `Memory` where that is refused.
+    /// The registry of the layout as it begins, at a moment in milliseconds, and no connection. Each bus with power
+    /// has it off and each feedback port is 0 from the start, stamped with that moment. `last_id` is the session id
+    /// that was used last, 0 where none was. It takes the memory of the registry and of 64 places; `Memory` where
+    /// that is refused.
     pub fn new(
         alloc: Global,
         layout: &'a Layout,
         moment: u64,
         last_id: u32,
     ) -> Result<Core<'a, R>, Memory>
-        ensures core { IfOk result (λ core. core ≡ record { buses = layout.now; rows = opening layout.now 0; moment = moment; last_id = last_id; places = []; denied = 0 }) }
+        ensures core { IfOk result (λ core. core ≡ record { buses = layout.now; rows = opening layout.now moment; moment = moment; last_id = last_id; places = []; denied = 0 }) }
         ensures stands { moment ≡ 0 → last_id ≡ 0 → IfOk result (λ core. StandsFor layout.now [] core (course layout.now [])) }
     {
         Core::made(alloc, layout, moment, last_id)
@@ -77,11 +79,12 @@ impl<'a, R: Rows> Core<'a, R> {
         moment: u64,
         last_id: u32,
     ) -> Result<Core<'a, R>, Memory>
-        ensures { IfOk result (λ core. core ≡ record { buses = layout.now; rows = opening layout.now 0; moment = moment; last_id = last_id; places = []; denied = 0 }) }
+        ensures { IfOk result (λ core. core ≡ record { buses = layout.now; rows = opening layout.now moment; moment = moment; last_id = last_id; places = []; denied = 0 }) }
     {
         // Called for its contract, which says the layout's limits.
         let _ = layout.buses();
-        let rows = Timed::empty(alloc, layout)?;
+        let mut rows = Timed::empty(alloc, layout)?;
+        stamp::stamp_all(&mut rows, moment);
         let connections = Slab::with_capacity(alloc, MOST_CONNECTIONS)?;
         Ok(Core {
             alloc,
@@ -95,8 +98,9 @@ impl<'a, R: Rows> Core<'a, R> {
     }
 
     /// Opens a connection, and answers the key of its place. The memory of its reply buffer is taken whole, before
-    /// anything changes; the welcome line stands in it. `Full` where 64 connections are open; `Memory` where the
-    /// growth was refused, which is counted. Either leaves all else as it is.
+    /// anything changes; the welcome line, which is of SRCP 0.8, stands in it. `Full` where 64 connections are open,
+    /// which is our own choice; `Memory` where the growth was refused, which is counted. Either leaves all else as it
+    /// is.
     pub fn connect(&mut self) -> Result<usize, CoreFault>
         ensures full { IsErrOf result CoreFault.Full ↔ (open_count self.old ≡ 64) }
         ensures admitted { IfOk result (λ key. IsAdmitted key self.old self.new) }
@@ -124,7 +128,7 @@ impl<'a, R: Rows> Core<'a, R> {
         match Connection::new(self.alloc) {
             Ok(connection) => Ok(self.connections.insert_reserved(connection)),
             Err(Memory) => {
-                self.denied = self.denied.saturating_add(1);
+                self.count_denied();
                 Err(CoreFault::Memory)
             }
         }

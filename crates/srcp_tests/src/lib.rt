@@ -8,6 +8,8 @@ mod events;
 #[cfg(test)]
 mod feeds;
 #[cfg(test)]
+mod first_moment;
+#[cfg(test)]
 mod fixture;
 #[cfg(test)]
 mod last_id;

@@ -8,10 +8,10 @@ use std::vec::Vec;
 const DEVICES: &[u8] = b"INIT 1 GL 3 N 1 28 2\nINIT 1 GA 5 M\nINIT 1 GA 6 M\n";
 
 /// A moment, what a command session sends then, and what a panel is told.
-type Step<'a> = (u64, &'a [u8], &'a [u8]);
+type Turn<'a> = (u64, &'a [u8], &'a [u8]);
 
 /// Takes the moment, hands in the command session's piece, and takes what the panel is told.
-fn step(
+fn turn(
     alloc: Global,
     core: &mut Core<'_, Flat>,
     sessions: (usize, usize),
@@ -38,7 +38,7 @@ fn a_port_set_after_a_far_lock_falls_back_in_time(rt: HostRuntime) -> Result<(),
     let layout = one_bus(rt.alloc())?;
     let mut core = Core::<Flat>::new(rt.alloc(), &layout, 0, 0)?;
     let sessions = open_sessions(rt.alloc(), &mut core)?;
-    let steps: [Step; 7] = [
+    let turns: [Turn; 7] = [
         (
             0,
             b"SET 1 LOCK GL 3 60\n",
@@ -51,8 +51,8 @@ fn a_port_set_after_a_far_lock_falls_back_in_time(rt: HostRuntime) -> Result<(),
         (60_000, b"", b"60.000 102 INFO 1 LOCK GL 3\n"),
         (60_001, b"", b""),
     ];
-    for (moment, piece, told) in steps {
-        let lines = step(rt.alloc(), &mut core, sessions, moment, piece)?;
+    for (moment, piece, told) in turns {
+        let lines = turn(rt.alloc(), &mut core, sessions, moment, piece)?;
         assert_eq!(rt; lines.as_slice(), told, "at {moment}");
     }
     Ok(())
@@ -63,7 +63,7 @@ fn a_port_set_again_falls_back_at_its_later_moment(rt: HostRuntime) -> Result<()
     let layout = one_bus(rt.alloc())?;
     let mut core = Core::<Flat>::new(rt.alloc(), &layout, 0, 0)?;
     let sessions = open_sessions(rt.alloc(), &mut core)?;
-    let steps: [Step; 7] = [
+    let turns: [Turn; 7] = [
         (0, b"SET 1 GA 5 0 1 100\n", b"0.000 100 INFO 1 GA 5 0 1\n"),
         (50, b"SET 1 GA 5 0 1 100\n", b"0.050 100 INFO 1 GA 5 0 1\n"),
         (100, b"", b""),
@@ -76,8 +76,8 @@ fn a_port_set_again_falls_back_at_its_later_moment(rt: HostRuntime) -> Result<()
         ),
         (1_000, b"", b""),
     ];
-    for (moment, piece, told) in steps {
-        let lines = step(rt.alloc(), &mut core, sessions, moment, piece)?;
+    for (moment, piece, told) in turns {
+        let lines = turn(rt.alloc(), &mut core, sessions, moment, piece)?;
         assert_eq!(rt; lines.as_slice(), told, "at {moment}");
     }
     Ok(())
@@ -90,7 +90,7 @@ fn each_row_falls_back_at_its_own_moment_and_those_of_one_in_key_order(
     let layout = one_bus(rt.alloc())?;
     let mut core = Core::<Flat>::new(rt.alloc(), &layout, 0, 0)?;
     let sessions = open_sessions(rt.alloc(), &mut core)?;
-    let steps: [Step; 4] = [
+    let turns: [Turn; 4] = [
         (
             0,
             b"SET 1 GA 6 1 1 200\nSET 1 GA 6 0 1 300\nSET 1 GA 5 0 1 200\nSET 1 LOCK GA 5 1\n",
@@ -108,8 +108,8 @@ fn each_row_falls_back_at_its_own_moment_and_those_of_one_in_key_order(
         (300, b"", b"0.300 100 INFO 1 GA 6 0 0\n"),
         (5_000, b"", b"5.000 102 INFO 1 LOCK GA 5\n"),
     ];
-    for (moment, piece, told) in steps {
-        let lines = step(rt.alloc(), &mut core, sessions, moment, piece)?;
+    for (moment, piece, told) in turns {
+        let lines = turn(rt.alloc(), &mut core, sessions, moment, piece)?;
         assert_eq!(rt; lines.as_slice(), told, "at {moment}");
     }
     Ok(())

@@ -62,10 +62,9 @@ fn set_sensor(
     Ok(())
 }
 
-#[test]
-fn a_run_tells_steps_and_items(rt: HostRuntime) -> Result<(), Fail> {
-    let alloc = rt.alloc();
-    let layout = one_bus(alloc)?;
+/// A panel that is given room now and then, and a command session that sets two sensors, sends a line that is none, and
+/// ends by its own command.
+fn an_evening(alloc: Global) -> Result<Vec<Event>, Fail> {
     let mut events = Vec::new(alloc);
     begin(alloc, &mut events, 1, PANEL)?;
     // the rows of the session and of the power, and ten bytes of the first sensor's
@@ -81,8 +80,30 @@ fn a_run_tells_steps_and_items(rt: HostRuntime) -> Result<(), Fail> {
     })?;
     events.push(bytes(alloc, 2, b"TERM 0 SESSION\n")?)?;
     events.push(Event::Room { conn: 2, bytes: 13 })?;
-    let record = carried_out(alloc, &layout, &events)?;
-    let steps = [
+    Ok(events)
+}
+
+/// Session 2 gives a command.
+fn obeyed(moment: u64, command: Command) -> Step {
+    Step::Obeyed {
+        session: 2,
+        moment,
+        command,
+    }
+}
+
+/// A sensor of bus 1 is set.
+fn set_fb(port: u32) -> Command {
+    Command::SetFb {
+        bus: 1,
+        port,
+        on: true,
+    }
+}
+
+/// What the registry goes through in that evening.
+fn steps_of_the_evening() -> [Step; 8] {
+    [
         Step::Began {
             session: 1,
             moment: 0,
@@ -93,37 +114,24 @@ fn a_run_tells_steps_and_items(rt: HostRuntime) -> Result<(), Fail> {
             moment: 0,
             mode: Mode::Command,
         },
-        Step::Obeyed {
-            session: 2,
-            moment: 0,
-            command: Command::SetFb {
-                bus: 1,
-                port: 2,
-                on: true,
-            },
-        },
-        Step::Obeyed {
-            session: 2,
-            moment: 0,
-            command: Command::SetFb {
-                bus: 1,
-                port: 1,
-                on: true,
-            },
-        },
+        obeyed(0, set_fb(2)),
+        obeyed(0, set_fb(1)),
         Step::Moment(7),
         Step::Moment(7),
-        Step::Obeyed {
-            session: 2,
-            moment: 7,
-            command: Command::TermSession { session: None },
-        },
+        obeyed(7, Command::TermSession { session: None }),
         Step::Ended {
             session: 2,
             moment: 7,
         },
-    ];
-    assert!(rt; are_same_steps(record.steps.as_slice(), &steps));
+    ]
+}
+
+#[test]
+fn a_run_tells_steps_and_items(rt: HostRuntime) -> Result<(), Fail> {
+    let alloc = rt.alloc();
+    let layout = one_bus(alloc)?;
+    let record = carried_out(alloc, &layout, &an_evening(alloc)?)?;
+    assert!(rt; are_same_steps(record.steps.as_slice(), &steps_of_the_evening()));
     assert_eq!(rt; record.denied, 0);
     assert!(rt; record.refused.as_slice().is_empty());
     let [panel, command] = record.connections.as_slice() else {
@@ -172,10 +180,22 @@ fn no_item_says_that_nothing_is_left(rt: HostRuntime) -> Result<(), Fail> {
     Ok(())
 }
 
-#[test]
-fn refusals_are_told_by_the_numbers_of_their_events(rt: HostRuntime) -> Result<(), Fail> {
-    let alloc = rt.alloc();
-    let layout = one_bus(alloc)?;
+/// Events of which these are refused, by their numbers.
+const REFUSED: [(usize, CoreFault); 10] = [
+    (2, CoreFault::Busy),
+    (3, CoreFault::NoSuch),
+    (5, CoreFault::PieceTooLong),
+    (6, CoreFault::NoSuch),
+    (7, CoreFault::NoSuch),
+    (9, CoreFault::Closing),
+    (11, CoreFault::Closing),
+    (13, CoreFault::NoSuch),
+    (14, CoreFault::NoSuch),
+    (79, CoreFault::Full),
+];
+
+/// And the events themselves.
+fn events_with_refusals(alloc: Global) -> Result<Vec<Event>, Fail> {
     let mut events = Vec::new(alloc);
     events.push(Event::Open)?;
     events.push(bytes(alloc, 1, b"GO\n")?)?;
@@ -197,22 +217,17 @@ fn refusals_are_told_by_the_numbers_of_their_events(rt: HostRuntime) -> Result<(
     for _ in 0..65 {
         events.push(Event::Open)?;
     }
-    let record = carried_out(alloc, &layout, &events)?;
-    let wanted = [
-        (2, CoreFault::Busy),
-        (3, CoreFault::NoSuch),
-        (5, CoreFault::PieceTooLong),
-        (6, CoreFault::NoSuch),
-        (7, CoreFault::NoSuch),
-        (9, CoreFault::Closing),
-        (11, CoreFault::Closing),
-        (13, CoreFault::NoSuch),
-        (14, CoreFault::NoSuch),
-        (79, CoreFault::Full),
-    ];
+    Ok(events)
+}
+
+#[test]
+fn refusals_are_told_by_the_numbers_of_their_events(rt: HostRuntime) -> Result<(), Fail> {
+    let alloc = rt.alloc();
+    let layout = one_bus(alloc)?;
+    let record = carried_out(alloc, &layout, &events_with_refusals(alloc)?)?;
     let refused = record.refused.as_slice();
-    assert_eq!(rt; refused.len(), wanted.len());
-    for (refusal, wanted) in refused.iter().zip(wanted) {
+    assert_eq!(rt; refused.len(), REFUSED.len());
+    for (refusal, wanted) in refused.iter().zip(REFUSED) {
         assert_eq!(rt; (refusal.event, refusal.fault), wanted);
     }
     assert_eq!(rt; record.connections.as_slice().len(), 65);
@@ -220,10 +235,8 @@ fn refusals_are_told_by_the_numbers_of_their_events(rt: HostRuntime) -> Result<(
     Ok(())
 }
 
-#[test]
-fn each_connection_has_its_finish(rt: HostRuntime) -> Result<(), Fail> {
-    let alloc = rt.alloc();
-    let layout = one_bus(alloc)?;
+/// Six connections, of which each comes to the finish that stands in `FINISHES`.
+fn events_to_each_finish(alloc: Global) -> Result<Vec<Event>, Fail> {
     let mut events = Vec::new(alloc);
     begin(alloc, &mut events, 1, b"GO\n")?;
     begin(alloc, &mut events, 2, PANEL)?;
@@ -244,17 +257,25 @@ fn each_connection_has_its_finish(rt: HostRuntime) -> Result<(), Fail> {
     events.push(bytes(alloc, 4, b"TERM 0 SESSION\n")?)?;
     events.push(Event::Room { conn: 4, bytes: 12 })?;
     events.push(Event::Shut { conn: 5 })?;
-    let record = carried_out(alloc, &layout, &events)?;
-    let wanted = [
-        Finish::Live,
-        Finish::Overrun,
-        Finish::Closing,
-        Finish::Live,
-        Finish::Shut,
-        Finish::Live,
-    ];
-    assert_eq!(rt; record.connections.as_slice().len(), wanted.len());
-    for (connection, finish) in record.connections.as_slice().iter().zip(wanted) {
+    Ok(events)
+}
+
+const FINISHES: [Finish; 6] = [
+    Finish::Live,
+    Finish::Overrun,
+    Finish::Closing,
+    Finish::Live,
+    Finish::Shut,
+    Finish::Live,
+];
+
+#[test]
+fn each_connection_has_its_finish(rt: HostRuntime) -> Result<(), Fail> {
+    let alloc = rt.alloc();
+    let layout = one_bus(alloc)?;
+    let record = carried_out(alloc, &layout, &events_to_each_finish(alloc)?)?;
+    assert_eq!(rt; record.connections.as_slice().len(), FINISHES.len());
+    for (connection, finish) in record.connections.as_slice().iter().zip(FINISHES) {
         assert_eq!(rt; connection.finish, finish);
     }
     assert!(rt; record.refused.as_slice().is_empty());

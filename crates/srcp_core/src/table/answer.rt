@@ -20,12 +20,12 @@ use srcp_rules::{Command, Memory, Obeyed, Rows, begin_session, obey};
 use srcp_text::LineBuf;
 use std::alloc::Global;
 
-/// The greatest session id.
+/// The greatest session id: our own choice, the greatest of 32 bits.
 const LAST_ID: u32 = 4_294_967_295;
 
 impl<'a, R: Rows> Core<'a, R> {
     /// One more growth was refused.
-    fn count_denied(&mut self)
+    pub(super) fn count_denied(&mut self)
         ensures { self.new ≡ one_denied self.old }
     {
         self.denied = self.denied.saturating_add(1);

@@ -8,7 +8,7 @@ ghost use Rattle.srcp_core.specs.Machine.{finish_at, live_session};
 
 use super::Core;
 use crate::entries::Entries;
-use crate::record::{Finish, Rows as RowEntries};
+use crate::record::{Finish, RowList};
 use srcp_info::Cursor;
 use srcp_rules::{Memory, Rows};
 use std::alloc::Global;
@@ -49,7 +49,7 @@ impl<'a, R: Rows> Core<'a, R> {
     }
 
     /// All rows, in key order.
-    pub(crate) fn rows(&self, alloc: Global) -> Result<RowEntries, Memory>
+    pub(crate) fn rows(&self, alloc: Global) -> Result<RowList, Memory>
         ensures rows { IfOk result (λ rows. rows ≡ self.now.rows) }
         ensures well_formed { IfOk result (AllByRecursion (λ row. IsWellFormedShown row.shown)) }
     {
@@ -58,7 +58,7 @@ impl<'a, R: Rows> Core<'a, R> {
 }
 
 /// All rows of a keeper, in key order.
-fn all_rows<R: Rows>(alloc: Global, rows: &R) -> Result<RowEntries, Memory>
+fn all_rows<R: Rows>(alloc: Global, rows: &R) -> Result<RowList, Memory>
     requires { IsRising (R.state rows.now) }
     ensures { IfOk result (λ told. told ≡ R.state rows.now) }
 {

@@ -1,6 +1,7 @@
 //! Bytes that go out.
-ghost use Rattle.std.specs.Prelude.{◌≡◌, ◌≤◌, ◌<◌, [], ◌∷◌, ◌++◌, length, None, IsErr, IsSome, IfOk, MatchResult, ◌↔◌};
-ghost use Rattle.srcp_core.specs.Agrees.{OfConnection, lent};
+ghost use Rattle.std.specs.Prelude.{◌≡◌, ◌≤◌, ◌<◌, [], ◌∷◌, ◌++◌, length, None, IsErr, IsSome, IfOk, IfErr, MatchResult, ◌↔◌};
+ghost use Rattle.srcp_core.specs.Agrees.{OfConnection, lends_none, lent};
+ghost use Rattle.srcp_core.specs.Connection.{is_nil};
 ghost use Rattle.srcp_core.specs.Course.{course};
 ghost use Rattle.srcp_core.specs.Held.{Held, at};
 ghost use Rattle.srcp_core.specs.Machine.{changed_at, without_sent, unsent_at, let_out, item_at};
@@ -18,12 +19,14 @@ impl<'a, R: Rows> Core<'a, R> {
 
     /// Lends the bytes that are to be sent of a connection, from its own buffer and with no copy. Where an
     /// information session's buffer is empty, its next line is put in first. `NoSuch` where there is no such
-    /// connection.
+    /// connection, and then nothing changes.
     pub fn outgoing(&mut self, conn: usize) -> Result<&[u8], CoreFault>
         ensures* ends { sem 𝓛 (EndsAs R.row R.Rows self.entry (let_out conn self.old)) }
         ensures absent { IsErr result ↔ (at self.old conn ≡ None) }
+        ensures fault { IfErr result (λ fault. fault ≡ CoreFault.NoSuch) }
         ensures bytes { IfOk result (λ bytes. bytes.now ≡ unsent_at conn (let_out conn self.old)) }
         ensures course { OfConnection conn self.old (λ buses events n. MatchResult result (λ bytes. bytes.now ≡ lent buses (course buses (events ++ Room n 0 ∷ [])) n) (λ _. ⊥)) }
+        ensures empty { OfConnection conn self.old (λ buses events n. IfOk result (λ bytes. is_nil bytes.now ≡ lends_none buses (course buses events) n)) }
         ensures denied { (let_out conn self.old).denied ≡ self.old.denied }
         ensures stands { LeadsAt conn (λ n. Room n 0) self.old (let_out conn self.old) }
     {
@@ -34,6 +37,7 @@ impl<'a, R: Rows> Core<'a, R> {
     fn lend(&mut self, conn: usize) -> Result<&[u8], CoreFault>
         ensures* ends { sem 𝓛 (EndsAs R.row R.Rows self.entry (let_out conn self.old)) }
         ensures absent { IsErr result ↔ (at self.old conn ≡ None) }
+        ensures fault { IfErr result (λ fault. fault ≡ CoreFault.NoSuch) }
         ensures bytes { IfOk result (λ bytes. bytes.now ≡ unsent_at conn (let_out conn self.old)) }
     {
         self.fill(conn)?;
@@ -43,6 +47,7 @@ impl<'a, R: Rows> Core<'a, R> {
     /// Puts in the next line of an information session, where nothing is unsent, and answers what that is.
     pub(crate) fn fill(&mut self, conn: usize) -> Result<Option<Next>, CoreFault>
         ensures absent { IsErr result ↔ (at self.old conn ≡ None) }
+        ensures fault { IfErr result (λ fault. fault ≡ CoreFault.NoSuch) }
         ensures core { self.new ≡ let_out conn self.old }
         ensures item { IfOk result (λ item. item ≡ item_at conn self.old) }
     {
@@ -55,6 +60,7 @@ impl<'a, R: Rows> Core<'a, R> {
     /// The bytes that are to be sent of a connection.
     pub(crate) fn unsent(&self, conn: usize) -> Result<&[u8], CoreFault>
         ensures absent { IsErr result ↔ (at self.now conn ≡ None) }
+        ensures fault { IfErr result (λ fault. fault ≡ CoreFault.NoSuch) }
         ensures bytes { IfOk result (λ bytes. bytes.now ≡ unsent_at conn self.now) }
     {
         match self.connections.get(conn) {

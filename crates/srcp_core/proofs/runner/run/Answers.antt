@@ -1,4 +1,4 @@
-use Rattle.srcp_core.specs.Headline.{ToldSessions, ToldReplies, ToldRooms, IsToldRegistry}
+use Rattle.srcp_core.specs.Promised.{ToldSessions, ToldReplies, ToldRooms, IsToldRegistry}
 use Rattle.srcp_core.proofs.Promises.{promised, told_sessions, told_replies, told_rooms, told_registry}
 use Rattle.srcp_core.proofs.runner.run.Goals as goal
 

@@ -1,6 +1,7 @@
 use Rattle.std.proofs.Common.{refl}
 use Rattle.srcp_core.proofs.Agreeing.{lent_agrees}
 use Rattle.srcp_core.proofs.Leading.{out_leads}
+use Rattle.srcp_core.proofs.LentNothing.{none_agrees}
 use Rattle.srcp_core.proofs.table.Core.outgoing.Goals as goal
 
 pub returns : goal.returns
@@ -9,8 +10,11 @@ returns g c = (
   record {
     ends = tt;
     absent = c.lend.ensures.absent;
+    fault = c.lend.ensures.fault;
     bytes = c.lend.ensures.bytes;
     course = lent_agrees c.args.conn c.args.self.now (λ bytes. bytes.now) c.lend.result c.lend.ensures.absent c.lend.ensures.bytes;
+    empty = none_agrees c.args.conn c.args.self.now (λ bytes. bytes.now) c.lend.result
+        (lent_agrees c.args.conn c.args.self.now (λ bytes. bytes.now) c.lend.result c.lend.ensures.absent c.lend.ensures.bytes);
     denied = refl;
     stands = out_leads c.args.conn c.args.self.now;
   },

@@ -65,6 +65,7 @@ module _ (buses : List Bus) where
         → numbered number (course buses first).connections ≡ Some early → early.info ≡ false → is_open early ≡ true
         → length (unsent early) ≤ bytes → told.sent ≡ conn.out
 
+  -- so it is of each
   abbrev pub ToldReplies : List Event → Record → Type 0
   ToldReplies events told = (number : ℕ) (one : ConnRecord) → told_at number told.connections ≡ Some one → one.info ≡ false
       → IsToldReplies events number one
@@ -72,7 +73,7 @@ module _ (buses : List Bus) where
   -- ---- rooms and overruns
 
   -- what is told of any connection: no more was taken of it than it was given; a room gave an information session the
-  -- front of what it was owed, and settled it where it was for more than there is; rooms add up, however they are cut; an
+  -- front of what it was owed, and settled it where it was for all there is; rooms add up, however they are cut; an
   -- information session overruns exactly where a change finds 256 waiting; and nothing was sent after an overrun or a
   -- shut
   pub record IsToldRooms (events : List Event) (number : ℕ) (told : ConnRecord) : Type 0 where
@@ -94,6 +95,7 @@ module _ (buses : List Bus) where
         → is_over early (history buses (course buses first)) ≡ true
         → (told.items ≡ early.items) × (told.sent ≡ sent early)
 
+  -- so it is of each
   abbrev pub ToldRooms : List Event → Record → Type 0
   ToldRooms events told = (number : ℕ) (one : ConnRecord) → told_at number told.connections ≡ Some one
       → IsToldRooms events number one

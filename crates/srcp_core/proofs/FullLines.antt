@@ -1,0 +1,86 @@
+-- Each line that is owed has bytes, and so room for all of them gives them all.
+use Rattle.std.proofs.Common.{◌≡◌, ℕ, zero, suc, ◌+◌, ◌-◌, ◌<◌, ◌≤◌, Bool, true, false, List, [], ◌∷◌, ◌++◌, map, take, length, refl, ap, sym, ◌∙◌, arith, append-nil, length-append}
+use Rattle.std.proofs.lemmas.Bool.{and_parts, eqb-true}
+use Rattle.std.specs.List.{AllByRecursion, flat_map, join_with_byte}
+use Rattle.std.specs.Prelude.{◌==◌, ◌&&◌, if◌then◌else◌, codes}
+use Rattle.srcp_info.specs.Line.{line, change_words}
+use Rattle.srcp_info.specs.declared.change.Change.{Change}
+use Rattle.srcp_info.specs.declared.change.Change.TheVariants.{Put}
+use Rattle.srcp_info.specs.declared.change.Shown.{Shown}
+use Rattle.srcp_feed.specs.Cursor.{beyond}
+use Rattle.srcp_feed.specs.declared.Next.{Next}
+use Rattle.srcp_feed.specs.declared.Next.TheVariants.{Told, Listed}
+use Rattle.srcp_core.specs.Connection.{Connection, History, available, cursor_at, fitting, front, is_nil, is_open, line_of, owed, untold}
+
+pub line_full : (change : Change) → 0 < length (line change)
+line_full change = let l = length-append (join_with_byte 32 (change_words change)) (codes "\n") in let n : length (codes "\n") ≡ 1 = refl in omega arith
+
+-- each of these lines has bytes
+abbrev pub AreFull : List Next → Type 0
+AreFull nexts = AllByRecursion (λ what. 0 < length (line_of what)) nexts
+
+listed_full : (rows : List Shown) → AreFull (map Listed rows)
+listed_full [] = tt
+listed_full (row ∷ rows) = (line_full (Put row), listed_full rows)
+
+told_full : (changes : List Change) (nexts : List Next) → AreFull nexts → AreFull (map Told changes ++ nexts)
+told_full [] nexts a = a
+told_full (change ∷ changes) nexts a = (line_full change, told_full changes nexts a)
+
+-- each line that is owed has bytes
+pub owed_full : (conn : Connection) (history : History) (rows : List Shown) → AreFull (owed conn history rows)
+owed_full conn history rows =
+    elim (is_open conn && conn.info) as (λ t. AreFull (if t then map Told (untold conn history) ++ map Listed (beyond (cursor_at conn (length history)) rows) else [])) [
+      | true ↦ told_full (untold conn history) (map Listed (beyond (cursor_at conn (length history)) rows)) (listed_full (beyond (cursor_at conn (length history)) rows))
+      | false ↦ tt
+    ]
+
+-- where the first has none, there is no line
+pub first_empty : (nexts : List Next) → AreFull nexts → flat_map line_of (take 1 nexts) ≡ [] → nexts ≡ []
+first_empty [] a e = refl
+first_empty (what ∷ nexts) a e =
+    let full = a.0 in
+    let none : length (line_of what ++ []) ≡ 0 = ap length e in
+    let same = ap length (append-nil (line_of what)) in
+    absurd (omega arith)
+
+-- room for as many bytes as there are
+front_full : (bytes : ℕ) (nexts : List Next) → AreFull nexts → length (flat_map line_of nexts) ≤ bytes → front bytes nexts ≡ nexts
+front_full zero [] full h = refl
+front_full zero (what ∷ nexts) full h =
+    let some = full.0 in
+    let e = length-append (line_of what) (flat_map line_of nexts) in
+    absurd (omega arith)
+front_full (suc bytes) [] full h = refl
+front_full (suc bytes) (what ∷ nexts) full h =
+    let e = length-append (line_of what) (flat_map line_of nexts) in
+    let k : length (flat_map line_of nexts) ≤ suc bytes - length (line_of what) = omega arith in
+    ap (λ ns. what ∷ ns) (front_full (suc bytes - length (line_of what)) nexts full.1 k)
+
+first_full : (nexts : List Next) → AreFull nexts → length (flat_map line_of nexts) ≤ 0 → take 1 nexts ≡ nexts
+first_full [] full h = refl
+first_full (what ∷ nexts) full h =
+    let some = full.0 in
+    let e = length-append (line_of what) (flat_map line_of nexts) in
+    absurd (omega arith)
+
+pub fitting_full : (bytes : ℕ) (left : List ℕ) (nexts : List Next) → AreFull nexts → length (available left nexts) ≤ bytes → fitting bytes left nexts ≡ nexts
+fitting_full bytes left nexts full h = by ((bytes == 0) && is_nil left) refl
+  where
+    size : length (available left nexts) ≡ length left + length (flat_map line_of nexts)
+    size = length-append left (flat_map line_of nexts)
+
+    by : (t : Bool) → (bytes == 0) && is_nil left ≡ t → (if t then take 1 nexts else front (bytes - length left) nexts) ≡ nexts
+    by true t =
+        let none : bytes ≡ 0 = eqb-true bytes 0 (and_parts (bytes == 0) (is_nil left) t).0 in
+        first_full nexts full (omega (arith, size, none, h))
+    by false t = front_full (bytes - length left) nexts full (omega (arith, size, h))
+
+-- where the front is all, nothing is left
+pub none_after : (all nexts rest : List Next) → all ≡ nexts ++ rest → nexts ≡ all → rest ≡ []
+none_after all nexts [] whole same = refl
+none_after all nexts (what ∷ rest) whole same =
+    let a : length all ≡ length (nexts ++ what ∷ rest) = ap (λ (ns : List Next). length ns) whole in
+    let b : length (nexts ++ what ∷ rest) ≡ length nexts + length (what ∷ rest) = length-append nexts (what ∷ rest) in
+    let d : length nexts ≡ length all = ap (λ (ns : List Next). length ns) same in
+    absurd (omega arith)
