@@ -4,6 +4,7 @@ import socket
 import subprocess
 import tempfile
 import time
+from collections import Counter
 from contextlib import contextmanager
 from pathlib import Path
 
@@ -50,6 +51,18 @@ class Client:
             self.socket.sendall(command.encode() + b"\n")
             reply = self.line()
         return reply.split(b" ", 1)[1].decode().strip()
+
+    def asks_many(self, commands):
+        """Sends all commands before it reads a reply; answers how many replies each text had, without their stamps."""
+        self.socket.sendall(b"".join(command.encode() + b"\n" for command in commands))
+        return Counter(self.line().split(b" ", 1)[1].decode().strip() for _ in commands)
+
+    def hears_to_the_end(self):
+        """All that comes until the server closes the connection."""
+        pieces = [self.begun]
+        while pieces[-1] or len(pieces) == 1:
+            pieces.append(self.socket.recv(1 << 20))
+        return b"".join(pieces)
 
     def hears_until(self, end):
         """Takes lines up to one that ends so, and answers all that were taken."""
