@@ -50,7 +50,7 @@ fn print_no_words<R: Eprint>(rt: &R, fault: &io::Error) -> ExitCode {
     if fault.kind() == io::ErrorKind::OutOfMemory {
         return tell(rt, ToolFault::Memory);
     }
-    let _ = eprintln!(rt; "error: invalid UTF-8 was detected in one or more arguments");
+    let _ = eprintln!(rt; "error: invalid UTF-8 was detected in one or more arguments\n\nFor more information, try '--help'.");
     ExitCode::from(2)
 }
 
