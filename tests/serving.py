@@ -151,7 +151,7 @@ def peer_65_is_turned_away(program):
 
 def peers_that_harm_nobody(program):
     """One resets, one sends garbage, one never reads: a throttle is answered all the same, and is told of nothing. The
-    one that never reads overruns: what it was sent ends, and begins as the listing does."""
+    one that never reads overruns: it finds whole lines, then the end, before which the last line may be cut."""
     with served(program) as (port, server):
         throttle = Client(port, "COMMAND")
         silent = Client(port, "INFO", receives=4096)

@@ -41,7 +41,7 @@ fn ending(bytes: &[u8]) -> Source<'_> {
 #[test]
 fn replays_nothing_where_a_read_fails(rt: HostRuntime) {
     let layout = Layout::new(rt.alloc());
-    for front in 0..=SCRIPT.len() {
+    for front in 0..SCRIPT.len() + 1 {
         let mut script = failing(&SCRIPT[..front]);
         let mut output = Vec::new(rt.alloc());
         let told = replay::<Flat, Source<'_>, Vec<u8>>(
@@ -58,7 +58,7 @@ fn replays_nothing_where_a_read_fails(rt: HostRuntime) {
 #[test]
 fn replays_a_front_where_a_write_fails(rt: HostRuntime) {
     let layout = Layout::new(rt.alloc());
-    for room in 0..=RECORD.len() {
+    for room in 0..RECORD.len() + 1 {
         let mut script = ending(SCRIPT);
         let mut sink = Sink::new(rt.alloc(), room, room % 2 == 0);
         let told = replay::<Flat, Source<'_>, Sink>(rt.alloc(), &layout, &mut script, &mut sink);
@@ -69,7 +69,7 @@ fn replays_a_front_where_a_write_fails(rt: HostRuntime) {
 
 #[test]
 fn mirrors_nothing_where_a_read_fails(rt: HostRuntime) {
-    for front in 0..=ROWS.len() {
+    for front in 0..ROWS.len() + 1 {
         let mut lines = failing(&ROWS[..front]);
         let mut output = Vec::new(rt.alloc());
         let told = mirror(rt.alloc(), &mut lines, &mut output);
@@ -80,7 +80,7 @@ fn mirrors_nothing_where_a_read_fails(rt: HostRuntime) {
 
 #[test]
 fn mirrors_a_front_where_a_write_fails(rt: HostRuntime) {
-    for room in 0..=ROWS.len() {
+    for room in 0..ROWS.len() + 1 {
         let mut lines = ending(ROWS);
         let mut sink = Sink::new(rt.alloc(), room, room % 2 == 0);
         let told = mirror(rt.alloc(), &mut lines, &mut sink);
@@ -91,7 +91,7 @@ fn mirrors_a_front_where_a_write_fails(rt: HostRuntime) {
 
 #[test]
 fn reads_no_configuration_where_a_read_fails(rt: HostRuntime) {
-    for front in 0..=CONFIG.len() {
+    for front in 0..CONFIG.len() + 1 {
         let told = read_config(rt.alloc(), &mut failing(&CONFIG[..front])).err();
         assert_eq!(rt; told, Some(ToolFault::Unreadable));
     }
@@ -99,7 +99,7 @@ fn reads_no_configuration_where_a_read_fails(rt: HostRuntime) {
 
 #[test]
 fn checks_a_front_where_a_write_fails(rt: HostRuntime) {
-    for room in 0..=CHECKED.len() {
+    for room in 0..CHECKED.len() + 1 {
         let mut sink = Sink::new(rt.alloc(), room, room % 2 == 0);
         let told = check(rt.alloc(), CONFIG, &mut sink);
         assert_eq!(rt; told, written(room, CHECKED));
@@ -117,37 +117,35 @@ fn written(room: usize, text: &[u8]) -> Result<(), ToolFault> {
 }
 
 #[test]
-fn reads_each_front_of_a_script(rt: HostRuntime) -> Result<(), Fail> {
-    let script = b"open\nshut 1\n";
-    let wanted = [
-        Ok(0),
-        Err((1, Cause::Word)),
-        Err((1, Cause::Word)),
-        Err((1, Cause::Word)),
-        Ok(1),
-        Ok(1),
-        Err((2, Cause::Word)),
-        Err((2, Cause::Word)),
-        Err((2, Cause::Word)),
-        Err((2, Cause::Number)),
-        Err((2, Cause::Number)),
-        Ok(2),
-        Ok(2),
+fn reads_each_front_of_a_script(rt: HostRuntime) {
+    let fronts = [
+        (b"".as_slice(), Ok(0)),
+        (b"o".as_slice(), Err((1, Cause::Word))),
+        (b"op".as_slice(), Err((1, Cause::Word))),
+        (b"ope".as_slice(), Err((1, Cause::Word))),
+        (b"open".as_slice(), Ok(1)),
+        (b"open\n".as_slice(), Ok(1)),
+        (b"open\ns".as_slice(), Err((2, Cause::Word))),
+        (b"open\nsh".as_slice(), Err((2, Cause::Word))),
+        (b"open\nshu".as_slice(), Err((2, Cause::Word))),
+        (b"open\nshut".as_slice(), Err((2, Cause::Number))),
+        (b"open\nshut ".as_slice(), Err((2, Cause::Number))),
+        (b"open\nshut 1".as_slice(), Ok(2)),
+        (b"open\nshut 1\n".as_slice(), Ok(2)),
     ];
-    for (front, wanted) in wanted.into_iter().enumerate() {
-        let told = match read_script(rt.alloc(), &script[..front]) {
+    for (front, wanted) in fronts {
+        let told = match read_script(rt.alloc(), front) {
             Ok(events) => Ok(events.len()),
             Err(ScriptFault { line, cause }) => Err((line, cause)),
         };
         assert_eq!(rt; told, wanted);
     }
-    Ok(())
 }
 
 #[test]
 fn mirrors_each_front_of_a_listing(rt: HostRuntime) -> Result<(), Fail> {
     let mut whole = 0;
-    for front in 0..=ROWS.len() {
+    for front in 0..ROWS.len() + 1 {
         if ROWS[..front].ends_with(b"\n") {
             whole = front;
         }
