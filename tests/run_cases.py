@@ -134,6 +134,13 @@ def words_that_are_unknown(program):
     return None if is_told else f"got {(done.returncode, done.stderr, done.stdout)!r}"[:400]
 
 
+def word_that_is_no_text(program):
+    done = subprocess.run([program, "check", "--config", b"\xff"], capture_output=True, timeout=SECONDS)
+    text = b"error: invalid UTF-8 was detected in one or more arguments\n\nFor more information, try '--help'.\n"
+    got = (done.returncode, done.stdout, done.stderr)
+    return None if got == (2, b"", text) else f"got {got!r}"[:400]
+
+
 def run_check(program, config):
     with tempfile.NamedTemporaryFile() as file:
         file.write(config)
@@ -193,7 +200,7 @@ def run_in_little_memory(program):
 
 def full_bus_that_stalls_nobody(program):
     """With 10,000 locomotives, a thousand ports that fall back and the end of a session with 10,000 locks take less
-    than a second; they would take a minute if each of them went over all rows."""
+    than 15 seconds, also on a busy machine; they would take a minute if each of them went over all rows."""
     def said(*commands):
         return b"bytes 1 " + b"".join(command + b"\\n" for command in commands) + b"\nroom 1 1000\n"
 
@@ -216,9 +223,9 @@ def full_bus_that_stalls_nobody(program):
 
 
 STREAM_CASES = (input_past_its_limit, input_at_its_limit, input_that_cannot_be_read, output_that_cannot_be_written,
-                words_that_are_unknown, configuration_at_its_limit, configuration_past_its_limit, script_past_its_limit,
-                script_at_its_limit, script_that_cannot_be_read, run_that_cannot_be_written, run_in_little_memory,
-                full_bus_that_stalls_nobody)
+                words_that_are_unknown, word_that_is_no_text, configuration_at_its_limit, configuration_past_its_limit,
+                script_past_its_limit, script_at_its_limit, script_that_cannot_be_read, run_that_cannot_be_written,
+                run_in_little_memory, full_bus_that_stalls_nobody)
 
 
 def main():

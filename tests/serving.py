@@ -1,9 +1,11 @@
 """What a served layout does, seen from outside: a throttle and panels over sockets of this machine."""
+import re
 import resource
 import socket
 import subprocess
 import tempfile
 import time
+from collections import Counter
 from contextlib import contextmanager
 from pathlib import Path
 
@@ -28,8 +30,13 @@ def free_port():
 class Client:
     """A connection to a server, with the lines that came of it."""
 
-    def __init__(self, port, mode):
-        self.socket = socket.create_connection(("127.0.0.1", port), timeout=SECONDS)
+    def __init__(self, port, mode, receives=None):
+        """`receives` is how many bytes the socket is to keep that were not read, where the system is not to choose."""
+        self.socket = socket.socket()
+        self.socket.settimeout(SECONDS)
+        if receives:
+            self.socket.setsockopt(socket.SOL_SOCKET, socket.SO_RCVBUF, receives)
+        self.socket.connect(("127.0.0.1", port))
         self.begun = b""
         self.lines = []
         assert self.line() == WELCOME
@@ -50,6 +57,18 @@ class Client:
             self.socket.sendall(command.encode() + b"\n")
             reply = self.line()
         return reply.split(b" ", 1)[1].decode().strip()
+
+    def asks_many(self, commands):
+        """Sends all commands before it reads a reply; answers how many replies each text had, without their stamps."""
+        self.socket.sendall(b"".join(command.encode() + b"\n" for command in commands))
+        return Counter(self.line().split(b" ", 1)[1].decode().strip() for _ in commands)
+
+    def hears_to_the_end(self):
+        """All that comes until the server closes the connection."""
+        pieces = [self.begun]
+        while pieces[-1] or len(pieces) == 1:
+            pieces.append(self.socket.recv(1 << 20))
+        return b"".join(pieces)
 
     def hears_until(self, end):
         """Takes lines up to one that ends so, and answers all that were taken."""
@@ -131,10 +150,11 @@ def peer_65_is_turned_away(program):
 
 
 def peers_that_harm_nobody(program):
-    """One resets, one sends garbage, one never reads: a throttle is answered all the same, and is told of nothing."""
+    """One resets, one sends garbage, one never reads: a throttle is answered all the same, and is told of nothing. The
+    one that never reads overruns: it finds whole lines, then the end, before which the last line may be cut."""
     with served(program) as (port, server):
         throttle = Client(port, "COMMAND")
-        silent = Client(port, "INFO")
+        silent = Client(port, "INFO", receives=4096)
         reset = Client(port, "COMMAND")
         reset.socket.setsockopt(socket.SOL_SOCKET, socket.SO_LINGER, b"\1\0\0\0\0\0\0\0")
         reset.socket.sendall(b"GET 1 POWER\n" * 2000)
@@ -142,13 +162,16 @@ def peers_that_harm_nobody(program):
         garbage = socket.create_connection(("127.0.0.1", port), timeout=SECONDS)
         garbage.sendall(bytes(range(256)) * 8)
         throttle.asks("INIT 1 GL 3 N 1 28 5")
-        for speed in range(3000):
-            if throttle.asks(f"SET 1 GL 3 1 {speed % 29} 28") != "200 OK":
-                return "a command is not answered"
+        for _ in range(100):
+            replies = throttle.asks_many([f"SET 1 GL 3 1 {speed % 29} 28" for speed in range(1000)])
+            if replies != {"200 OK": 1000}:
+                return f"commands are answered {replies}"
         if server.poll() is not None:
             return f"the server ended: {server.poll()}"
-        silent.close()
-    return None
+        told = silent.hears_to_the_end().splitlines(keepends=True)
+    if not all(re.fullmatch(rb"\d+\.\d{3} 10[012] INFO [ -~]+\n", line) for line in told[:-1]):
+        return f"a panel that never reads was told {told[-3:]!r}"
+    return None if len(told) < 100_000 else f"a panel that never reads was told all {len(told)} lines"
 
 
 def limit_memory(server, more):

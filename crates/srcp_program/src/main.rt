@@ -8,6 +8,7 @@ use srcp_server::{
     SocketDoor, Tool, ToolFault, check, mirror, read_config, read_layout, read_words, replay, serve,
 };
 use std::alloc::Global;
+use std::io;
 use std::io::{Read, Write};
 use std::net::Net;
 use std::process::ExitCode;
@@ -19,8 +20,9 @@ use std::{env, fs};
 
 /// Does what the words ask for. A fault is told on the standard error and by the status.
 fn main(rt: HostRuntime) -> ExitCode {
-    let Some(words) = words_given(&rt) else {
-        return tell(&rt, ToolFault::Memory);
+    let words = match words_given(&rt) {
+        Ok(words) => words,
+        Err(fault) => return print_no_words(&rt, &fault),
     };
     let tool = match read_words(rt.alloc(), &words) {
         Ok(tool) => tool,
@@ -38,9 +40,18 @@ fn main(rt: HostRuntime) -> ExitCode {
     }
 }
 
-/// The program's name and the words behind it; None where memory was refused.
-fn words_given<R: Env + AllocGlobal>(rt: &R) -> Option<Vec<String>> {
-    env::args(rt).ok()?.collect(rt.alloc()).ok()
+/// The program's name and the words behind it.
+fn words_given<R: Env + AllocGlobal>(rt: &R) -> io::Result<Vec<String>> {
+    Ok(env::args(rt)?.collect(rt.alloc())?)
+}
+
+/// Prints why the words cannot be had. One that is no UTF-8 is told in the way of `clap`, which is not handed it.
+fn print_no_words<R: Eprint>(rt: &R, fault: &io::Error) -> ExitCode {
+    if fault.kind() == io::ErrorKind::OutOfMemory {
+        return tell(rt, ToolFault::Memory);
+    }
+    let _ = eprintln!(rt; "error: invalid UTF-8 was detected in one or more arguments\n\nFor more information, try '--help'.");
+    ExitCode::from(2)
 }
 
 /// Prints what `clap` says of words that it refuses, or that ask for help or for the version.

@@ -3,7 +3,6 @@ use Rattle.std.specs.Prelude.{◌≡◌, ℕ, ◌<◌, List, length, Option, Som
 use Rattle.std.specs.Bool.{MatchBool}
 use Rattle.srcp_info.specs.Client.{client, HoldsLines}
 use Rattle.srcp_info.specs.declared.change.Change.{Change}
-use Rattle.srcp_info.specs.declared.change.Shown.{Shown}
 use Rattle.srcp_server.specs.Output.{RefusesLine}
 use Rattle.srcp_server.specs.declared.stream.begun.BegunLine.{BegunLine}
 use Rattle.srcp_server.specs.declared.stream.lines.MirroredLines.{MirroredLines}
@@ -25,10 +24,3 @@ pub record HasTaken (taken : MirroredLines) (input : List ℕ) : Type 0 where
 abbrev pub IsAt : MirroredLines → Option ℕ → (input : List ℕ) → Type 0
 IsAt lines None input = HasTaken lines input
 IsAt lines (Some n) input = RefusesLine input n
-
--- a client of the whole lines of the input holds these rows
-pub record Follows (input : List ℕ) (rows : List Shown) : Type 0 where
-  pub changes : List Change
-  pub text : List ℕ
-  pub holds : HoldsLines input changes text
-  pub same : rows ≡ client changes

@@ -22,6 +22,7 @@ pub record AsksOfPeers (old : Option (List Call)) (told : List Call) : Type 0 wh
   pub peers : list_all is_of_peer calls ≡ true
   pub fair : AllByRecursion IsFair calls
 
+-- peers are asked, where the door tells its calls
 abbrev pub AsksPeers : (old new : Option (List Call)) → Type 0
 AsksPeers old new = (told : List Call) → new ≡ Some told → AsksOfPeers old told
 
@@ -30,6 +31,7 @@ pub record AsksNow (old : Option (List Call)) (told : List Call) : Type 0 where
   pub answer : Result ℕ DoorFault
   pub adds : Adds old told (NowCall answer ∷ [])
 
+-- the moment is asked for, where the door tells its calls
 abbrev pub AsksMoment : (old new : Option (List Call)) → Type 0
 AsksMoment old new = (told : List Call) → new ≡ Some told → AsksNow old told
 
@@ -41,6 +43,7 @@ pub record AsksOneIn (old : Option (List Call)) (told : List Call) : Type 0 wher
   pub peers : list_all is_of_peer rest ≡ true
   pub fair : AllByRecursion IsFair rest
 
+-- one newcomer is asked for, where the door tells its calls
 abbrev pub AsksNewcomer : (old new : Option (List Call)) → Type 0
 AsksNewcomer old new = (told : List Call) → new ≡ Some told → AsksOneIn old told
 
@@ -53,11 +56,13 @@ pub record IsTurn (calls : List Call) : Type 0 where
   pub peers : list_all is_of_peer rest ≡ true
   pub fair : AllByRecursion IsFair rest
 
+-- the calls that were added are a turn
 pub record IsTurned (old : Option (List Call)) (told : List Call) : Type 0 where
   pub calls : List Call
   pub adds : Adds old told calls
   pub turn : IsTurn calls
 
+-- a turn is made, where the door tells its calls
 abbrev pub AsksTurn : (old new : Option (List Call)) → Type 0
 AsksTurn old new = (told : List Call) → new ≡ Some told → IsTurned old told
 

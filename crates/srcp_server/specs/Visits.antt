@@ -25,10 +25,12 @@ pub record Adds (old : Option (List Call)) (told calls : List Call) : Type 0 whe
 
 -- ---- a peer is let go
 
+-- it was let go, or that failed
 pub record IsClosed (peer : ℕ) (old : Option (List Call)) (told : List Call) : Type 0 where
   pub answer : Result Unit DoorFault
   pub adds : Adds old told (CloseCall peer answer ∷ [])
 
+-- so it is where the door tells its calls
 abbrev pub Closes : (peer : ℕ) (old new : Option (List Call)) → Type 0
 Closes peer old new = (told : List Call) → new ≡ Some told → IsClosed peer old told
 
@@ -46,6 +48,7 @@ pub record IsWriteTo (peer : ℕ) (call : Call) : Type 0 where
   pub answer : Result ℕ DoorFault
   pub is : call ≡ WriteCall peer bytes answer
 
+-- all calls are writes to that peer
 abbrev pub AreWritesTo : ℕ → List Call → Type 0
 AreWritesTo peer calls = AllByRecursion (IsWriteTo peer) calls
 
@@ -58,7 +61,8 @@ abbrev pub read_calls : (peer : ℕ) → Option (Result Got DoorFault × List �
 read_calls peer None = []
 read_calls peer (Some (answer, buffer)) = ReadCall peer answer buffer ∷ []
 
-module _ (buses : List Bus) (events : List Event) (keys : List (Option ℕ)) (n peer : ℕ) (old : Option (List Call)) (told : List Call) (new : Held) where
+module _ (buses : List Bus) (events : List Event) (keys : List (Option ℕ)) (n peer : ℕ)
+    (old : Option (List Call)) (told : List Call) (new : Held) where
   -- it was read from, where bytes would be taken
   pub record IsReadFrom (stays : Bool) : Type 0 where
     pub read : Option (Result Got DoorFault × List ℕ)
@@ -95,6 +99,7 @@ module _ (buses : List Bus) (events : List Event) (keys : List (Option ℕ)) (n 
     pub some : 0 < length (lent buses n events)
     pub stands : StandsFor buses keys new (course buses (events ++ Room n 0 ∷ []))
 
+  -- what a write, or none, did
   abbrev pub HasWritten : Wrote → Type 0
   HasWritten All = TookAll
   HasWritten Less = WasLentNone ⊎ TookLess
@@ -115,7 +120,9 @@ module _ (buses : List Bus) (events : List Event) (keys : List (Option ℕ)) (n 
     pub adds : Adds old told calls
     pub own : AreAbout peer calls
     pub quiet : list_any is_close calls ≡ false
-    pub asked : map question calls ≡ reads_of buses events (record { peer = peer; conn = n }) ++ writes_of buses events calls (record { peer = peer; conn = n })
+    pub asked : map question calls
+        ≡ reads_of buses events (record { peer = peer; conn = n })
+        ++ writes_of buses events calls (record { peer = peer; conn = n })
     pub loses_is : list_any loses calls ≡ not stays
     pub stands : StandsFor buses keys new (course buses (events ++ exchange n calls))
 
@@ -131,7 +138,8 @@ module _ (buses : List Bus) (events : List Event) (keys : List (Option ℕ)) (n 
     pub own : AreAbout peer calls
     pub asked : map question calls ≡ visit_asks buses events calls (record { peer = peer; conn = n })
     pub closes : list_any is_close calls ≡ not stays
-    pub stands : StandsFor buses (if stays then keys else without_key n keys) new (course buses (events ++ visit_events calls (record { peer = peer; conn = n })))
+    pub stands : StandsFor buses (if stays then keys else without_key n keys) new
+        (course buses (events ++ visit_events calls (record { peer = peer; conn = n })))
 
 -- ---- the functions of a visit
 
@@ -141,29 +149,41 @@ abbrev pub Follows : (List Bus → List Event → List (Option ℕ) → ℕ → 
 Follows So key old new told_new = (buses : List Bus) (events : List Event) (keys : List (Option ℕ)) (n : ℕ) (told : List Call)
     → IsSeated buses events keys n key old → new.denied ≡ 0 → told_new ≡ Some told → So buses events keys n told
 
-abbrev pub ReadsIn : (peer key : ℕ) (old : Held) (told_old : Option (List Call)) (new : Held) (told_new : Option (List Call)) (stays : Bool)
-    → Type 0
-ReadsIn peer key old told_old new told_new stays = Follows (λ buses events keys n told. IsReadFrom buses events keys n peer told_old told new stays) key old new told_new
+-- it is read from, once at most
+abbrev pub ReadsIn : (peer key : ℕ) (old : Held) (told_old : Option (List Call))
+    (new : Held) (told_new : Option (List Call)) (stays : Bool) → Type 0
+ReadsIn peer key old told_old new told_new stays = Follows
+    (λ buses events keys n told. IsReadFrom buses events keys n peer told_old told new stays) key old new told_new
 
-abbrev pub WritesOnce : (peer key : ℕ) (old : Held) (told_old : Option (List Call)) (new : Held) (told_new : Option (List Call)) (wrote : Wrote)
-    → Type 0
-WritesOnce peer key old told_old new told_new wrote = Follows (λ buses events keys n told. HasWritten buses events keys n peer told_old told new wrote) key old new told_new
+-- it is written to, once at most
+abbrev pub WritesOnce : (peer key : ℕ) (old : Held) (told_old : Option (List Call))
+    (new : Held) (told_new : Option (List Call)) (wrote : Wrote) → Type 0
+WritesOnce peer key old told_old new told_new wrote = Follows
+    (λ buses events keys n told. HasWritten buses events keys n peer told_old told new wrote) key old new told_new
 
-abbrev pub WritesOut : (peer key : ℕ) (old : Held) (told_old : Option (List Call)) (new : Held) (told_new : Option (List Call)) (stays : Bool)
-    → Type 0
-WritesOut peer key old told_old new told_new stays = Follows (λ buses events keys n told. IsWrittenTo buses events keys n peer told_old told new stays) key old new told_new
+-- it is written to, again and again while it takes all
+abbrev pub WritesOut : (peer key : ℕ) (old : Held) (told_old : Option (List Call))
+    (new : Held) (told_new : Option (List Call)) (stays : Bool) → Type 0
+WritesOut peer key old told_old new told_new stays = Follows
+    (λ buses events keys n told. IsWrittenTo buses events keys n peer told_old told new stays) key old new told_new
 
-abbrev pub Exchanges : (peer key : ℕ) (old : Held) (told_old : Option (List Call)) (new : Held) (told_new : Option (List Call)) (stays : Bool)
-    → Type 0
-Exchanges peer key old told_old new told_new stays = Follows (λ buses events keys n told. IsExchanged buses events keys n peer told_old told new stays) key old new told_new
+-- it is read from and written to
+abbrev pub Exchanges : (peer key : ℕ) (old : Held) (told_old : Option (List Call))
+    (new : Held) (told_new : Option (List Call)) (stays : Bool) → Type 0
+Exchanges peer key old told_old new told_new stays = Follows
+    (λ buses events keys n told. IsExchanged buses events keys n peer told_old told new stays) key old new told_new
 
-abbrev pub LetsGo : (peer key : ℕ) (old : Held) (told_old : Option (List Call)) (new : Held) (told_new : Option (List Call))
-    → Type 0
-LetsGo peer key old told_old new told_new = Follows (λ buses events keys n told. IsLetGo buses events keys n peer told_old told new) key old new told_new
+-- its connection is shut, and it is let go
+abbrev pub LetsGo : (peer key : ℕ) (old : Held) (told_old : Option (List Call))
+    (new : Held) (told_new : Option (List Call)) → Type 0
+LetsGo peer key old told_old new told_new = Follows
+    (λ buses events keys n told. IsLetGo buses events keys n peer told_old told new) key old new told_new
 
-abbrev pub Visits : (peer key : ℕ) (old : Held) (told_old : Option (List Call)) (new : Held) (told_new : Option (List Call)) (stays : Bool)
-    → Type 0
-Visits peer key old told_old new told_new stays = Follows (λ buses events keys n told. IsVisited buses events keys n peer told_old told new stays) key old new told_new
+-- it is visited
+abbrev pub Visits : (peer key : ℕ) (old : Held) (told_old : Option (List Call))
+    (new : Held) (told_new : Option (List Call)) (stays : Bool) → Type 0
+Visits peer key old told_old new told_new stays = Follows
+    (λ buses events keys n told. IsVisited buses events keys n peer told_old told new stays) key old new told_new
 
 -- no memory was refused, and the door told its calls
 pub record WasFine (held : Held) (told_old : Option (List Call)) : Type 0 where

@@ -6,13 +6,12 @@ ghost use Rattle.srcp_server.specs.Tally.{CountsFaults};
 ghost use Rattle.srcp_server.specs.Turns.{AsksMoment, AsksNewcomer, AsksPeers, AsksTurn, AsksTurns};
 ghost use Rattle.srcp_server.specs.Visits.{Keeps};
 
-mod tally;
 mod visit;
 
 use crate::door::{Door, Served};
+use crate::tally::Tally;
 use srcp_core::Core;
 use srcp_rules::Rows;
-use tally::Tally;
 use visit::{Seat, close, let_go, visit};
 
 /// How many peers may have a place at once.

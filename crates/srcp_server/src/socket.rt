@@ -2,17 +2,20 @@
 
 ghost use Rattle.std.specs.Prelude.{◌≡◌, IfOk, IfErr};
 ghost use Rattle.srcp_server.specs.Calls.{one_more};
+ghost use Rattle.srcp_server.specs.Faults.{IsListenFault};
 
 mod peer;
 mod sockets;
 
 use crate::door::{Door, DoorFault, Got};
 use crate::fault::ToolFault;
+use crate::tally::Tally;
 use mio::Poll;
 use mio::net::TcpListener;
 use sockets::Sockets;
 use std::alloc::Global;
 use std::io;
+use std::io::ErrorKind;
 use std::net::{Ipv4Addr, Net, SocketAddr};
 use std::time::Clock;
 
@@ -23,42 +26,50 @@ use std::time::Clock;
 pub struct SocketDoor<C: Clock + Drop> {
     sockets: Sockets,
     clock: C,
-    faults: u64,
+    tally: Tally,
 }
 
 impl<C: Clock + Drop> SocketDoor<C> {
-    /// A door at the port; any free port where that is 0.
+    /// A door at the port. Where that is 0 the system picks a free one; no configuration asks for that, only tests.
     ///
     /// # Errors
-    /// `Listen` where the port is taken or refused, or the system has no descriptors for it.
+    /// `Listen` where the port is taken or refused, or the system has no descriptors for it. `Memory` where memory was
+    /// refused. Nothing is listened at then.
     pub fn listen<N: Net>(
         net: &N,
         alloc: Global,
         port: u16,
         clock: C,
     ) -> Result<SocketDoor<C>, ToolFault>
-        ensures opened { IfOk result (λ door. door.faults ≡ 0) }
-        ensures refused { IfErr result (λ fault. fault ≡ ToolFault.Listen) }
+        ensures opened { IfOk result (λ door. door.tally.faults ≡ 0) }
+        ensures refused { IfErr result IsListenFault }
     {
         match open(net, alloc, port) {
             Ok(sockets) => Ok(SocketDoor {
                 sockets,
                 clock,
-                faults: 0,
+                tally: Tally::new(),
             }),
+            Err(fault) if fault.kind() == ErrorKind::OutOfMemory => Err(ToolFault::Memory),
             Err(_) => Err(ToolFault::Listen),
         }
     }
 
-    /// The port that it listens on.
+    /// The port that it listens on, for the tests, which let the system pick one.
+    ///
+    /// # Errors
+    /// Where the system does not tell it.
     pub(crate) fn port(&self) -> io::Result<u16> {
         self.sockets.port()
     }
 
-    fn count_fault(&mut self)
-        ensures { self.new.faults ≡ one_more self.old.faults }
+    /// Counts a call that failed, and says which it was.
+    fn failed(&mut self, fault: DoorFault) -> DoorFault
+        ensures counted { self.new.tally.faults ≡ one_more self.old.tally.faults }
+        ensures same { result ≡ fault }
     {
-        self.faults = self.faults.saturating_add(1);
+        self.tally.fault();
+        fault
     }
 }
 
@@ -68,57 +79,42 @@ fn open<N: Net>(net: &N, alloc: Global, port: u16) -> io::Result<Sockets> {
 }
 
 impl<C: Clock + Drop> Door for SocketDoor<C> {
-    ghost faults = { λ d. d.faults };
+    ghost faults = { λ d. d.tally.faults };
 
     /// Milliseconds since 1970.
     fn now(&mut self) -> Result<u64, DoorFault> {
         self.sockets.pause();
         match self.clock.since_1970() {
             Ok(time) => Ok(u64::try_from(time.as_millis()).unwrap_or(u64::MAX)),
-            Err(_) => {
-                self.count_fault();
-                Err(DoorFault::Now)
-            }
+            Err(_) => Err(self.failed(DoorFault::Now)),
         }
     }
 
     fn accept(&mut self) -> Result<Option<u32>, DoorFault> {
         match self.sockets.accept() {
             Ok(peer) => Ok(peer),
-            Err(_) => {
-                self.count_fault();
-                Err(DoorFault::Accept)
-            }
+            Err(_) => Err(self.failed(DoorFault::Accept)),
         }
     }
 
     fn read(&mut self, peer: u32, buf: &mut [u8]) -> Result<Got, DoorFault> {
         match self.sockets.read(peer, buf) {
             Ok(got) => Ok(got),
-            Err(_) => {
-                self.count_fault();
-                Err(DoorFault::Read)
-            }
+            Err(_) => Err(self.failed(DoorFault::Read)),
         }
     }
 
     fn write(&mut self, peer: u32, bytes: &[u8]) -> Result<usize, DoorFault> {
         match self.sockets.write(peer, bytes) {
             Ok(count) => Ok(count),
-            Err(_) => {
-                self.count_fault();
-                Err(DoorFault::Write)
-            }
+            Err(_) => Err(self.failed(DoorFault::Write)),
         }
     }
 
     fn close(&mut self, peer: u32) -> Result<(), DoorFault> {
         match self.sockets.close(peer) {
             Ok(()) => Ok(()),
-            Err(_) => {
-                self.count_fault();
-                Err(DoorFault::Close)
-            }
+            Err(_) => Err(self.failed(DoorFault::Close)),
         }
     }
 }

@@ -5,8 +5,8 @@ ghost use Rattle.srcp_server.specs.Tally.{CountsFaults};
 ghost use Rattle.srcp_server.specs.Turns.{AsksPeers};
 ghost use Rattle.srcp_server.specs.Visits.{Closes, Exchanges, Keeps, LetsGo, ReadsIn, Visits, WritesOnce, WritesOut};
 
-use super::tally::Tally;
 use crate::door::{Door, Got};
+use crate::tally::Tally;
 use srcp_core::Core;
 use srcp_rules::Rows;
 

@@ -74,10 +74,8 @@ impl Peer {
         }
         let room = MOST_GATHERED.saturating_sub(self.gathered.len());
         let count = bytes.len().min(room);
-        match self.gathered.extend_from_slice(&bytes[..count]) {
-            Ok(()) => Ok(count),
-            Err(_) => Ok(0),
-        }
+        self.gathered.extend_from_slice(&bytes[..count])?;
+        Ok(count)
     }
 
     /// Hands the socket what was gathered, as much of it as it takes now.

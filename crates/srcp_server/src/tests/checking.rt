@@ -1,4 +1,4 @@
-use super::{Sink, Source};
+use super::Source;
 use crate::{ConfigFault, Field, ToolFault, check, read_config};
 use std::test::Fail;
 use std::vec::Vec;
@@ -38,18 +38,6 @@ fn tells_nothing_of_a_refused_configuration(rt: HostRuntime) {
 }
 
 #[test]
-fn tells_a_front_where_a_write_fails(rt: HostRuntime) {
-    let mut sink = Sink {
-        taken: [b'.'; 8],
-        count: 0,
-        fails: true,
-    };
-    let told = check(rt.alloc(), b"bus = []", &mut sink);
-    assert_eq!(rt; told, Err(ToolFault::Output));
-    assert_eq!(rt; sink.taken.as_slice(), b"port 430".as_slice());
-}
-
-#[test]
 fn reads_a_configuration_up_to_its_limit(rt: HostRuntime) -> Result<(), Fail> {
     let full = vec![in rt.alloc(); b'#'; 1_048_576]?;
     let mut whole = Source {
@@ -67,15 +55,4 @@ fn reads_a_configuration_up_to_its_limit(rt: HostRuntime) -> Result<(), Fail> {
     let told = read_config(rt.alloc(), &mut large).err();
     assert_eq!(rt; told, Some(ToolFault::TooLarge));
     Ok(())
-}
-
-#[test]
-fn tells_a_configuration_that_cannot_be_read(rt: HostRuntime) {
-    let mut cut = Source {
-        bytes: b"port = 80",
-        at_once: 5,
-        fails: true,
-    };
-    let told = read_config(rt.alloc(), &mut cut).err();
-    assert_eq!(rt; told, Some(ToolFault::Unreadable));
 }

@@ -1,6 +1,6 @@
 //! A door in memory.
 
-ghost use Rattle.std.specs.Prelude.{◌≡◌, ◌<◌, ◌≤◌, ℕ, Ok, OnOk, OnErr, length};
+ghost use Rattle.std.specs.Prelude.{◌≡◌, ◌<◌, ◌≤◌, ℕ, IfErr, Ok, OnOk, OnErr, length};
 ghost use Rattle.srcp_server.specs.declared.door.Got.{Got};
 ghost use Rattle.srcp_server.specs.Calls.{one_more};
 
@@ -121,6 +121,7 @@ impl<'a> ScriptDoor<'a> {
     fn call(&mut self, fault: DoorFault) -> Result<(), DoorFault>
         ensures ok { OnOk result (self.new.faults ≡ self.old.faults) }
         ensures err { OnErr result (self.new.faults ≡ one_more self.old.faults) }
+        ensures fault { IfErr result (λ told. told ≡ fault) }
     {
         self.calls = self.calls.saturating_add(1);
         if self.calls == self.failing {

@@ -1,6 +1,6 @@
 use Rattle.std.proofs.Common.{ℕ, Ok, Option, ap, subst}
 use Rattle.srcp_server.specs.Calls.{AcceptCall, Tells}
-use Rattle.srcp_server.specs.declared.serving.tally.Tally.{Tally}
+use Rattle.srcp_server.specs.declared.tally.Tally.{Tally}
 use Rattle.srcp_server.proofs.HostedTurns.{lets_nobody, lets_none, lets_peer}
 use Rattle.srcp_server.proofs.Tallies.{one_failed}
 use Rattle.srcp_server.proofs.Turning.{asks_newcomer, asks_none}

@@ -1,5 +1,5 @@
 use Rattle.std.proofs.Common.{ap}
-use Rattle.srcp_server.specs.declared.serving.tally.Tally.{Tally}
+use Rattle.srcp_server.specs.declared.tally.Tally.{Tally}
 use Rattle.srcp_server.proofs.Hosting.{keeps_moment, takes_moment}
 use Rattle.srcp_server.proofs.Tallies.{one_failed}
 use Rattle.srcp_server.proofs.Turning.{asks_moment}

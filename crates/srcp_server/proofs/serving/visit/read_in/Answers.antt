@@ -1,5 +1,5 @@
 use Rattle.std.proofs.Common.{◌≡◌, Ok, Err, ap, subst, arith, length, refl}
-use Rattle.srcp_server.specs.declared.serving.tally.Tally.{Tally}
+use Rattle.srcp_server.specs.declared.tally.Tally.{Tally}
 use Rattle.srcp_server.specs.Calls.{ReadCall, Tells}
 use Rattle.srcp_server.specs.Serving.{loses_reading, piece_of}
 use Rattle.srcp_server.specs.declared.door.Got.{Got}

@@ -1,5 +1,5 @@
 use Rattle.std.proofs.Common.{ap, sym, ◌∙◌, arith, ◌≡◌, length}
-use Rattle.srcp_server.specs.declared.serving.tally.Tally.{Tally}
+use Rattle.srcp_server.specs.declared.tally.Tally.{Tally}
 use Rattle.srcp_server.specs.declared.serving.visit.Wrote.TheVariants.{Less}
 use Rattle.srcp_server.proofs.Fairness.{fair_write}
 use Rattle.srcp_server.proofs.Tallies.{one_failed}
