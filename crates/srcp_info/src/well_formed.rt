@@ -10,7 +10,7 @@ use crate::limits::{
     GREATEST_BUS, GREATEST_FB, GREATEST_GA, GREATEST_GL, GREATEST_SPEED, GREATEST_VERSION,
     MOST_FUNCTIONS, MOST_PORTS, MOST_SECONDS, MOST_STEPS,
 };
-use crate::value::{Text, Value};
+use crate::value::{Bits, Text, Value};
 
 /// Whether a byte can stand in a word of a text: it is no control byte, space or DEL.
 fn is_text_byte(byte: u8) -> bool
@@ -127,8 +127,16 @@ fn is_value_at(group: Group, port: u8, value: &Value) -> bool
                 && is_between(1, MOST_STEPS, *steps)
                 && *functions <= MOST_FUNCTIONS
         }
-        Value::GlState { mode, v, vmax, .. } => {
-            group == Group::Gl && port == 1 && is_speed(*mode, *v, *vmax)
+        Value::GlState {
+            mode,
+            v,
+            vmax,
+            functions,
+        } => {
+            group == Group::Gl
+                && port == 1
+                && is_speed(*mode, *v, *vmax)
+                && functions.len() <= Bits::CAPACITY
         }
         Value::GaInit { .. } => group == Group::Ga && port == 0,
         Value::GaPort { .. } => group == Group::Ga && is_between(1, MOST_PORTS, u32::from(port)),
