@@ -62,13 +62,22 @@ impl InfoFeed {
             → HoldsPassed given self.old rows
             → HoldsPassed given self.new (changed change.now rows) }
     {
+        self.enqueue(change)
+    }
+
+    /// `tell`, without what holds of a client.
+    fn enqueue(&mut self, change: &Change) -> Told
+        ensures answer { result ≡ told_answer change.now self.old }
+        ensures feed { self.new ≡ told change.now self.old }
+    {
         if !self.cursor.has_reached(&change.key()) {
             return Told::Skipped;
         }
-        match self.ring.try_push_back(*change) {
-            Ok(()) => Told::Queued,
-            Err(_) => Told::Overrun,
+        if self.ring.is_full() {
+            return Told::Overrun;
         }
+        self.ring.extend_from_slice(&[*change]);
+        Told::Queued
     }
 
     /// What the session is given next: the first change that waits, else the least row above the cursor, else
