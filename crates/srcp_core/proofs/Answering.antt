@@ -15,7 +15,8 @@ use Rattle.srcp_rules.specs.declared.command.Command.{Command}
 use Rattle.srcp_rules.specs.Effect.{Effect, effect}
 use Rattle.srcp_rules.specs.Due.{began}
 use Rattle.srcp_rules.specs.State.{State, Update, opening, shown_rows}
-use Rattle.srcp_feed.proofs.Steps.{IsInOrder}
+use Rattle.srcp_info.proofs.ClientLaws.{key_at}
+use Rattle.srcp_info.specs.Client.{IsRisingBy}
 use Rattle.srcp_core.specs.Connection.{Connection, is_open, given, untold}
 use Rattle.srcp_core.specs.Course.{World, numbered, at_connection, did, is_info, state, history, command_of, replied as course_replied, entered, goes as course_goes, greeted as course_greeted, ended as course_ended, obeyed as course_obeyed, commanded as course_commanded, answered_as, answered as course_answered}
 use Rattle.srcp_core.specs.Handshake.{Greeting, Speaks, Chooses, Goes, Refuses, greets}
@@ -33,7 +34,7 @@ use Rattle.srcp_core.proofs.Numbers.{numbered_with}
 use Rattle.srcp_core.proofs.Standing.{Anything, Fine, AllFine, found_at, stands_at, stands_did}
 use Rattle.srcp_core.proofs.Worlds.{IsSound, sound_did, sound_at, sound_replied, concerning_start}
 
-abbrev pub IsFine : (buses : List Bus) → IsInOrder (shown_rows (opening buses 0)) → World → Type 0
+abbrev pub IsFine : (buses : List Bus) → IsRisingBy key_at (shown_rows (opening buses 0)) → World → Type 0
 IsFine buses order w = IsSound buses order Anything (anything (shown_rows (opening buses 0))) w
 
 -- a line asks the same of a place and of a connection that are in the same state
@@ -45,7 +46,7 @@ asked_alike buses held_buses p conn mark same info ended session =
     ∙ ap (λ t. if conn.info || t then Dropped else (if p.session == 0 then Greets (greets mark) else Commands (command_of buses mark))) ended
     ∙ ap (λ n. if conn.info || conn.ended then Dropped else (if n == 0 then Greets (greets mark) else Commands (command_of buses mark))) session
 
-module _ (buses : List Bus) (order : IsInOrder (shown_rows (opening buses 0))) (read : ℕ → List ℕ → List ℕ) (keys : List (Option ℕ)) (n key : ℕ) (named : key_of n keys ≡ Some key) where
+module _ (buses : List Bus) (order : IsRisingBy key_at (shown_rows (opening buses 0))) (read : ℕ → List ℕ → List ℕ) (keys : List (Option ℕ)) (n key : ℕ) (named : key_of n keys ≡ Some key) where
   pub fine_of : (w : World) → IsFine buses order w → AllFine buses w
   fine_of w a m conn e = at_number (Fine buses (history buses w)) m w.connections conn a e
 

@@ -7,7 +7,8 @@ use Rattle.std.specs.Prelude.{Option, Some, None, not, ◌&&◌, ◌||◌, ◌==
 use Rattle.srcp_text.specs.Reading.{nothing_read}
 use Rattle.srcp_rules.specs.declared.layout.Bus.{Bus}
 use Rattle.srcp_rules.specs.State.{opening, shown_rows}
-use Rattle.srcp_feed.proofs.Steps.{IsInOrder}
+use Rattle.srcp_info.proofs.ClientLaws.{key_at}
+use Rattle.srcp_info.specs.Client.{IsRisingBy}
 use Rattle.srcp_core.specs.Connection.{Connection, History, is_open, is_nil, overran, unsent, untold}
 use Rattle.srcp_core.specs.Course.{World, numbered, at_connection, open_connection, if_open, did, history, fresh, counted, fault, bytes_fault as course_fault, accepted, shut_as}
 use Rattle.srcp_core.specs.Held.{Place, Held, at, place_at, open_count}
@@ -58,7 +59,7 @@ module _ (buses : List Bus) where
       by None e = refl
       by (Some conn) e = with conn (is_open conn) e refl
 
-  pub fault_same : (order : IsInOrder (shown_rows (opening buses 0))) (read : ℕ → List ℕ → List ℕ) (keys : List (Option ℕ)) (held : Held) (w : World) (n key : ℕ) (piece : List ℕ) → IsFine buses order w → StandsBy buses read keys held w → key_of n keys ≡ Some key
+  pub fault_same : (order : IsRisingBy key_at (shown_rows (opening buses 0))) (read : ℕ → List ℕ → List ℕ) (keys : List (Option ℕ)) (held : Held) (w : World) (n key : ℕ) (piece : List ℕ) → IsFine buses order w → StandsBy buses read keys held w → key_of n keys ≡ Some key
       → bytes_fault key piece held ≡ course_fault buses w (open_connection w n) piece
   fault_same order read keys held w n key piece a s k =
       let h = found_at buses read keys held w n key s k in
@@ -245,7 +246,7 @@ module _ (buses : List Bus) where
           let o = s.owned other p (sym (place_set held.places key other None d) ∙ e) in
           record { number = o.number; named = without_other n o.number keys (λ z. d (let both : Some other ≡ Some key = sym o.named ∙ ap (λ j. key_of j keys) z ∙ named in cc)) ∙ o.named }
 
-  pub stands_hung_up : (order : IsInOrder (shown_rows (opening buses 0))) (keys : List (Option ℕ)) (held : Held) (w : World) (n key : ℕ) → IsFine buses order w → StandsFor buses keys held w → key_of n keys ≡ Some key
+  pub stands_hung_up : (order : IsRisingBy key_at (shown_rows (opening buses 0))) (keys : List (Option ℕ)) (held : Held) (w : World) (n key : ℕ) → IsFine buses order w → StandsFor buses keys held w → key_of n keys ≡ Some key
       → StandsFor buses (without_key n keys) (hung_up key held) (accepted buses (Shut n) w)
   stands_hung_up order keys held w n key a s named =
       let h = found_at buses (λ n fed. fed) keys held w n key s named in

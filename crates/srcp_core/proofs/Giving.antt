@@ -16,9 +16,10 @@ use Rattle.srcp_info.specs.declared.value.Mode.{Mode}
 use Rattle.srcp_text.specs.Reading.{Reading}
 use Rattle.srcp_feed.specs.Cursor.{beyond, moved}
 use Rattle.srcp_feed.specs.Feed.{Feed, next_of, first_of}
-use Rattle.srcp_feed.specs.declared.Next.{Next}
-use Rattle.srcp_feed.specs.declared.Next.TheVariants.{Told, Listed, Settled}
-use Rattle.srcp_feed.proofs.Steps.{IsInOrder}
+use Rattle.srcp_feed.specs.declared.next.Next.{Next}
+use Rattle.srcp_feed.specs.declared.next.Next.TheVariants.{Told, Listed, Settled}
+use Rattle.srcp_info.proofs.ClientLaws.{key_at}
+use Rattle.srcp_info.specs.Client.{IsRisingBy}
 use Rattle.srcp_core.specs.Connection.{Connection, History, cursor_at, untold, unsent, sent, given, text, line_of, is_nil, is_open, owed, front, fitting, available, exhausts, items_of, took, given_room, overran}
 use Rattle.srcp_core.specs.Held.{Place}
 use Rattle.srcp_core.specs.Machine.{filled, item_from}
@@ -97,7 +98,7 @@ record Gave (history : History) (conn later : Connection) (what : Next) : Type 0
   untold_is : untold later history ≡ drop 1 (untold conn history)
   told_is : told_of later ≡ with_given (length history) (Some what) (told_of conn)
 
-module _ (first : List Shown) (history : History) (conn : Connection) (shut : conn.shut ≡ None) (order : IsInOrder (rows_after first history)) (fits : Fits first history conn.go_step conn.items conn.done) (within : conn.taken ≤ length (given conn)) where
+module _ (first : List Shown) (history : History) (conn : Connection) (shut : conn.shut ≡ None) (order : IsRisingBy key_at (rows_after first history)) (fits : Fits first history conn.go_step conn.items conn.done) (within : conn.taken ≤ length (given conn)) where
   abbrev rows_now : List Shown
   rows_now = rows_after first history
 

@@ -13,7 +13,8 @@ use Rattle.srcp_rules.specs.declared.layout.Bus.{Bus}
 use Rattle.srcp_rules.specs.declared.command.Command.{Command}
 use Rattle.srcp_rules.specs.Effect.{Effect, effect}
 use Rattle.srcp_rules.specs.State.{State, opening, shown_rows}
-use Rattle.srcp_feed.proofs.Steps.{IsInOrder}
+use Rattle.srcp_info.proofs.ClientLaws.{key_at}
+use Rattle.srcp_info.specs.Client.{IsRisingBy}
 use Rattle.srcp_core.specs.Connection.{Connection, given, sent}
 use Rattle.srcp_core.specs.Course.{World, numbered, with_numbered, at_connection, did, is_info, state, history, command_of, replied, entered, goes, greeted, ended, commanded, answered_as, answered}
 use Rattle.srcp_core.specs.Handshake.{Greeting, Speaks, Chooses, Goes, Refuses, greets}
@@ -154,7 +155,7 @@ module _ (buses : List Bus) (n : ℕ) (r : Recording) where
       subst (λ k. Tells (noted n (steps_commanded true k (command_of buses mark) held) r) (commanded buses n conn.session (command_of buses mark) w)) (sym session) (tells_commanded w conn held conn.session (command_of buses mark) m s (plain refl) t)
 
 -- what is noted of the answer to a line
-pub tells_answered : (buses : List Bus) (order : IsInOrder (shown_rows (opening buses 0))) (read : ℕ → List ℕ → List ℕ) (keys : List (Option ℕ)) (n key : ℕ) (r : Recording) (held : Held) (w : World) (mark : Mark) (p : Place)
+pub tells_answered : (buses : List Bus) (order : IsRisingBy key_at (shown_rows (opening buses 0))) (read : ℕ → List ℕ → List ℕ) (keys : List (Option ℕ)) (n key : ℕ) (r : Recording) (held : Held) (w : World) (mark : Mark) (p : Place)
     → IsFine buses order w → StandsBy buses read keys held w → key_of n keys ≡ Some key → at held key ≡ Some p → Tells r w
     → Tells (noted n (steps_answered_from true (asked_of held.buses p mark) held (Some p)) r) (answered buses n w mark)
 tells_answered buses order read keys n key r held w mark p a s named here t =

@@ -24,7 +24,8 @@ use Rattle.srcp_rules.specs.declared.layout.Bus.{Bus}
 use Rattle.srcp_rules.specs.declared.command.Command.{Command}
 use Rattle.srcp_rules.specs.Effect.{Effect, effect}
 use Rattle.srcp_rules.specs.State.{opening, shown_rows}
-use Rattle.srcp_feed.proofs.Steps.{IsInOrder}
+use Rattle.srcp_info.proofs.ClientLaws.{key_at}
+use Rattle.srcp_info.specs.Client.{IsRisingBy}
 use Rattle.srcp_core.specs.Connection.{Connection}
 use Rattle.srcp_core.specs.Course.{World, numbered, at_connection, did, is_info, state, history, command_of, replied, entered, goes, greeted, ended, obeyed, commanded, answered_as, answered as course_answered, open_connection, new_marks}
 use Rattle.srcp_core.specs.Handshake.{Greeting, Speaks, Chooses, Goes, Refuses, greets}
@@ -129,7 +130,7 @@ module _ (buses : List Bus) (n : ℕ) where
 -- ---- the lines of a piece
 
 -- the piece was read up to a place, and its lines up to there were answered; w is the course with all of it accepted
-module _ (buses : List Bus) (order : IsInOrder (shown_rows (opening buses 0))) (keys : List (Option ℕ)) (n key : ℕ) (named : key_of n keys ≡ Some key) (fed piece : List ℕ) (w : World) where
+module _ (buses : List Bus) (order : IsRisingBy key_at (shown_rows (opening buses 0))) (keys : List (Option ℕ)) (n key : ℕ) (named : key_of n keys ≡ Some key) (fed piece : List ℕ) (w : World) where
   -- the lines up to a place
   abbrev pub marks_upto : ℕ → List Mark
   marks_upto start = drop (length (marks fed)) (marks (fed ++ take start piece))
@@ -300,7 +301,7 @@ set_same (x ∷ places) (suc key) p h = ap (λ ys. x ∷ ys) (set_same places ke
 abbrev pub accepting : ℕ → List ℕ → World → World
 accepting n piece w = at_connection n (λ c. record c { fed = c.fed ++ piece }) w
 
-pub piece_begun : (buses : List Bus) (order : IsInOrder (shown_rows (opening buses 0))) (keys : List (Option ℕ)) (n key : ℕ) (named : key_of n keys ≡ Some key) (piece : List ℕ) (held : Held) (w : World) (conn : Connection)
+pub piece_begun : (buses : List Bus) (order : IsRisingBy key_at (shown_rows (opening buses 0))) (keys : List (Option ℕ)) (n key : ℕ) (named : key_of n keys ≡ Some key) (piece : List ℕ) (held : Held) (w : World) (conn : Connection)
     → IsFine buses order w → StandsFor buses keys held w → numbered n w.connections ≡ Some conn
     → IsUpTo buses order keys n key named conn.fed piece (accepting n piece w) 0 held × (world_upto buses order keys n key named conn.fed piece (accepting n piece w) 0 ≡ accepting n piece w)
 piece_begun buses order keys n key named piece held w conn a s there =

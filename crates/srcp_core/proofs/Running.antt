@@ -9,8 +9,8 @@ use Rattle.std.proofs.Math.Nat.{pos_of_ne-zero, zero-min}
 use Rattle.srcp_rules.specs.declared.layout.Bus.{Bus}
 use Rattle.srcp_rules.specs.Layout.{IsLayout}
 use Rattle.srcp_rules.specs.State.{opening, shown_rows}
-use Rattle.srcp_feed.specs.declared.Next.{Next}
-use Rattle.srcp_feed.specs.declared.Next.TheVariants.{Told, Listed, Settled}
+use Rattle.srcp_feed.specs.declared.next.Next.{Next}
+use Rattle.srcp_feed.specs.declared.next.Next.TheVariants.{Told, Listed, Settled}
 use Rattle.srcp_core.specs.Connection.{Connection, is_nil}
 use Rattle.srcp_core.specs.Course.{World, numbered, at_connection, open_connection, did, history, fresh, counted, fault, absent_fault, bytes_fault as course_fault, accepted, fed_to, shut_as, answered as course_answered, new_marks, course}
 use Rattle.srcp_core.specs.Held.{Place, Held, at, open_count}

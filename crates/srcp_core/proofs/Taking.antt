@@ -10,9 +10,10 @@ use Rattle.srcp_text.specs.Reading.{Reading}
 use Rattle.srcp_rules.specs.declared.layout.Bus.{Bus}
 use Rattle.srcp_rules.specs.Layout.{IsLayout}
 use Rattle.srcp_rules.specs.State.{opening, shown_rows}
-use Rattle.srcp_feed.specs.declared.Next.{Next}
-use Rattle.srcp_feed.specs.declared.Next.TheVariants.{Told, Listed, Settled}
-use Rattle.srcp_feed.proofs.Steps.{IsInOrder}
+use Rattle.srcp_feed.specs.declared.next.Next.{Next}
+use Rattle.srcp_feed.specs.declared.next.Next.TheVariants.{Told, Listed, Settled}
+use Rattle.srcp_info.proofs.ClientLaws.{key_at}
+use Rattle.srcp_info.specs.Client.{IsRisingBy}
 use Rattle.srcp_core.specs.Connection.{Connection, History, cursor_at, untold, unsent, sent, given, line_of, is_nil, is_open, owed, front, available, items_of, took as took_room, given_room, overran}
 use Rattle.srcp_core.specs.Course.{World, numbered, with_numbered, at_connection, history, rows}
 use Rattle.srcp_core.specs.Held.{Place, Held}
@@ -101,7 +102,7 @@ fed_room bytes history rows conn = elim (overran conn history) as (λ t. (if t t
 
 -- ---- the core and the course
 
-module _ (buses : List Bus) (layout : IsLayout buses) (order : IsInOrder (shown_rows (opening buses 0))) (keys : List (Option ℕ)) (n key : ℕ) (named : key_of n keys ≡ Some key) where
+module _ (buses : List Bus) (layout : IsLayout buses) (order : IsRisingBy key_at (shown_rows (opening buses 0))) (keys : List (Option ℕ)) (n key : ℕ) (named : key_of n keys ≡ Some key) where
   -- what is kept while bytes are taken
   pub record Kept (r : Recording) (held : Held) (w : World) : Type 0 where
     pub fine : IsFine buses order w

@@ -10,12 +10,13 @@ use Rattle.srcp_info.specs.declared.change.Shown.{Shown}
 use Rattle.srcp_rules.specs.State.{State, shown_rows, row_after}
 use Rattle.srcp_feed.specs.Cursor.{concerns, passed, beyond, moved, said}
 use Rattle.srcp_feed.specs.Feed.{Feed, is_full, told, told_answer, first_of, next_of, after_next, HoldsPassed}
-use Rattle.srcp_feed.specs.declared.Next.{Next}
-use Rattle.srcp_feed.specs.declared.Next.TheVariants as next
-use Rattle.srcp_feed.specs.declared.Told.TheVariants.{Overrun}
-use Rattle.srcp_info.proofs.ClientLaws.{client-push}
+use Rattle.srcp_feed.specs.declared.next.Next.{Next}
+use Rattle.srcp_feed.specs.declared.next.Next.TheVariants as next
+use Rattle.srcp_feed.specs.declared.told.Told.{Told}
+use Rattle.srcp_feed.specs.declared.told.Told.TheVariants.{Overrun}
+use Rattle.srcp_info.proofs.ClientLaws.{client-push, reached_changed, reached_skipped}
 use Rattle.srcp_feed.proofs.Nexts.{IsNext, row_after_next}
-use Rattle.srcp_feed.proofs.Steps.{in_order, lists_one, passed_all, passed_done, passed_told, passed_skipped}
+use Rattle.srcp_feed.proofs.Steps.{lists_one, passed_all, passed_done}
 
 pub empty_of : {X : Type 0} (xs : List X) → slice_get xs 0 ≡ None → xs ≡ []
 empty_of [] e = refl
@@ -42,24 +43,26 @@ after_next_is feed rows what e = ap (λ (w : Next). let f : Feed = record { curs
 -- ---- the client
 
 -- a client that is told a change which the rows underwent
-pub tell_holds : (given : List Change) (change : Change) (feed : Feed) (rows : List Shown) → told_answer change feed ≢ Overrun → HoldsPassed given feed rows → HoldsPassed given (told change feed) (changed change rows)
-tell_holds given change feed rows fits holds = by (concerns feed.cursor change) refl (is_full feed) refl
+pub tell_holds : (given : List Change) (change : Change) (feed new : Feed) (rows : List Shown) (answer : Told) → answer ≡ told_answer change feed → new ≡ told change feed
+    → answer ≢ Overrun → HoldsPassed given feed rows → HoldsPassed given new (changed change rows)
+tell_holds given change feed new rows answer answered told_so fits holds = rw told_so (by (concerns feed.cursor change) refl (is_full feed) refl)
   where
     by : (c : Bool) → concerns feed.cursor change ≡ c → (f : Bool) → is_full feed ≡ f → HoldsPassed given (told change feed) (changed change rows)
-    by false e f g = rw e (holds ∙ sym (passed_skipped feed.cursor change rows e))
-    by true e true g = absurd (fits (rw (e, g) refl))
+    by false e f g = rw e (holds ∙ sym (reached_skipped feed.cursor change rows e))
+    by true e true g = absurd (fits (answered ∙ rw (e, g) refl))
     by true e false g =
-        rw (e, g) (ap client (sym (append_assoc given feed.queue (change ∷ []))) ∙ client-push (given ++ feed.queue) change ∙ ap (changed change) holds ∙ sym (passed_told feed.cursor change rows e))
+        rw (e, g) (ap client (sym (append_assoc given feed.queue (change ∷ []))) ∙ client-push (given ++ feed.queue) change ∙ ap (changed change) holds ∙ sym (reached_changed feed.cursor change rows e))
 
 -- a client that is given what is next
-pub next_holds : (given : List Change) (feed : Feed) (rows : List Shown) → IsRisingBy (λ row. row.key) rows → HoldsPassed given feed rows → HoldsPassed (given ++ said (next_of rows feed)) (after_next rows feed) rows
-next_holds given feed rows rising holds = by feed.cursor feed.queue holds
+pub next_holds : (given : List Change) (feed new : Feed) (rows : List Shown) (what : Next) → what ≡ next_of rows feed → new ≡ after_next rows feed
+    → IsRisingBy (λ row. row.key) rows → HoldsPassed given feed rows → HoldsPassed (given ++ said what) new rows
+next_holds given feed new rows what given_so new_so rising holds = rw (given_so, new_so) (by feed.cursor feed.queue holds)
   where
     from : (cursor : Cursor) (left : List Shown) → beyond cursor rows ≡ left → client given ≡ passed cursor rows
         → client ((given ++ said (first_of (map next.Listed left))) ++ []) ≡ passed (moved cursor (first_of (map next.Listed left))) rows
     from cursor [] e h = ap client (append-nil (given ++ []) ∙ append-nil given) ∙ h ∙ passed_all cursor rows e ∙ sym (passed_done rows)
     from cursor (row ∷ left) e h =
-        let l = lists_one cursor row left rows (in_order rows rising) e in
+        let l = lists_one cursor row left rows rising e in
         ap client (append-nil (given ++ Put row ∷ [])) ∙ client-push given (Put row) ∙ ap (put row) h ∙ l.taken
 
     by : (cursor : Cursor) (queue : List Change) → HoldsPassed given (record { cursor = cursor; queue = queue }) rows

@@ -15,11 +15,12 @@ use srcp_rules::{Memory, Rows};
 use std::alloc::Global;
 use std::marker::Model;
 
-/// How many changes may wait for one session.
+/// How many changes may wait for one session (our own choice).
 const MOST_WAITING: usize = 256;
 
 /// What one information session is given: the changes that wait, then the next rows of its listing.
-/// It holds how far the listing has come and the changes that wait, and no row.
+/// It holds how far the listing has come and the changes that wait, and no row. What a session is given
+/// in which order is our own choice.
 #[derive(Drop)]
 pub struct InfoFeed {
     cursor: Cursor,
@@ -56,19 +57,12 @@ impl InfoFeed {
     pub fn tell(&mut self, change: &Change) -> Told
         ensures answer { result ≡ told_answer change.now self.old }
         ensures feed { self.new ≡ told change.now self.old }
-        ensures holds { (given : List Change) (rows : List Shown) → result ≢ Told.Overrun → HoldsPassed given self.old rows → HoldsPassed given self.new (changed change.now rows) }
+        ensures holds { (given : List Change) (rows : List Shown)
+            → result ≢ Told.Overrun
+            → HoldsPassed given self.old rows
+            → HoldsPassed given self.new (changed change.now rows) }
     {
         self.enqueue(change)
-    }
-
-    /// What the session is given next: the first change that waits, else the least row above the cursor, else
-    /// `Settled`, from which on the listing is done and every change waits.
-    pub fn next<R: Rows>(&mut self, rows: &R) -> Next
-        ensures answer { result ≡ next_of (shown_rows (R.state rows.now)) self.old }
-        ensures feed { self.new ≡ after_next (shown_rows (R.state rows.now)) self.old }
-        ensures holds { (given : List Change) → IsRisingBy (λ row. row.key) (shown_rows (R.state rows.now)) → HoldsPassed given self.old (shown_rows (R.state rows.now)) → HoldsPassed (given ++ said result) self.new (shown_rows (R.state rows.now)) }
-    {
-        self.give(rows)
     }
 
     /// `tell`, without what holds of a client.
@@ -86,10 +80,15 @@ impl InfoFeed {
         Told::Queued
     }
 
-    /// `next`, without what holds of a client.
-    fn give<R: Rows>(&mut self, rows: &R) -> Next
+    /// What the session is given next: the first change that waits, else the least row above the cursor, else
+    /// `Settled`, from which on the listing is done and every change waits.
+    pub fn next<R: Rows>(&mut self, rows: &R) -> Next
         ensures answer { result ≡ next_of (shown_rows (R.state rows.now)) self.old }
         ensures feed { self.new ≡ after_next (shown_rows (R.state rows.now)) self.old }
+        ensures holds { (given : List Change)
+            → IsRisingBy (λ row. row.key) (shown_rows (R.state rows.now))
+            → HoldsPassed given self.old (shown_rows (R.state rows.now))
+            → HoldsPassed (given ++ said result) self.new (shown_rows (R.state rows.now)) }
     {
         if let Some(change) = self.ring.pop_front() {
             return Next::Told(change);

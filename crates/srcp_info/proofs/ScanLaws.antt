@@ -18,7 +18,8 @@ use Rattle.srcp_text.proofs.StampLaws.{digits_free, stamp_free, digit_no_point}
 use Rattle.srcp_info.specs.Line.{bit_word, after_spaces}
 use Rattle.srcp_info.specs.declared.scan.InfoKind.{InfoKind}
 use Rattle.srcp_info.specs.declared.scan.InfoKind.TheVariants.{State, Init, Term}
-use Rattle.srcp_info.specs.Read.{is_space, kind_code}
+use Rattle.srcp_info.specs.WellFormed.{is_space}
+use Rattle.srcp_info.specs.Read.{kind_code}
 use Rattle.srcp_info.proofs.LineLaws.{join-cons}
 
 -- ---- a text cut at the first byte that passes

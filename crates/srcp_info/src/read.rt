@@ -23,36 +23,55 @@ use crate::well_formed::is_well_formed;
 use crate::write::write_change;
 use srcp_text::LineBuf;
 
-// Each of the next functions reads what follows the words of the group in the line of a row, and
-// answers its address, its port and its value. A text that no such line has gives any answer: what
-// was read is written again and compared before it is handed out.
+/// What follows the words of the group in the line of a row.
+#[derive(Clone, Copy)]
+struct Tail {
+    address: u32,
+    port: u8,
+    value: Value,
+}
 
-fn read_session(text: &[u8]) -> (u32, u8, Value)
+// Each of the next functions reads the tail of a line. A text that no such line has gives any answer:
+// what was read is written again and compared before it is handed out.
+
+fn read_session(text: &[u8]) -> Tail
     ensures { (address : ℕ) (mode : Mode) → address < 2 ^ 32
         → text.now ≡ join_with_byte 32 (value_words address 0 (Value.Session mode))
-        → result ≡ (address, 0, Value.Session mode) }
+        → result ≡ record { address = address; port = 0; value = Value.Session mode } }
 {
     let (address, rest) = next_number(text);
     let mode = mode_named(rest);
-    (address, 0, Value::Session { mode })
+    Tail {
+        address,
+        port: 0,
+        value: Value::Session { mode },
+    }
 }
 
-fn read_power(text: &[u8]) -> (u32, u8, Value)
+fn read_power(text: &[u8]) -> Tail
     ensures { (on : Bool) (shown : List ℕ) → length shown ≤ 80
         → text.now ≡ join_with_byte 32 (value_words 0 0 (Value.Power on shown))
-        → result ≡ (0, 0, Value.Power on shown) }
+        → result ≡ record { address = 0; port = 0; value = Value.Power on shown } }
 {
     let (on, rest) = next_switch(text);
     let text = Text::from_bytes(rest).unwrap_or(Text::new());
-    (0, 0, Value::Power { on, text })
+    Tail {
+        address: 0,
+        port: 0,
+        value: Value::Power { on, text },
+    }
 }
 
-fn read_gl_init(text: &[u8]) -> (u32, u8, Value)
+fn read_gl_init(text: &[u8]) -> Tail
     ensures { (address : ℕ) (letter : Letter) (version steps functions : ℕ)
         → address < 2 ^ 32 → version < 2 ^ 32 → steps < 2 ^ 32 → functions < 2 ^ 32
         → text.now ≡ join_with_byte 32
         (value_words address 0 (Value.GlInit letter version steps functions))
-        → result ≡ (address, 0, Value.GlInit letter version steps functions) }
+        → result ≡ record {
+          address = address;
+          port = 0;
+          value = Value.GlInit letter version steps functions;
+        } }
 {
     let (address, rest) = next_number(text);
     let (letter, rest) = next_letter(rest);
@@ -65,16 +84,24 @@ fn read_gl_init(text: &[u8]) -> (u32, u8, Value)
         steps,
         functions,
     };
-    (address, 0, value)
+    Tail {
+        address,
+        port: 0,
+        value,
+    }
 }
 
-fn read_gl_state(text: &[u8]) -> (u32, u8, Value)
+fn read_gl_state(text: &[u8]) -> Tail
     ensures { (address mode v vmax : ℕ) (functions : List Bool)
         → address < 2 ^ 32 → mode < 2 ^ 32 → v < 2 ^ 32 → vmax < 2 ^ 32
         → length functions ≤ 29
         → text.now ≡ join_with_byte 32
         (value_words address 1 (Value.GlState mode v vmax functions))
-        → result ≡ (address, 1, Value.GlState mode v vmax functions) }
+        → result ≡ record {
+          address = address;
+          port = 1;
+          value = Value.GlState mode v vmax functions;
+        } }
 {
     let (address, rest) = next_number(text);
     let (mode, rest) = next_number(rest);
@@ -86,60 +113,84 @@ fn read_gl_state(text: &[u8]) -> (u32, u8, Value)
         vmax,
         functions: functions_of(rest),
     };
-    (address, 1, value)
+    Tail {
+        address,
+        port: 1,
+        value,
+    }
 }
 
-fn read_ga_init(text: &[u8]) -> (u32, u8, Value)
+fn read_ga_init(text: &[u8]) -> Tail
     ensures { (address : ℕ) (letter : Letter) → address < 2 ^ 32
         → text.now ≡ join_with_byte 32 (value_words address 0 (Value.GaInit letter))
-        → result ≡ (address, 0, Value.GaInit letter) }
+        → result ≡ record { address = address; port = 0; value = Value.GaInit letter } }
 {
     let (address, rest) = next_number(text);
     let (letter, _) = next_letter(rest);
-    (address, 0, Value::GaInit { letter })
+    Tail {
+        address,
+        port: 0,
+        value: Value::GaInit { letter },
+    }
 }
 
-fn read_ga_port(text: &[u8]) -> (u32, u8, Value)
+fn read_ga_port(text: &[u8]) -> Tail
     ensures { (address port : ℕ) (on : Bool) → address < 2 ^ 32 → 1 ≤ port → port ≤ 8
         → text.now ≡ join_with_byte 32 (value_words address port (Value.GaPort on))
-        → result ≡ (address, port, Value.GaPort on) }
+        → result ≡ record { address = address; port = port; value = Value.GaPort on } }
 {
     let (address, rest) = next_number(text);
     let (port, rest) = next_number(rest);
     let (on, _) = next_bit(rest);
     let port = u8::try_from(port).unwrap_or(u8::MAX).saturating_add(1);
-    (address, port, Value::GaPort { on })
+    Tail {
+        address,
+        port,
+        value: Value::GaPort { on },
+    }
 }
 
-fn read_fb(text: &[u8]) -> (u32, u8, Value)
+fn read_fb(text: &[u8]) -> Tail
     ensures { (address : ℕ) (on : Bool) → address < 2 ^ 32
         → text.now ≡ join_with_byte 32 (value_words address 0 (Value.Fb on))
-        → result ≡ (address, 0, Value.Fb on) }
+        → result ≡ record { address = address; port = 0; value = Value.Fb on } }
 {
     let (address, rest) = next_number(text);
     let (on, _) = next_bit(rest);
-    (address, 0, Value::Fb { on })
+    Tail {
+        address,
+        port: 0,
+        value: Value::Fb { on },
+    }
 }
 
-fn read_lock(text: &[u8]) -> (u32, u8, Value)
+fn read_lock(text: &[u8]) -> Tail
     ensures { (address seconds session : ℕ)
         → address < 2 ^ 32 → seconds < 2 ^ 32 → session < 2 ^ 32
         → text.now ≡ join_with_byte 32 (value_words address 0 (Value.Lock seconds session))
-        → result ≡ (address, 0, Value.Lock seconds session) }
+        → result ≡ record { address = address; port = 0; value = Value.Lock seconds session } }
 {
     let (address, rest) = next_number(text);
     let (seconds, rest) = next_number(rest);
     let (session, _) = next_number(rest);
-    (address, 0, Value::Lock { seconds, session })
+    Tail {
+        address,
+        port: 0,
+        value: Value::Lock { seconds, session },
+    }
 }
 
-/// What follows the words of the group in the line of a row: its address, its port and its value.
-fn read_value(kind: InfoKind, group: Group, text: &[u8]) -> (u32, u8, Value)
+/// The tail of the line of a row, by its kind and its group.
+fn read_value(kind: InfoKind, group: Group, text: &[u8]) -> Tail
     ensures { (shown : Shown) → IsWellFormedShown shown
         → shown.key.group ≡ group → value_code shown.value ≡ kind_code kind
         → text.now ≡ join_with_byte 32
         (value_words shown.key.address shown.key.port shown.value)
-        → result ≡ (shown.key.address, shown.key.port, shown.value) }
+        → result ≡ record {
+          address = shown.key.address;
+          port = shown.key.port;
+          value = shown.value;
+        } }
 {
     let is_init = kind == InfoKind::Init;
     match group {
@@ -209,23 +260,24 @@ fn told_by(line: &[u8]) -> Change
             }
         }
         InfoKind::State | InfoKind::Init => {
-            let (address, port, value) = read_value(kind, group, rest);
+            let tail = read_value(kind, group, rest);
             Change::Put(Shown {
                 key: Key {
                     bus,
                     group,
-                    address,
-                    port,
+                    address: tail.address,
+                    port: tail.port,
                 },
                 stamp,
-                value,
+                value: tail.value,
             })
         }
     }
 }
 
 /// The change whose line this is, without its LF, or `None` where no well-formed change has that
-/// line. Takes no memory.
+/// line. Takes no memory. The line's form is that of SRCP 0.8. That a line with another spelling, as
+/// with two spaces, a leading zero or small letters, is none is our own choice.
 pub fn read_change(line: &[u8]) -> Option<Change>
     ensures { Reads line.now result }
 {

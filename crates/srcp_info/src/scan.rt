@@ -8,7 +8,8 @@ ghost use Rattle.srcp_info.specs.declared.value.Letter.{Letter};
 ghost use Rattle.srcp_info.specs.declared.value.Mode.{Mode};
 ghost use Rattle.srcp_info.specs.declared.scan.InfoKind.{InfoKind};
 ghost use Rattle.srcp_info.specs.Line.{group_words, mode_word, letter_word, bit_word, switch_word};
-ghost use Rattle.srcp_info.specs.Read.{is_space, kind_code};
+ghost use Rattle.srcp_info.specs.Read.{kind_code};
+ghost use Rattle.srcp_info.specs.WellFormed.{is_space};
 
 use crate::key::Group;
 use crate::value::{Bits, Letter, Mode};

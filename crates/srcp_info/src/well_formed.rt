@@ -2,12 +2,15 @@
 
 ghost use Rattle.std.specs.Prelude.{◌≡◌, ◌≤◌, ◌↔◌, IsTrue};
 ghost use Rattle.std.specs.List.{list_all, slice_split};
-ghost use Rattle.srcp_info.specs.Read.{is_space};
-ghost use Rattle.srcp_info.specs.WellFormed.{IsBetween, IsAddress, IsSpeed, IsValueAt, IsWellFormed, can_go, is_lock, is_text, is_text_byte, is_text_word};
+ghost use Rattle.srcp_info.specs.WellFormed.{IsBetween, IsAddress, IsSpeed, IsValueAt, IsWellFormed, can_go, is_lock, is_space, is_text, is_text_byte, is_text_word};
 
 use crate::change::Change;
 use crate::key::Group;
-use crate::value::Value;
+use crate::limits::{
+    GREATEST_BUS, GREATEST_FB, GREATEST_GA, GREATEST_GL, GREATEST_SPEED, GREATEST_VERSION,
+    MOST_FUNCTIONS, MOST_PORTS, MOST_SECONDS, MOST_STEPS,
+};
+use crate::value::{Bits, Text, Value};
 
 /// Whether a byte can stand in a word of a text: it is no control byte, space or DEL.
 fn is_text_byte(byte: u8) -> bool
@@ -48,7 +51,7 @@ fn are_text_words(text: &[u8]) -> bool
 pub fn is_text(text: &[u8]) -> bool
     ensures { result ≡ is_text text.now }
 {
-    text.len() <= 80 && (text.is_empty() || are_text_words(text))
+    text.len() <= Text::CAPACITY && (text.is_empty() || are_text_words(text))
 }
 
 fn is_between(low: u32, high: u32, number: u32) -> bool
@@ -61,13 +64,13 @@ fn is_between(low: u32, high: u32, number: u32) -> bool
 fn is_address(group: Group, bus: u8, address: u32) -> bool
     ensures { IsTrue result ↔ IsAddress group bus address }
 {
-    let on_bus = is_between(1, 250, u32::from(bus));
+    let on_bus = is_between(1, u32::from(GREATEST_BUS), u32::from(bus));
     match group {
         Group::Session => bus == 0 && address >= 1,
         Group::Power => on_bus && address == 0,
-        Group::Gl | Group::LockGl => on_bus && is_between(1, 10239, address),
-        Group::Ga | Group::LockGa => on_bus && is_between(1, 2044, address),
-        Group::Fb => on_bus && is_between(1, 4096, address),
+        Group::Gl | Group::LockGl => on_bus && is_between(1, GREATEST_GL, address),
+        Group::Ga | Group::LockGa => on_bus && is_between(1, GREATEST_GA, address),
+        Group::Fb => on_bus && is_between(1, GREATEST_FB, address),
     }
 }
 
@@ -96,7 +99,11 @@ fn can_go(group: Group) -> bool
 fn is_speed(mode: u32, v: u32, vmax: u32) -> bool
     ensures { IsTrue result ↔ IsSpeed mode v vmax }
 {
-    mode <= 2 && v <= 65535 && vmax <= 65535 && (v <= vmax || vmax == 0) && (mode != 2 || v == 0)
+    mode <= 2
+        && v <= GREATEST_SPEED
+        && vmax <= GREATEST_SPEED
+        && (v <= vmax || vmax == 0)
+        && (mode != 2 || v == 0)
 }
 
 /// Whether the value is one that the row at this group and port can have.
@@ -116,9 +123,9 @@ fn is_value_at(group: Group, port: u8, value: &Value) -> bool
         } => {
             group == Group::Gl
                 && port == 0
-                && *version <= 255
-                && is_between(1, 1000, *steps)
-                && *functions <= 29
+                && *version <= GREATEST_VERSION
+                && is_between(1, MOST_STEPS, *steps)
+                && *functions <= MOST_FUNCTIONS
         }
         Value::GlState {
             mode,
@@ -126,13 +133,16 @@ fn is_value_at(group: Group, port: u8, value: &Value) -> bool
             vmax,
             functions,
         } => {
-            group == Group::Gl && port == 1 && is_speed(*mode, *v, *vmax) && functions.len() <= 29
+            group == Group::Gl
+                && port == 1
+                && is_speed(*mode, *v, *vmax)
+                && functions.len() <= Bits::CAPACITY
         }
         Value::GaInit { .. } => group == Group::Ga && port == 0,
-        Value::GaPort { .. } => group == Group::Ga && is_between(1, 8, u32::from(port)),
+        Value::GaPort { .. } => group == Group::Ga && is_between(1, MOST_PORTS, u32::from(port)),
         Value::Fb { .. } => group == Group::Fb && port == 0,
         Value::Lock { seconds, session } => {
-            is_lock(group) && port == 0 && *seconds <= 86400 && *session >= 1
+            is_lock(group) && port == 0 && *seconds <= MOST_SECONDS && *session >= 1
         }
     }
 }

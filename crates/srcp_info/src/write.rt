@@ -5,7 +5,7 @@ ghost use Rattle.arrayvec.specs.ArrayVec.{array_vec_len};
 ghost use Rattle.std.specs.List.{join_with_byte};
 ghost use Rattle.srcp_text.specs.Stamp.{stamp as stamp_of};
 ghost use Rattle.srcp_info.specs.Line.{after_spaces, bit_word, switch_word, group_words, value_words, info_words, spaced, line, reply_line};
-ghost use Rattle.srcp_info.specs.WellFormed.{IsWellFormed, IsWellFormedShown, IsWellFormedReply, IsShort, IsValueAt};
+ghost use Rattle.srcp_info.specs.WellFormed.{IsWellFormed, IsWellFormedShown, IsWellFormedReply, ShowsNoRow, IsValueAt};
 
 use crate::change::{Change, Reply, Shown};
 use crate::key::{Device, Group, Key};
@@ -178,7 +178,8 @@ fn write_gone(stamp: u64, device: &Device, buffer: &mut LineBuf)
 }
 
 /// Writes the line that tells of a change, with its LF, into an empty buffer. It has at most 126
-/// bytes, and takes no memory.
+/// bytes, and takes no memory. The line's form is that of SRCP 0.8; one space between two words,
+/// numbers without leading zeros and capital letters alone are our own choice.
 pub fn write_change(change: &Change, buffer: &mut LineBuf)
     requires well_formed { IsWellFormed change.now }
     requires empty { buffer.old.items ≡ [] }
@@ -223,7 +224,7 @@ pub fn write_reply(stamp: u64, reply: &Reply, buffer: &mut LineBuf)
     requires empty { buffer.old.items ≡ [] }
     ensures line { buffer.new.items ≡ reply_line stamp reply.now }
     ensures most { array_vec_len buffer.new ≤ 126 }
-    ensures short { IsShort reply.now → array_vec_len buffer.new ≤ 64 }
+    ensures short { ShowsNoRow reply.now → array_vec_len buffer.new ≤ 64 }
 {
     match reply {
         Reply::Accepted => write_text(stamp, b"200 OK", buffer),

@@ -22,7 +22,9 @@ fn has_keys(rt: &impl Abort, mirror: &Mirror, keys: &[(u8, Group, u32, u8)]) {
     }
 }
 
-const LINES: [&str; 11] = [
+const LINES: [&str; 13] = [
+    "1.000 101 INFO 0 SESSION 1 COMMAND",
+    "1.000 101 INFO 0 SESSION 2 INFO",
     "0.000 100 INFO 1 POWER OFF",
     "1.000 101 INFO 1 GL 3 N 1 28 2",
     "1.000 100 INFO 1 GL 3 1 0 0 0 0",
@@ -40,9 +42,11 @@ const LINES: [&str; 11] = [
 fn an_accessory_goes(rt: HostRuntime) {
     let mut mirror = Mirror::new(rt.alloc());
     applies(&rt, &mut mirror, &LINES);
-    assert_eq!(rt; mirror.rows().len(), 11);
+    assert_eq!(rt; mirror.rows().len(), 13);
     applies(&rt, &mut mirror, &["2.000 102 INFO 1 GA 5"]);
     let keys = [
+        (0, Group::Session, 1, 0),
+        (0, Group::Session, 2, 0),
         (1, Group::Power, 0, 0),
         (1, Group::Gl, 3, 0),
         (1, Group::Gl, 3, 1),

@@ -1,6 +1,6 @@
 //! Texts, bits, keys and devices.
 
-use crate::{Bits, Change, Cursor, Device, Group, Key, Shown, Text, Value, compare, is_text, laws};
+use crate::{Bits, Change, Cursor, Device, Group, Key, Shown, Text, Value, compare, is_text};
 use std::cmp::Ordering;
 
 #[test]
@@ -89,15 +89,4 @@ fn groups_in_the_order_of_a_listing(rt: HostRuntime) {
             assert_eq!(rt; group < other, place < other_place);
         }
     }
-}
-
-#[test]
-fn laws_are_there(_rt: HostRuntime) {
-    laws::changes_have_lines();
-    laws::replies_have_lines();
-    laws::lines_differ();
-    laws::lines_read_again();
-    laws::bytes_hold_once();
-    laws::client_rises();
-    laws::client_follows();
 }

@@ -1,6 +1,6 @@
 use Rattle.std.proofs.Common.{◌∙◌, ap}
 use Rattle.std.specs.List.{before_first, after_first}
-use Rattle.srcp_info.specs.Read.{is_space}
+use Rattle.srcp_info.specs.WellFormed.{is_space}
 use Rattle.srcp_info.proofs.ScanLaws.{before_first-join, after_first-join}
 use Rattle.srcp_info.proofs.scan.next_word.Goals as goal
 

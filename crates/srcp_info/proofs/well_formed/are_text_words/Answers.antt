@@ -1,8 +1,7 @@
 use Rattle.std.proofs.Common.{rules, tests}
 use Rattle.std.proofs.lemmas.Iterator.Search.{all_from_yields_List}
 use Rattle.std.proofs.lemmas.Iterator.Splits.{YieldsList-from_slice_split}
-use Rattle.srcp_info.specs.Read.{is_space}
-use Rattle.srcp_info.specs.WellFormed.{is_text_word}
+use Rattle.srcp_info.specs.WellFormed.{is_space, is_text_word}
 use Rattle.srcp_info.proofs.well_formed.are_text_words.Goals as goal
 
 pub returns : goal.returns

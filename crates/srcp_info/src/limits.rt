@@ -1,0 +1,31 @@
+//! The greatest numbers of rows, which are our own choice where SRCP 0.8 leaves them open.
+
+/// The greatest number of a bus. The least is 1: bus 0 is the server itself.
+pub const GREATEST_BUS: u8 = 250;
+
+/// The greatest address of a locomotive, which is that of NMRA's DCC.
+pub const GREATEST_GL: u32 = 10239;
+
+/// The greatest address of an accessory, which is that of NMRA's DCC.
+pub const GREATEST_GA: u32 = 2044;
+
+/// The greatest number of a sensor.
+pub const GREATEST_FB: u32 = 4096;
+
+/// How many ports an accessory has at most.
+pub const MOST_PORTS: u32 = 8;
+
+/// The greatest version of a decoder's protocol.
+pub const GREATEST_VERSION: u32 = 255;
+
+/// How many speed steps a decoder has at most.
+pub const MOST_STEPS: u32 = 1000;
+
+/// How many functions a locomotive has at most.
+pub const MOST_FUNCTIONS: u32 = 29;
+
+/// The greatest speed, and the greatest of the greatest speeds that a client may give.
+pub const GREATEST_SPEED: u32 = 65535;
+
+/// For how many seconds a lock is set at most.
+pub const MOST_SECONDS: u32 = 86400;
