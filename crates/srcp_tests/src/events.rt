@@ -1,8 +1,7 @@
 //! Lists of events, and what two runs tell.
-use srcp_core::{ConnRecord, Event, Item, Piece, Step};
+use srcp_core::{ConnRecord, Event, Item, Piece};
 use srcp_feed::Next;
 use srcp_info::{Change, Group, Key, Mode, Shown, Text, Value};
-use srcp_rules::Command;
 use std::alloc::Global;
 use std::test::Fail;
 use std::vec::Vec;
@@ -32,98 +31,13 @@ pub(crate) fn begin(
     Ok(())
 }
 
-/// Whether two steps are the same; commands only where they set a sensor or end a session.
-pub(crate) fn is_same_step(one: &Step, other: &Step) -> bool {
-    match (*one, *other) {
-        (Step::Moment(one), Step::Moment(other)) => one == other,
-        (
-            Step::Began {
-                session,
-                moment,
-                mode,
-            },
-            Step::Began {
-                session: other_session,
-                moment: other_moment,
-                mode: other_mode,
-            },
-        ) => session == other_session && moment == other_moment && mode == other_mode,
-        (
-            Step::Ended { session, moment },
-            Step::Ended {
-                session: other_session,
-                moment: other_moment,
-            },
-        ) => session == other_session && moment == other_moment,
-        (
-            Step::Obeyed {
-                session,
-                moment,
-                command,
-            },
-            Step::Obeyed {
-                session: other_session,
-                moment: other_moment,
-                command: other_command,
-            },
-        ) => {
-            session == other_session
-                && moment == other_moment
-                && is_same_command(&command, &other_command)
-        }
-        _ => false,
-    }
-}
-
-pub(crate) fn is_same_command(one: &Command, other: &Command) -> bool {
-    match (*one, *other) {
-        (
-            Command::SetFb { bus, port, on },
-            Command::SetFb {
-                bus: other_bus,
-                port: other_port,
-                on: other_on,
-            },
-        ) => bus == other_bus && port == other_port && on == other_on,
-        (Command::TermSession { session: one }, Command::TermSession { session: other }) => {
-            one == other
-        }
-        _ => false,
-    }
-}
-
-pub(crate) fn are_same_steps(one: &[Step], other: &[Step]) -> bool {
-    one.len() == other.len()
-        && one
-            .iter()
-            .zip(other)
-            .all(|(one, other)| is_same_step(one, other))
-}
-
-pub(crate) fn is_same_item(one: &Item, other: &Item) -> bool {
-    one.steps == other.steps
-        && match (one.what, other.what) {
-            (Next::Told(one), Next::Told(other)) => one == other,
-            (Next::Listed(one), Next::Listed(other)) => one == other,
-            (Next::Settled, Next::Settled) => true,
-            _ => false,
-        }
-}
-
-pub(crate) fn are_same_items(one: &[Item], other: &[Item]) -> bool {
-    one.len() == other.len()
-        && one
-            .iter()
-            .zip(other)
-            .all(|(one, other)| is_same_item(one, other))
-}
-
+/// Whether the same is told of two connections.
 pub(crate) fn is_same_connection(one: &ConnRecord, other: &ConnRecord) -> bool {
     one.session == other.session
         && one.info == other.info
         && one.go_step == other.go_step
         && one.sent.as_slice() == other.sent.as_slice()
-        && are_same_items(one.items.as_slice(), other.items.as_slice())
+        && one.items.as_slice() == other.items.as_slice()
         && one.finish == other.finish
 }
 
@@ -168,6 +82,7 @@ pub(crate) fn told(steps: usize, row: Shown) -> Item {
         what: Next::Told(Change::Put(row)),
     }
 }
+
 /// The row of the power of the bus, which is off.
 pub(crate) fn power_row() -> Shown {
     Shown {

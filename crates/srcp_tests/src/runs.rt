@@ -1,6 +1,5 @@
 use crate::events::{
-    are_same_items, are_same_steps, begin, bytes, is_same_connection, listed, power_row,
-    sensor_row, session_row, told,
+    begin, bytes, is_same_connection, listed, power_row, sensor_row, session_row, told,
 };
 use crate::fixture::one_bus;
 use srcp_core::{CoreFault, Event, Finish, Record, Step, run};
@@ -131,7 +130,7 @@ fn a_run_tells_steps_and_items(rt: HostRuntime) -> Result<(), Fail> {
     let alloc = rt.alloc();
     let layout = one_bus(alloc)?;
     let record = carried_out(alloc, &layout, &an_evening(alloc)?)?;
-    assert!(rt; are_same_steps(record.steps.as_slice(), &steps_of_the_evening()));
+    assert_eq!(rt; record.steps.as_slice(), steps_of_the_evening().as_slice());
     assert_eq!(rt; record.denied, 0);
     assert!(rt; record.refused.as_slice().is_empty());
     let [panel, command] = record.connections.as_slice() else {
@@ -151,7 +150,7 @@ fn a_run_tells_steps_and_items(rt: HostRuntime) -> Result<(), Fail> {
         told(6, sensor_row(1, true)),
         listed(6, sensor_row(2, true)),
     ];
-    assert!(rt; are_same_items(panel.items.as_slice(), &items));
+    assert_eq!(rt; panel.items.as_slice(), items.as_slice());
     assert_eq!(rt; panel.sent.as_slice(), PANEL_SENT);
     assert_eq!(rt; command.sent.as_slice(), COMMAND_SENT);
     Ok(())
@@ -176,7 +175,7 @@ fn no_item_says_that_nothing_is_left(rt: HostRuntime) -> Result<(), Fail> {
         listed(1, sensor_row(1, false)),
         listed(1, sensor_row(2, false)),
     ];
-    assert!(rt; are_same_items(panel.items.as_slice(), &items));
+    assert_eq!(rt; panel.items.as_slice(), items.as_slice());
     Ok(())
 }
 
@@ -313,7 +312,7 @@ fn the_room_of_one_panel_changes_that_panel_alone(rt: HostRuntime) -> Result<(),
     let alloc = rt.alloc();
     let quick = beside_a_panel(alloc, true)?;
     let slow = beside_a_panel(alloc, false)?;
-    assert!(rt; are_same_steps(quick.steps.as_slice(), slow.steps.as_slice()));
+    assert_eq!(rt; quick.steps.as_slice(), slow.steps.as_slice());
     assert_eq!(rt; quick.steps.as_slice().len(), 303);
     assert_eq!(rt; quick.rows.as_slice(), slow.rows.as_slice());
     let [command, panel, third] = quick.connections.as_slice() else {
