@@ -10,7 +10,10 @@ use crate::functions::read_functions;
 use crate::layout::Bus;
 use crate::power_text::text_of;
 use crate::read::{bit_of, is_keyword, letter_of, lockable_on, number_in, switch_of, time_of};
-use srcp_info::{Bits, Code, Letter, Text};
+use srcp_info::{
+    Bits, Code, GREATEST_SPEED, GREATEST_VERSION, Letter, MOST_FUNCTIONS, MOST_SECONDS, MOST_STEPS,
+    Text,
+};
 use srcp_text::Words;
 
 /// An address and nothing else.
@@ -149,7 +152,7 @@ pub(crate) fn timed_lock(bus: &Bus, mut words: Words<'_>) -> Result<(Lockable, u
     no_more(words)?;
     let group = lockable_on(bus, first)?;
     let address = number_in(1, address_max(bus, group), second)?;
-    Ok((group, address, number_in(0, 86400, third)?))
+    Ok((group, address, number_in(0, MOST_SECONDS, third)?))
 }
 
 /// Address, letter, version, steps and number of functions, of which P alone stands for P 1 28 5.
@@ -178,9 +181,9 @@ pub(crate) fn init_gl(bus: &Bus, mut words: Words<'_>) -> Result<Command, Code>
         bus: bus.number,
         address: number_in(1, bus.gl_max, first)?,
         letter: letter_of(second)?,
-        version: number_in(0, 255, third)?,
-        steps: number_in(1, 1000, fourth)?,
-        functions: number_in(0, 29, fifth)?,
+        version: number_in(0, GREATEST_VERSION, third)?,
+        steps: number_in(1, MOST_STEPS, fourth)?,
+        functions: number_in(0, MOST_FUNCTIONS, fifth)?,
     })
 }
 
@@ -214,8 +217,8 @@ pub(crate) fn driven(bus: &Bus, mut words: Words<'_>) -> Result<Drive, Code>
     let functions = read_functions(words)?;
     let address = number_in(1, bus.gl_max, first)?;
     let mode = number_in(0, 2, second)?;
-    let v = number_in(0, 65535, third)?;
-    let vmax = number_in(0, 65535, fourth)?;
+    let v = number_in(0, GREATEST_SPEED, third)?;
+    let vmax = number_in(0, GREATEST_SPEED, fourth)?;
     if vmax < v && vmax != 0 {
         return Err(Code::C412);
     }

@@ -14,14 +14,14 @@ use crate::counted::next_word;
 use crate::layout::{Bus, Layout};
 use crate::on_bus::{bus_at, has_group};
 use crate::read::{group_of, operation_of};
-use srcp_info::Code;
+use srcp_info::{Code, GREATEST_BUS};
 use srcp_text::{Words, read_number, words};
 
 /// The bus that the word is the number of; any other word is 412.
 fn bus_of(buses: &[Bus], word: &[u8]) -> Result<Bus, Code>
     ensures { result ≡ ok_or (option_and_then (bus_at buses.now) (number_of 250 word.now)) WrongValue }
 {
-    let Some(number) = read_number(word, 250) else {
+    let Some(number) = read_number(word, u32::from(GREATEST_BUS)) else {
         return Err(Code::C412);
     };
     match bus_at(buses, number as u8) {

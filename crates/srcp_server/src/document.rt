@@ -13,6 +13,7 @@ mod member;
 use crate::config::{Config, ConfigFault, Field};
 use groups::groups_in;
 use member::{array_in, given_or, number_in, number_where, required};
+use srcp_info::{GREATEST_FB, GREATEST_GA, GREATEST_GL};
 use srcp_rules::{Bus, Layout, LayoutFault};
 use std::alloc::Global;
 use toml::{Table, Value};
@@ -82,10 +83,10 @@ fn bus_of(before: &Layout, members: &Table) -> Result<Bus, ConfigFault>
 {
     let number = number_beside(before, members)?;
     let groups = groups_in(array_in(required(members, Field::Groups)?, Field::Groups)?)?;
-    let gl_max = number_where(groups.gl, members, Field::GlMax, 1, 10239)?;
-    let ga_max = number_where(groups.ga, members, Field::GaMax, 1, 2044)?;
+    let gl_max = number_where(groups.gl, members, Field::GlMax, 1, GREATEST_GL)?;
+    let ga_max = number_where(groups.ga, members, Field::GaMax, 1, GREATEST_GA)?;
     let ga_ports = ports_where(groups.ga, members)?;
-    let fb_ports = number_where(groups.fb, members, Field::FbPorts, 1, 4096)?;
+    let fb_ports = number_where(groups.fb, members, Field::FbPorts, 1, GREATEST_FB)?;
     Ok(Bus {
         number,
         power: groups.power,
