@@ -1,10 +1,10 @@
 //! A door in memory.
 
-ghost use Rattle.std.specs.Prelude.{◌≡◌, ◌<◌, ◌≤◌, ℕ, IfErr, Ok, OnOk, OnErr, length};
+ghost use Rattle.std.specs.Prelude.{◌≡◌, ◌<◌, ◌≤◌, ◌∷◌, ◌++◌, [], ℕ, None, Ok, IfErr, IfOk, IfSome, MatchOption, OnOk, OnErr, length};
 ghost use Rattle.srcp_server.specs.declared.door.Got.{Got};
 ghost use Rattle.srcp_server.specs.Calls.{one_more};
 
-use super::told_turns::{Answer, ToldTurns};
+use super::told_turns::{Asked, events_of};
 use crate::{Door, DoorFault, Got};
 use srcp_core::Event;
 use std::alloc::{AllocError, Global};
@@ -63,9 +63,11 @@ impl<'a> ScriptPeer<'a> {
     }
 }
 
-/// A door to peers that come in their order, one a call. One call of the door may fail.
+/// A door to peers that come in their order, one a call. One call of the door may fail. It tells its calls, up to the
+/// first for which memory is refused.
 #[derive(Drop)]
 pub(super) struct ScriptDoor<'a> {
+    alloc: Global,
     /// The moments of the turns; 0 after them.
     moments: &'a [u64],
     peers: Vec<ScriptPeer<'a>>,
@@ -75,23 +77,29 @@ pub(super) struct ScriptDoor<'a> {
     arrived: u32,
     pub calls: u32,
     faults: u64,
-    told: ToldTurns,
+    /// The calls so far, unless memory for one was refused.
+    told: Option<Vec<Asked>>,
 }
 
 impl<'a> ScriptDoor<'a> {
-    pub(super) fn new(alloc: Global, moments: &'a [u64], failing: u32) -> ScriptDoor<'a> {
+    pub(super) fn new(alloc: Global, moments: &'a [u64], failing: u32) -> ScriptDoor<'a>
+        ensures { IfSome result.told (λ told. told.items ≡ []) }
+    {
         ScriptDoor {
+            alloc,
             moments,
             peers: Vec::new(alloc),
             failing,
             arrived: 0,
             calls: 0,
             faults: 0,
-            told: ToldTurns::new(alloc),
+            told: Some(Vec::new(alloc)),
         }
     }
 
-    pub(super) fn add(&mut self, peer: ScriptPeer<'a>) -> Result<(), AllocError> {
+    pub(super) fn add(&mut self, peer: ScriptPeer<'a>) -> Result<(), AllocError>
+        ensures { self.new.told ≡ self.old.told }
+    {
         self.peers.push(peer)?;
         Ok(())
     }
@@ -113,8 +121,14 @@ impl<'a> ScriptDoor<'a> {
     }
 
     /// The events that the answers so far make.
+    ///
+    /// # Errors
+    /// Where memory is refused, or was for a call.
     pub(super) fn events(&self) -> Result<Vec<Event>, AllocError> {
-        self.told.events()
+        match &self.told {
+            Some(calls) => events_of(self.alloc, calls),
+            None => Err(AllocError),
+        }
     }
 
     /// One more call; it fails where that is the one to fail.
@@ -122,6 +136,7 @@ impl<'a> ScriptDoor<'a> {
         ensures ok { OnOk result (self.new.faults ≡ self.old.faults) }
         ensures err { OnErr result (self.new.faults ≡ one_more self.old.faults) }
         ensures fault { IfErr result (λ told. told ≡ fault) }
+        ensures same { self.new.told ≡ self.old.told }
     {
         self.calls = self.calls.saturating_add(1);
         if self.calls == self.failing {
@@ -131,12 +146,26 @@ impl<'a> ScriptDoor<'a> {
             Ok(())
         }
     }
-}
 
-impl Door for ScriptDoor<'_> {
-    ghost faults = { λ d. d.faults };
+    /// Tells a call with its answer.
+    fn tell(&mut self, asked: Asked)
+        ensures faults { self.new.faults ≡ self.old.faults }
+        ensures told { MatchOption self.old.told (self.new.told ≡ None) (λ old.
+            IfSome self.new.told (λ new. new.items ≡ old.items ++ asked ∷ [])) }
+    {
+        if let Some(mut told) = self.told.take()
+            && told.push(asked).is_ok()
+        {
+            self.told = Some(told);
+        }
+    }
 
-    fn now(&mut self) -> Result<u64, DoorFault> {
+    fn moment(&mut self) -> Result<u64, DoorFault>
+        ensures ok { OnOk result (self.new.faults ≡ self.old.faults) }
+        ensures err { OnErr result (self.new.faults ≡ one_more self.old.faults) }
+        ensures fault { IfErr result (λ told. told ≡ DoorFault.Now) }
+        ensures same { self.new.told ≡ self.old.told }
+    {
         let moment = match self.moments.split_first() {
             Some((moment, later)) => {
                 self.moments = later;
@@ -144,61 +173,125 @@ impl Door for ScriptDoor<'_> {
             }
             None => 0,
         };
-        let answer = match self.call(DoorFault::Now) {
+        match self.call(DoorFault::Now) {
             Ok(()) => Ok(moment),
             Err(fault) => Err(fault),
-        };
-        self.told.begin(answer.ok());
-        answer
+        }
     }
 
-    fn accept(&mut self) -> Result<Option<u32>, DoorFault> {
+    fn next_peer(&mut self) -> Result<Option<u32>, DoorFault>
+        ensures ok { OnOk result (self.new.faults ≡ self.old.faults) }
+        ensures err { OnErr result (self.new.faults ≡ one_more self.old.faults) }
+        ensures fault { IfErr result (λ told. told ≡ DoorFault.Accept) }
+        ensures same { self.new.told ≡ self.old.told }
+    {
         self.call(DoorFault::Accept)?;
         let next = self.arrived;
         if next as usize >= self.peers.len() {
             return Ok(None);
         }
         self.arrived = next.saturating_add(1);
-        self.told.arrive(next);
         Ok(Some(next))
     }
 
-    fn read(&mut self, peer: u32, buf: &mut [u8]) -> Result<Got, DoorFault> {
-        if let Err(fault) = self.call(DoorFault::Read) {
-            self.told.note(peer, Answer::Ended);
-            return Err(fault);
+    fn read_from(&mut self, peer: u32, buf: &mut [u8]) -> Result<Got, DoorFault>
+        requires { 0 < length buf.old }
+        ensures ok { OnOk result (self.new.faults ≡ self.old.faults) }
+        ensures err { OnErr result (self.new.faults ≡ one_more self.old.faults) }
+        ensures fault { IfErr result (λ told. told ≡ DoorFault.Read) }
+        ensures count { (n : ℕ) → result ≡ Ok (Got.Bytes n) → (0 < n) × (n ≤ length buf.old) }
+        ensures same { self.new.told ≡ self.old.told }
+    {
+        self.call(DoorFault::Read)?;
+        match self.peers.get_mut(peer as usize) {
+            Some(peer) => Ok(peer.read(buf)),
+            None => Ok(Got::Nothing),
         }
-        let got = match self.peers.get_mut(peer as usize) {
-            Some(peer) => peer.read(buf),
-            None => Got::Nothing,
-        };
-        match got {
-            Got::Bytes(count) => self.told.note_piece(peer, &buf[..count]),
-            Got::Nothing => {}
-            Got::Ended => self.told.note(peer, Answer::Ended),
-        }
-        Ok(got)
     }
 
-    fn write(&mut self, peer: u32, bytes: &[u8]) -> Result<usize, DoorFault> {
-        if let Err(fault) = self.call(DoorFault::Write) {
-            self.told.note(peer, Answer::Unwritten);
-            return Err(fault);
+    fn write_to(&mut self, peer: u32, bytes: &[u8]) -> Result<usize, DoorFault>
+        ensures ok { OnOk result (self.new.faults ≡ self.old.faults) }
+        ensures err { OnErr result (self.new.faults ≡ one_more self.old.faults) }
+        ensures fault { IfErr result (λ told. told ≡ DoorFault.Write) }
+        ensures count { IfOk result (λ n. n ≤ length bytes.now) }
+        ensures same { self.new.told ≡ self.old.told }
+    {
+        self.call(DoorFault::Write)?;
+        match self.peers.get_mut(peer as usize) {
+            Some(peer) => Ok(peer.take(bytes)),
+            None => Ok(0),
         }
-        let count = match self.peers.get_mut(peer as usize) {
-            Some(peer) => peer.take(bytes),
-            None => 0,
-        };
-        let all = count == bytes.len();
-        self.told.note(peer, Answer::Took { count, all });
-        Ok(count)
     }
 
-    fn close(&mut self, peer: u32) -> Result<(), DoorFault> {
+    fn let_go(&mut self, peer: u32) -> Result<(), DoorFault>
+        ensures ok { OnOk result (self.new.faults ≡ self.old.faults) }
+        ensures err { OnErr result (self.new.faults ≡ one_more self.old.faults) }
+        ensures fault { IfErr result (λ told. told ≡ DoorFault.Close) }
+        ensures same { self.new.told ≡ self.old.told }
+    {
         if let Some(peer) = self.peers.get_mut(peer as usize) {
             peer.closes = peer.closes.saturating_add(1);
         }
-        self.told.note(peer, Answer::Closed);
         self.call(DoorFault::Close)
+    }
+}
+
+impl Door for ScriptDoor<'_> {
+    ghost use Rattle.std.specs.Prelude.{map, option_map};
+    ghost use Rattle.srcp_server.specs.Calls.{Call, NowCall, AcceptCall, ReadCall, WriteCall, CloseCall};
+    ghost use Rattle.srcp_server.specs.declared.tests.told_turns.Asked.TheVariants as asked;
+
+    ghost faults = { λ d. d.faults };
+
+    ghost told = { λ d. option_map (λ calls. map (λ call. elim call as (λ _. Call) [
+      | asked.Now answer ↦ NowCall answer
+      | asked.Accept answer ↦ AcceptCall answer
+      | asked.Read peer answer buffer ↦ ReadCall peer answer buffer.items
+      | asked.Write peer bytes answer ↦ WriteCall peer bytes.items answer
+      | asked.Close peer answer ↦ CloseCall peer answer
+    ]) calls.items) d.told };
+
+    fn now(&mut self) -> Result<u64, DoorFault> {
+        let answer = self.moment();
+        self.tell(Asked::Now(answer));
+        answer
+    }
+
+    fn accept(&mut self) -> Result<Option<u32>, DoorFault> {
+        let answer = self.next_peer();
+        self.tell(Asked::Accept(answer));
+        answer
+    }
+
+    fn read(&mut self, peer: u32, buf: &mut [u8]) -> Result<Got, DoorFault> {
+        let answer = self.read_from(peer, buf);
+        match Vec::from_slice(self.alloc, buf) {
+            Ok(buffer) => self.tell(Asked::Read {
+                peer,
+                answer,
+                buffer,
+            }),
+            Err(_) => self.told = None,
+        }
+        answer
+    }
+
+    fn write(&mut self, peer: u32, bytes: &[u8]) -> Result<usize, DoorFault> {
+        let answer = self.write_to(peer, bytes);
+        match Vec::from_slice(self.alloc, bytes) {
+            Ok(bytes) => self.tell(Asked::Write {
+                peer,
+                bytes,
+                answer,
+            }),
+            Err(_) => self.told = None,
+        }
+        answer
+    }
+
+    fn close(&mut self, peer: u32) -> Result<(), DoorFault> {
+        let answer = self.let_go(peer);
+        self.tell(Asked::Close { peer, answer });
+        answer
     }
 }

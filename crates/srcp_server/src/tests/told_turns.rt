@@ -1,49 +1,74 @@
-//! What a door in memory was asked and answered, turn by turn, and the events that its answers make.
+//! What a door in memory was asked and answered, and the events that its answers make.
 
+use crate::{DoorFault, Got};
 use srcp_core::{Event, Piece};
 use std::alloc::{AllocError, Global};
 use std::vec::Vec;
 
 /// How many times a peer is written to in a turn.
-const MOST_WRITES: u32 = 300;
+const MOST_WRITES: usize = 300;
 
-/// What a call about a peer was answered.
+/// A call of the door, with its answer.
 #[derive(Drop)]
-pub(super) enum Answer {
-    /// A read gave these bytes.
-    Piece(Vec<u8>),
-    /// A read gave the end, or failed.
-    Ended,
-    /// A write took so many bytes, and all that it was handed or less.
-    Took { count: usize, all: bool },
-    /// A write failed.
-    Unwritten,
-    /// The peer was let go, or that failed.
-    Closed,
+pub(super) enum Asked {
+    Now(Result<u64, DoorFault>),
+    Accept(Result<Option<u32>, DoorFault>),
+    /// The buffer as it is afterwards.
+    Read {
+        peer: u32,
+        answer: Result<Got, DoorFault>,
+        buffer: Vec<u8>,
+    },
+    /// The bytes that were handed over.
+    Write {
+        peer: u32,
+        bytes: Vec<u8>,
+        answer: Result<usize, DoorFault>,
+    },
+    Close {
+        peer: u32,
+        answer: Result<(), DoorFault>,
+    },
 }
 
-/// A call about a peer.
-#[derive(Drop)]
-struct PeerCall {
-    peer: u32,
-    answer: Answer,
-}
+impl Asked {
+    /// Whether the call is about that peer.
+    fn is_about(&self, who: u32) -> bool {
+        match self {
+            Asked::Now(_) | Asked::Accept(_) => false,
+            Asked::Read { peer, .. } | Asked::Write { peer, .. } | Asked::Close { peer, .. } => {
+                *peer == who
+            }
+        }
+    }
 
-/// The calls of a turn.
-#[derive(Drop)]
-struct Turn {
-    /// The moment, unless that call failed.
-    moment: Option<u64>,
-    /// The peer that wants in, if one does.
-    newcomer: Option<u32>,
-    calls: Vec<PeerCall>,
-}
+    /// Whether the peer is lost, or took less than it was handed.
+    fn stops_writing(&self) -> bool {
+        match self {
+            Asked::Read { answer, .. } => matches!(answer, Ok(Got::Ended) | Err(_)),
+            Asked::Write { bytes, answer, .. } => *answer != Ok(bytes.len()),
+            _ => false,
+        }
+    }
 
-impl Turn {
-    /// A newcomer is turned away where nothing is asked of it before it is let go.
-    fn turns_away(&self, newcomer: u32) -> bool {
-        let first = self.calls.iter().find(|call| call.peer == newcomer);
-        first.is_some_and(|call| matches!(call.answer, Answer::Closed))
+    /// What the call about the peer of a connection makes happen by itself.
+    fn event(&self, alloc: Global, conn: usize) -> Result<Option<Event>, AllocError> {
+        Ok(match self {
+            Asked::Read {
+                answer: Ok(Got::Bytes(count)),
+                buffer,
+                ..
+            } => {
+                let bytes = buffer.get(..*count).unwrap_or(&[]);
+                let piece = Piece::new(Vec::from_slice(alloc, bytes)?);
+                Some(Event::Bytes { conn, piece })
+            }
+            Asked::Write { answer, .. } => Some(Event::Room {
+                conn,
+                bytes: answer.unwrap_or(0),
+            }),
+            _ => None,
+        })
     }
 }
 
@@ -54,128 +79,84 @@ struct Seat {
     conn: usize,
 }
 
-/// The calls of all turns so far.
-#[derive(Drop)]
-pub(super) struct ToldTurns {
-    alloc: Global,
-    turns: Vec<Turn>,
+/// The events that the answers to these calls make.
+pub(super) fn events_of(alloc: Global, calls: &[Asked]) -> Result<Vec<Event>, AllocError> {
+    let mut events = Vec::new(alloc);
+    let mut places = Vec::new(alloc);
+    let mut opened = 0usize;
+    for turn in calls.chunk_by(|_, next| !matches!(next, Asked::Now(_))) {
+        if let Some(Asked::Now(Ok(moment))) = turn.first() {
+            events.push(Event::At(*moment))?;
+        }
+        if let Some(Asked::Accept(Ok(Some(peer)))) = turn.get(1) {
+            events.push(Event::Open)?;
+            if !turns_away(turn, *peer) {
+                opened = opened.saturating_add(1);
+                take_place(&mut places, *peer, opened)?;
+            }
+        }
+        push_visits(alloc, turn, &mut places, &mut events)?;
+    }
+    Ok(events)
 }
 
-impl ToldTurns {
-    pub(super) fn new(alloc: Global) -> ToldTurns {
-        ToldTurns {
-            alloc,
-            turns: Vec::new(alloc),
-        }
-    }
-
-    /// A turn begins with this moment, or with none where the call failed.
-    pub(super) fn begin(&mut self, moment: Option<u64>) {
-        let _ = self.turns.push(Turn {
-            moment,
-            newcomer: None,
-            calls: Vec::new(self.alloc),
-        });
-    }
-
-    /// A peer wants in.
-    pub(super) fn arrive(&mut self, peer: u32) {
-        if let Some(turn) = self.turns.last_mut() {
-            turn.newcomer = Some(peer);
-        }
-    }
-
-    /// A call about a peer was answered.
-    pub(super) fn note(&mut self, peer: u32, answer: Answer) {
-        if let Some(turn) = self.turns.last_mut() {
-            let _ = turn.calls.push(PeerCall { peer, answer });
-        }
-    }
-
-    /// A read gave these bytes.
-    pub(super) fn note_piece(&mut self, peer: u32, bytes: &[u8]) {
-        if let Ok(piece) = Vec::from_slice(self.alloc, bytes) {
-            self.note(peer, Answer::Piece(piece));
-        }
-    }
-
-    /// The events that the answers make.
-    pub(super) fn events(&self) -> Result<Vec<Event>, AllocError> {
-        let mut events = Vec::new(self.alloc);
-        let mut places = Vec::new(self.alloc);
-        let mut opened = 0usize;
-        for turn in &self.turns {
-            if let Some(moment) = turn.moment {
-                events.push(Event::At(moment))?;
-            }
-            if let Some(peer) = turn.newcomer {
-                events.push(Event::Open)?;
-                if !turn.turns_away(peer) {
-                    opened = opened.saturating_add(1);
-                    take_place(&mut places, Seat { peer, conn: opened })?;
-                }
-            }
-            for place in &mut places {
-                self.push_visit(turn, place, &mut events)?;
-            }
-        }
-        Ok(events)
-    }
-
-    /// Appends the events of the visit of a peer that has a place, which is free where the peer is let go.
-    fn push_visit(
-        &self,
-        turn: &Turn,
-        place: &mut Option<Seat>,
-        events: &mut Vec<Event>,
-    ) -> Result<(), AllocError> {
-        let Some(Seat { peer, conn }) = *place else {
-            return Ok(());
-        };
-        let mut goes_on = true;
-        let mut writes = 0u32;
-        for call in turn.calls.iter().filter(|call| call.peer == peer) {
-            if let Some(event) = self.event_of(conn, &call.answer)? {
-                events.push(event)?;
-            }
-            match call.answer {
-                Answer::Piece(_) => {}
-                Answer::Took { all: true, .. } => writes = writes.saturating_add(1),
-                Answer::Took { .. } | Answer::Unwritten | Answer::Ended => goes_on = false,
-                Answer::Closed => *place = None,
-            }
-        }
-        if goes_on && writes < MOST_WRITES {
-            events.push(Event::Room { conn, bytes: 0 })?;
-        }
-        if place.is_none() {
-            events.push(Event::Shut { conn })?;
-        }
-        Ok(())
-    }
-
-    /// What an answer about the peer of a connection makes happen by itself.
-    fn event_of(&self, conn: usize, answer: &Answer) -> Result<Option<Event>, AllocError> {
-        Ok(match answer {
-            Answer::Piece(bytes) => {
-                let piece = Piece::new(Vec::from_slice(self.alloc, bytes)?);
-                Some(Event::Bytes { conn, piece })
-            }
-            Answer::Took { count, .. } => Some(Event::Room {
-                conn,
-                bytes: *count,
-            }),
-            Answer::Unwritten => Some(Event::Room { conn, bytes: 0 }),
-            Answer::Ended | Answer::Closed => None,
-        })
-    }
+/// A newcomer is turned away where nothing is asked of it before it is let go.
+fn turns_away(turn: &[Asked], newcomer: u32) -> bool {
+    let first = turn.iter().find(|call| call.is_about(newcomer));
+    first.is_some_and(|call| matches!(call, Asked::Close { .. }))
 }
 
 /// Gives the first free place to a peer.
-fn take_place(places: &mut Vec<Option<Seat>>, seat: Seat) -> Result<(), AllocError> {
+fn take_place(places: &mut Vec<Option<Seat>>, peer: u32, conn: usize) -> Result<(), AllocError> {
+    let seat = Seat { peer, conn };
     match places.iter_mut().find(|place| place.is_none()) {
         Some(place) => *place = Some(seat),
         None => places.push(Some(seat))?,
+    }
+    Ok(())
+}
+
+/// Appends the events of the visits of a turn.
+fn push_visits(
+    alloc: Global,
+    turn: &[Asked],
+    places: &mut [Option<Seat>],
+    events: &mut Vec<Event>,
+) -> Result<(), AllocError> {
+    for place in places {
+        push_visit(alloc, turn, place, events)?;
+    }
+    Ok(())
+}
+
+/// Appends the events of the visit of a peer that has a place, which is free where the peer is let go.
+fn push_visit(
+    alloc: Global,
+    turn: &[Asked],
+    place: &mut Option<Seat>,
+    events: &mut Vec<Event>,
+) -> Result<(), AllocError> {
+    let Some(Seat { peer, conn }) = *place else {
+        return Ok(());
+    };
+    let mut goes_on = true;
+    let mut writes = 0usize;
+    for call in turn.iter().filter(|call| call.is_about(peer)) {
+        if let Some(event) = call.event(alloc, conn)? {
+            events.push(event)?;
+        }
+        match call {
+            Asked::Write { .. } => writes = writes.saturating_add(1),
+            Asked::Close { .. } => *place = None,
+            _ => {}
+        }
+        goes_on = goes_on && !call.stops_writing();
+    }
+    if goes_on && writes < MOST_WRITES {
+        events.push(Event::Room { conn, bytes: 0 })?;
+    }
+    if place.is_none() {
+        events.push(Event::Shut { conn })?;
     }
     Ok(())
 }
