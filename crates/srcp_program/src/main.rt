@@ -8,7 +8,6 @@ use srcp_server::{
     SocketDoor, Tool, ToolFault, check, mirror, read_config, read_layout, read_words, replay, serve,
 };
 use std::alloc::Global;
-use std::io;
 use std::io::{Read, Write};
 use std::net::Net;
 use std::process::ExitCode;
@@ -16,7 +15,7 @@ use std::rt::{Env, Files};
 use std::string::String;
 use std::time::Clock;
 use std::vec::Vec;
-use std::{env, fs};
+use std::{env, fs, io};
 
 /// Does what the words ask for. A fault is told on the standard error and by the status.
 fn main(rt: HostRuntime) -> ExitCode {
@@ -50,7 +49,9 @@ fn print_no_words<R: Eprint>(rt: &R, fault: &io::Error) -> ExitCode {
     if fault.kind() == io::ErrorKind::OutOfMemory {
         return tell(rt, ToolFault::Memory);
     }
-    let _ = eprintln!(rt; "error: invalid UTF-8 was detected in one or more arguments\n\nFor more information, try '--help'.");
+    let _ = eprintln!(rt;
+        "error: invalid UTF-8 was detected in one or more arguments\n\nFor more information, try '--help'."
+    );
     ExitCode::from(2)
 }
 
