@@ -144,14 +144,15 @@ fn reads_each_front_of_a_script(rt: HostRuntime) {
 
 #[test]
 fn mirrors_each_front_of_a_listing(rt: HostRuntime) -> Result<(), Fail> {
-    let mut whole = 0;
-    for front in 0..ROWS.len() + 1 {
-        if ROWS[..front].ends_with(b"\n") {
+    let mut whole = b"".as_slice();
+    for count in 0..ROWS.len() + 1 {
+        let front = &ROWS[..count];
+        if front.ends_with(b"\n") {
             whole = front;
         }
         let mut output = Vec::new(rt.alloc());
-        mirror(rt.alloc(), &mut ending(&ROWS[..front]), &mut output)?;
-        assert_eq!(rt; output.as_slice(), &ROWS[..whole]);
+        mirror(rt.alloc(), &mut ending(front), &mut output)?;
+        assert_eq!(rt; output.as_slice(), whole);
     }
     Ok(())
 }
