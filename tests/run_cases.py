@@ -3,9 +3,10 @@
 serving. FLAT is the program that replays over the plain keeper of rows: each case that replays a script over a
 configuration is run by it too, and has to print the same and end with the same status.
 
-A case is a folder: `args` (one word a line), `stdin`, `config.toml` where it needs one, `status`, and what is
-expected: `stdout` and `stderr` to the byte, or in `expect.json` what single connections are sent, the word that each
-ends with, and the refused events. The last line counts the cases; the status is 0 only where all of them pass.
+A case is a folder: `args` (one word a line), `stdin`, or in `stdin.from` the path of a file to read in its place,
+`config.toml` where it needs one, `status`, and what is expected: `stdout` and `stderr` to the byte, or in `expect.json`
+what single connections are sent, the word that each ends with, and the refused events. The last line counts the cases;
+the status is 0 only where all of them pass.
 """
 import json
 import os
@@ -64,8 +65,10 @@ def run_case(folder, program):
         path = folder / name
         return path.read_bytes() if path.exists() else None
 
-    done = subprocess.run([program, *content("args").decode().splitlines()], input=content("stdin"),
-                          capture_output=True, cwd=folder, timeout=SECONDS)
+    elsewhere = content("stdin.from")
+    stdin = content(elsewhere.decode().strip() if elsewhere else "stdin")
+    done = subprocess.run([program, *content("args").decode().splitlines()], input=stdin, capture_output=True, cwd=folder,
+                          timeout=SECONDS)
     if done.returncode != int(content("status")):
         return f"status {done.returncode}, want {content('status').decode().strip()}; stderr {done.stderr[:200]!r}"
     for name, got in (("stdout", done.stdout), ("stderr", done.stderr)):
