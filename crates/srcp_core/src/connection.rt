@@ -236,6 +236,7 @@ impl Connection {
         requires { AllByRecursion IsWellFormedShown (shown_rows (R.state rows.now)) }
         ensures place { self.new ≡ filled (shown_rows (R.state rows.now)) self.old }
         ensures item { result ≡ item_from (shown_rows (R.state rows.now)) self.old.unsent self.old.feed }
+        ensures most { self.old.unsent ≡ [] → length self.new.unsent ≤ 126 }
     {
         if self.start < self.reply.len() {
             return None;

@@ -18,13 +18,14 @@ impl<'a, R: Rows> Core<'a, R> {
     ghost use Rattle.srcp_core.specs.Lending.{EndsAs};
 
     /// Lends the bytes that are to be sent of a connection, from its own buffer and with no copy. Where an
-    /// information session's buffer is empty, its next line is put in first. `NoSuch` where there is no such
-    /// connection, and then nothing changes.
+    /// information session's buffer is empty, its next line is put in first, which has at most 126 bytes. `NoSuch`
+    /// where there is no such connection, and then nothing changes.
     pub fn outgoing(&mut self, conn: usize) -> Result<&[u8], CoreFault>
         ensures* ends { sem 𝓛 (EndsAs R.row R.Rows self.entry (let_out conn self.old)) }
         ensures absent { IsErr result ↔ (at self.old conn ≡ None) }
         ensures fault { IfErr result (λ fault. fault ≡ CoreFault.NoSuch) }
         ensures bytes { IfOk result (λ bytes. bytes.now ≡ unsent_at conn (let_out conn self.old)) }
+        ensures one_line { unsent_at conn self.old ≡ [] → IfOk result (λ bytes. length bytes.now ≤ 126) }
         ensures course { OfConnection conn self.old (λ buses events n. MatchResult result (λ bytes. bytes.now ≡ lent buses (course buses (events ++ Room n 0 ∷ [])) n) (λ _. ⊥)) }
         ensures empty { OfConnection conn self.old (λ buses events n. IfOk result (λ bytes. is_nil bytes.now ≡ lends_none buses (course buses events) n)) }
         ensures denied { (let_out conn self.old).denied ≡ self.old.denied }
@@ -39,6 +40,7 @@ impl<'a, R: Rows> Core<'a, R> {
         ensures absent { IsErr result ↔ (at self.old conn ≡ None) }
         ensures fault { IfErr result (λ fault. fault ≡ CoreFault.NoSuch) }
         ensures bytes { IfOk result (λ bytes. bytes.now ≡ unsent_at conn (let_out conn self.old)) }
+        ensures one_line { unsent_at conn self.old ≡ [] → IfOk result (λ bytes. length bytes.now ≤ 126) }
     {
         self.fill(conn)?;
         self.unsent(conn)
@@ -50,6 +52,7 @@ impl<'a, R: Rows> Core<'a, R> {
         ensures fault { IfErr result (λ fault. fault ≡ CoreFault.NoSuch) }
         ensures core { self.new ≡ let_out conn self.old }
         ensures item { IfOk result (λ item. item ≡ item_at conn self.old) }
+        ensures most { unsent_at conn self.old ≡ [] → length (unsent_at conn self.new) ≤ 126 }
     {
         let Some(connection) = self.connections.get_mut(conn) else {
             return Err(CoreFault::NoSuch);

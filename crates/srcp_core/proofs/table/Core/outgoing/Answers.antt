@@ -12,6 +12,7 @@ returns g c = (
     absent = c.lend.ensures.absent;
     fault = c.lend.ensures.fault;
     bytes = c.lend.ensures.bytes;
+    one_line = c.lend.ensures.one_line;
     course = lent_agrees c.args.conn c.args.self.now (λ bytes. bytes.now) c.lend.result c.lend.ensures.absent c.lend.ensures.bytes;
     empty = none_agrees c.args.conn c.args.self.now (λ bytes. bytes.now) c.lend.result
         (lent_agrees c.args.conn c.args.self.now (λ bytes. bytes.now) c.lend.result c.lend.ensures.absent c.lend.ensures.bytes);
