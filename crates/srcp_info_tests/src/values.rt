@@ -1,6 +1,6 @@
 //! Texts, bits, keys and devices.
 
-use crate::{Bits, Change, Cursor, Device, Group, Key, Shown, Text, Value, compare, is_text};
+use srcp_info::{Bits, Change, Cursor, Device, Group, Key, Shown, Text, Value, compare, is_text};
 use std::cmp::Ordering;
 
 #[test]

@@ -1,6 +1,6 @@
 //! Lines that no change has.
 
-use crate::read_change;
+use srcp_info::read_change;
 
 #[test]
 fn another_spelling(rt: HostRuntime) {

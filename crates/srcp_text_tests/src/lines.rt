@@ -1,8 +1,8 @@
-ghost use Rattle.std.specs.Prelude.{◌≤◌};
-ghost use Rattle.arrayvec.specs.ArrayVec.{array_vec_len};
+//! Lines of bytes that come in pieces.
 
-use super::*;
-use std::test::Fail;
+ghost use Rattle.std.specs.Prelude.{◌≤◌};
+
+use srcp_text::{Fed, LineReader};
 
 // The lines of a piece, as a reader finds them that goes on with it: how many there were, how many
 // were too long, and whether the last line found is `last`.
@@ -79,75 +79,4 @@ fn knows_a_line_of_1001_bytes_as_too_long(rt: HostRuntime) {
         assert_eq!(rt; (found.0, found.1), want, "at {len}");
         assert_eq!(rt; lines_in(&mut reader, b"GO\n", b"GO"), (1, 0, true));
     }
-}
-
-#[test]
-fn cuts_words_at_spaces_and_tabs(rt: HostRuntime) {
-    let mut words = words(b" SET\t1 POWER  on \t");
-    for want in ["SET", "1", "POWER", "on"] {
-        assert!(rt; words.next().is_some_and(|word| word == want.as_bytes()));
-    }
-    assert!(rt; words.next().is_none());
-    assert!(rt; words.next().is_none());
-}
-
-#[test]
-fn reads_numbers(rt: HostRuntime) {
-    for (word, max, want) in [
-        ("0", 250, Some(0)),
-        ("001", 250, Some(1)),
-        ("250", 250, Some(250)),
-        ("251", 250, None),
-        ("4294967295", u32::MAX, Some(u32::MAX)),
-        ("4294967296", u32::MAX, None),
-        ("18446744073709551617", u32::MAX, None),
-        ("", 9, None),
-        ("-1", 9, None),
-        ("+1", 9, None),
-        ("1x", 9, None),
-    ] {
-        assert_eq!(rt; read_number(word.as_bytes(), max), want, "at {word}");
-    }
-    for (word, want) in [
-        ("0", Some(0)),
-        ("18446744073709551615", Some(u64::MAX)),
-        ("18446744073709551616", None),
-        ("00", None),
-        ("07", None),
-        ("7", Some(7)),
-    ] {
-        assert_eq!(rt; read_plain(word.as_bytes(), u64::MAX), want, "at {word}");
-    }
-}
-
-#[tactic(auto, using(crate::proofs::StampLaws::rooms))]
-fn stamped(moment: u64) -> LineBuf
-    ensures { array_vec_len result ≤ 21 }
-{
-    let mut line = LineBuf::new();
-    put_stamp(moment, &mut line);
-    line
-}
-
-#[test]
-#[tactic(auto, using(crate::proofs::StampLaws::rooms))]
-fn puts_stamps_numbers_and_bytes(rt: HostRuntime) -> Result<(), Fail> {
-    for (moment, want) in [
-        (0, "0.000"),
-        (1050, "1.050"),
-        (3605999, "3605.999"),
-        (u64::MAX, "18446744073709551.615"),
-    ] {
-        assert!(rt;
-            stamped(moment).as_slice() == want.as_bytes(),
-            "at {moment}"
-        );
-    }
-    let mut line = stamped(70007);
-    put_bytes(b" 101 INFO 0 SESSION ", &mut line);
-    assert!(rt; line.as_slice() == b"70.007 101 INFO 0 SESSION ".as_slice());
-    let mut id = LineBuf::new();
-    put_number(4294967295, &mut id);
-    assert!(rt; id.as_slice() == b"4294967295".as_slice());
-    Ok(())
 }

@@ -1,6 +1,6 @@
 //! Each value at its least and its greatest, written and read back.
 
-use crate::{
+use srcp_info::{
     Bits, Change, Device, Group, Key, Letter, Mode, Shown, Text, Value, read_change, write_change,
 };
 use srcp_text::LineBuf;

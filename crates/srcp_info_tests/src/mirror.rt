@@ -1,6 +1,6 @@
 //! The rows that lines leave.
 
-use crate::{Group, Key, Mirror, MirrorFault};
+use srcp_info::{Group, Key, Mirror, MirrorFault};
 use std::process::Abort;
 
 fn applies(rt: &impl Abort, mirror: &mut Mirror, lines: &[&str]) {

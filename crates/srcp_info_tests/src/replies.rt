@@ -1,6 +1,6 @@
 //! The lines of replies.
 
-use crate::{Code, Group, Key, Reply, Shown, Value, write_reply};
+use srcp_info::{Code, Group, Key, Reply, Shown, Value, write_reply};
 use srcp_text::LineBuf;
 
 #[test]

@@ -1,5 +1,0 @@
-mod lines;
-mod mirror;
-mod refused;
-mod replies;
-mod values;
