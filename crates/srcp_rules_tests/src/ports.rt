@@ -1,7 +1,7 @@
 //! How many ports an accessory has.
 
-use super::served::{Served, bus};
-use crate::Bus;
+use crate::served::{Served, bus};
+use srcp_rules::Bus;
 use std::test::Fail;
 
 fn bus_of_ports(number: u8, ga_ports: u8) -> Bus {

@@ -1,15 +1,15 @@
 //! A registry for tests, kept by both kinds of keepers, and what it says to its sessions.
 
-use super::told::{push_begun, push_due, push_end, push_line, push_reply, push_rows};
-use crate::{Bus, Flat, Layout, Nested, Rows};
+use crate::told::{push_begun, push_due, push_end, push_line, push_reply, push_rows};
 use srcp_info::{Code, Reply, Row};
+use srcp_rules::{Bus, Flat, Layout, Nested, Rows};
 use std::alloc::Global;
 use std::marker::Model;
 use std::process::Abort;
 use std::test::Fail;
 
 /// A bus with power, 10239 locomotives, 2044 accessories of two ports and 2 feedback ports.
-pub(super) fn bus(number: u8) -> Bus {
+pub(crate) fn bus(number: u8) -> Bus {
     Bus {
         number,
         power: true,
@@ -31,7 +31,7 @@ fn agreed(said: Vec<u8>, other: &[u8]) -> Result<Vec<u8>, Fail> {
 
 /// A registry of a layout, kept twice.
 #[derive(Drop)]
-pub(super) struct Served {
+pub(crate) struct Served {
     layout: Layout,
     flat: Flat,
     nested: Nested,
@@ -53,7 +53,7 @@ impl Model for Served {
 
 impl Served {
     /// The opening registry of these buses.
-    pub(super) fn open(alloc: Global, buses: &[Bus]) -> Result<Served, Fail> {
+    pub(crate) fn open(alloc: Global, buses: &[Bus]) -> Result<Served, Fail> {
         let mut layout = Layout::new(alloc);
         for bus in buses {
             layout.add(*bus)?;
@@ -68,7 +68,7 @@ impl Served {
     }
 
     /// Begins a command session at the moment 0.
-    pub(super) fn begin(&mut self, alloc: Global, session: u32) -> Result<(), Fail> {
+    pub(crate) fn begin(&mut self, alloc: Global, session: u32) -> Result<(), Fail> {
         self.begin_at(alloc, session, 0)
     }
 
@@ -112,7 +112,7 @@ impl Served {
     }
 
     /// Each line of a session at its moment, one after another, is answered and told so.
-    pub(super) fn says(
+    pub(crate) fn says(
         &mut self,
         rt: &impl Abort,
         alloc: Global,
@@ -126,7 +126,7 @@ impl Served {
     }
 
     /// Each line of the session at the moment 1000 is refused so, and nothing else is told.
-    pub(super) fn refuses(
+    pub(crate) fn refuses(
         &mut self,
         rt: &impl Abort,
         alloc: Global,
@@ -152,7 +152,7 @@ impl Served {
     }
 
     /// The moment brings these changes.
-    pub(super) fn brings(
+    pub(crate) fn brings(
         &mut self,
         rt: &impl Abort,
         alloc: Global,
@@ -165,7 +165,7 @@ impl Served {
     }
 
     /// The changes that the end of a session brings, each as its line.
-    pub(super) fn end(
+    pub(crate) fn end(
         &mut self,
         alloc: Global,
         session: u32,
@@ -180,7 +180,7 @@ impl Served {
 
     /// What the moment of a line brings and then the line itself, where `go` begins its session and
     /// `end` ends it.
-    pub(super) fn take(&mut self, alloc: Global, line: &(u32, u64, &str)) -> Result<(), Fail> {
+    pub(crate) fn take(&mut self, alloc: Global, line: &(u32, u64, &str)) -> Result<(), Fail> {
         let (session, moment, text) = *line;
         let _ = self.at(alloc, moment)?;
         if text == "go" {
@@ -195,7 +195,7 @@ impl Served {
     }
 
     /// Appends all rows of each keeper, walked from the start to the end.
-    pub(super) fn walk(&self, flat: &mut Vec<Row>, nested: &mut Vec<Row>) -> Result<(), Fail> {
+    pub(crate) fn walk(&self, flat: &mut Vec<Row>, nested: &mut Vec<Row>) -> Result<(), Fail> {
         push_rows(flat, &self.flat)?;
         push_rows(nested, &self.nested)
     }

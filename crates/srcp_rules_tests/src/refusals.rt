@@ -1,8 +1,8 @@
 //! The order of refusals in a line, each against one that could come first.
 
-use super::served::{Served, bus};
-use crate::Bus;
+use crate::served::{Served, bus};
 use srcp_info::Code;
+use srcp_rules::Bus;
 use std::test::Fail;
 
 /// A bus with accessories alone.

@@ -1,6 +1,6 @@
 //! Each pair of an operation and a group that is accepted.
 
-use super::served::{Served, bus};
+use crate::served::{Served, bus};
 use std::test::Fail;
 
 #[test]

@@ -1,6 +1,6 @@
 //! What moments bring, just before and at the moment, and what the end of a session brings.
 
-use super::served::{Served, bus};
+use crate::served::{Served, bus};
 use std::test::Fail;
 
 #[test]

@@ -1,6 +1,6 @@
 //! INIT of a device that is there, while its lock is held.
 
-use super::served::{Served, bus};
+use crate::served::{Served, bus};
 use std::test::Fail;
 
 #[test]

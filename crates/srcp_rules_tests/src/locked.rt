@@ -1,6 +1,6 @@
 //! The refusals that the registry gives, in their order, and what locks refuse.
 
-use super::served::{Served, bus};
+use crate::served::{Served, bus};
 use srcp_info::Code;
 use std::test::Fail;
 

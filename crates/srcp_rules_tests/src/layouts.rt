@@ -1,6 +1,8 @@
-use super::served::bus;
-use crate::{Bus, Flat, Layout, LayoutFault, Rows};
+//! Layouts, and the registry that begins with one.
+
+use crate::served::bus;
 use srcp_info::{Cursor, Device, Group};
+use srcp_rules::{Bus, Flat, Layout, LayoutFault, Rows};
 use std::test::Fail;
 
 #[test]
