@@ -1,17 +1,15 @@
 //! The refusals that the registry gives, in their order, and what locks refuse.
 
-use crate::served::{Served, bus};
+use crate::served::{bus, refuses, tells};
 use srcp_info::Code;
 use std::test::Fail;
 
 #[test]
 fn the_values_before_an_absent_device(rt: HostRuntime) -> Result<(), Fail> {
-    let mut served = Served::open(rt.alloc(), &[bus(1)])?;
-    served.begin(rt.alloc(), 1)?;
-    served.refuses(
+    refuses(
         &rt,
         rt.alloc(),
-        1,
+        &[bus(1)],
         &[
             ("SET 1 GL 4 3 0 0", Code::C412),
             ("SET 1 GL 4 1 29 0", Code::C416),
@@ -25,12 +23,12 @@ fn the_values_before_an_absent_device(rt: HostRuntime) -> Result<(), Fail> {
 
 #[test]
 fn an_absent_device_before_the_rest(rt: HostRuntime) -> Result<(), Fail> {
-    let mut served = Served::open(rt.alloc(), &[bus(1)])?;
-    served.begin(rt.alloc(), 1)?;
-    served.says(
+    tells(
         &rt,
         rt.alloc(),
+        &[bus(1)],
         &[
+            (1, 0, "go", "0.000 101 INFO 0 SESSION 1 COMMAND\n"),
             (
                 1,
                 0,
@@ -43,37 +41,45 @@ fn an_absent_device_before_the_rest(rt: HostRuntime) -> Result<(), Fail> {
                 "SET 1 LOCK GL 3 0",
                 "0.000 200 OK\n0.000 100 INFO 1 LOCK GL 3 0 1\n",
             ),
-        ],
-    )?;
-    served.refuses(
-        &rt,
-        rt.alloc(),
-        1,
-        &[
-            ("SET 1 GL 4 1 0 0 1 1", Code::C416),
-            ("CHECK 1 GL 4 1 0 0 1 1", Code::C416),
-            ("TERM 1 GL 4", Code::C416),
-            ("GET 1 GL 4", Code::C416),
-            ("GET 1 GA 5 0", Code::C416),
-            ("TERM 1 GA 5", Code::C416),
-            ("GET 1 LOCK GL 4", Code::C416),
-            ("CHECK 1 LOCK GA 5 0", Code::C416),
-            ("TERM 1 LOCK GL 4", Code::C416),
-            ("SET 1 GL 3 1 0 0 1 1", Code::C418),
-            ("CHECK 1 GL 3 1 0 0 1 1", Code::C418),
+            (1, 1000, "SET 1 GL 4 1 0 0 1 1", "1.000 416 ERROR no data\n"),
+            (
+                1,
+                1000,
+                "CHECK 1 GL 4 1 0 0 1 1",
+                "1.000 416 ERROR no data\n",
+            ),
+            (1, 1000, "TERM 1 GL 4", "1.000 416 ERROR no data\n"),
+            (1, 1000, "GET 1 GL 4", "1.000 416 ERROR no data\n"),
+            (1, 1000, "GET 1 GA 5 0", "1.000 416 ERROR no data\n"),
+            (1, 1000, "TERM 1 GA 5", "1.000 416 ERROR no data\n"),
+            (1, 1000, "GET 1 LOCK GL 4", "1.000 416 ERROR no data\n"),
+            (1, 1000, "CHECK 1 LOCK GA 5 0", "1.000 416 ERROR no data\n"),
+            (1, 1000, "TERM 1 LOCK GL 4", "1.000 416 ERROR no data\n"),
+            (
+                1,
+                1000,
+                "SET 1 GL 3 1 0 0 1 1",
+                "1.000 418 ERROR list too long\n",
+            ),
+            (
+                1,
+                1000,
+                "CHECK 1 GL 3 1 0 0 1 1",
+                "1.000 418 ERROR list too long\n",
+            ),
         ],
     )
 }
 
 #[test]
 fn the_number_of_functions_before_the_lock(rt: HostRuntime) -> Result<(), Fail> {
-    let mut served = Served::open(rt.alloc(), &[bus(1)])?;
-    served.begin(rt.alloc(), 1)?;
-    served.begin(rt.alloc(), 2)?;
-    served.says(
+    tells(
         &rt,
         rt.alloc(),
+        &[bus(1)],
         &[
+            (1, 0, "go", "0.000 101 INFO 0 SESSION 1 COMMAND\n"),
+            (2, 0, "go", "0.000 101 INFO 0 SESSION 2 COMMAND\n"),
             (
                 1,
                 0,
@@ -86,108 +92,132 @@ fn the_number_of_functions_before_the_lock(rt: HostRuntime) -> Result<(), Fail> 
                 "SET 1 LOCK GL 3 0",
                 "0.000 200 OK\n0.000 100 INFO 1 LOCK GL 3 0 1\n",
             ),
+            (2, 1000, "SET 1 GL 3 3 0 0", "1.000 412 ERROR wrong value\n"),
+            (
+                2,
+                1000,
+                "SET 1 GL 3 1 0 0 1 1",
+                "1.000 418 ERROR list too long\n",
+            ),
+            (
+                2,
+                1000,
+                "SET 1 GL 3 1 0 0 1",
+                "1.000 414 ERROR device locked\n",
+            ),
+            (
+                2,
+                1000,
+                "CHECK 1 GL 3 1 0 0 1 1",
+                "1.000 418 ERROR list too long\n",
+            ),
+            (
+                2,
+                1000,
+                "CHECK 1 GL 3 1 0 0 1",
+                "1.000 414 ERROR device locked\n",
+            ),
+            (2, 1000, "TERM 1 GL 3", "1.000 414 ERROR device locked\n"),
+            (
+                2,
+                1000,
+                "SET 1 LOCK GL 3 0",
+                "1.000 414 ERROR device locked\n",
+            ),
+            (
+                2,
+                1000,
+                "CHECK 1 LOCK GL 3 0",
+                "1.000 414 ERROR device locked\n",
+            ),
+            (
+                2,
+                1000,
+                "TERM 1 LOCK GL 3",
+                "1.000 414 ERROR device locked\n",
+            ),
+            (
+                2,
+                1000,
+                "GET 1 LOCK GL 3",
+                "0.000 100 INFO 1 LOCK GL 3 0 1\n",
+            ),
         ],
-    )?;
-    served.refuses(
-        &rt,
-        rt.alloc(),
-        2,
-        &[
-            ("SET 1 GL 3 3 0 0", Code::C412),
-            ("SET 1 GL 3 1 0 0 1 1", Code::C418),
-            ("SET 1 GL 3 1 0 0 1", Code::C414),
-            ("CHECK 1 GL 3 1 0 0 1 1", Code::C418),
-            ("CHECK 1 GL 3 1 0 0 1", Code::C414),
-            ("TERM 1 GL 3", Code::C414),
-            ("SET 1 LOCK GL 3 0", Code::C414),
-            ("CHECK 1 LOCK GL 3 0", Code::C414),
-            ("TERM 1 LOCK GL 3", Code::C414),
-        ],
-    )?;
-    served.says(
-        &rt,
-        rt.alloc(),
-        &[(
-            2,
-            1000,
-            "GET 1 LOCK GL 3",
-            "0.000 100 INFO 1 LOCK GL 3 0 1\n",
-        )],
     )
 }
 
 #[test]
 fn the_lock_of_an_accessory(rt: HostRuntime) -> Result<(), Fail> {
-    let mut served = Served::open(rt.alloc(), &[bus(1)])?;
-    served.begin(rt.alloc(), 1)?;
-    served.begin(rt.alloc(), 2)?;
-    served.says(
+    tells(
         &rt,
         rt.alloc(),
-        &[(
-            1,
-            0,
-            "INIT 1 GA 5 N",
-            "0.000 200 OK\n0.000 101 INFO 1 GA 5 N\n0.000 100 INFO 1 GA 5 0 0\n0.000 100 INFO 1 GA 5 1 0\n",
-        )],
-    )?;
-    served.refuses(&rt, rt.alloc(), 2, &[("TERM 1 LOCK GA 5", Code::C416)])?;
-    served.says(
-        &rt,
-        rt.alloc(),
-        &[(
-            1,
-            0,
-            "SET 1 LOCK GA 5 0",
-            "0.000 200 OK\n0.000 100 INFO 1 LOCK GA 5 0 1\n",
-        )],
-    )?;
-    served.refuses(
-        &rt,
-        rt.alloc(),
-        2,
+        &[bus(1)],
         &[
-            ("SET 1 GA 5 0 2 0", Code::C412),
-            ("SET 1 GA 5 0 1 0", Code::C414),
-            ("CHECK 1 GA 5 0 1 0", Code::C414),
-            ("TERM 1 GA 5", Code::C414),
-            ("SET 1 LOCK GA 5 0", Code::C414),
-            ("TERM 1 LOCK GA 5", Code::C414),
+            (1, 0, "go", "0.000 101 INFO 0 SESSION 1 COMMAND\n"),
+            (2, 0, "go", "0.000 101 INFO 0 SESSION 2 COMMAND\n"),
+            (
+                1,
+                0,
+                "INIT 1 GA 5 N",
+                "0.000 200 OK\n0.000 101 INFO 1 GA 5 N\n0.000 100 INFO 1 GA 5 0 0\n0.000 100 INFO 1 GA 5 1 0\n",
+            ),
+            (2, 1000, "TERM 1 LOCK GA 5", "1.000 416 ERROR no data\n"),
+            (
+                1,
+                0,
+                "SET 1 LOCK GA 5 0",
+                "0.000 200 OK\n0.000 100 INFO 1 LOCK GA 5 0 1\n",
+            ),
+            (2, 1000, "SET 1 GA 5 0 2 0", "1.000 412 ERROR wrong value\n"),
+            (
+                2,
+                1000,
+                "SET 1 GA 5 0 1 0",
+                "1.000 414 ERROR device locked\n",
+            ),
+            (
+                2,
+                1000,
+                "CHECK 1 GA 5 0 1 0",
+                "1.000 414 ERROR device locked\n",
+            ),
+            (2, 1000, "TERM 1 GA 5", "1.000 414 ERROR device locked\n"),
+            (
+                2,
+                1000,
+                "SET 1 LOCK GA 5 0",
+                "1.000 414 ERROR device locked\n",
+            ),
+            (
+                2,
+                1000,
+                "TERM 1 LOCK GA 5",
+                "1.000 414 ERROR device locked\n",
+            ),
+            (
+                1,
+                0,
+                "SET 1 GA 5 0 1 0",
+                "0.000 200 OK\n0.000 100 INFO 1 GA 5 0 1\n",
+            ),
         ],
-    )?;
-    served.says(
-        &rt,
-        rt.alloc(),
-        &[(
-            1,
-            0,
-            "SET 1 GA 5 0 1 0",
-            "0.000 200 OK\n0.000 100 INFO 1 GA 5 0 1\n",
-        )],
     )
 }
 
 #[test]
 fn sessions_end_themselves_alone(rt: HostRuntime) -> Result<(), Fail> {
-    let mut served = Served::open(rt.alloc(), &[bus(1)])?;
-    served.begin(rt.alloc(), 1)?;
-    served.begin(rt.alloc(), 2)?;
-    served.refuses(
+    tells(
         &rt,
         rt.alloc(),
-        1,
+        &[bus(1)],
         &[
-            ("TERM 0 SESSION 7", Code::C415),
-            ("TERM 0 SESSION 2", Code::C415),
-            ("TERM 0 SESSION 0", Code::C415),
-            ("GET 0 SESSION 7", Code::C416),
-            ("GET 0 SESSION 0", Code::C416),
-        ],
-    )?;
-    served.says(
-        &rt,
-        rt.alloc(),
-        &[
+            (1, 0, "go", "0.000 101 INFO 0 SESSION 1 COMMAND\n"),
+            (2, 0, "go", "0.000 101 INFO 0 SESSION 2 COMMAND\n"),
+            (1, 1000, "TERM 0 SESSION 7", "1.000 415 ERROR forbidden\n"),
+            (1, 1000, "TERM 0 SESSION 2", "1.000 415 ERROR forbidden\n"),
+            (1, 1000, "TERM 0 SESSION 0", "1.000 415 ERROR forbidden\n"),
+            (1, 1000, "GET 0 SESSION 7", "1.000 416 ERROR no data\n"),
+            (1, 1000, "GET 0 SESSION 0", "1.000 416 ERROR no data\n"),
             (
                 1,
                 1000,
