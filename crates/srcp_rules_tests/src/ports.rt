@@ -1,7 +1,7 @@
 //! How many ports an accessory has.
 
-use super::served::{Served, bus};
-use crate::Bus;
+use crate::served::{bus, tells};
+use srcp_rules::Bus;
 use std::test::Fail;
 
 fn bus_of_ports(number: u8, ga_ports: u8) -> Bus {
@@ -13,15 +13,12 @@ fn bus_of_ports(number: u8, ga_ports: u8) -> Bus {
 
 #[test]
 fn an_accessory_has_the_ports_of_its_bus(rt: HostRuntime) -> Result<(), Fail> {
-    let mut served = Served::open(
-        rt.alloc(),
-        &[bus_of_ports(1, 2), bus_of_ports(2, 4), bus_of_ports(3, 8)],
-    )?;
-    served.begin(rt.alloc(), 1)?;
-    served.says(
+    tells(
         &rt,
         rt.alloc(),
+        &[bus_of_ports(1, 2), bus_of_ports(2, 4), bus_of_ports(3, 8)],
         &[
+            (1, 0, "go", "0.000 101 INFO 0 SESSION 1 COMMAND\n"),
             (
                 1,
                 0,

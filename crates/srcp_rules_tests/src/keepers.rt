@@ -1,7 +1,7 @@
 //! One keeper of rows against the other.
 
-use super::served::Served;
-use crate::Bus;
+use crate::served::Served;
+use srcp_rules::Bus;
 use std::alloc::Global;
 use std::process::Abort;
 use std::test::Fail;

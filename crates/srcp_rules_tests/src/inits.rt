@@ -1,17 +1,17 @@
 //! INIT of a device that is there, while its lock is held.
 
-use super::served::{Served, bus};
+use crate::served::{bus, tells};
 use std::test::Fail;
 
 #[test]
 fn a_locomotive_is_made_again(rt: HostRuntime) -> Result<(), Fail> {
-    let mut served = Served::open(rt.alloc(), &[bus(1)])?;
-    served.begin(rt.alloc(), 1)?;
-    served.begin(rt.alloc(), 2)?;
-    served.says(
+    tells(
         &rt,
         rt.alloc(),
+        &[bus(1)],
         &[
+            (1, 0, "go", "0.000 101 INFO 0 SESSION 1 COMMAND\n"),
+            (2, 0, "go", "0.000 101 INFO 0 SESSION 2 COMMAND\n"),
             (
                 1,
                 1000,
@@ -56,13 +56,13 @@ fn a_locomotive_is_made_again(rt: HostRuntime) -> Result<(), Fail> {
 
 #[test]
 fn an_accessory_is_made_again(rt: HostRuntime) -> Result<(), Fail> {
-    let mut served = Served::open(rt.alloc(), &[bus(1)])?;
-    served.begin(rt.alloc(), 1)?;
-    served.begin(rt.alloc(), 2)?;
-    served.says(
+    tells(
         &rt,
         rt.alloc(),
+        &[bus(1)],
         &[
+            (1, 0, "go", "0.000 101 INFO 0 SESSION 1 COMMAND\n"),
+            (2, 0, "go", "0.000 101 INFO 0 SESSION 2 COMMAND\n"),
             (
                 1,
                 1000,

@@ -4,7 +4,7 @@ use Rattle.srcp_rules.specs.Layout.{IsLayout}
 use Rattle.srcp_rules.specs.Rows.{Kept}
 use Rattle.srcp_rules.specs.State.{State, IsWhole, opening}
 use Rattle.srcp_rules.proofs.OpeningLaws.{opening_whole}
-use Rattle.srcp_rules.proofs.tests.served.Served.open.Goals as goal
+use Rattle.srcp_rules_tests.proofs.served.Served.open.Goals as goal
 
 opened : (layout : List Bus) (kept : Kept) → IsLayout layout → kept.buses ≡ layout → kept.state ≡ opening layout 0 → IsWhole kept.buses kept.state
 opened layout kept laid_out buses state = subst (λ (state : State). IsWhole kept.buses state) (sym state) (subst (λ (buses : List Bus). IsWhole buses (opening layout 0)) (sym buses) (opening_whole layout laid_out 0 (omega arith)))

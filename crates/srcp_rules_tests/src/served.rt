@@ -1,15 +1,15 @@
 //! A registry for tests, kept by both kinds of keepers, and what it says to its sessions.
 
-use super::told::{push_begun, push_due, push_end, push_line, push_reply, push_rows};
-use crate::{Bus, Flat, Layout, Nested, Rows};
+use crate::told::{push_begun, push_due, push_end, push_line, push_reply, push_rows};
 use srcp_info::{Code, Reply, Row};
+use srcp_rules::{Bus, Flat, Layout, Nested, Rows};
 use std::alloc::Global;
 use std::marker::Model;
 use std::process::Abort;
 use std::test::Fail;
 
 /// A bus with power, 10239 locomotives, 2044 accessories of two ports and 2 feedback ports.
-pub(super) fn bus(number: u8) -> Bus {
+pub(crate) fn bus(number: u8) -> Bus {
     Bus {
         number,
         power: true,
@@ -31,7 +31,7 @@ fn agreed(said: Vec<u8>, other: &[u8]) -> Result<Vec<u8>, Fail> {
 
 /// A registry of a layout, kept twice.
 #[derive(Drop)]
-pub(super) struct Served {
+pub(crate) struct Served {
     layout: Layout,
     flat: Flat,
     nested: Nested,
@@ -53,7 +53,7 @@ impl Model for Served {
 
 impl Served {
     /// The opening registry of these buses.
-    pub(super) fn open(alloc: Global, buses: &[Bus]) -> Result<Served, Fail> {
+    pub(crate) fn open(alloc: Global, buses: &[Bus]) -> Result<Served, Fail> {
         let mut layout = Layout::new(alloc);
         for bus in buses {
             layout.add(*bus)?;
@@ -67,18 +67,13 @@ impl Served {
         })
     }
 
-    /// Begins a command session at the moment 0.
-    pub(super) fn begin(&mut self, alloc: Global, session: u32) -> Result<(), Fail> {
-        self.begin_at(alloc, session, 0)
-    }
-
-    fn begin_at(&mut self, alloc: Global, session: u32, moment: u64) -> Result<(), Fail> {
+    /// The change that the beginning of a command session brings, as its line.
+    fn begin(&mut self, alloc: Global, session: u32, moment: u64) -> Result<Vec<u8>, Fail> {
         let mut said = Vec::new(alloc);
         push_begun(&mut said, &mut self.flat, session, moment)?;
         let mut other = Vec::new(alloc);
         push_begun(&mut other, &mut self.nested, session, moment)?;
-        let _ = agreed(said, &other)?;
-        Ok(())
+        agreed(said, &other)
     }
 
     /// The reply to a session's line and the changes that it makes, each as its line, and a last
@@ -111,37 +106,6 @@ impl Served {
         agreed(said, &other)
     }
 
-    /// Each line of a session at its moment, one after another, is answered and told so.
-    pub(super) fn says(
-        &mut self,
-        rt: &impl Abort,
-        alloc: Global,
-        table: &[(u32, u64, &str, &str)],
-    ) -> Result<(), Fail> {
-        for (session, moment, line, want) in table {
-            let said = self.say(alloc, *session, *moment, line.as_bytes())?;
-            assert_eq!(rt; said.as_slice(), want.as_bytes(), "at {line}");
-        }
-        Ok(())
-    }
-
-    /// Each line of the session at the moment 1000 is refused so, and nothing else is told.
-    pub(super) fn refuses(
-        &mut self,
-        rt: &impl Abort,
-        alloc: Global,
-        session: u32,
-        table: &[(&str, Code)],
-    ) -> Result<(), Fail> {
-        for (line, code) in table {
-            let said = self.say(alloc, session, 1000, line.as_bytes())?;
-            let mut want = Vec::new(alloc);
-            push_reply(&mut want, 1000, &Reply::Refused(*code))?;
-            assert_eq!(rt; said.as_slice(), want.as_slice(), "at {line}");
-        }
-        Ok(())
-    }
-
     /// The changes that the moment brings, each as its line.
     fn at(&mut self, alloc: Global, moment: u64) -> Result<Vec<u8>, Fail> {
         let mut said = Vec::new(alloc);
@@ -151,26 +115,8 @@ impl Served {
         agreed(said, &other)
     }
 
-    /// The moment brings these changes.
-    pub(super) fn brings(
-        &mut self,
-        rt: &impl Abort,
-        alloc: Global,
-        moment: u64,
-        want: &str,
-    ) -> Result<(), Fail> {
-        let said = self.at(alloc, moment)?;
-        assert_eq!(rt; said.as_slice(), want.as_bytes(), "at {moment}");
-        Ok(())
-    }
-
     /// The changes that the end of a session brings, each as its line.
-    pub(super) fn end(
-        &mut self,
-        alloc: Global,
-        session: u32,
-        moment: u64,
-    ) -> Result<Vec<u8>, Fail> {
+    fn end(&mut self, alloc: Global, session: u32, moment: u64) -> Result<Vec<u8>, Fail> {
         let mut said = Vec::new(alloc);
         push_end(&mut said, &mut self.flat, session, moment)?;
         let mut other = Vec::new(alloc);
@@ -178,25 +124,69 @@ impl Served {
         agreed(said, &other)
     }
 
-    /// What the moment of a line brings and then the line itself, where `go` begins its session and
-    /// `end` ends it.
-    pub(super) fn take(&mut self, alloc: Global, line: &(u32, u64, &str)) -> Result<(), Fail> {
+    /// What a line tells at its moment, where `go` begins its session, `end` ends it, and `now` is
+    /// the moment alone.
+    fn tell(
+        &mut self,
+        alloc: Global,
+        session: u32,
+        moment: u64,
+        line: &str,
+    ) -> Result<Vec<u8>, Fail> {
+        match line {
+            "go" => self.begin(alloc, session, moment),
+            "end" => self.end(alloc, session, moment),
+            "now" => self.at(alloc, moment),
+            _ => self.say(alloc, session, moment, line.as_bytes()),
+        }
+    }
+
+    /// What the moment of a line brings and then the line itself.
+    pub(crate) fn take(&mut self, alloc: Global, line: &(u32, u64, &str)) -> Result<(), Fail> {
         let (session, moment, text) = *line;
         let _ = self.at(alloc, moment)?;
-        if text == "go" {
-            return self.begin_at(alloc, session, moment);
-        }
-        let _ = if text == "end" {
-            self.end(alloc, session, moment)?
-        } else {
-            self.say(alloc, session, moment, text.as_bytes())?
-        };
+        let _ = self.tell(alloc, session, moment, text)?;
         Ok(())
     }
 
     /// Appends all rows of each keeper, walked from the start to the end.
-    pub(super) fn walk(&self, flat: &mut Vec<Row>, nested: &mut Vec<Row>) -> Result<(), Fail> {
+    pub(crate) fn walk(&self, flat: &mut Vec<Row>, nested: &mut Vec<Row>) -> Result<(), Fail> {
         push_rows(flat, &self.flat)?;
         push_rows(nested, &self.nested)
     }
+}
+
+/// Over these buses each line of a session at its moment, one after another, tells this: a reply and
+/// the changes, each as its line, and a last line where the session is to end. A line `go` begins its
+/// session, `end` ends it, and `now` is the moment alone.
+pub(crate) fn tells(
+    rt: &impl Abort,
+    alloc: Global,
+    buses: &[Bus],
+    table: &[(u32, u64, &str, &str)],
+) -> Result<(), Fail> {
+    let mut served = Served::open(alloc, buses)?;
+    for (session, moment, line, want) in table {
+        let told = served.tell(alloc, *session, *moment, line)?;
+        assert_eq!(rt; told.as_slice(), want.as_bytes(), "at {line}");
+    }
+    Ok(())
+}
+
+/// Over these buses each line of a session at the moment 1000 is refused so, and nothing else is told.
+pub(crate) fn refuses(
+    rt: &impl Abort,
+    alloc: Global,
+    buses: &[Bus],
+    table: &[(&str, Code)],
+) -> Result<(), Fail> {
+    let mut served = Served::open(alloc, buses)?;
+    let _ = served.begin(alloc, 1, 0)?;
+    for (line, code) in table {
+        let said = served.say(alloc, 1, 1000, line.as_bytes())?;
+        let mut want = Vec::new(alloc);
+        push_reply(&mut want, 1000, &Reply::Refused(*code))?;
+        assert_eq!(rt; said.as_slice(), want.as_slice(), "at {line}");
+    }
+    Ok(())
 }

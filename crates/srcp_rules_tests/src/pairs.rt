@@ -1,16 +1,16 @@
 //! Each pair of an operation and a group that is accepted.
 
-use super::served::{Served, bus};
+use crate::served::{bus, tells};
 use std::test::Fail;
 
 #[test]
 fn sessions_power_and_feedback(rt: HostRuntime) -> Result<(), Fail> {
-    let mut served = Served::open(rt.alloc(), &[bus(1)])?;
-    served.begin(rt.alloc(), 1)?;
-    served.says(
+    tells(
         &rt,
         rt.alloc(),
+        &[bus(1)],
         &[
+            (1, 0, "go", "0.000 101 INFO 0 SESSION 1 COMMAND\n"),
             (
                 1,
                 1000,
@@ -54,12 +54,12 @@ fn sessions_power_and_feedback(rt: HostRuntime) -> Result<(), Fail> {
 
 #[test]
 fn locomotives(rt: HostRuntime) -> Result<(), Fail> {
-    let mut served = Served::open(rt.alloc(), &[bus(1)])?;
-    served.begin(rt.alloc(), 1)?;
-    served.says(
+    tells(
         &rt,
         rt.alloc(),
+        &[bus(1)],
         &[
+            (1, 0, "go", "0.000 101 INFO 0 SESSION 1 COMMAND\n"),
             (
                 1,
                 1000,
@@ -110,12 +110,12 @@ fn locomotives(rt: HostRuntime) -> Result<(), Fail> {
 
 #[test]
 fn accessories(rt: HostRuntime) -> Result<(), Fail> {
-    let mut served = Served::open(rt.alloc(), &[bus(1)])?;
-    served.begin(rt.alloc(), 1)?;
-    served.says(
+    tells(
         &rt,
         rt.alloc(),
+        &[bus(1)],
         &[
+            (1, 0, "go", "0.000 101 INFO 0 SESSION 1 COMMAND\n"),
             (
                 1,
                 1000,
@@ -144,12 +144,12 @@ fn accessories(rt: HostRuntime) -> Result<(), Fail> {
 
 #[test]
 fn locks(rt: HostRuntime) -> Result<(), Fail> {
-    let mut served = Served::open(rt.alloc(), &[bus(1)])?;
-    served.begin(rt.alloc(), 1)?;
-    served.says(
+    tells(
         &rt,
         rt.alloc(),
+        &[bus(1)],
         &[
+            (1, 0, "go", "0.000 101 INFO 0 SESSION 1 COMMAND\n"),
             (
                 1,
                 1000,

@@ -3,17 +3,15 @@
 ghost use Rattle.std.specs.Prelude.{◌≡◌};
 ghost use Rattle.std.specs.List.{AllByRecursion};
 ghost use Rattle.srcp_info.specs.WellFormed.{IsWellFormed, IsWellFormedReply};
-ghost use Rattle.srcp_rules.specs.State.{IsWhole};
+ghost use Rattle.srcp_rules.specs.State.{IsWhole, is_there, session_device};
 
-use crate::device::session_device;
-use crate::registry::is_there;
-use crate::{Layout, Rows, begin_session, due_next, free_next, obey, parse_command};
-use srcp_info::{Change, Cursor, Mode, Reply, Row, write_change, write_reply};
+use srcp_info::{Change, Cursor, Device, Group, Mode, Reply, Row, write_change, write_reply};
+use srcp_rules::{Layout, Rows, begin_session, due_next, free_next, obey, parse_command};
 use srcp_text::LineBuf;
 use std::test::Fail;
 
 /// Appends the line of a reply.
-pub(super) fn push_reply(said: &mut Vec<u8>, moment: u64, reply: &Reply) -> Result<(), Fail>
+pub(crate) fn push_reply(said: &mut Vec<u8>, moment: u64, reply: &Reply) -> Result<(), Fail>
     requires { IsWellFormedReply reply.now }
 {
     let mut line = LineBuf::new();
@@ -23,7 +21,7 @@ pub(super) fn push_reply(said: &mut Vec<u8>, moment: u64, reply: &Reply) -> Resu
 }
 
 /// Appends the line of a change.
-pub(super) fn push_change(said: &mut Vec<u8>, change: &Change) -> Result<(), Fail>
+pub(crate) fn push_change(said: &mut Vec<u8>, change: &Change) -> Result<(), Fail>
     requires { IsWellFormed change.now }
 {
     let mut line = LineBuf::new();
@@ -33,7 +31,7 @@ pub(super) fn push_change(said: &mut Vec<u8>, change: &Change) -> Result<(), Fai
 }
 
 /// Appends the lines of changes.
-pub(super) fn push_changes(said: &mut Vec<u8>, changes: &[Change]) -> Result<(), Fail>
+pub(crate) fn push_changes(said: &mut Vec<u8>, changes: &[Change]) -> Result<(), Fail>
     requires { AllByRecursion IsWellFormed changes.now }
 {
     for change in changes {
@@ -43,7 +41,7 @@ pub(super) fn push_changes(said: &mut Vec<u8>, changes: &[Change]) -> Result<(),
 }
 
 /// Appends all rows, walked from the start to the end.
-pub(super) fn push_rows<R: Rows>(walked: &mut Vec<Row>, rows: &R) -> Result<(), Fail> {
+pub(crate) fn push_rows<R: Rows>(walked: &mut Vec<Row>, rows: &R) -> Result<(), Fail> {
     let mut cursor = Cursor::Start;
     for _ in 0..1000 {
         let Some(row) = rows.row_after(cursor) else {
@@ -58,8 +56,20 @@ pub(super) fn push_rows<R: Rows>(walked: &mut Vec<Row>, rows: &R) -> Result<(), 
     }
 }
 
+/// Whether the session has a row.
+fn has_session<R: Rows>(rows: &R, session: u32) -> bool
+    ensures { result ≡ is_there (session_device session) (R.state rows.now) }
+{
+    let own = Device {
+        bus: 0,
+        group: Group::Session,
+        address: session,
+    };
+    rows.row(&own.first_key()).is_some()
+}
+
 /// Appends the change that the beginning of a command session brings.
-pub(super) fn push_begun<R: Rows>(
+pub(crate) fn push_begun<R: Rows>(
     said: &mut Vec<u8>,
     rows: &mut R,
     session: u32,
@@ -69,7 +79,7 @@ pub(super) fn push_begun<R: Rows>(
     ensures layout { R.buses rows.new ≡ R.buses rows.old }
     ensures whole { IsWhole (R.buses rows.new) (R.state rows.new) }
 {
-    if session == 0 || is_there(rows, session_device(session)) {
+    if session == 0 || has_session(rows, session) {
         return Err(Fail::from("a session that is there"));
     }
     match begin_session(rows, session, moment, Mode::Command) {
@@ -80,7 +90,7 @@ pub(super) fn push_begun<R: Rows>(
 
 /// Appends the reply to a session's line and the changes that it makes, and a last line where the
 /// session is to end.
-pub(super) fn push_line<R: Rows>(
+pub(crate) fn push_line<R: Rows>(
     said: &mut Vec<u8>,
     layout: &Layout,
     rows: &mut R,
@@ -97,7 +107,7 @@ pub(super) fn push_line<R: Rows>(
         Ok(command) => command,
         Err(code) => return push_reply(said, moment, &Reply::Refused(code)),
     };
-    if !is_there(rows, session_device(session)) {
+    if !has_session(rows, session) {
         return Err(Fail::from("no such session"));
     }
     let obeyed = obey(rows, session, moment, &command);
@@ -110,7 +120,7 @@ pub(super) fn push_line<R: Rows>(
 }
 
 /// Appends the changes that a moment brings.
-pub(super) fn push_due<R: Rows>(said: &mut Vec<u8>, rows: &mut R, moment: u64) -> Result<(), Fail>
+pub(crate) fn push_due<R: Rows>(said: &mut Vec<u8>, rows: &mut R, moment: u64) -> Result<(), Fail>
     requires whole { IsWhole (R.buses rows.old) (R.state rows.old) }
     ensures layout { R.buses rows.new ≡ R.buses rows.old }
     ensures whole { IsWhole (R.buses rows.new) (R.state rows.new) }
@@ -127,7 +137,7 @@ pub(super) fn push_due<R: Rows>(said: &mut Vec<u8>, rows: &mut R, moment: u64) -
 }
 
 /// Appends the changes that the end of a session brings.
-pub(super) fn push_end<R: Rows>(
+pub(crate) fn push_end<R: Rows>(
     said: &mut Vec<u8>,
     rows: &mut R,
     session: u32,

@@ -1,6 +1,6 @@
 use Rattle.std.proofs.Common.{◌≡◌}
 use Rattle.srcp_rules.specs.State.{IsWhole}
-use Rattle.srcp_rules.proofs.tests.told.push_end.Given as goal
+use Rattle.srcp_rules_tests.proofs.told.push_due.Given as goal
 
 abbrev pub invariant-loop : goal.invariant-loop
 invariant-loop g l = record {

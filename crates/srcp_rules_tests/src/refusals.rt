@@ -1,8 +1,8 @@
 //! The order of refusals in a line, each against one that could come first.
 
-use super::served::{Served, bus};
-use crate::Bus;
+use crate::served::{bus, refuses};
 use srcp_info::Code;
+use srcp_rules::Bus;
 use std::test::Fail;
 
 /// A bus with accessories alone.
@@ -27,12 +27,10 @@ fn feedback(number: u8) -> Bus {
 
 #[test]
 fn the_operation_before_the_bus(rt: HostRuntime) -> Result<(), Fail> {
-    let mut served = Served::open(rt.alloc(), &[bus(1)])?;
-    served.begin(rt.alloc(), 1)?;
-    served.refuses(
+    refuses(
         &rt,
         rt.alloc(),
-        1,
+        &[bus(1)],
         &[
             ("", Code::C410),
             (" \t ", Code::C410),
@@ -44,12 +42,10 @@ fn the_operation_before_the_bus(rt: HostRuntime) -> Result<(), Fail> {
 
 #[test]
 fn the_bus_before_the_group(rt: HostRuntime) -> Result<(), Fail> {
-    let mut served = Served::open(rt.alloc(), &[bus(1)])?;
-    served.begin(rt.alloc(), 1)?;
-    served.refuses(
+    refuses(
         &rt,
         rt.alloc(),
-        1,
+        &[bus(1)],
         &[
             ("GET", Code::C419),
             ("GET 9", Code::C419),
@@ -64,12 +60,10 @@ fn the_bus_before_the_group(rt: HostRuntime) -> Result<(), Fail> {
 
 #[test]
 fn the_group_before_the_operation(rt: HostRuntime) -> Result<(), Fail> {
-    let mut served = Served::open(rt.alloc(), &[bus(1), accessories(2), feedback(4)])?;
-    served.begin(rt.alloc(), 1)?;
-    served.refuses(
+    refuses(
         &rt,
         rt.alloc(),
-        1,
+        &[bus(1), accessories(2), feedback(4)],
         &[
             ("GET 1 SM 3", Code::C421),
             ("WAIT 1 SM", Code::C421),
@@ -86,12 +80,10 @@ fn the_group_before_the_operation(rt: HostRuntime) -> Result<(), Fail> {
 
 #[test]
 fn the_operation_before_the_count(rt: HostRuntime) -> Result<(), Fail> {
-    let mut served = Served::open(rt.alloc(), &[bus(1)])?;
-    served.begin(rt.alloc(), 1)?;
-    served.refuses(
+    refuses(
         &rt,
         rt.alloc(),
-        1,
+        &[bus(1)],
         &[
             ("TERM 1 POWER x", Code::C423),
             ("WAIT 1 GL", Code::C423),
@@ -108,12 +100,10 @@ fn the_operation_before_the_count(rt: HostRuntime) -> Result<(), Fail> {
 
 #[test]
 fn the_count_before_the_values(rt: HostRuntime) -> Result<(), Fail> {
-    let mut served = Served::open(rt.alloc(), &[bus(1)])?;
-    served.begin(rt.alloc(), 1)?;
-    served.refuses(
+    refuses(
         &rt,
         rt.alloc(),
-        1,
+        &[bus(1)],
         &[
             ("GET 1 POWER x", Code::C418),
             ("SET 1 POWER", Code::C419),
@@ -141,12 +131,10 @@ fn the_count_before_the_values(rt: HostRuntime) -> Result<(), Fail> {
 
 #[test]
 fn the_values_of_a_locomotive_from_left_to_right(rt: HostRuntime) -> Result<(), Fail> {
-    let mut served = Served::open(rt.alloc(), &[bus(1)])?;
-    served.begin(rt.alloc(), 1)?;
-    served.refuses(
+    refuses(
         &rt,
         rt.alloc(),
-        1,
+        &[bus(1)],
         &[
             ("INIT 1 GL 0 P", Code::C412),
             ("INIT 1 GL 0 Q 1 28 5", Code::C412),
@@ -167,12 +155,10 @@ fn the_values_of_a_locomotive_from_left_to_right(rt: HostRuntime) -> Result<(), 
 
 #[test]
 fn the_other_values_from_left_to_right(rt: HostRuntime) -> Result<(), Fail> {
-    let mut served = Served::open(rt.alloc(), &[bus(1), accessories(2)])?;
-    served.begin(rt.alloc(), 1)?;
-    served.refuses(
+    refuses(
         &rt,
         rt.alloc(),
-        1,
+        &[bus(1), accessories(2)],
         &[
             ("INIT 1 GA 0 Q", Code::C412),
             ("INIT 1 GA 5 Q any", Code::C420),

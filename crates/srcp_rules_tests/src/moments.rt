@@ -1,16 +1,16 @@
 //! What moments bring, just before and at the moment, and what the end of a session brings.
 
-use super::served::{Served, bus};
+use crate::served::{bus, tells};
 use std::test::Fail;
 
 #[test]
 fn a_port_goes_back_at_its_moment(rt: HostRuntime) -> Result<(), Fail> {
-    let mut served = Served::open(rt.alloc(), &[bus(1)])?;
-    served.begin(rt.alloc(), 1)?;
-    served.says(
+    tells(
         &rt,
         rt.alloc(),
+        &[bus(1)],
         &[
+            (1, 0, "go", "0.000 101 INFO 0 SESSION 1 COMMAND\n"),
             (
                 1,
                 1000,
@@ -23,22 +23,21 @@ fn a_port_goes_back_at_its_moment(rt: HostRuntime) -> Result<(), Fail> {
                 "SET 1 GA 5 0 1 100",
                 "1.000 200 OK\n1.000 100 INFO 1 GA 5 0 1\n",
             ),
+            (0, 1099, "now", ""),
+            (0, 1100, "now", "1.100 100 INFO 1 GA 5 0 0\n"),
+            (0, 1101, "now", ""),
         ],
-    )?;
-    served.brings(&rt, rt.alloc(), 1099, "")?;
-    served.brings(&rt, rt.alloc(), 1100, "1.100 100 INFO 1 GA 5 0 0\n")?;
-    served.brings(&rt, rt.alloc(), 1101, "")?;
-    Ok(())
+    )
 }
 
 #[test]
 fn a_later_set_of_a_port_cancels_its_end(rt: HostRuntime) -> Result<(), Fail> {
-    let mut served = Served::open(rt.alloc(), &[bus(1)])?;
-    served.begin(rt.alloc(), 1)?;
-    served.says(
+    tells(
         &rt,
         rt.alloc(),
+        &[bus(1)],
         &[
+            (1, 0, "go", "0.000 101 INFO 0 SESSION 1 COMMAND\n"),
             (
                 1,
                 1000,
@@ -69,25 +68,20 @@ fn a_later_set_of_a_port_cancels_its_end(rt: HostRuntime) -> Result<(), Fail> {
                 "SET 1 GA 5 1 0 100",
                 "1.050 200 OK\n1.050 100 INFO 1 GA 5 1 0\n",
             ),
+            (0, 2000, "now", ""),
+            (1, 2000, "GET 1 GA 5 0", "1.050 100 INFO 1 GA 5 0 1\n"),
         ],
-    )?;
-    served.brings(&rt, rt.alloc(), 2000, "")?;
-    served.says(
-        &rt,
-        rt.alloc(),
-        &[(1, 2000, "GET 1 GA 5 0", "1.050 100 INFO 1 GA 5 0 1\n")],
-    )?;
-    Ok(())
+    )
 }
 
 #[test]
 fn a_lock_ends_at_its_moment(rt: HostRuntime) -> Result<(), Fail> {
-    let mut served = Served::open(rt.alloc(), &[bus(1)])?;
-    served.begin(rt.alloc(), 1)?;
-    served.says(
+    tells(
         &rt,
         rt.alloc(),
+        &[bus(1)],
         &[
+            (1, 0, "go", "0.000 101 INFO 0 SESSION 1 COMMAND\n"),
             (
                 1,
                 1000,
@@ -100,26 +94,21 @@ fn a_lock_ends_at_its_moment(rt: HostRuntime) -> Result<(), Fail> {
                 "SET 1 LOCK GL 3 60",
                 "1.000 200 OK\n1.000 100 INFO 1 LOCK GL 3 60 1\n",
             ),
+            (0, 60999, "now", ""),
+            (0, 61000, "now", "61.000 102 INFO 1 LOCK GL 3\n"),
+            (1, 61000, "GET 1 LOCK GL 3", "61.000 416 ERROR no data\n"),
         ],
-    )?;
-    served.brings(&rt, rt.alloc(), 60999, "")?;
-    served.brings(&rt, rt.alloc(), 61000, "61.000 102 INFO 1 LOCK GL 3\n")?;
-    served.says(
-        &rt,
-        rt.alloc(),
-        &[(1, 61000, "GET 1 LOCK GL 3", "61.000 416 ERROR no data\n")],
-    )?;
-    Ok(())
+    )
 }
 
 #[test]
 fn a_lock_that_is_set_again_ends_later(rt: HostRuntime) -> Result<(), Fail> {
-    let mut served = Served::open(rt.alloc(), &[bus(1)])?;
-    served.begin(rt.alloc(), 1)?;
-    served.says(
+    tells(
         &rt,
         rt.alloc(),
+        &[bus(1)],
         &[
+            (1, 0, "go", "0.000 101 INFO 0 SESSION 1 COMMAND\n"),
             (
                 1,
                 1000,
@@ -138,15 +127,9 @@ fn a_lock_that_is_set_again_ends_later(rt: HostRuntime) -> Result<(), Fail> {
                 "SET 1 LOCK GL 3 60",
                 "31.000 200 OK\n31.000 100 INFO 1 LOCK GL 3 60 1\n",
             ),
-        ],
-    )?;
-    served.brings(&rt, rt.alloc(), 61000, "")?;
-    served.brings(&rt, rt.alloc(), 90999, "")?;
-    served.brings(&rt, rt.alloc(), 91000, "91.000 102 INFO 1 LOCK GL 3\n")?;
-    served.says(
-        &rt,
-        rt.alloc(),
-        &[
+            (0, 61000, "now", ""),
+            (0, 90999, "now", ""),
+            (0, 91000, "now", "91.000 102 INFO 1 LOCK GL 3\n"),
             (
                 1,
                 92000,
@@ -159,20 +142,19 @@ fn a_lock_that_is_set_again_ends_later(rt: HostRuntime) -> Result<(), Fail> {
                 "SET 1 LOCK GL 3 0",
                 "92.500 200 OK\n92.500 100 INFO 1 LOCK GL 3 0 1\n",
             ),
+            (0, 99000, "now", ""),
         ],
-    )?;
-    served.brings(&rt, rt.alloc(), 99000, "")?;
-    Ok(())
+    )
 }
 
 #[test]
 fn a_moment_brings_its_changes_in_key_order(rt: HostRuntime) -> Result<(), Fail> {
-    let mut served = Served::open(rt.alloc(), &[bus(1)])?;
-    served.begin(rt.alloc(), 1)?;
-    served.says(
+    tells(
         &rt,
         rt.alloc(),
+        &[bus(1)],
         &[
+            (1, 0, "go", "0.000 101 INFO 0 SESSION 1 COMMAND\n"),
             (
                 1,
                 0,
@@ -209,25 +191,24 @@ fn a_moment_brings_its_changes_in_key_order(rt: HostRuntime) -> Result<(), Fail>
                 "SET 1 GA 5 0 1 950",
                 "0.000 200 OK\n0.000 100 INFO 1 GA 5 0 1\n",
             ),
+            (
+                0,
+                5000,
+                "now",
+                "5.000 100 INFO 1 GA 5 0 0\n5.000 100 INFO 1 GA 5 1 0\n5.000 102 INFO 1 LOCK GL 3\n5.000 102 INFO 1 LOCK GA 5\n",
+            ),
         ],
-    )?;
-    served.brings(
-        &rt,
-        rt.alloc(),
-        5000,
-        "5.000 100 INFO 1 GA 5 0 0\n5.000 100 INFO 1 GA 5 1 0\n5.000 102 INFO 1 LOCK GL 3\n5.000 102 INFO 1 LOCK GA 5\n",
-    )?;
-    Ok(())
+    )
 }
 
 #[test]
 fn no_end_lies_beyond_the_greatest_moment(rt: HostRuntime) -> Result<(), Fail> {
-    let mut served = Served::open(rt.alloc(), &[bus(1)])?;
-    served.begin(rt.alloc(), 1)?;
-    served.says(
+    tells(
         &rt,
         rt.alloc(),
+        &[bus(1)],
         &[
+            (1, 0, "go", "0.000 101 INFO 0 SESSION 1 COMMAND\n"),
             (
                 1,
                 18446744073709551615,
@@ -258,27 +239,26 @@ fn no_end_lies_beyond_the_greatest_moment(rt: HostRuntime) -> Result<(), Fail> {
                 "GET 1 GA 5 0",
                 "18446744073709551.615 100 INFO 1 GA 5 0 1\n",
             ),
+            (0, 18446744073709551614, "now", ""),
+            (
+                0,
+                18446744073709551615,
+                "now",
+                "18446744073709551.615 100 INFO 1 GA 5 0 0\n18446744073709551.615 102 INFO 1 LOCK GL 3\n",
+            ),
         ],
-    )?;
-    served.brings(&rt, rt.alloc(), 18446744073709551614, "")?;
-    served.brings(
-        &rt,
-        rt.alloc(),
-        18446744073709551615,
-        "18446744073709551.615 100 INFO 1 GA 5 0 0\n18446744073709551.615 102 INFO 1 LOCK GL 3\n",
-    )?;
-    Ok(())
+    )
 }
 
 #[test]
 fn the_end_of_a_session_frees_its_locks(rt: HostRuntime) -> Result<(), Fail> {
-    let mut served = Served::open(rt.alloc(), &[bus(1)])?;
-    served.begin(rt.alloc(), 1)?;
-    served.begin(rt.alloc(), 2)?;
-    served.says(
+    tells(
         &rt,
         rt.alloc(),
+        &[bus(1)],
         &[
+            (1, 0, "go", "0.000 101 INFO 0 SESSION 1 COMMAND\n"),
+            (2, 0, "go", "0.000 101 INFO 0 SESSION 2 COMMAND\n"),
             (
                 1,
                 0,
@@ -315,16 +295,12 @@ fn the_end_of_a_session_frees_its_locks(rt: HostRuntime) -> Result<(), Fail> {
                 "SET 1 LOCK GL 4 0",
                 "0.000 200 OK\n0.000 100 INFO 1 LOCK GL 4 0 2\n",
             ),
-        ],
-    )?;
-    let said = served.end(rt.alloc(), 1, 7000)?;
-    let want =
-        "7.000 102 INFO 1 LOCK GL 3\n7.000 102 INFO 1 LOCK GA 5\n7.000 102 INFO 0 SESSION 1\n";
-    assert_eq!(rt; said.as_slice(), want.as_bytes());
-    served.says(
-        &rt,
-        rt.alloc(),
-        &[
+            (
+                1,
+                7000,
+                "end",
+                "7.000 102 INFO 1 LOCK GL 3\n7.000 102 INFO 1 LOCK GA 5\n7.000 102 INFO 0 SESSION 1\n",
+            ),
             (
                 2,
                 7000,
@@ -338,8 +314,7 @@ fn the_end_of_a_session_frees_its_locks(rt: HostRuntime) -> Result<(), Fail> {
                 "SET 1 GL 3 1 0 0",
                 "7.000 200 OK\n7.000 100 INFO 1 GL 3 1 0 0\n",
             ),
+            (1, 8000, "end", ""),
         ],
-    )?;
-    assert!(rt; served.end(rt.alloc(), 1, 8000)?.is_empty());
-    Ok(())
+    )
 }

@@ -1,19 +1,31 @@
-use super::served::bus;
-use crate::{Bus, Flat, Layout, LayoutFault, Rows};
+//! Layouts, and the registry that begins with one.
+
+use crate::served::bus;
 use srcp_info::{Cursor, Device, Group};
+use srcp_rules::{Bus, Flat, Layout, LayoutFault, Rows};
 use std::test::Fail;
 
 #[test]
 fn buses_stand_by_their_numbers(rt: HostRuntime) -> Result<(), Fail> {
     let mut layout = Layout::new(rt.alloc());
-    assert_eq!(rt; layout.add(bus(7)), Ok(()));
-    assert_eq!(rt; layout.add(bus(1)), Ok(()));
-    assert_eq!(rt; layout.add(bus(7)), Err(LayoutFault::Twice));
-    assert_eq!(rt; layout.add(bus(0)), Err(LayoutFault::OutOfRange));
-    assert_eq!(rt; layout.add(bus(251)), Err(LayoutFault::OutOfRange));
-    assert_eq!(rt; layout.buses().len(), 2);
-    assert_eq!(rt; layout.buses()[0].number, 1);
-    assert_eq!(rt; layout.buses()[1].number, 7);
+    let added = [
+        layout.add(bus(7)),
+        layout.add(bus(1)),
+        layout.add(bus(7)),
+        layout.add(bus(0)),
+        layout.add(bus(251)),
+    ];
+    assert_eq!(rt;
+        added,
+        [
+            Ok(()),
+            Ok(()),
+            Err(LayoutFault::Twice),
+            Err(LayoutFault::OutOfRange),
+            Err(LayoutFault::OutOfRange),
+        ]
+    );
+    assert_eq!(rt; layout.buses(), [bus(1), bus(7)].as_slice());
     assert!(rt; layout.bus(1).is_some());
     assert!(rt; layout.bus(2).is_none());
     Ok(())
