@@ -1,10 +1,28 @@
 //! One keeper of rows against the other.
 
 use crate::served::Served;
+use srcp_info::Row;
 use srcp_rules::Bus;
 use std::alloc::Global;
 use std::process::Abort;
 use std::test::Fail;
+
+/// Appends all rows of each keeper before the first line and after each of them, where both keepers
+/// have to tell the same at it.
+fn walk_at_each(
+    served: &mut Served,
+    alloc: Global,
+    lines: &[(u32, u64, &str)],
+    flat: &mut Vec<Row>,
+    nested: &mut Vec<Row>,
+) -> Result<(), Fail> {
+    served.walk(flat, nested)?;
+    for line in lines {
+        served.take(alloc, line)?;
+        served.walk(flat, nested)?;
+    }
+    Ok(())
+}
 
 /// The keepers tell the same at each line, and before the first and after each of them they have the
 /// same rows, at least so many in all.
@@ -18,11 +36,7 @@ fn keep_the_same(
     let mut served = Served::open(alloc, buses)?;
     let mut flat = Vec::new(alloc);
     let mut nested = Vec::new(alloc);
-    served.walk(&mut flat, &mut nested)?;
-    for line in lines {
-        served.take(alloc, line)?;
-        served.walk(&mut flat, &mut nested)?;
-    }
+    walk_at_each(&mut served, alloc, lines, &mut flat, &mut nested)?;
     assert_eq!(rt; nested.as_slice(), flat.as_slice());
     assert!(rt; nested.len() >= least);
     Ok(())

@@ -154,6 +154,36 @@ impl Served {
         push_rows(flat, &self.flat)?;
         push_rows(nested, &self.nested)
     }
+
+    /// Each line of a session at its moment, one after another, tells this.
+    fn tells(
+        &mut self,
+        rt: &impl Abort,
+        alloc: Global,
+        table: &[(u32, u64, &str, &str)],
+    ) -> Result<(), Fail> {
+        for (session, moment, line, want) in table {
+            let told = self.tell(alloc, *session, *moment, line)?;
+            assert_eq!(rt; told.as_slice(), want.as_bytes(), "at {line}");
+        }
+        Ok(())
+    }
+
+    /// Each line of the session 1 at the moment 1000 is refused so, and nothing else is told.
+    fn refuses(
+        &mut self,
+        rt: &impl Abort,
+        alloc: Global,
+        table: &[(&str, Code)],
+    ) -> Result<(), Fail> {
+        for (line, code) in table {
+            let said = self.say(alloc, 1, 1000, line.as_bytes())?;
+            let mut want = Vec::new(alloc);
+            push_reply(&mut want, 1000, &Reply::Refused(*code))?;
+            assert_eq!(rt; said.as_slice(), want.as_slice(), "at {line}");
+        }
+        Ok(())
+    }
 }
 
 /// Over these buses each line of a session at its moment, one after another, tells this: a reply and
@@ -166,11 +196,7 @@ pub(crate) fn tells(
     table: &[(u32, u64, &str, &str)],
 ) -> Result<(), Fail> {
     let mut served = Served::open(alloc, buses)?;
-    for (session, moment, line, want) in table {
-        let told = served.tell(alloc, *session, *moment, line)?;
-        assert_eq!(rt; told.as_slice(), want.as_bytes(), "at {line}");
-    }
-    Ok(())
+    served.tells(rt, alloc, table)
 }
 
 /// Over these buses each line of a session at the moment 1000 is refused so, and nothing else is told.
@@ -182,11 +208,5 @@ pub(crate) fn refuses(
 ) -> Result<(), Fail> {
     let mut served = Served::open(alloc, buses)?;
     let _ = served.begin(alloc, 1, 0)?;
-    for (line, code) in table {
-        let said = served.say(alloc, 1, 1000, line.as_bytes())?;
-        let mut want = Vec::new(alloc);
-        push_reply(&mut want, 1000, &Reply::Refused(*code))?;
-        assert_eq!(rt; said.as_slice(), want.as_slice(), "at {line}");
-    }
-    Ok(())
+    served.refuses(rt, alloc, table)
 }
