@@ -1,0 +1,46 @@
+use crate::fixture::one_bus;
+use srcp_core::{Core, CoreFault};
+use srcp_rules::Flat;
+use std::alloc::Global;
+use std::process::Abort;
+use std::test::Fail;
+use std::vec::Vec;
+
+/// Opens 64 connections, and answers their keys.
+fn open_all(alloc: Global, core: &mut Core<'_, Flat>) -> Result<Vec<usize>, Fail> {
+    let mut open = Vec::new(alloc);
+    for _ in 0..64 {
+        open.push(core.connect()?)?;
+    }
+    Ok(open)
+}
+
+/// No more may be open.
+fn assert_full(rt: &impl Abort, core: &mut Core<'_, Flat>) {
+    assert_eq!(rt; core.connect(), Err(CoreFault::Full));
+}
+
+/// One more may be opened after a hang-up, and no second.
+fn open_anew(rt: &impl Abort, core: &mut Core<'_, Flat>, conn: usize) {
+    assert_eq!(rt; core.hangup(conn), Ok(()));
+    assert!(rt; core.connect().is_ok());
+    assert_full(rt, core);
+}
+
+/// One after the other is hung up, and another opened for it.
+fn assert_limit(rt: &impl Abort, alloc: Global, core: &mut Core<'_, Flat>) -> Result<(), Fail> {
+    let open = open_all(alloc, core)?;
+    assert_full(rt, core);
+    for conn in &open {
+        open_anew(rt, core, *conn);
+    }
+    assert_eq!(rt; core.denied(), 0);
+    Ok(())
+}
+
+#[test]
+fn sixty_four_connections_may_be_open(rt: HostRuntime) -> Result<(), Fail> {
+    let layout = one_bus(rt.alloc())?;
+    let mut core = Core::<Flat>::new(rt.alloc(), &layout, 0, 0)?;
+    assert_limit(&rt, rt.alloc(), &mut core)
+}
