@@ -1,0 +1,150 @@
+//! Single calls that can want memory.
+use crate::outcome::{Outcome, Refused};
+use circular_buffer::HeapCircularBuffer;
+use clap::error::ErrorKind;
+use srcp_core::{Core, CoreFault};
+use srcp_feed::InfoFeed;
+use srcp_info::{Change, Mirror, MirrorFault};
+use srcp_rules::{Bus, Flat, Layout, LayoutFault, Nested, Rows};
+use srcp_tool::{Cause, ConfigFault, Tool, read_layout, read_script, read_words};
+use std::alloc::Global;
+use std::string::String;
+use std::vec::Vec;
+
+/// How many changes may wait for a panel.
+const MOST_WAITING: usize = 256;
+
+/// A configuration of one bus.
+const CONFIGURATION: &[u8] =
+    b"port = 4303\n[[bus]]\nnumber = 1\ngroups = [\"POWER\", \"GL\"]\ngl_max = 9\n";
+
+/// A script of three events.
+const SCRIPT: &[u8] = b"open\nbytes 1 GO\\n\nroom 1 1000\n";
+
+/// Lines of rows that a mirror has not.
+const LINES: [&[u8]; 6] = [
+    b"0.000 100 INFO 1 FB 6 0",
+    b"0.000 100 INFO 1 FB 5 0",
+    b"0.000 100 INFO 1 FB 4 0",
+    b"0.000 100 INFO 1 FB 3 0",
+    b"0.000 100 INFO 1 FB 2 0",
+    b"0.000 100 INFO 1 FB 1 0",
+];
+
+/// A bus with every group.
+pub(crate) fn bus(number: u8) -> Bus {
+    Bus {
+        number,
+        power: true,
+        gl_max: 10239,
+        ga_max: 2044,
+        ga_ports: 2,
+        fb_ports: 2,
+    }
+}
+
+/// A layout of one bus.
+pub(crate) fn one_bus(alloc: Global) -> Result<Layout, Refused> {
+    let mut layout = Layout::new(alloc);
+    layout.add(bus(1))?;
+    Ok(layout)
+}
+
+/// Making a ring of as many changes as may wait.
+pub(crate) fn ring(alloc: Global) -> Outcome {
+    match HeapCircularBuffer::<Change>::with_capacity(alloc, MOST_WAITING) {
+        Ok(_) => Outcome::Granted,
+        Err(_) => Outcome::Refused,
+    }
+}
+
+/// Beginning the feed of a panel.
+pub(crate) fn feed(alloc: Global) -> Result<Outcome, Refused> {
+    let layout = one_bus(alloc)?;
+    let rows = Flat::empty(alloc, &layout)?;
+    Ok(match InfoFeed::begin(alloc, &rows) {
+        Ok(_) => Outcome::Granted,
+        Err(_) => Outcome::Refused,
+    })
+}
+
+/// Applying lines to a mirror: what is refused leaves it as it was, and is done by the same call with memory.
+pub(crate) fn mirror(alloc: Global) -> Outcome {
+    let mut mirror = Mirror::new(alloc);
+    let mut outcome = Outcome::Granted;
+    for (count, line) in LINES.into_iter().enumerate() {
+        if mirror.apply(line) == Err(MirrorFault::Memory) {
+            outcome = Outcome::refused_where(mirror.rows().len() == count);
+            if mirror.apply(line) != Ok(()) {
+                return Outcome::Broken;
+            }
+        }
+    }
+    if mirror.rows().len() == LINES.len() {
+        outcome
+    } else {
+        Outcome::Broken
+    }
+}
+
+/// Adding buses to a layout, in the same way.
+pub(crate) fn layout(alloc: Global) -> Outcome {
+    let mut layout = Layout::new(alloc);
+    let mut outcome = Outcome::Granted;
+    for (count, number) in (1..10).enumerate() {
+        if layout.add(bus(number)) == Err(LayoutFault::Memory) {
+            outcome = Outcome::refused_where(layout.buses().len() == count);
+            if layout.add(bus(number)) != Ok(()) {
+                return Outcome::Broken;
+            }
+        }
+    }
+    if layout.buses().len() == 9 {
+        outcome
+    } else {
+        Outcome::Broken
+    }
+}
+
+/// Opening a connection, in the same way: the refusal is counted.
+pub(crate) fn connect(alloc: Global) -> Result<Outcome, Refused> {
+    let layout = one_bus(alloc)?;
+    let mut core = Core::<Nested>::new(alloc, &layout, 0, 0)?;
+    Ok(match core.connect() {
+        Ok(_) => Outcome::granted_where(core.denied() == 0),
+        Err(CoreFault::Memory) => {
+            let counted = core.denied() == 1;
+            Outcome::refused_where(core.connect().is_ok() && counted)
+        }
+        Err(_) => Outcome::Broken,
+    })
+}
+
+/// Reading a configuration.
+pub(crate) fn configuration(alloc: Global) -> Outcome {
+    match read_layout(alloc, CONFIGURATION) {
+        Ok(config) => Outcome::granted_where(config.layout.buses().len() == 1),
+        Err(fault) => Outcome::refused_where(fault == ConfigFault::Memory),
+    }
+}
+
+/// Reading a script.
+pub(crate) fn script(alloc: Global) -> Outcome {
+    match read_script(alloc, SCRIPT) {
+        Ok(events) => Outcome::granted_where(events.len() == 3),
+        Err(fault) => Outcome::refused_where(matches!(fault.cause, Cause::Memory)),
+    }
+}
+
+/// Reading the words of the program.
+pub(crate) fn words(alloc: Global) -> Result<Outcome, Refused> {
+    let mut words = Vec::new(alloc);
+    for word in ["srcp_server", "check", "--config", "f"] {
+        words.push(String::from_str(alloc, word)?)?;
+    }
+    Ok(match read_words(alloc, &words) {
+        Ok(Tool::Check { config }) => Outcome::granted_where(config == "f"),
+        Ok(_) => Outcome::Broken,
+        Err(fault) => Outcome::refused_where(fault.kind() == ErrorKind::OutOfMemory),
+    })
+}

@@ -1,0 +1,67 @@
+//! Serving a peer that there is no memory for.
+ghost use Rattle.srcp_serve.specs.Calls.{one_more};
+
+use crate::calls::one_bus;
+use crate::outcome::{Outcome, Refused};
+use srcp_core::Core;
+use srcp_rules::Nested;
+use srcp_serve::{Door, DoorFault, Got, Served, serve as serve_turns};
+use std::alloc::Global;
+
+/// A door to one peer, which sends nothing and takes all.
+#[derive(Drop)]
+struct OnePeer {
+    came: bool,
+    closed: u32,
+}
+
+impl Door for OnePeer {
+    ghost faults = { λ _. 0 };
+
+    fn now(&mut self) -> Result<u64, DoorFault> {
+        Ok(0)
+    }
+
+    fn accept(&mut self) -> Result<Option<u32>, DoorFault> {
+        if self.came {
+            return Ok(None);
+        }
+        self.came = true;
+        Ok(Some(1))
+    }
+
+    fn read(&mut self, _peer: u32, _buf: &mut [u8]) -> Result<Got, DoorFault> {
+        Ok(Got::Nothing)
+    }
+
+    fn write(&mut self, _peer: u32, bytes: &[u8]) -> Result<usize, DoorFault> {
+        Ok(bytes.len())
+    }
+
+    fn close(&mut self, _peer: u32) -> Result<(), DoorFault> {
+        self.closed = self.closed.saturating_add(1);
+        Ok(())
+    }
+}
+
+/// Three turns over that door: where the connection is refused its memory, the peer is closed.
+pub(crate) fn serve(alloc: Global) -> Result<Outcome, Refused> {
+    let layout = one_bus(alloc)?;
+    let mut core = Core::<Nested>::new(alloc, &layout, 0, 0)?;
+    let mut door = OnePeer {
+        came: false,
+        closed: 0,
+    };
+    let served = serve_turns(&mut core, &mut door, 3);
+    let opened = served.opened;
+    let all_turns = served
+        == Served {
+            turns: 3,
+            opened,
+            faults: 0,
+        };
+    Ok(match opened {
+        0 => Outcome::refused_where(all_turns && door.closed == 1 && core.denied() == 1),
+        _ => Outcome::granted_where(all_turns && door.closed == 0 && core.denied() == 0),
+    })
+}

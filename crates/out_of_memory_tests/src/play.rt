@@ -1,0 +1,69 @@
+//! A run of throttles and a panel, in which each command that can want memory is sent twice.
+use crate::calls::one_bus;
+use crate::outcome::{Outcome, Refused};
+use srcp_core::{CoreFault, Record, run};
+use srcp_rules::Rows;
+use srcp_tool::read_script;
+use std::alloc::Global;
+
+/// A connection more is opened than is used, so that a refused one is not missed.
+const SCRIPT: &[u8] = b"open
+open
+open
+room 1 45
+room 2 45
+bytes 1 GO\\nGO\\n
+room 1 1000
+bytes 1 INIT 1 GL 3 N 1 28 2\\nINIT 1 GL 3 N 1 28 2\\nINIT 1 GA 5 M\\nINIT 1 GA 5 M\\n
+room 1 1000
+bytes 1 SET 1 LOCK GL 3 60\\nSET 1 LOCK GL 3 60\\nSET 1 LOCK GA 5 0\\nSET 1 LOCK GA 5 0\\n
+room 1 1000
+bytes 2 SET CONNECTIONMODE SRCP INFO\\nGO\\nGO\\n
+room 2 10000
+bytes 1 SET 1 FB 1 1\\n
+room 1 1000
+room 2 10000
+";
+
+/// How many rows there are at its end.
+const ROWS: usize = 12;
+
+/// Runs the script. Where a growth is refused there is no record, or one that tells of one refusal, and whose rows are those
+/// of a run that met none: what was refused was done when it was sent again.
+pub(crate) fn play<R: Rows>(alloc: Global) -> Result<Outcome, Refused> {
+    let layout = one_bus(alloc)?;
+    let Ok(events) = read_script(alloc, SCRIPT) else {
+        return Ok(Outcome::Unprepared);
+    };
+    let Ok(record) = run::<R>(alloc, &layout, &events) else {
+        return Ok(Outcome::Refused);
+    };
+    if record.denied == 0 {
+        let told = refusals(&record) == 0 && record.rows.as_slice().len() == ROWS;
+        return Ok(Outcome::granted_where(told));
+    }
+    let Ok(ample) = run::<R>(alloc, &layout, &events) else {
+        return Ok(Outcome::Broken);
+    };
+    let same = record.rows.as_slice() == ample.rows.as_slice() && ample.denied == 0;
+    Ok(Outcome::refused_where(same && record.denied == 1 && refusals(&record) == 1))
+}
+
+/// How many lines were answered 500 in a run, and how many connections were refused for want of memory.
+fn refusals(record: &Record) -> usize {
+    let mut count: usize = 0;
+    for connection in record.connections.as_slice() {
+        for line in connection.sent.as_slice().split(|byte| *byte == b'\n') {
+            if line == b"0.000 500 ERROR out of resources".as_slice() {
+                count = count.saturating_add(1);
+            }
+        }
+    }
+    let refused = record.refused.as_slice();
+    count.saturating_add(
+        refused
+            .iter()
+            .filter(|refusal| refusal.fault == CoreFault::Memory)
+            .count(),
+    )
+}

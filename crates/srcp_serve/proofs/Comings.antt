@@ -1,0 +1,124 @@
+-- Who has a place as which guest: a newcomer takes one, and who is let go leaves one.
+use Rattle.std.proofs.Common.{◌≡◌, ◌∙◌, ℕ, zero, suc, ◌+◌, Bool, true, false, List, [], ◌∷◌, ◌++◌, map, length, if◌then◌else◌, Option, Some, None, refl, ap, sym, subst, arith, ◌==◌}
+use Rattle.std.specs.List.{list_any, AllByRecursion}
+use Rattle.std.specs.Prelude.{is_none}
+use Rattle.std.proofs.lemmas.List.{map-append}
+use Rattle.std.proofs.lemmas.List.Sums.{fold-append}
+use Rattle.srcp_rules.specs.declared.layout.Bus.{Bus}
+use Rattle.srcp_core.specs.Course.{World, start, happens, course, fault}
+use Rattle.srcp_core.specs.declared.event.Event.TheVariants.{Open, At}
+use Rattle.srcp_core.specs.declared.record.CoreFault.{CoreFault}
+use Rattle.srcp_serve.specs.Calls.{Call}
+use Rattle.srcp_serve.specs.Serving.{Seat, Stand, seats, seated, kept, visit, is_close, with_moment, welcomed, let_in}
+use Rattle.srcp_serve.proofs.Sendings.{IsSending, sending_moment, sending_opened, sending_refused}
+use Rattle.srcp_serve.proofs.Partings.{IsNoneOf, PeersApart}
+use Rattle.srcp_serve.proofs.Guests.{IsGuest, AreGuests, turned_round}
+
+-- ---- places
+
+pub kept_all : (P : Seat → Type 0) (calls : List Call) (places : List (Option Seat)) → AllByRecursion P (seats places) → AllByRecursion P (seats (map (kept calls) places))
+kept_all P calls [] h = tt
+kept_all P calls (None ∷ places) h = kept_all P calls places h
+kept_all P calls (Some seat ∷ places) h = by (list_any is_close (visit calls seat)) (kept_all P calls places h.1)
+  where
+    by : (b : Bool) → AllByRecursion P (seats (map (kept calls) places)) → AllByRecursion P (seats ((if b then None else Some seat) ∷ map (kept calls) places))
+    by true more = more
+    by false more = (h.0, more)
+
+pub kept_apart : (calls : List Call) (places : List (Option Seat)) → PeersApart (seats places) → PeersApart (seats (map (kept calls) places))
+kept_apart calls [] h = tt
+kept_apart calls (None ∷ places) h = kept_apart calls places h
+kept_apart calls (Some seat ∷ places) h = by (list_any is_close (visit calls seat)) (kept_apart calls places h.1)
+  where
+    by : (b : Bool) → PeersApart (seats (map (kept calls) places)) → PeersApart (seats ((if b then None else Some seat) ∷ map (kept calls) places))
+    by true more = more
+    by false more = (kept_all (λ other. (other.peer == seat.peer) ≡ false) calls places h.0, more)
+
+pub seated_all : (P : Seat → Type 0) (seat : Seat) (places : List (Option Seat)) → P seat → AllByRecursion P (seats places) → AllByRecursion P (seats (seated seat places))
+seated_all P seat [] new h = tt
+seated_all P seat (None ∷ places) new h = (new, h)
+seated_all P seat (Some other ∷ places) new h = (h.0, seated_all P seat places new h.1)
+
+pub seated_apart : (seat : Seat) (places : List (Option Seat)) → IsNoneOf seat.peer (seats places) → PeersApart (seats places) → PeersApart (seats (seated seat places))
+seated_apart seat [] new h = tt
+seated_apart seat (None ∷ places) new h = (new, h)
+seated_apart seat (Some other ∷ places) new h = (seated_all (λ x. (x.peer == other.peer) ≡ false) seat places (turned_round other.peer seat.peer new.0) h.0, seated_apart seat places new.1 h.1)
+
+-- ---- guests
+
+-- the peer is none of them
+abbrev pub IsNew : ℕ → List ℕ → Type 0
+IsNew peer guests = AllByRecursion (λ guest. (guest == peer) ≡ false) guests
+
+pub new_push : (peer other : ℕ) (guests : List ℕ) → IsNew peer guests → (other == peer) ≡ false → IsNew peer (guests ++ other ∷ [])
+new_push peer other [] h e = (e, tt)
+new_push peer other (guest ∷ guests) h e = (h.0, new_push peer other guests h.1 e)
+
+pub guest_before : (n peer new : ℕ) (guests : List ℕ) → (new == peer) ≡ false → IsGuest n peer guests → IsGuest n peer (guests ++ new ∷ [])
+guest_before n peer new [] e h = absurd h
+guest_before zero peer new (guest ∷ guests) e h = absurd h
+guest_before (suc zero) peer new (guest ∷ guests) e h = (h.0, new_push peer new guests h.1 e)
+guest_before (suc (suc n)) peer new (guest ∷ guests) e h = (h.0, guest_before (suc n) peer new guests e h.1)
+
+guest_next : (peer : ℕ) (guests : List ℕ) → IsNew peer guests → IsGuest (suc (length guests)) peer (guests ++ peer ∷ [])
+guest_next peer [] h = (refl, tt)
+guest_next peer (guest ∷ guests) h = (h.0, guest_next peer guests h.1)
+
+pub guest_last : (peer : ℕ) (guests : List ℕ) → IsNew peer guests → IsGuest (length guests + 1) peer (guests ++ peer ∷ [])
+guest_last peer guests h = let same : suc (length guests) ≡ length guests + 1 = omega arith in subst (λ (n : ℕ). IsGuest n peer (guests ++ peer ∷ [])) same (guest_next peer guests h)
+
+-- a new peer is not the guest of any number
+guest_other : (n peer new : ℕ) (guests : List ℕ) → IsNew new guests → IsGuest n peer guests → (peer == new) ≡ false
+guest_other n peer new [] h i = absurd i
+guest_other zero peer new (guest ∷ guests) h i = absurd i
+guest_other (suc zero) peer new (guest ∷ guests) h i = subst (λ (p : ℕ). (p == new) ≡ false) i.0 h.0
+guest_other (suc (suc n)) peer new (guest ∷ guests) h i = guest_other (suc n) peer new guests h.1 i.1
+
+-- so it has no place
+pub new_unseated : (new : ℕ) (guests : List ℕ) (all : List Seat) → IsNew new guests → AreGuests guests all → IsNoneOf new all
+new_unseated new guests [] h k = tt
+new_unseated new guests (seat ∷ all) h k = (guest_other seat.conn seat.peer new guests h k.0, new_unseated new guests all h k.1)
+
+pub guests_before : (new : ℕ) (guests : List ℕ) (all : List Seat) → IsNew new guests → AreGuests guests all → AreGuests (guests ++ new ∷ []) all
+guests_before new guests [] h k = tt
+guests_before new guests (seat ∷ all) h k = (guest_before seat.conn seat.peer new guests (turned_round seat.peer new (guest_other seat.conn seat.peer new guests h k.0)) k.0, guests_before new guests all h k.1)
+
+-- ---- the beginning of a turn
+
+module _ (buses : List Bus) (before : ℕ → List ℕ) where
+  -- each guest was sent what was taken before, and those that have a place are guests
+  pub record IsEven (stand : Stand) : Type 0 where
+    pub sending : IsSending (map before stand.guests) (course buses stand.events).connections
+    pub known : AreGuests stand.guests (seats stand.places)
+    pub apart : PeersApart (seats stand.places)
+
+  pub even_moment : (stand : Stand) (moment : ℕ) → IsEven stand → IsEven (with_moment buses stand moment)
+  even_moment stand moment h = record {
+    sending = subst (λ (v : World). IsSending (map before stand.guests) v.connections) (sym (fold-append (happens buses) start stand.events (At moment ∷ []))) (sending_moment buses (map before stand.guests) moment (course buses stand.events) h.sending);
+    known = h.known;
+    apart = h.apart;
+  }
+
+  pub even_welcomed : (stand : Stand) (peer : ℕ) → IsNew peer stand.guests → before peer ≡ [] → IsEven stand → IsEven (welcomed buses stand peer)
+  even_welcomed stand peer new none h = by (fault buses (course buses stand.events) Open) refl
+    where
+      next : course buses (stand.events ++ Open ∷ []) ≡ happens buses (course buses stand.events) Open
+      next = fold-append (happens buses) start stand.events (Open ∷ [])
+
+      by : (o : Option CoreFault) → fault buses (course buses stand.events) Open ≡ o → IsEven (welcomed buses stand peer)
+      by None e =
+          let yes : welcomed buses stand peer ≡ let_in buses stand peer = ap (λ o. if is_none o then let_in buses stand peer else record stand { events = stand.events ++ Open ∷ [] }) e in
+          let texts : map before stand.guests ++ [] ∷ [] ≡ map before (stand.guests ++ peer ∷ []) = ap (λ t. map before stand.guests ++ t ∷ []) (sym none) ∙ sym (map-append before stand.guests (peer ∷ [])) in
+          subst IsEven (sym yes) (record {
+            sending = subst (λ (ts : List (List ℕ)). IsSending ts (course buses (stand.events ++ Open ∷ [])).connections) texts
+                (subst (λ (v : World). IsSending (map before stand.guests ++ [] ∷ []) v.connections) (sym next) (sending_opened buses (map before stand.guests) (course buses stand.events) h.sending e));
+            known = seated_all (λ seat. IsGuest seat.conn seat.peer (stand.guests ++ peer ∷ [])) (record { peer = peer; conn = length stand.guests + 1 }) stand.places (guest_last peer stand.guests new) (guests_before peer stand.guests (seats stand.places) new h.known);
+            apart = seated_apart (record { peer = peer; conn = length stand.guests + 1 }) stand.places (new_unseated peer stand.guests (seats stand.places) new h.known) h.apart;
+          })
+      by (Some cause) e =
+          let no : welcomed buses stand peer ≡ record stand { events = stand.events ++ Open ∷ [] } = ap (λ o. if is_none o then let_in buses stand peer else record stand { events = stand.events ++ Open ∷ [] }) e in
+          subst IsEven (sym no) (record {
+            sending = subst (λ (v : World). IsSending (map before stand.guests) v.connections) (sym next) (sending_refused buses (map before stand.guests) (course buses stand.events) cause h.sending e);
+            known = h.known;
+            apart = h.apart;
+          })

@@ -1,0 +1,26 @@
+mod ServingExamples
+mod ServingLaws
+pub mod LentLaws
+mod Sendings
+mod SentLaws
+mod Takings
+mod Partings
+mod Guests
+mod Comings
+mod Evening
+mod Begins
+mod Evened
+pub mod TurnsTaken
+pub mod VisitLaws
+pub mod PlaceLaws
+mod HandedLaws
+pub mod Tallies
+pub mod Telling
+pub mod Writing
+pub mod Rounds
+pub mod Reading
+pub mod Visiting
+pub mod Fairness
+pub mod Turning
+pub mod Hosting
+pub mod HostedTurns

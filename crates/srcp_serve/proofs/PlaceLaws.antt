@@ -1,0 +1,273 @@
+-- Laws of places: who sits where, who is let in and who is let go.
+use Rattle.std.proofs.Common.{◌≡◌, ◌∙◌, ℕ, zero, suc, ◌+◌, ◌≤◌, Bool, true, false, ◌==◌, cond, List, [], ◌∷◌, ◌++◌, map, length, if◌then◌else◌, Option, Some, None, refl, ap, sym, subst, arith, append_assoc}
+use Rattle.std.proofs.lemmas.Bool.Decides.{nat_tests}
+use Rattle.std.proofs.lemmas.List.Sums.{sum_by-append, sum_by-cons}
+use Rattle.std.specs.List.{list_any, count_by, slice_index_or, slice_set, prefix_len, AllByRecursion}
+use Rattle.std.specs.Prelude.{not, is_some, is_none, position, nat_lt}
+use Rattle.srcp_core.specs.Recording.{key_of, without_key}
+use Rattle.srcp_core.proofs.Numbers.{key_push, key_within, without_other}
+use Rattle.srcp_serve.specs.Calls.{Call, NowCall, AcceptCall, ReadCall, WriteCall, CloseCall}
+use Rattle.srcp_serve.specs.Serving.{Seat, seated, seats, kept, visit, is_about, is_close}
+use Rattle.srcp_serve.specs.Places.{Visit, calls_of, visits_of, seat_of, left_by, AreOwn, SitsAt, Sit, IsApartFrom, SeatsDiffer, IsNotOf, IsOneOf, IsOther, IsLeftOut}
+use Rattle.srcp_serve.specs.Visits.{AreAbout}
+use Rattle.srcp_serve.specs.declared.serving.visit.Seat.{Seat as Own}
+use Rattle.srcp_serve.proofs.VisitLaws.{AreApart, one_visit}
+
+same_no : (a b : ℕ) → (a == b) ≡ false → (b == a) ≡ false
+same_no a b e = grind (arith, nat_tests)
+
+other_no : (a b : ℕ) → (a == b) ≡ false → b ≡ a → ⊥
+other_no a b e same = grind (arith, nat_tests)
+
+-- ---- how many
+
+pub count_cons : {X : Type 0} (o : Option X) (xs : List (Option X)) → count_by is_some (o ∷ xs) ≡ cond (is_some o) 1 0 + count_by is_some xs
+count_cons o xs = sum_by-cons (λ x. cond (is_some x) 1 0) o xs
+
+pub count_append : {X : Type 0} (xs ys : List (Option X)) → count_by is_some (xs ++ ys) ≡ count_by is_some xs + count_by is_some ys
+count_append xs ys = sum_by-append (λ x. cond (is_some x) 1 0) xs ys
+
+-- one place more is free
+pub count_cleared : {X : Type 0} (x : X) (front ahead : List (Option X)) → count_by is_some (front ++ None ∷ ahead) + 1 ≡ count_by is_some (front ++ Some x ∷ ahead)
+count_cleared x front ahead =
+    let a = count_append front (None ∷ ahead) in
+    let b = count_append front (Some x ∷ ahead) in
+    let c = count_cons None ahead in
+    let d = count_cons (Some x) ahead in
+    omega (arith, a, b, c, d)
+
+pub count_without : (n : ℕ) (keys : List (Option ℕ)) (key : ℕ) → key_of n keys ≡ Some key → count_by is_some (without_key n keys) + 1 ≡ count_by is_some keys
+count_without zero keys key e = cc
+count_without (suc n) [] key e = absurd (nothing n e)
+  where
+    nothing : (n : ℕ) → slice_index_or [] n None ≡ Some key → ⊥
+    nothing zero e = cc
+    nothing (suc n) e = cc
+count_without (suc zero) (k ∷ keys) key e =
+    let a = count_cons None keys in
+    let b = count_cons k keys in
+    let c = ap {B = ℕ} (λ (o : Option ℕ). cond (is_some o) 1 0) e in
+    omega (arith, a, b, c)
+count_without (suc (suc n)) (k ∷ keys) key e =
+    let h = count_without (suc n) keys key e in
+    let a = count_cons k (without_key (suc n) keys) in
+    let b = count_cons k keys in
+    omega (arith, a, b, h)
+
+pub count_seated : (seat : Seat) (places : List (Option Seat)) → count_by is_some (seated seat places) ≤ count_by is_some places + 1
+count_seated seat [] = omega arith
+count_seated seat (None ∷ places) = let a = count_cons None places in let b = count_cons (Some seat) places in omega (arith, a, b)
+count_seated seat (Some other ∷ places) =
+    let h = count_seated seat places in
+    let a = count_cons (Some other) places in
+    let b = count_cons (Some other) (seated seat places) in
+    omega (arith, a, b, h)
+
+-- ---- who sits where
+
+pub length-sit : (keys : List (Option ℕ)) (owns : List (Option Own)) (places : List (Option Seat)) → Sit keys owns places → length owns ≡ length places
+length-sit keys [] [] h = refl
+length-sit keys [] (place ∷ places) h = absurd h
+length-sit keys (own ∷ owns) [] h = absurd h
+length-sit keys (own ∷ owns) (place ∷ places) h = ap (λ n. suc n) (length-sit keys owns places h.1)
+
+pub sits_here : (keys : List (Option ℕ)) (owns : List (Option Own)) (front : List (Option Seat)) (place : Option Seat) (ahead : List (Option Seat)) (i : ℕ) (d : Option Own) → length front ≡ i → Sit keys owns (front ++ place ∷ ahead) → SitsAt keys (slice_index_or owns i d) place
+sits_here keys [] [] place ahead i d e h = absurd h
+sits_here keys [] (p ∷ front) place ahead i d e h = absurd h
+sits_here keys (own ∷ owns) [] place ahead zero d e h = h.0
+sits_here keys (own ∷ owns) [] place ahead (suc i) d e h = cc
+sits_here keys (own ∷ owns) (p ∷ front) place ahead zero d e h = cc
+sits_here keys (own ∷ owns) (p ∷ front) place ahead (suc i) d e h = let less : length front ≡ i = omega (arith, e) in sits_here keys owns front place ahead i d less h.1
+
+sit_cleared : (keys : List (Option ℕ)) (owns : List (Option Own)) (front : List (Option Seat)) (place : Option Seat) (ahead : List (Option Seat)) (i : ℕ) → length front ≡ i → Sit keys owns (front ++ place ∷ ahead) → Sit keys (slice_set owns i None) (front ++ None ∷ ahead)
+sit_cleared keys [] [] place ahead i e h = absurd h
+sit_cleared keys [] (p ∷ front) place ahead i e h = absurd h
+sit_cleared keys (own ∷ owns) [] place ahead zero e h = (tt, h.1)
+sit_cleared keys (own ∷ owns) [] place ahead (suc i) e h = cc
+sit_cleared keys (own ∷ owns) (p ∷ front) place ahead zero e h = cc
+sit_cleared keys (own ∷ owns) (p ∷ front) place ahead (suc i) e h = let less : length front ≡ i = omega (arith, e) in (h.0, sit_cleared keys owns front place ahead i less h.1)
+
+-- the number has no place
+abbrev IsNotNumber : ℕ → Option Seat → Type 0
+IsNotNumber n None = Unit {0}
+IsNotNumber n (Some seat) = (n == seat.conn) ≡ false
+
+sit_kept : (n : ℕ) (keys : List (Option ℕ)) (owns : List (Option Own)) (places : List (Option Seat)) → AllByRecursion (IsNotNumber n) places → Sit keys owns places → Sit (without_key n keys) owns places
+sit_kept n keys [] [] free h = tt
+sit_kept n keys [] (place ∷ places) free h = absurd h
+sit_kept n keys (own ∷ owns) [] free h = absurd h
+sit_kept n keys (None ∷ owns) (None ∷ places) free h = (tt, sit_kept n keys owns places free.1 h.1)
+sit_kept n keys (None ∷ owns) (Some seat ∷ places) free h = absurd h.0
+sit_kept n keys (Some own ∷ owns) (None ∷ places) free h = absurd h.0
+sit_kept n keys (Some own ∷ owns) (Some seat ∷ places) free h = ((h.0.0, without_other n seat.conn keys (other_no n seat.conn free.0) ∙ h.0.1), sit_kept n keys owns places free.1 h.1)
+
+number_ahead : (seat : Seat) (places : List (Option Seat)) → AllByRecursion (IsApartFrom seat) places → AllByRecursion (IsNotNumber seat.conn) places
+number_ahead seat [] h = tt
+number_ahead seat (None ∷ places) h = (tt, number_ahead seat places h.1)
+number_ahead seat (Some other ∷ places) h = (h.0.0, number_ahead seat places h.1)
+
+pub all_here : {X : Type 0} (P : X → Type 0) (front : List X) (x : X) (ahead : List X) → AllByRecursion P (front ++ x ∷ ahead) → P x
+all_here P [] x ahead h = h.0
+all_here P (y ∷ front) x ahead h = all_here P front x ahead h.1
+
+all_cleared : (P : Option Seat → Type 0) (front : List (Option Seat)) (place : Option Seat) (ahead : List (Option Seat)) → P None → AllByRecursion P (front ++ place ∷ ahead) → AllByRecursion P (front ++ None ∷ ahead)
+all_cleared P [] place ahead none h = (none, h.1)
+all_cleared P (p ∷ front) place ahead none h = (h.0, all_cleared P front place ahead none h.1)
+
+numbers_around : (front : List (Option Seat)) (seat : Seat) (ahead : List (Option Seat)) → SeatsDiffer (front ++ Some seat ∷ ahead) → AllByRecursion (IsNotNumber seat.conn) (front ++ None ∷ ahead)
+numbers_around [] seat ahead h = (tt, number_ahead seat ahead h.0)
+numbers_around (None ∷ front) seat ahead h = (tt, numbers_around front seat ahead h)
+numbers_around (Some other ∷ front) seat ahead h = (same_no other.conn seat.conn (all_here (IsApartFrom other) front (Some seat) ahead h.0).0, numbers_around front seat ahead h.1)
+
+-- who has that place is let go
+pub sit_without : (keys : List (Option ℕ)) (owns : List (Option Own)) (front : List (Option Seat)) (seat : Seat) (ahead : List (Option Seat)) (i : ℕ) → length front ≡ i → SeatsDiffer (front ++ Some seat ∷ ahead) → Sit keys owns (front ++ Some seat ∷ ahead) → Sit (without_key seat.conn keys) (slice_set owns i None) (front ++ None ∷ ahead)
+sit_without keys owns front seat ahead i e differ h =
+    sit_kept seat.conn keys (slice_set owns i None) (front ++ None ∷ ahead) (numbers_around front seat ahead differ) (sit_cleared keys owns front (Some seat) ahead i e h)
+
+pub differ_cleared : (front : List (Option Seat)) (seat : Seat) (ahead : List (Option Seat)) → SeatsDiffer (front ++ Some seat ∷ ahead) → SeatsDiffer (front ++ None ∷ ahead)
+differ_cleared [] seat ahead h = h.1
+differ_cleared (None ∷ front) seat ahead h = differ_cleared front seat ahead h
+differ_cleared (Some other ∷ front) seat ahead h = (all_cleared (IsApartFrom other) front (Some seat) ahead tt h.0, differ_cleared front seat ahead h.1)
+
+-- ---- a newcomer
+
+pub sit_pushed : (keys : List (Option ℕ)) (key : ℕ) (owns : List (Option Own)) (places : List (Option Seat)) → Sit keys owns places → Sit (keys ++ Some key ∷ []) owns places
+sit_pushed keys key [] [] h = tt
+sit_pushed keys key [] (place ∷ places) h = absurd h
+sit_pushed keys key (own ∷ owns) [] h = absurd h
+sit_pushed keys key (None ∷ owns) (None ∷ places) h = (tt, sit_pushed keys key owns places h.1)
+sit_pushed keys key (None ∷ owns) (Some seat ∷ places) h = absurd h.0
+sit_pushed keys key (Some own ∷ owns) (None ∷ places) h = absurd h.0
+sit_pushed keys key (Some own ∷ owns) (Some seat ∷ places) h = ((h.0.0, key_push seat.conn keys (Some key) (key_within seat.conn keys own.key h.0.1).1 ∙ h.0.1), sit_pushed keys key owns places h.1)
+
+-- which place is free, as the first
+abbrev pub free_in : List (Option Own) → ℕ
+free_in owns = prefix_len (λ own. not (is_none own)) owns
+
+pub sit_seated : (keys : List (Option ℕ)) (own : Own) (seat : Seat) (owns : List (Option Own)) (places : List (Option Seat)) → SitsAt keys (Some own) (Some seat) → Sit keys owns places → Sit keys (slice_set owns (free_in owns) (Some own)) (seated seat places)
+sit_seated keys own seat [] [] new h = tt
+sit_seated keys own seat [] (place ∷ places) new h = absurd h
+sit_seated keys own seat (o ∷ owns) [] new h = absurd h
+sit_seated keys own seat (None ∷ owns) (None ∷ places) new h = (new, h.1)
+sit_seated keys own seat (None ∷ owns) (Some other ∷ places) new h = absurd h.0
+sit_seated keys own seat (Some o ∷ owns) (None ∷ places) new h = absurd h.0
+sit_seated keys own seat (Some o ∷ owns) (Some other ∷ places) new h =
+    let step : suc (free_in owns) ≡ 1 + free_in owns = omega arith in
+    subst (λ (i : ℕ). Sit keys (slice_set (Some o ∷ owns) i (Some own)) (Some other ∷ seated seat places)) step (h.0, sit_seated keys own seat owns places new h.1)
+
+pub free_is : (owns : List (Option Own)) (free : ℕ) → position is_none owns ≡ Some free → free ≡ free_in owns
+free_is owns free e = by (nat_lt (free_in owns) (length owns)) e
+  where
+    by : (b : Bool) → cond b (Some (free_in owns)) None ≡ Some free → free ≡ free_in owns
+    by true e = cc
+    by false e = cc
+
+all_taken : (keys : List (Option ℕ)) (owns : List (Option Own)) (places : List (Option Seat)) → Sit keys owns places → length owns ≤ free_in owns → length owns ≤ count_by is_some places
+all_taken keys [] places h e = omega arith
+all_taken keys (own ∷ owns) [] h e = absurd h
+all_taken keys (None ∷ owns) (place ∷ places) h e = absurd (omega (arith, e))
+all_taken keys (Some own ∷ owns) (None ∷ places) h e = absurd h.0
+all_taken keys (Some own ∷ owns) (Some seat ∷ places) h e =
+    let less : length owns ≤ free_in owns = omega (arith, e) in
+    let ih = all_taken keys owns places h.1 less in
+    let c = count_cons (Some seat) places in
+    omega (arith, ih, c)
+
+-- where no place is free, all are taken
+pub none_free : (keys : List (Option ℕ)) (owns : List (Option Own)) (places : List (Option Seat)) → Sit keys owns places → position is_none owns ≡ None → length owns ≤ count_by is_some places
+none_free keys owns places h e = all_taken keys owns places h (by (nat_lt (free_in owns) (length owns)) refl e)
+  where
+    by : (b : Bool) → nat_lt (free_in owns) (length owns) ≡ b → cond b (Some (free_in owns)) None ≡ None → length owns ≤ free_in owns
+    by true t e = cc
+    by false t e = grind (arith, nat_tests)
+
+pub all_seated : (P : Option Seat → Type 0) (seat : Seat) (places : List (Option Seat)) → P (Some seat) → AllByRecursion P places → AllByRecursion P (seated seat places)
+all_seated P seat [] new h = tt
+all_seated P seat (None ∷ places) new h = (new, h.1)
+all_seated P seat (Some other ∷ places) new h = (h.0, all_seated P seat places new h.1)
+
+pub differ_seated : (seat : Seat) (places : List (Option Seat)) → AllByRecursion (IsApartFrom seat) places → SeatsDiffer places → SeatsDiffer (seated seat places)
+differ_seated seat [] new h = tt
+differ_seated seat (None ∷ places) new h = (new.1, h)
+differ_seated seat (Some other ∷ places) new h =
+    (all_seated (IsApartFrom other) seat places (same_no seat.conn other.conn new.0.0, same_no seat.peer other.peer new.0.1) h.0, differ_seated seat places new.1 h.1)
+
+pub new_apart : (keys : List (Option ℕ)) (seat : Seat) (owns : List (Option Own)) (places : List (Option Seat)) → Sit keys owns places → seat.conn ≡ length keys + 1 → AllByRecursion (IsNotOf seat.peer) places → AllByRecursion (IsApartFrom seat) places
+new_apart keys seat [] [] h e new = tt
+new_apart keys seat [] (place ∷ places) h e new = absurd h
+new_apart keys seat (own ∷ owns) [] h e new = absurd h
+new_apart keys seat (None ∷ owns) (None ∷ places) h e new = (tt, new_apart keys seat owns places h.1 e new.1)
+new_apart keys seat (None ∷ owns) (Some other ∷ places) h e new = absurd h.0
+new_apart keys seat (Some own ∷ owns) (None ∷ places) h e new = absurd h.0
+new_apart keys seat (Some own ∷ owns) (Some other ∷ places) h e new =
+    let within : other.conn ≤ length keys = (key_within other.conn keys own.key h.0.1).1 in
+    let no : (seat.conn == other.conn) ≡ false = past seat.conn other.conn (length keys) e within in
+    ((no, new.0), new_apart keys seat owns places h.1 e new.1)
+  where
+    past : (a b n : ℕ) → a ≡ n + 1 → b ≤ n → (a == b) ≡ false
+    past a b n e h = grind (arith, nat_tests)
+
+-- ---- a round of visits
+
+pub visits-append : (xs ys : List (Option Visit)) → visits_of (xs ++ ys) ≡ visits_of xs ++ visits_of ys
+visits-append [] ys = refl
+visits-append (None ∷ xs) ys = visits-append xs ys
+visits-append (Some v ∷ xs) ys = ap (λ more. v ∷ more) (visits-append xs ys)
+
+pub own_append : (xs ys : List Visit) → AreOwn xs → AreOwn ys → AreOwn (xs ++ ys)
+own_append [] ys h k = k
+own_append (x ∷ xs) ys h k = (h.0, own_append xs ys h.1 k)
+
+pub round_seats : (round : List (Option Visit)) → seats (map seat_of round) ≡ map (λ v. v.0) (visits_of round)
+round_seats [] = refl
+round_seats (None ∷ round) = round_seats round
+round_seats (Some v ∷ round) = ap (λ more. v.0 ∷ more) (round_seats round)
+
+other_append : (peer : ℕ) (xs ys : List Call) → IsOther peer xs → IsOther peer ys → IsOther peer (xs ++ ys)
+other_append peer [] ys h k = k
+other_append peer (x ∷ xs) ys h k = (h.0, other_append peer xs ys h.1 k)
+
+about_other : (p q : ℕ) (call : Call) → (p == q) ≡ false → is_about p call ≡ true → is_about q call ≡ false
+about_other p q (NowCall answer) e h = cc
+about_other p q (AcceptCall answer) e h = cc
+about_other p q (ReadCall who answer buffer) e h = grind (arith, nat_tests)
+about_other p q (WriteCall who bytes answer) e h = grind (arith, nat_tests)
+about_other p q (CloseCall who answer) e h = grind (arith, nat_tests)
+
+own_other : (p q : ℕ) (calls : List Call) → (p == q) ≡ false → AreAbout p calls → IsOther q calls
+own_other p q [] e h = tt
+own_other p q (call ∷ calls) e h = (about_other p q call e h.0, own_other p q calls e h.1)
+
+later_other : (seat : Seat) (round : List (Option Visit)) → AllByRecursion (IsApartFrom seat) (map seat_of round) → AreOwn (visits_of round) → IsOther seat.peer (calls_of (visits_of round))
+later_other seat [] h own = tt
+later_other seat (None ∷ round) h own = later_other seat round h.1 own
+later_other seat (Some v ∷ round) h own =
+    other_append seat.peer v.1 (calls_of (visits_of round)) (own_other v.0.peer seat.peer v.1 (same_no seat.peer v.0.peer h.0.1) own.0) (later_other seat round h.1 own.1)
+
+left_out_more : (before : List Call) (seat : Seat) (calls : List Call) (round : List (Option Visit)) → AreAbout seat.peer calls → AllByRecursion (IsApartFrom seat) (map seat_of round) → AllByRecursion (IsLeftOut before) (map seat_of round) → AllByRecursion (IsLeftOut (before ++ calls)) (map seat_of round)
+left_out_more before seat calls [] own h k = tt
+left_out_more before seat calls (None ∷ round) own h k = (tt, left_out_more before seat calls round own h.1 k.1)
+left_out_more before seat calls (Some v ∷ round) own h k = (other_append v.0.peer before calls k.0 (own_other seat.peer v.0.peer calls h.0.1 own), left_out_more before seat calls round own h.1 k.1)
+
+pub visits_apart : (before : List Call) (round : List (Option Visit)) → AreOwn (visits_of round) → SeatsDiffer (map seat_of round) → AllByRecursion (IsLeftOut before) (map seat_of round) → AreApart before (visits_of round)
+visits_apart before [] own h k = tt
+visits_apart before (None ∷ round) own h k = visits_apart before round own h k.1
+visits_apart before (Some v ∷ round) own h k =
+    (record { own = own.0; earlier = k.0; later = later_other v.0 round h.0 own.1 }, visits_apart (before ++ v.1) round own.1 h.1 (left_out_more before v.0 v.1 round own.0 h.0 k.1))
+
+pub kept_by : (before : List Call) (round : List (Option Visit)) → AreApart before (visits_of round) → (calls : List Call) → calls ≡ before ++ calls_of (visits_of round) → map (kept calls) (map seat_of round) ≡ map left_by round
+kept_by before [] h calls e = refl
+kept_by before (None ∷ round) h calls e = ap (λ more. None ∷ more) (kept_by before round h calls e)
+kept_by before (Some v ∷ round) h calls e =
+    let mine : visit calls v.0 ≡ v.1 = ap (λ all. visit all v.0) e ∙ one_visit before v (calls_of (visits_of round)) h.0 in
+    let others = kept_by (before ++ v.1) round h.1 calls (e ∙ sym (append_assoc before v.1 (calls_of (visits_of round)))) in
+    ap (λ own. (if list_any is_close own then None else Some v.0) ∷ map (kept calls) (map seat_of round)) mine ∙ ap (λ more. left_by (Some v) ∷ more) others
+
+pub known_left : (peers : List ℕ) (round : List (Option Visit)) → AllByRecursion (IsOneOf peers) (map seat_of round) → AllByRecursion (IsOneOf peers) (map left_by round)
+known_left peers [] h = tt
+known_left peers (None ∷ round) h = (tt, known_left peers round h.1)
+known_left peers (Some v ∷ round) h = (by (list_any is_close v.1), known_left peers round h.1)
+  where
+    by : (b : Bool) → IsOneOf peers (if b then None else Some v.0)
+    by true = tt
+    by false = h.0

@@ -1,0 +1,103 @@
+-- What is asked of a door, function by function.
+use Rattle.std.proofs.Common.{◌≡◌, ◌∙◌, ℕ, ◌+◌, true, not, List, [], ◌∷◌, ◌++◌, length, Option, Result, refl, ap, sym, subst, append-nil, length-append}
+use Rattle.std.proofs.lemmas.Grind.{flat_map-append}
+use Rattle.std.proofs.lemmas.List.Folds.{list_all-append}
+use Rattle.std.proofs.lemmas.Option.{same_Some}
+use Rattle.srcp_info.proofs.ClientLaws.{all_append}
+use Rattle.std.specs.List.{list_all, AllByRecursion}
+use Rattle.std.specs.Prelude.{◌&&◌, flat_map}
+use Rattle.srcp_serve.specs.Calls.{Call, Tells, NowCall, AcceptCall, ReadCall, WriteCall, CloseCall}
+use Rattle.srcp_serve.specs.Serving.{IsFair, is_now, turns}
+use Rattle.srcp_serve.specs.Turns.{AreTurns, AsksMoment, AsksNewcomer, AsksPeers, AsksTurn, AsksTurns, IsTurn, is_of_peer}
+use Rattle.srcp_serve.specs.Visits.{Closes}
+use Rattle.srcp_serve.specs.declared.door.DoorFault.{DoorFault}
+use Rattle.srcp_serve.proofs.ServingLaws.{one_turn, turns-append}
+use Rattle.srcp_serve.proofs.Telling.{adds_none, adds_one, adds_more}
+
+both_of_peers : (xs ys : List Call) → list_all is_of_peer xs ≡ true → list_all is_of_peer ys ≡ true → list_all is_of_peer (xs ++ ys) ≡ true
+both_of_peers xs ys h k = list_all-append is_of_peer xs ys ∙ ap (λ t. t && list_all is_of_peer ys) h ∙ k
+
+pub asks_none : (old : Option (List Call)) → AsksPeers old old
+asks_none old told is = record { calls = []; adds = adds_none old told is; peers = refl; fair = tt }
+
+pub asks_one : (call : Call) (old new : Option (List Call)) → is_of_peer call ≡ true → IsFair call → Tells old call new → AsksPeers old new
+asks_one call old new e fair h told is = record { calls = call ∷ []; adds = adds_one call old new told h is; peers = ap (λ t. t && true) e; fair = (fair, tt) }
+
+pub asks_close : (peer : ℕ) (old new : Option (List Call)) → Closes peer old new → AsksPeers old new
+asks_close peer old new closes told is = let c = closes told is in record { calls = CloseCall peer c.answer ∷ []; adds = c.adds; peers = refl; fair = (tt, tt) }
+
+pub asks_then : (a b c : Option (List Call)) → AsksPeers a b → AsksPeers b c → AsksPeers a c
+asks_then a b c first second told is =
+    let y = second told is in
+    let x = first y.adds.before y.adds.was in
+    record { calls = x.calls ++ y.calls; adds = adds_more a told y.adds.before x.calls y.calls x.adds y.adds.is; peers = both_of_peers x.calls y.calls x.peers y.peers; fair = all_append IsFair x.calls y.calls x.fair y.fair }
+
+pub asks_moment : (answer : Result ℕ DoorFault) (old new : Option (List Call)) → Tells old (NowCall answer) new → AsksMoment old new
+asks_moment answer old new h told is = record { answer = answer; adds = adds_one (NowCall answer) old new told h is }
+
+pub asks_newcomer : (answer : Result (Option ℕ) DoorFault) (old mid new : Option (List Call)) → Tells old (AcceptCall answer) mid → AsksPeers mid new → AsksNewcomer old new
+asks_newcomer answer old mid new h later told is =
+    let y = later told is in
+    let first = adds_one (AcceptCall answer) old mid y.adds.before h y.adds.was in
+    record { answer = answer; rest = y.calls; adds = adds_more old told y.adds.before (AcceptCall answer ∷ []) y.calls first y.adds.is; peers = y.peers; fair = y.fair }
+
+pub turn_begins : (old mid new : Option (List Call)) → AsksMoment old mid → AsksNewcomer mid new → AsksTurn old new
+turn_begins old mid new first second told is =
+    let y = second told is in
+    let x = first y.adds.before y.adds.was in
+    record {
+      calls = NowCall x.answer ∷ AcceptCall y.answer ∷ y.rest;
+      adds = adds_more old told y.adds.before (NowCall x.answer ∷ []) (AcceptCall y.answer ∷ y.rest) x.adds y.adds.is;
+      turn = record { now = x.answer; newcomer = y.answer; rest = y.rest; is = refl; peers = y.peers; fair = y.fair };
+    }
+
+pub turn_goes_on : (old mid new : Option (List Call)) → AsksTurn old mid → AsksPeers mid new → AsksTurn old new
+turn_goes_on old mid new first second told is =
+    let y = second told is in
+    let x = first y.adds.before y.adds.was in
+    let t = x.turn in
+    record {
+      calls = x.calls ++ y.calls;
+      adds = adds_more old told y.adds.before x.calls y.calls x.adds y.adds.is;
+      turn = record { now = t.now; newcomer = t.newcomer; rest = t.rest ++ y.calls; is = ap (λ calls. calls ++ y.calls) t.is; peers = both_of_peers t.rest y.calls t.peers y.peers; fair = all_append IsFair t.rest y.calls t.fair y.fair };
+    }
+
+-- ---- turn after turn
+
+pub not_now : (calls : List Call) → list_all is_of_peer calls ≡ true → list_all (λ call. not (is_now call)) calls ≡ true
+not_now [] h = refl
+not_now (NowCall answer ∷ calls) h = cc
+not_now (AcceptCall answer ∷ calls) h = cc
+not_now (ReadCall peer answer buffer ∷ calls) h = not_now calls h
+not_now (WriteCall peer bytes answer ∷ calls) h = not_now calls h
+not_now (CloseCall peer answer ∷ calls) h = not_now calls h
+
+all_turns : (xs ys : List (List Call)) → AllByRecursion IsTurn xs → AllByRecursion IsTurn ys → AllByRecursion IsTurn (xs ++ ys)
+all_turns [] ys h k = k
+all_turns (x ∷ xs) ys h k = (h.0, all_turns xs ys h.1 k)
+
+one_more_turn : (count : ℕ) (told calls : List Call) → AreTurns count told → IsTurn calls → AreTurns (count + 1) (told ++ calls)
+one_more_turn count told calls so t =
+    let rest : List Call = AcceptCall t.newcomer ∷ t.rest in
+    let whole : List Call = NowCall t.now ∷ rest in
+    let alone = one_turn rest (not_now t.rest t.peers) in
+    let last : turns whole ≡ whole ∷ [] = rw (alone.0, alone.1) refl in
+    let all : turns (told ++ whole) ≡ turns told ++ whole ∷ [] = turns-append told t.now rest ∙ ap (λ more. turns told ++ more) last in
+    let is_turn : IsTurn whole = record { now = t.now; newcomer = t.newcomer; rest = t.rest; is = refl; peers = t.peers; fair = t.fair } in
+    let done : AreTurns (count + 1) (told ++ whole) = record {
+      many = ap length all ∙ length-append (turns told) (whole ∷ []) ∙ ap (λ k. k + 1) so.many;
+      each = subst (λ (ts : List (List Call)). AllByRecursion IsTurn ts) (sym all) (all_turns (turns told) (whole ∷ []) so.each (is_turn, tt));
+      all = ap (flat_map (λ calls. calls)) all ∙ flat_map-append (λ calls. calls) (turns told) (whole ∷ []) ∙ ap (λ front. front ++ (whole ++ [])) so.all ∙ ap (λ more. told ++ more) (append-nil whole);
+      fair = all_append IsFair told whole so.fair (tt, (tt, t.fair));
+    } in
+    subst (λ (c : List Call). AreTurns (count + 1) (told ++ c)) (sym t.is) done
+
+pub turns_none : (old : Option (List Call)) → AsksTurns 0 old old
+turns_none old told first is =
+    let none : [] ≡ told = same_Some [] told (sym first ∙ is) in
+    subst (λ (calls : List Call). AreTurns 0 calls) none (record { many = refl; each = tt; all = refl; fair = tt })
+
+pub turns_on : (count : ℕ) (old mid new : Option (List Call)) → AsksTurns count old mid → AsksTurn mid new → AsksTurns (count + 1) old new
+turns_on count old mid new so turn told first is =
+    let t = turn told is in
+    subst (λ (calls : List Call). AreTurns (count + 1) calls) (sym t.adds.is) (one_more_turn count t.adds.before t.calls (so t.adds.before first t.adds.was) t.turn)

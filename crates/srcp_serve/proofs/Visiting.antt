@@ -1,0 +1,273 @@
+-- A visit: one read, the writes, and how it ends.
+use Rattle.std.proofs.Common.{◌≡◌, ◌∙◌, ℕ, ◌+◌, Bool, true, false, cond, ◌==◌, not, List, [], ◌∷◌, ◌++◌, map, take, Option, Some, None, Result, refl, ap, sym, subst, arith, append_assoc, append-nil}
+use Rattle.std.proofs.Math.Bool.{or-false}
+use Rattle.std.proofs.lemmas.Bool.Decides.{nat_tests}
+use Rattle.std.proofs.lemmas.List.{map-append}
+use Rattle.std.proofs.lemmas.List.Elements.{filter_map-append}
+use Rattle.std.proofs.lemmas.List.Folds.{list_any-append}
+use Rattle.std.proofs.lemmas.List.Sums.{sum_by-append}
+use Rattle.std.proofs.lemmas.Option.{same_Some}
+use Rattle.std.specs.List.{list_any, filter_map, count_by}
+use Rattle.std.specs.Prelude.{◌||◌, ◌&&◌, nat_lt, if◌then◌else◌}
+use Rattle.srcp_rules.specs.declared.layout.Bus.{Bus}
+use Rattle.srcp_core.specs.Agrees.{OfConnection, closes as closes_in}
+use Rattle.srcp_core.specs.Course.{course}
+use Rattle.srcp_core.specs.Held.{Held}
+use Rattle.srcp_core.specs.Recording.{without_key}
+use Rattle.srcp_core.specs.Run.{LeadsToFree}
+use Rattle.srcp_core.specs.Stands.{StandsFor}
+use Rattle.srcp_core.specs.declared.event.Event.{Event}
+use Rattle.srcp_core.specs.declared.event.Event.TheVariants.{Bytes, Room, Shut}
+use Rattle.srcp_serve.specs.Calls.{Call, ReadCall, WriteCall, CloseCall}
+use Rattle.srcp_serve.specs.Serving.{Seat, Question, Writes, Closes as ClosesQuestion, question, visit, exchange, rooms, lent_none_last, handed, is_closing, reads_of, writes_of, closes_of, visit_events, is_about, is_close, is_write, loses, loses_reading, loses_writing, falls_short, piece_of, count_of}
+use Rattle.srcp_serve.specs.Visits.{AreAbout, AreWritesTo, Closes, Exchanges, IsExchanged, IsLetGo, IsReadFrom, IsVisited, IsWrittenTo, Keeps, LetsGo, ReadsIn, Visits, WritesOut, read_calls}
+use Rattle.srcp_serve.specs.declared.door.DoorFault.{DoorFault}
+use Rattle.srcp_serve.specs.declared.door.Got.{Got}
+use Rattle.srcp_serve.proofs.Telling.{adds_more}
+use Rattle.srcp_serve.proofs.VisitLaws.{own_calls}
+
+same_peer : (peer : ℕ) → (peer == peer) ≡ true
+same_peer peer = grind (arith, nat_tests)
+
+-- ---- the calls of a read
+
+abbrev AsRead : Type 0
+AsRead = Option (Result Got DoorFault × List ℕ)
+
+reads_count : (peer : ℕ) (read : AsRead) → filter_map count_of (read_calls peer read) ≡ []
+reads_count peer None = refl
+reads_count peer (Some (answer, buffer)) = refl
+
+reads_short : (peer : ℕ) (read : AsRead) → list_any falls_short (read_calls peer read) ≡ false
+reads_short peer None = refl
+reads_short peer (Some (answer, buffer)) = refl
+
+reads_writes : (peer : ℕ) (read : AsRead) → count_by is_write (read_calls peer read) ≡ 0
+reads_writes peer None = refl
+reads_writes peer (Some (answer, buffer)) = refl
+
+reads_close : (peer : ℕ) (read : AsRead) → list_any is_close (read_calls peer read) ≡ false
+reads_close peer None = refl
+reads_close peer (Some (answer, buffer)) = refl
+
+reads_loses : (peer : ℕ) (read : AsRead) → list_any loses (read_calls peer read) ≡ list_any loses_reading (read_calls peer read)
+reads_loses peer None = refl
+reads_loses peer (Some (answer, buffer)) = ap (λ t. t || false) (or-false (loses_reading (ReadCall peer answer buffer)))
+
+reads_about : (peer : ℕ) (read : AsRead) → AreAbout peer (read_calls peer read)
+reads_about peer None = tt
+reads_about peer (Some (answer, buffer)) = (same_peer peer, tt)
+
+-- ---- the calls of writes
+
+writes_pieces : (peer : ℕ) (calls : List Call) → AreWritesTo peer calls → filter_map piece_of calls ≡ []
+writes_pieces peer [] own = refl
+writes_pieces peer (call ∷ calls) own = subst (λ (c : Call). filter_map piece_of (c ∷ calls) ≡ []) (sym own.0.is) (writes_pieces peer calls own.1)
+
+writes_reading : (peer : ℕ) (calls : List Call) → AreWritesTo peer calls → list_any loses_reading calls ≡ false
+writes_reading peer [] own = refl
+writes_reading peer (call ∷ calls) own = subst (λ (c : Call). list_any loses_reading (c ∷ calls) ≡ false) (sym own.0.is) (writes_reading peer calls own.1)
+
+writes_close : (peer : ℕ) (calls : List Call) → AreWritesTo peer calls → list_any is_close calls ≡ false
+writes_close peer [] own = refl
+writes_close peer (call ∷ calls) own = subst (λ (c : Call). list_any is_close (c ∷ calls) ≡ false) (sym own.0.is) (writes_close peer calls own.1)
+
+writes_loses : (peer : ℕ) (calls : List Call) → AreWritesTo peer calls → list_any loses calls ≡ list_any loses_writing calls
+writes_loses peer [] own = refl
+writes_loses peer (call ∷ calls) own =
+    subst (λ (c : Call). list_any loses (c ∷ calls) ≡ list_any loses_writing (c ∷ calls)) (sym own.0.is)
+    (ap (λ t. loses_writing (WriteCall peer own.0.bytes own.0.answer) || t) (writes_loses peer calls own.1))
+
+writes_about : (peer : ℕ) (calls : List Call) → AreWritesTo peer calls → AreAbout peer calls
+writes_about peer [] own = tt
+writes_about peer (call ∷ calls) own = (ap (is_about peer) own.0.is ∙ same_peer peer, writes_about peer calls own.1)
+
+-- ---- calls after calls
+
+about_append : (peer : ℕ) (xs ys : List Call) → AreAbout peer xs → AreAbout peer ys → AreAbout peer (xs ++ ys)
+about_append peer [] ys h k = k
+about_append peer (x ∷ xs) ys h k = (h.0, about_append peer xs ys h.1 k)
+
+count_append : (xs ys : List Call) → count_by is_write (xs ++ ys) ≡ count_by is_write xs + count_by is_write ys
+count_append xs ys = sum_by-append (λ x. cond (is_write x) 1 0) xs ys
+
+any_second : (p : Call → Bool) (xs ys : List Call) → list_any p xs ≡ false → list_any p (xs ++ ys) ≡ list_any p ys
+any_second p xs ys e = list_any-append p xs ys ∙ ap (λ t. t || list_any p ys) e
+
+any_first : (p : Call → Bool) (xs ys : List Call) → list_any p ys ≡ false → list_any p (xs ++ ys) ≡ list_any p xs
+any_first p xs ys e = list_any-append p xs ys ∙ ap (λ t. list_any p xs || t) e ∙ or-false (list_any p xs)
+
+-- room for nothing, or no more room
+abbrev last_room : Bool → List ℕ
+last_room b = if b then 0 ∷ [] else []
+
+same_rooms : (xs ys : List Call) → filter_map count_of xs ≡ filter_map count_of ys → list_any loses xs ≡ list_any loses ys → list_any falls_short xs ≡ list_any falls_short ys → count_by is_write xs ≡ count_by is_write ys → rooms xs ≡ rooms ys
+same_rooms xs ys c l s k =
+    ap (λ counts. counts ++ last_room (lent_none_last xs)) c
+    ∙ ap (λ t. filter_map count_of ys ++ last_room (not t && (not (list_any falls_short xs) && nat_lt (count_by is_write xs) 300))) l
+    ∙ ap (λ t. filter_map count_of ys ++ last_room (not (list_any loses ys) && (not t && nat_lt (count_by is_write xs) 300))) s
+    ∙ ap (λ m. filter_map count_of ys ++ last_room (not (list_any loses ys) && (not (list_any falls_short ys) && nat_lt m 300))) k
+
+module _ (buses : List Bus) (events : List Event) (keys : List (Option ℕ)) (n peer : ℕ) where
+  abbrev seat : Seat
+  seat = record { peer = peer; conn = n }
+
+  -- what is written, by whether reading lost the peer, what was read and what was taken
+  abbrev handed_by : Bool → List (List ℕ) → List ℕ → List Question
+  handed_by lost pieces counts = if lost then [] else map (Writes peer) (take 300 (handed buses n (events ++ map (Bytes n) pieces) counts))
+
+  same_writes : (xs ys : List Call) → list_any loses_reading xs ≡ list_any loses_reading ys → filter_map piece_of xs ≡ filter_map piece_of ys → filter_map count_of xs ≡ filter_map count_of ys → writes_of buses events xs seat ≡ writes_of buses events ys seat
+  same_writes xs ys l p c =
+      ap (λ t. handed_by t (filter_map piece_of xs) (filter_map count_of xs)) l
+      ∙ ap (λ pieces. handed_by (list_any loses_reading ys) pieces (filter_map count_of xs)) p
+      ∙ ap (λ counts. handed_by (list_any loses_reading ys) (filter_map piece_of ys) counts) c
+
+  same_exchange : (xs ys : List Call) → filter_map piece_of xs ≡ filter_map piece_of ys → rooms xs ≡ rooms ys → exchange n xs ≡ exchange n ys
+  same_exchange xs ys p r = ap (λ pieces. map (Bytes n) pieces ++ map (Room n) (rooms xs)) p ∙ ap (λ counts. map (Bytes n) (filter_map piece_of ys) ++ map (Room n) counts) r
+
+  -- the peer was lost in reading
+  pub exchanged_lost : (old : Option (List Call)) (told : List Call) (new : Held) → IsReadFrom buses events keys n peer old told new false → IsExchanged buses events keys n peer old told new false
+  exchanged_lost old told new r =
+      let calls : List Call = read_calls peer r.read in
+      let lost : list_any loses calls ≡ true = reads_loses peer r.read ∙ r.stays_is in
+      let no_rooms : rooms calls ≡ [] = ap (λ counts. counts ++ last_room (lent_none_last calls)) (reads_count peer r.read) ∙ ap (λ t. last_room (not t && (not (list_any falls_short calls) && nat_lt (count_by is_write calls) 300))) lost in
+      let same : exchange n calls ≡ map (Bytes n) (filter_map piece_of calls) = ap (λ counts. map (Bytes n) (filter_map piece_of calls) ++ map (Room n) counts) no_rooms ∙ append-nil (map (Bytes n) (filter_map piece_of calls)) in
+      record {
+        calls = calls;
+        adds = r.adds;
+        own = reads_about peer r.read;
+        quiet = reads_close peer r.read;
+        asked = r.asked ∙ sym (append-nil (reads_of buses events seat)) ∙ ap (λ t. reads_of buses events seat ++ handed_by t (filter_map piece_of calls) (filter_map count_of calls)) (sym r.stays_is);
+        loses_is = lost;
+        stands = subst (λ (more : List Event). StandsFor buses keys new (course buses (events ++ more))) (sym same) r.stands;
+      }
+
+  -- it was written to after the read
+  pub exchanged : (old told_mid : Option (List Call)) (mid told : List Call) (between new : Held) (stays : Bool) → told_mid ≡ Some mid → (r : IsReadFrom buses events keys n peer old mid between true)
+      → IsWrittenTo buses (events ++ map (Bytes n) (filter_map piece_of (read_calls peer r.read))) keys n peer told_mid told new stays → IsExchanged buses events keys n peer old told new stays
+  exchanged old told_mid mid told between new stays is r w =
+      let reads : List Call = read_calls peer r.read in
+      let calls : List Call = reads ++ w.calls in
+      let pieces : filter_map piece_of calls ≡ filter_map piece_of reads = filter_map-append piece_of reads w.calls ∙ ap (λ more. filter_map piece_of reads ++ more) (writes_pieces peer w.calls w.own) ∙ append-nil (filter_map piece_of reads) in
+      let counts : filter_map count_of calls ≡ filter_map count_of w.calls = filter_map-append count_of reads w.calls ∙ ap (λ front. front ++ filter_map count_of w.calls) (reads_count peer r.read) in
+      let reading : list_any loses_reading calls ≡ false = any_second loses_reading reads w.calls r.stays_is ∙ writes_reading peer w.calls w.own in
+      let losing : list_any loses calls ≡ list_any loses w.calls = any_second loses reads w.calls (reads_loses peer r.read ∙ r.stays_is) in
+      let short : list_any falls_short calls ≡ list_any falls_short w.calls = any_second falls_short reads w.calls (reads_short peer r.read) in
+      let many : count_by is_write calls ≡ count_by is_write w.calls = count_append reads w.calls ∙ ap (λ k. k + count_by is_write w.calls) (reads_writes peer r.read) ∙ none_more (count_by is_write w.calls) in
+      let same : w.adds.before ≡ mid = same_Some w.adds.before mid (sym w.adds.was ∙ is) in
+      let rooms_same : rooms calls ≡ rooms w.calls = same_rooms calls w.calls counts losing short many in
+      let read : List Event = map (Bytes n) (filter_map piece_of reads) in
+      let more : exchange n calls ≡ read ++ map (Room n) (rooms w.calls) = ap (λ ps. map (Bytes n) ps ++ map (Room n) (rooms calls)) pieces ∙ ap (λ counts. read ++ map (Room n) counts) rooms_same in
+      let asks : writes_of buses events calls seat ≡ map (Writes peer) (take 300 (handed buses n (events ++ read) (filter_map count_of w.calls))) =
+      ap (λ t. handed_by t (filter_map piece_of calls) (filter_map count_of calls)) reading ∙ ap (λ ps. handed_by false ps (filter_map count_of calls)) pieces ∙ ap (λ cs. handed_by false (filter_map piece_of reads) cs) counts in
+      record {
+        calls = calls;
+        adds = adds_more old told mid reads w.calls r.adds (w.adds.is ∙ ap (λ before. before ++ w.calls) same);
+        own = about_append peer reads w.calls (reads_about peer r.read) (writes_about peer w.calls w.own);
+        quiet = any_second is_close reads w.calls (reads_close peer r.read) ∙ writes_close peer w.calls w.own;
+        asked = map-append question reads w.calls ∙ ap (λ qs. qs ++ map question w.calls) r.asked ∙ ap (λ qs. reads_of buses events seat ++ qs) (w.asked ∙ sym asks);
+        loses_is = losing ∙ writes_loses peer w.calls w.own ∙ w.stays_is;
+        stands = subst (λ (all : List Event). StandsFor buses keys new (course buses all)) (append_assoc events read (map (Room n) (rooms w.calls)) ∙ ap (λ all. events ++ all) (sym more)) w.stands;
+      }
+    where
+      none_more : (k : ℕ) → 0 + k ≡ k
+      none_more k = omega arith
+
+  abbrev ending : Bool → List Question
+  ending b = if b then ClosesQuestion peer ∷ [] else []
+
+  abbrev shutting : Bool → List Event
+  shutting b = if b then Shut n ∷ [] else []
+
+  -- it keeps its place
+  pub visited_stays : (old : Option (List Call)) (told : List Call) (new : Held) → (x : IsExchanged buses events keys n peer old told new true) → is_closing buses n (events ++ exchange n x.calls) ≡ false → IsVisited buses events keys n peer old told new true
+  visited_stays old told new x open_still =
+      let mine : visit x.calls seat ≡ x.calls = own_calls peer x.calls x.own in
+      let more : visit_events x.calls seat ≡ exchange n x.calls =
+      ap (λ calls. exchange n calls ++ shutting (list_any is_close calls)) mine ∙ ap (λ t. exchange n x.calls ++ shutting t) x.quiet ∙ append-nil (exchange n x.calls) in
+      let none : closes_of buses events x.calls seat ≡ [] = ap (λ t. ending (t || is_closing buses n (events ++ exchange n x.calls))) x.loses_is ∙ ap ending open_still in
+      record {
+        calls = x.calls;
+        adds = x.adds;
+        own = x.own;
+        asked = x.asked ∙ sym (append-nil (reads_of buses events seat ++ writes_of buses events x.calls seat)) ∙ ap (λ qs. (reads_of buses events seat ++ writes_of buses events x.calls seat) ++ qs) (sym none);
+        closes = x.quiet;
+        stands = subst (λ (all : List Event). StandsFor buses keys new (course buses (events ++ all))) (sym more) x.stands;
+      }
+
+  -- it is let go
+  pub visited_goes : (old told_mid : Option (List Call)) (mid told : List Call) (between new : Held) (value : Bool) → told_mid ≡ Some mid → (x : IsExchanged buses events keys n peer old mid between value)
+      → list_any loses x.calls || is_closing buses n (events ++ exchange n x.calls) ≡ true → IsLetGo buses (events ++ exchange n x.calls) keys n peer told_mid told new → IsVisited buses events keys n peer old told new false
+  visited_goes old told_mid mid told between new value is x ends g =
+      let last : Call = CloseCall peer g.closed.answer in
+      let calls : List Call = x.calls ++ last ∷ [] in
+      let same : g.closed.adds.before ≡ mid = same_Some g.closed.adds.before mid (sym g.closed.adds.was ∙ is) in
+      let pieces : filter_map piece_of calls ≡ filter_map piece_of x.calls = filter_map-append piece_of x.calls (last ∷ []) ∙ append-nil (filter_map piece_of x.calls) in
+      let counts : filter_map count_of calls ≡ filter_map count_of x.calls = filter_map-append count_of x.calls (last ∷ []) ∙ append-nil (filter_map count_of x.calls) in
+      let reading : list_any loses_reading calls ≡ list_any loses_reading x.calls = any_first loses_reading x.calls (last ∷ []) refl in
+      let losing : list_any loses calls ≡ list_any loses x.calls = any_first loses x.calls (last ∷ []) refl in
+      let short : list_any falls_short calls ≡ list_any falls_short x.calls = any_first falls_short x.calls (last ∷ []) refl in
+      let many : count_by is_write calls ≡ count_by is_write x.calls = count_append x.calls (last ∷ []) ∙ no_more (count_by is_write x.calls) in
+      let swap : exchange n calls ≡ exchange n x.calls = same_exchange calls x.calls pieces (same_rooms calls x.calls counts losing short many) in
+      let writes : writes_of buses events calls seat ≡ writes_of buses events x.calls seat = same_writes calls x.calls reading pieces counts in
+      let own : AreAbout peer calls = about_append peer x.calls (last ∷ []) x.own (same_peer peer, tt) in
+      let closing : list_any is_close calls ≡ true = any_second is_close x.calls (last ∷ []) x.quiet in
+      let mine : visit calls seat ≡ calls = own_calls peer calls own in
+      let more : visit_events calls seat ≡ exchange n x.calls ++ Shut n ∷ [] =
+      ap (λ all. exchange n all ++ shutting (list_any is_close all)) mine ∙ ap (λ t. exchange n calls ++ shutting t) closing ∙ ap (λ all. all ++ Shut n ∷ []) swap in
+      let asks : closes_of buses events calls seat ≡ ClosesQuestion peer ∷ [] =
+      ap (λ t. ending (t || is_closing buses n (events ++ exchange n calls))) losing ∙ ap (λ all. ending (list_any loses x.calls || is_closing buses n (events ++ all))) swap ∙ ap ending ends in
+      record {
+        calls = calls;
+        adds = adds_more old told mid x.calls (last ∷ []) x.adds (g.closed.adds.is ∙ ap (λ before. before ++ last ∷ []) same);
+        own = own;
+        asked = map-append question x.calls (last ∷ []) ∙ ap (λ qs. qs ++ ClosesQuestion peer ∷ []) (x.asked ∙ ap (λ qs. reads_of buses events seat ++ qs) (sym writes)) ∙ ap (λ qs. (reads_of buses events seat ++ writes_of buses events calls seat) ++ qs) (sym asks);
+        closes = closing;
+        stands = subst (λ (all : List Event). StandsFor buses (without_key n keys) new (course buses all)) (append_assoc events (exchange n x.calls) (Shut n ∷ []) ∙ ap (λ all. events ++ all) (sym more)) g.stands;
+      }
+    where
+      no_more : (k : ℕ) → k + 0 ≡ k
+      no_more k = omega arith
+
+-- ---- the functions
+
+module _ (peer key : ℕ) (old mid : Held) (told_old told_mid : Option (List Call)) where
+  pub exchanges_lost : ReadsIn peer key old told_old mid told_mid false → Exchanges peer key old told_old mid told_mid false
+  exchanges_lost reads buses events keys n told s d is = exchanged_lost buses events keys n peer told_old told mid (reads buses events keys n told s d is)
+
+  pub exchanges_on : (new : Held) (told_new : Option (List Call)) (stays : Bool) → ReadsIn peer key old told_old mid told_mid true → Keeps mid told_mid new told_new → WritesOut peer key mid told_mid new told_new stays → Exchanges peer key old told_old new told_new stays
+  exchanges_on new told_new stays reads keeps writes buses events keys n told s d is =
+      let w = keeps told d is in
+      let r = reads buses events keys n w.told s w.denied w.is in
+      exchanged buses events keys n peer told_old told_mid w.told told mid new stays w.is r
+      (writes buses (events ++ map (Bytes n) (filter_map piece_of (read_calls peer r.read))) keys n told (record { layout = s.layout; named = s.named; stands = r.stands }) d is)
+
+  pub visit_stays : (closing : Bool) → Exchanges peer key old told_old mid told_mid true → OfConnection key mid (λ buses events n. closing ≡ closes_in buses (course buses events) n) → closing ≡ false → Visits peer key old told_old mid told_mid true
+  visit_stays closing exchanges says open_still buses events keys n told s d is =
+      let x = exchanges buses events keys n told s d is in
+      visited_stays buses events keys n peer told_old told mid x (sym (says buses (events ++ exchange n x.calls) keys n s.layout s.named x.stands) ∙ open_still)
+
+  module _ (new : Held) (told_new : Option (List Call)) (keeps : Keeps mid told_mid new told_new) (goes : LetsGo peer key mid told_mid new told_new) where
+    pub visit_lost : Exchanges peer key old told_old mid told_mid false → Visits peer key old told_old new told_new false
+    visit_lost exchanges buses events keys n told s d is =
+        let w = keeps told d is in
+        let x = exchanges buses events keys n w.told s w.denied w.is in
+        visited_goes buses events keys n peer told_old told_mid w.told told mid new false w.is x (ap (λ t. t || is_closing buses n (events ++ exchange n x.calls)) x.loses_is)
+        (goes buses (events ++ exchange n x.calls) keys n told (record { layout = s.layout; named = s.named; stands = x.stands }) d is)
+
+    pub visit_closed : (closing : Bool) → Exchanges peer key old told_old mid told_mid true → OfConnection key mid (λ buses events n. closing ≡ closes_in buses (course buses events) n) → closing ≡ true → Visits peer key old told_old new told_new false
+    visit_closed closing exchanges says ends buses events keys n told s d is =
+        let w = keeps told d is in
+        let x = exchanges buses events keys n w.told s w.denied w.is in
+        visited_goes buses events keys n peer told_old told_mid w.told told mid new true w.is x
+        (ap (λ t. t || is_closing buses n (events ++ exchange n x.calls)) x.loses_is ∙ sym (says buses (events ++ exchange n x.calls) keys n s.layout s.named x.stands) ∙ ends)
+        (goes buses (events ++ exchange n x.calls) keys n told (record { layout = s.layout; named = s.named; stands = x.stands }) d is)
+
+-- the connection is shut and the peer let go
+pub lets_go : (peer key : ℕ) (old new : Held) (told_old told_new : Option (List Call)) → LeadsToFree key old new → Closes peer told_old told_new → LetsGo peer key old told_old new told_new
+lets_go peer key old new told_old told_new leads closes buses events keys n told s d is = record { closed = closes told is; stands = leads buses events keys n s.layout d s.named s.stands }
+
+pub lets_go_keeps : (peer : ℕ) (old new : Held) (told_old told_new : Option (List Call)) → (new.denied ≡ 0 → old.denied ≡ 0) → Closes peer told_old told_new → Keeps old told_old new told_new
+lets_go_keeps peer old new told_old told_new low closes told d is =
+    let c = closes told is in
+    record { denied = low d; told = c.adds.before; is = c.adds.was }

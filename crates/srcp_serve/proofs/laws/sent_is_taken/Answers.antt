@@ -1,0 +1,5 @@
+use Rattle.srcp_serve.proofs.TurnsTaken.{sent_taken}
+use Rattle.srcp_serve.proofs.laws.sent_is_taken.Goals as goal
+
+pub returns : goal.returns
+returns c = sent_taken

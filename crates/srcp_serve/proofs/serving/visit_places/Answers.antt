@@ -1,0 +1,42 @@
+use Rattle.std.proofs.Common.{◌≡◌, arith}
+use Rattle.srcp_serve.proofs.Hosting.{places_first, places_on, places_all}
+use Rattle.srcp_serve.proofs.Tallies.{counts_then, none_failed}
+use Rattle.srcp_serve.proofs.Telling.{keeps_quiet, keeps_then}
+use Rattle.srcp_serve.proofs.Turning.{asks_none, asks_then}
+use Rattle.srcp_serve.proofs.serving.visit_places.Goals as goal
+
+pub loop-place-init : goal.loop-place-init
+loop-place-init g c = record {
+  long = c.told-places;
+  faults = none_failed _ _ c.requires;
+  told = asks_none (g.D.Door.told c.args.door.now);
+  keeps = keeps_quiet c.args.core.now c.args.core.now (g.D.Door.told c.args.door.now) (λ d. d);
+  course = places_first c.args.core.now (g.D.Door.told c.args.door.now) c.args.places.now;
+}
+
+pub loop-place-preserved : goal.loop-place-preserved
+loop-place-preserved g c = record {
+  long = c.visit_place.array_long;
+  faults = counts_then _ _ _ _ _ _ c.loop-place.invariant.faults c.visit_place.ensures.faults;
+  told = asks_then (g.D.Door.told c.args.door.now) (g.D.Door.told c.loop-place.door) (g.D.Door.told c.visit_place.new.door) c.loop-place.invariant.told c.visit_place.ensures.told;
+  keeps = keeps_then c.args.core.now c.loop-place.core c.visit_place.new.core (g.D.Door.told c.args.door.now) (g.D.Door.told c.loop-place.door) (g.D.Door.told c.visit_place.new.door) c.loop-place.invariant.keeps c.visit_place.ensures.keeps;
+  course = places_on c.loop-place.place c.args.core.now c.loop-place.core c.visit_place.new.core (g.D.Door.told c.args.door.now) (g.D.Door.told c.loop-place.door) (g.D.Door.told c.visit_place.new.door) c.args.places.now c.loop-place.places c.visit_place.new.places
+      c.loop-place.invariant.long c.loop-place-test.true c.visit_place.ensures.course c.loop-place.invariant.course c.visit_place.ensures.keeps;
+}
+
+pub visit_place-requires-clause-counted : goal.visit_place-requires-clause-counted
+visit_place-requires-clause-counted g c = c.loop-place.invariant.faults.within
+
+pub returns-clause-faults : goal.returns-clause-faults
+returns-clause-faults g c = c.loop-place.invariant.faults
+
+pub returns-clause-told : goal.returns-clause-told
+returns-clause-told g c = c.loop-place.invariant.told
+
+pub returns-clause-keeps : goal.returns-clause-keeps
+returns-clause-keeps g c = c.loop-place.invariant.keeps
+
+pub returns-clause-course : goal.returns-clause-course
+returns-clause-course g c =
+    let most : c.loop-place.place ≡ 64 = omega (arith, c.loop-place-test.false, c.loop-place.auto.place-end) in
+    places_all c.loop-place.place c.args.core.now c.loop-place.core (g.D.Door.told c.args.door.now) (g.D.Door.told c.loop-place.door) c.args.places.now c.loop-place.places c.loop-place.invariant.long most c.loop-place.invariant.course

@@ -1,0 +1,7 @@
+pub mod Calls
+pub mod Listening
+pub mod Places
+pub mod Serving
+pub mod Tally
+pub mod Turns
+pub mod Visits

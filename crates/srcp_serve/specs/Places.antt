@@ -1,0 +1,282 @@
+-- How the places of a server stand for the course, and what a turn does to them, function by function.
+use Rattle.std.specs.Prelude.{Bool, ⊤, ◌≡◌, ℕ, ◌+◌, ◌≤◌, true, false, ◌==◌, if◌then◌else◌, List, [], ◌∷◌, ◌++◌, map, length, filter_map, flat_map, fold, count_by, is_some, Option, Some, None, Result}
+use Rattle.std.specs.List.{list_any, AllByRecursion}
+use Rattle.srcp_rules.specs.Layout.{IsLayout}
+use Rattle.srcp_rules.specs.declared.layout.Bus.{Bus}
+use Rattle.srcp_core.specs.Course.{course}
+use Rattle.srcp_core.specs.Held.{Held}
+use Rattle.srcp_core.specs.Recording.{key_of}
+use Rattle.srcp_core.specs.Stands.{StandsFor}
+use Rattle.srcp_core.specs.declared.event.Event.{Event}
+use Rattle.srcp_serve.specs.Calls.{Call, NowCall, AcceptCall}
+use Rattle.srcp_serve.specs.Serving.{Seat, Stand, Question, IsServed, PeersDiffer, question, newcomer_of, is_about, is_close, visit_events, visit_asks, timed, turned, turn_asks, turns_away, welcomed, stand_after, events_of, SendsWhatIsTaken}
+use Rattle.srcp_serve.specs.Turns.{IsTurn}
+use Rattle.srcp_serve.specs.Visits.{Adds, AreAbout}
+use Rattle.srcp_serve.specs.declared.door.DoorFault.{DoorFault}
+use Rattle.srcp_serve.specs.declared.serving.visit.Seat.{Seat as Own}
+
+-- ---- visits
+
+-- a visit: who has the place, and the calls
+abbrev pub Visit : Type 0
+Visit = Seat × List Call
+
+-- all calls of the visits
+abbrev pub calls_of : List Visit → List Call
+calls_of visits = flat_map (λ v. v.1) visits
+
+-- what the visits make happen
+abbrev pub made_by : List Visit → List Event
+made_by visits = flat_map (λ v. visit_events v.1 v.0) visits
+
+-- what the visits ask, one after another
+abbrev pub asked_by : List Bus → List Event → List Visit → List Question
+asked_by buses events [] = []
+asked_by buses events (v ∷ visits) = visit_asks buses events v.1 v.0 ++ asked_by buses (events ++ visit_events v.1 v.0) visits
+
+-- each visit is about its own peer
+abbrev pub AreOwn : List Visit → Type 0
+AreOwn visits = AllByRecursion (λ v. AreAbout v.0.peer v.1) visits
+
+-- a round of the places has a visit where somebody has the place
+abbrev pub visits_of : List (Option Visit) → List Visit
+visits_of round = filter_map (λ place. place) round
+
+-- who has the place before the visit
+abbrev pub seat_of : Option Visit → Option Seat
+seat_of None = None
+seat_of (Some v) = Some v.0
+
+-- who has it after the visit: nobody where it closes
+abbrev pub left_by : Option Visit → Option Seat
+left_by None = None
+left_by (Some v) = if list_any is_close v.1 then None else Some v.0
+
+-- ---- places
+
+-- the server's own place is that of the stand: it names the peer, and the key of its connection
+abbrev pub SitsAt : List (Option ℕ) → Option Own → Option Seat → Type 0
+SitsAt keys None None = ⊤
+SitsAt keys (Some own) (Some seat) = (own.peer ≡ seat.peer) × (key_of seat.conn keys ≡ Some own.key)
+SitsAt keys None (Some seat) = ⊥
+SitsAt keys (Some own) None = ⊥
+
+-- so it is of all places, in their order
+abbrev pub Sit : List (Option ℕ) → List (Option Own) → List (Option Seat) → Type 0
+Sit keys [] [] = ⊤
+Sit keys (own ∷ owns) (place ∷ places) = SitsAt keys own place × Sit keys owns places
+Sit keys [] (place ∷ places) = ⊥
+Sit keys (own ∷ owns) [] = ⊥
+
+-- another has the place, if one does
+abbrev pub IsApartFrom : Seat → Option Seat → Type 0
+IsApartFrom seat None = ⊤
+IsApartFrom seat (Some other) = ((seat.conn == other.conn) ≡ false) × ((seat.peer == other.peer) ≡ false)
+
+-- no number and no peer has two places
+abbrev pub SeatsDiffer : List (Option Seat) → Type 0
+SeatsDiffer [] = ⊤
+SeatsDiffer (None ∷ places) = SeatsDiffer places
+SeatsDiffer (Some seat ∷ places) = AllByRecursion (IsApartFrom seat) places × SeatsDiffer places
+
+-- the peer does not have the place
+abbrev pub IsNotOf : ℕ → Option Seat → Type 0
+IsNotOf peer None = ⊤
+IsNotOf peer (Some seat) = (peer == seat.peer) ≡ false
+
+-- who has the place is one of these peers
+abbrev pub IsOneOf : List ℕ → Option Seat → Type 0
+IsOneOf peers None = ⊤
+IsOneOf peers (Some seat) = list_any (λ peer. peer == seat.peer) peers ≡ true
+
+-- no call is about the peer
+abbrev pub IsOther : ℕ → List Call → Type 0
+IsOther peer calls = AllByRecursion (λ call. is_about peer call ≡ false) calls
+
+-- no call is about who has the place, if one does
+abbrev pub IsLeftOut : List Call → Option Seat → Type 0
+IsLeftOut calls None = ⊤
+IsLeftOut calls (Some seat) = IsOther seat.peer calls
+
+-- the core, with the keys of its connections, and the server's places are as the stand says
+pub record IsHosting (buses : List Bus) (stand : Stand) (keys : List (Option ℕ)) (held : Held)
+    (owns : List (Option Own)) : Type 0 where
+  pub layout : IsLayout buses
+  pub sit : Sit keys owns stand.places
+  pub few : count_by is_some stand.places ≤ count_by is_some keys
+  pub differ : SeatsDiffer stand.places
+  pub long : length keys ≡ length stand.guests
+  pub stands : StandsFor buses keys held (course buses stand.events)
+
+-- one where it is so
+abbrev pub one_if : Bool → ℕ
+one_if b = if b then 1 else 0
+
+-- ---- what the functions of a turn do
+
+module _ (buses : List Bus) (stand : Stand) (old : Option (List Call)) (told : List Call) (held : Held) where
+  -- the moment was asked for, and taken where it was told
+  pub record IsTimed (keys : List (Option ℕ)) : Type 0 where
+    pub answer : Result ℕ DoorFault
+    pub adds : Adds old told (NowCall answer ∷ [])
+    pub stands : StandsFor buses keys held (course buses (timed buses stand (NowCall answer ∷ [])).events)
+
+  module _ (owns : List (Option Own)) where
+    -- the newcomer has its place, or was turned away
+    pub record IsWelcomed (peer : ℕ) (opens : Bool) : Type 0 where
+      pub early : List Call
+      pub keys : List (Option ℕ)
+      pub adds : Adds old told early
+      pub asked : map question early ≡ turns_away buses stand.events peer
+      pub others : AllByRecursion (IsLeftOut early) (welcomed buses stand peer).places
+      pub hosting : IsHosting buses (welcomed buses stand peer) keys held owns
+      pub opened : length (welcomed buses stand peer).guests ≡ length stand.guests + one_if opens
+
+    -- so it is of the newcomer, if there was one
+    pub record IsBegun (opens : Bool) : Type 0 where
+      pub answer : Result (Option ℕ) DoorFault
+      pub early : List Call
+      pub keys : List (Option ℕ)
+      pub adds : Adds old told (AcceptCall answer ∷ early)
+      pub asked : map question early
+          ≡ flat_map (turns_away buses stand.events) (filter_map newcomer_of (AcceptCall answer ∷ []))
+      pub others : AllByRecursion (IsLeftOut early)
+          (fold (welcomed buses) stand (filter_map newcomer_of (AcceptCall answer ∷ []))).places
+      pub hosting : IsHosting buses
+          (fold (welcomed buses) stand (filter_map newcomer_of (AcceptCall answer ∷ []))) keys held owns
+      pub opened : length (fold (welcomed buses) stand (filter_map newcomer_of (AcceptCall answer ∷ []))).guests
+          ≡ length stand.guests + one_if opens
+
+    -- those that have these places, between the others, were visited in their order
+    pub record AreVisited (front seats ahead : List (Option Seat)) : Type 0 where
+      pub round : List (Option Visit)
+      pub keys : List (Option ℕ)
+      pub adds : Adds old told (calls_of (visits_of round))
+      pub seats_are : map seat_of round ≡ seats
+      pub own : AreOwn (visits_of round)
+      pub asked : map question (calls_of (visits_of round)) ≡ asked_by buses stand.events (visits_of round)
+      pub hosting : IsHosting buses
+          (record {
+            events = stand.events ++ made_by (visits_of round);
+            guests = stand.guests;
+            places = front ++ (map left_by round ++ ahead);
+          })
+          keys held owns
+
+    -- a turn was made
+    pub record IsTurnMade (opens : Bool) : Type 0 where
+      pub calls : List Call
+      pub keys : List (Option ℕ)
+      pub adds : Adds old told calls
+      pub turn : IsTurn calls
+      pub asked : map question calls ≡ turn_asks buses stand calls
+      pub known : AllByRecursion (IsOneOf (filter_map newcomer_of told)) (turned buses stand calls).places
+      pub hosting : IsHosting buses (turned buses stand calls) keys held owns
+      pub opened : length (turned buses stand calls).guests ≡ length stand.guests + one_if opens
+
+-- whatever the stand was, so it is afterwards, where no memory was refused and the door tells its calls
+abbrev pub HostsOn : (List Bus → Stand → List (Option ℕ) → List Call → Type 0)
+    → (old : Held) (owns : List (Option Own)) (new : Held) (told_new : Option (List Call)) → Type 0
+HostsOn So old owns new told_new = (buses : List Bus) (stand : Stand) (keys : List (Option ℕ)) (told : List Call)
+    → IsHosting buses stand keys old owns → new.denied ≡ 0 → told_new ≡ Some told → So buses stand keys told
+
+-- the moment is asked for
+abbrev pub TakesMoment : (old : Held) (told_old : Option (List Call)) (new : Held) (told_new : Option (List Call)) → Type 0
+TakesMoment old told_old new told_new = (owns : List (Option Own))
+    → HostsOn (λ buses stand keys told. IsTimed buses stand told_old told new keys) old owns new told_new
+
+-- a newcomer that has no place yet is seated, or turned away
+abbrev pub SeatsPeer : (peer : ℕ) (old : Held) (told_old : Option (List Call)) (owns_old : List (Option Own))
+    (new : Held) (told_new : Option (List Call)) (owns_new : List (Option Own)) (opens : Bool) → Type 0
+SeatsPeer peer old told_old owns_old new told_new owns_new opens = HostsOn
+    (λ buses stand keys told. AllByRecursion (IsNotOf peer) stand.places
+    → IsWelcomed buses stand told_old told new owns_new peer opens)
+    old owns_old new told_new
+
+-- one newcomer is asked for, where all that have a place are of the newcomers, and no peer came in twice
+abbrev pub LetsIn : (old : Held) (told_old : Option (List Call)) (owns_old : List (Option Own))
+    (new : Held) (told_new : Option (List Call)) (owns_new : List (Option Own)) (opens : Bool) → Type 0
+LetsIn old told_old owns_old new told_new owns_new opens = HostsOn
+    (λ buses stand keys told. (before : List Call) → told_old ≡ Some before → PeersDiffer buses told
+    → AllByRecursion (IsOneOf (filter_map newcomer_of before)) stand.places
+    → IsBegun buses stand told_old told new owns_new opens)
+    old owns_old new told_new
+
+-- who has that place is visited
+abbrev pub VisitsPlace : (place : ℕ) (old : Held) (told_old : Option (List Call)) (owns_old : List (Option Own))
+    (new : Held) (told_new : Option (List Call)) (owns_new : List (Option Own)) → Type 0
+VisitsPlace place old told_old owns_old new told_new owns_new = HostsOn
+    (λ buses stand keys told. (front : List (Option Seat)) (seat : Option Seat) (ahead : List (Option Seat))
+    → length front ≡ place → stand.places ≡ front ++ seat ∷ ahead
+    → AreVisited buses stand told_old told new owns_new front (seat ∷ []) ahead)
+    old owns_old new told_new
+
+-- so many places were visited
+pub record AreVisitedSoFar (buses : List Bus) (stand : Stand) (old : Option (List Call)) (told : List Call) (held : Held)
+    (owns : List (Option Own)) (count : ℕ) : Type 0 where
+  pub seats : List (Option Seat)
+  pub ahead : List (Option Seat)
+  pub are : stand.places ≡ seats ++ ahead
+  pub many : length seats ≡ count
+  pub visited : AreVisited buses stand old told held owns [] seats ahead
+
+-- so many places are visited, in their order
+abbrev pub VisitsSoFar : (count : ℕ) (old : Held) (told_old : Option (List Call)) (owns_old : List (Option Own))
+    (now : Held) (told_now : Option (List Call)) (owns_now : List (Option Own)) → Type 0
+VisitsSoFar count old told_old owns_old now told_now owns_now = HostsOn
+    (λ buses stand keys told. AreVisitedSoFar buses stand told_old told now owns_now count) old owns_old now told_now
+
+-- all places are visited, in their order
+abbrev pub VisitsPlaces : (old : Held) (told_old : Option (List Call)) (owns_old : List (Option Own))
+    (new : Held) (told_new : Option (List Call)) (owns_new : List (Option Own)) → Type 0
+VisitsPlaces old told_old owns_old new told_new owns_new = HostsOn
+    (λ buses stand keys told. AreVisited buses stand told_old told new owns_new [] stand.places [])
+    old owns_old new told_new
+
+-- a turn is made, where all that have a place are of the newcomers, and no peer came in twice
+abbrev pub MakesTurn : (old : Held) (told_old : Option (List Call)) (owns_old : List (Option Own))
+    (new : Held) (told_new : Option (List Call)) (owns_new : List (Option Own)) (opens : Bool) → Type 0
+MakesTurn old told_old owns_old new told_new owns_new opens = HostsOn
+    (λ buses stand keys told. (before : List Call) → told_old ≡ Some before → PeersDiffer buses told
+    → AllByRecursion (IsOneOf (filter_map newcomer_of before)) stand.places
+    → IsTurnMade buses stand told_old told new owns_new opens)
+    old owns_old new told_new
+
+-- ---- serving
+
+-- the calls are those of so many turns, and the core and the places stand as their answers say
+pub record IsServing (buses : List Bus) (count opens : ℕ) (told : List Call) (held : Held)
+    (owns : List (Option Own)) : Type 0 where
+  pub keys : List (Option ℕ)
+  pub served : IsServed buses count told
+  pub known : AllByRecursion (IsOneOf (filter_map newcomer_of told)) (stand_after buses told).places
+  pub hosting : IsHosting buses (stand_after buses told) keys held owns
+  pub opened : length (stand_after buses told).guests ≡ opens
+
+-- a core that stands for no events, over a door that had told nothing, where no memory was refused and no peer came in twice
+abbrev pub Begins : (List Bus → List Call → Type 0)
+    → (old : Held) (told_old : Option (List Call)) (new : Held) (told_new : Option (List Call)) → Type 0
+Begins So old told_old new told_new = (buses : List Bus) (told : List Call) → IsLayout buses
+    → StandsFor buses [] old (course buses []) → new.denied ≡ 0 → told_old ≡ Some [] → told_new ≡ Some told
+    → PeersDiffer buses told → So buses told
+
+-- so many turns are made, and so many peers were let in
+abbrev pub ServesSoFar : (count opens : ℕ) (old : Held) (told_old : Option (List Call)) (new : Held)
+    (told_new : Option (List Call)) (owns : List (Option Own)) → Type 0
+ServesSoFar count opens old told_old new told_new owns =
+    Begins (λ buses told. IsServing buses count opens told new owns) old told_old new told_new
+
+-- the calls are those of exactly so many turns, each write handed what the course leaves unsent; the core stands for the
+-- events that the answers make; and what each connection was sent by them is to the byte what the door took of its peer
+pub record IsOfCourse (buses : List Bus) (count opens : ℕ) (told : List Call) (held : Held) : Type 0 where
+  pub keys : List (Option ℕ)
+  pub served : IsServed buses count told
+  pub stands : StandsFor buses keys held (course buses (events_of buses told))
+  pub opened : opens ≡ length (course buses (events_of buses told)).connections  -- one for each Open that is accepted
+  pub taken : SendsWhatIsTaken buses told
+
+-- what serving so many turns is, where so many peers were let in
+abbrev pub ServesCourse : (count opens : ℕ) (old : Held) (told_old : Option (List Call)) (new : Held)
+    (told_new : Option (List Call)) → Type 0
+ServesCourse count opens old told_old new told_new =
+    Begins (λ buses told. IsOfCourse buses count opens told new) old told_old new told_new

@@ -1,0 +1,308 @@
+-- What a server asks of its door in so many turns, and what the answers make happen.
+-- A turn asks for the moment, lets in one peer, and visits each peer that has a place, in the order of the places.
+-- What a reader gets: a peer is handed exactly what the course of these events leaves unsent of its connection. So
+-- what the door took of each peer is what that course says was sent: SentIsTaken, which `laws::sent_is_taken` ensures.
+use Rattle.std.specs.Prelude.{⊤, ◌≡◌, ℕ, ◌+◌, ◌<◌, ◌≤◌, Bool, true, false, not, ◌&&◌, ◌||◌, ◌==◌, nat_lt, if◌then◌else◌, List, [], ◌∷◌, ◌++◌, map, take, length, filter, filter_map, flat_map, fold, count_by, replicate, Option, Some, None, is_none, Ok, Err}
+use Rattle.std.specs.List.{list_any, take_while, IsDistinct, AllByRecursion}
+use Rattle.srcp_rules.specs.declared.layout.Bus.{Bus}
+use Rattle.srcp_core.specs.Agrees.{closes, lent as lent_in}
+use Rattle.srcp_core.specs.Connection.{sent}
+use Rattle.srcp_core.specs.Course.{course, fault}
+use Rattle.srcp_core.specs.declared.event.Event.{Event}
+use Rattle.srcp_core.specs.declared.event.Event.TheVariants.{Open, Bytes, Room, At, Shut}
+use Rattle.srcp_serve.specs.Calls.{Call, NowCall, AcceptCall, ReadCall, WriteCall, CloseCall}
+use Rattle.srcp_serve.specs.declared.door.Got.TheVariants as got
+
+-- ---- calls and their answers
+
+-- the moment that was told
+abbrev pub moment_of : Call → Option ℕ
+moment_of (NowCall (Ok moment)) = Some moment
+moment_of other = None
+
+-- the peer that came in
+abbrev pub newcomer_of : Call → Option ℕ
+newcomer_of (AcceptCall (Ok peer)) = peer
+newcomer_of other = None
+
+-- the bytes that were read
+abbrev pub piece_of : Call → Option (List ℕ)
+piece_of (ReadCall peer (Ok (got.Bytes count)) buffer) = Some (take count buffer)
+piece_of other = None
+
+-- how many bytes a write took, none where it failed
+abbrev pub count_of : Call → Option ℕ
+count_of (WriteCall peer bytes (Ok count)) = Some count
+count_of (WriteCall peer bytes (Err failed)) = Some 0
+count_of other = None
+
+-- the moment was asked for
+abbrev pub is_now : Call → Bool
+is_now (NowCall answer) = true
+is_now other = false
+
+-- a peer was written to
+abbrev pub is_write : Call → Bool
+is_write (WriteCall peer bytes answer) = true
+is_write other = false
+
+-- a peer was let go
+abbrev pub is_close : Call → Bool
+is_close (CloseCall peer answer) = true
+is_close other = false
+
+-- the peer is at its end, or could not be read
+abbrev pub loses_reading : Call → Bool
+loses_reading (ReadCall peer (Ok got.Ended) buffer) = true
+loses_reading (ReadCall peer (Err failed) buffer) = true
+loses_reading other = false
+
+-- the peer could not be written to
+abbrev pub loses_writing : Call → Bool
+loses_writing (WriteCall peer bytes (Err failed)) = true
+loses_writing other = false
+
+-- the peer is lost
+abbrev pub loses : Call → Bool
+loses call = loses_reading call || loses_writing call
+
+-- the peer took less than it was handed
+abbrev pub falls_short : Call → Bool
+falls_short (WriteCall peer bytes (Ok count)) = nat_lt count (length bytes)
+falls_short other = false
+
+-- the call is about that peer
+abbrev pub is_about : ℕ → Call → Bool
+is_about peer (NowCall answer) = false
+is_about peer (AcceptCall answer) = false
+is_about peer (ReadCall who answer buffer) = who == peer
+is_about peer (WriteCall who bytes answer) = who == peer
+is_about peer (CloseCall who answer) = who == peer
+
+-- what a door is asked
+pub data Question : Type 0 where
+  Moments : Question
+  Newcomers : Question
+  Reads : (peer : ℕ) (most : ℕ) → Question
+  Writes : (peer : ℕ) (bytes : List ℕ) → Question
+  Closes : (peer : ℕ) → Question
+
+-- a call without its answer
+abbrev pub question : Call → Question
+question (NowCall answer) = Moments
+question (AcceptCall answer) = Newcomers
+question (ReadCall peer answer buffer) = Reads peer (length buffer)
+question (WriteCall peer bytes answer) = Writes peer bytes
+question (CloseCall peer answer) = Closes peer
+
+-- the answer is within what was asked: no more bytes than the buffer holds, or than were handed over
+abbrev pub IsFair : Call → Type 0
+IsFair (ReadCall peer (Ok (got.Bytes count)) buffer) = (0 < count) × (count ≤ length buffer)
+IsFair (WriteCall peer bytes (Ok count)) = count ≤ length bytes
+IsFair other = ⊤
+
+-- the bytes that a peer took in a call
+abbrev pub taken_in : ℕ → Call → List ℕ
+taken_in peer (WriteCall who bytes (Ok count)) = if who == peer then take count bytes else []
+taken_in peer other = []
+
+-- and in all these calls
+abbrev pub taken : ℕ → List Call → List ℕ
+taken peer told = flat_map (taken_in peer) told
+
+-- ---- peers and places
+
+-- a peer that was let in, and the number of its connection
+pub record Seat : Type 0 where
+  pub peer : ℕ
+  pub conn : ℕ
+
+-- how a server stands
+pub record Stand : Type 0 where
+  pub events : List Event  -- what has happened
+  pub guests : List ℕ  -- the peers that were let in: the first has connection 1, and so on
+  pub places : List (Option Seat)  -- who has which place
+
+-- before the first turn nothing has happened, and no place is taken
+abbrev pub empty_stand : Stand
+empty_stand = record { events = []; guests = []; places = replicate 64 None }
+
+-- those that have a place, in the order of the places
+abbrev pub seats : List (Option Seat) → List Seat
+seats places = filter_map (λ place. place) places
+
+-- a newcomer takes the first free place
+abbrev pub seated : Seat → List (Option Seat) → List (Option Seat)
+seated seat [] = []
+seated seat (None ∷ places) = Some seat ∷ places
+seated seat (Some other ∷ places) = Some other ∷ seated seat places
+
+-- the calls of a turn about a peer that has a place: its visit
+abbrev pub visit : List Call → Seat → List Call
+visit calls seat = filter (is_about seat.peer) calls
+
+-- a place is free after a visit that closes
+abbrev pub kept : List Call → Option Seat → Option Seat
+kept calls None = None
+kept calls (Some seat) = if list_any is_close (visit calls seat) then None else Some seat
+
+-- ---- what a visit makes happen
+
+-- the last time that the connection was asked for bytes it lent none: nothing had stopped the visit
+abbrev pub lent_none_last : List Call → Bool
+lent_none_last calls = not (list_any loses calls) && (not (list_any falls_short calls) && nat_lt (count_by is_write calls) 300)
+
+-- room for what each write took, and for nothing where nothing was lent
+abbrev pub rooms : List Call → List ℕ
+rooms calls = filter_map count_of calls ++ (if lent_none_last calls then 0 ∷ [] else [])
+
+-- what was read, and then room for what was taken
+abbrev pub exchange : ℕ → List Call → List Event
+exchange conn calls = map (Bytes conn) (filter_map piece_of calls) ++ map (Room conn) (rooms calls)
+
+-- the whole visit: a connection is shut where its peer is let go
+abbrev pub visit_events : List Call → Seat → List Event
+visit_events calls seat = exchange seat.conn (visit calls seat)
+    ++ (if list_any is_close (visit calls seat) then Shut seat.conn ∷ [] else [])
+
+-- ---- turns
+
+-- the calls of each turn, which begins where the moment is asked for
+abbrev pub turns : List Call → List (List Call)
+turns [] = []
+turns (call ∷ calls) = if is_now call then (call ∷ take_while (λ next. not (is_now next)) calls) ∷ turns calls else turns calls
+
+-- these bytes and then the rest, or nothing where there are none
+abbrev pub unless_nil : List ℕ → List (List ℕ) → List (List ℕ)
+unless_nil [] more = []
+unless_nil (byte ∷ bytes) more = (byte ∷ bytes) ∷ more
+
+module _ (buses : List Bus) where
+  -- ---- what the turns make happen
+
+  -- a newcomer is let in where the core accepts it
+  abbrev pub is_let_in : List Event → Bool
+  is_let_in events = is_none (fault buses (course buses events) Open)
+
+  -- the next connection is its
+  abbrev pub let_in : Stand → ℕ → Stand
+  let_in stand peer = record {
+    events = stand.events ++ Open ∷ [];
+    guests = stand.guests ++ peer ∷ [];
+    places = seated (record { peer = peer; conn = length stand.guests + 1 }) stand.places;
+  }
+
+  -- after a peer that wants in
+  abbrev pub welcomed : Stand → ℕ → Stand
+  welcomed stand peer = if is_let_in stand.events then let_in stand peer else record stand { events = stand.events ++ Open ∷ [] }
+
+  -- after a moment
+  abbrev pub with_moment : Stand → ℕ → Stand
+  with_moment stand moment = record stand { events = stand.events ++ At moment ∷ [] }
+
+  -- after the moment of a turn
+  abbrev pub timed : Stand → List Call → Stand
+  timed stand calls = fold with_moment stand (filter_map moment_of calls)
+
+  -- and then after its newcomer
+  abbrev pub begun : Stand → List Call → Stand
+  begun stand calls = fold welcomed (timed stand calls) (filter_map newcomer_of calls)
+
+  -- after the visits
+  abbrev pub visited : Stand → List Call → Stand
+  visited stand calls = record stand {
+    events = stand.events ++ flat_map (visit_events calls) (seats stand.places);
+    places = map (kept calls) stand.places;
+  }
+
+  -- after the whole turn
+  abbrev pub turned : Stand → List Call → Stand
+  turned stand calls = visited (begun stand calls) calls
+
+  -- how the server stands after all that its door told
+  abbrev pub stand_after : List Call → Stand
+  stand_after told = fold turned empty_stand (turns told)
+
+  -- the events that the answers of a door make
+  abbrev pub events_of : List Call → List Event
+  events_of told = (stand_after told).events
+
+  -- ---- what is asked, by what was answered before
+
+  -- what the connection lends: what is unsent after a room for nothing, and nothing where it overran
+  abbrev pub lent : ℕ → List Event → List ℕ
+  lent conn events = lent_in buses (course buses (events ++ Room conn 0 ∷ [])) conn
+
+  -- bytes would be accepted of it
+  abbrev pub is_ready : ℕ → List Event → Bool
+  is_ready conn events = is_none (fault buses (course buses events) (Bytes conn []))
+
+  -- it is to be closed: it overran, or it ended and all its replies are taken
+  abbrev pub is_closing : ℕ → List Event → Bool
+  is_closing conn events = closes buses (course buses events) conn
+
+  -- what is handed over, given how much was taken each time: what is lent, again and again while all of it is taken
+  abbrev pub handed : ℕ → List Event → List ℕ → List (List ℕ)
+  handed conn events [] = unless_nil (lent conn events) []
+  handed conn events (count ∷ counts) = unless_nil (lent conn events)
+      (if count == length (lent conn events) then handed conn (events ++ Room conn count ∷ []) counts else [])
+
+  -- a visit asks first for one read, where bytes would be accepted
+  abbrev pub reads_of : List Event → Seat → List Question
+  reads_of events seat = if is_ready seat.conn events then Reads seat.peer 256 ∷ [] else []
+
+  -- then what is handed over is written, at most 300 times
+  abbrev pub writes_of : List Event → List Call → Seat → List Question
+  writes_of events calls seat = if list_any loses_reading calls then [] else map (Writes seat.peer)
+      (take 300 (handed seat.conn (events ++ map (Bytes seat.conn) (filter_map piece_of calls)) (filter_map count_of calls)))
+
+  -- then it is let go where it is lost or to be closed
+  abbrev pub closes_of : List Event → List Call → Seat → List Question
+  closes_of events calls seat =
+      if list_any loses calls || is_closing seat.conn (events ++ exchange seat.conn calls) then Closes seat.peer ∷ [] else []
+
+  -- the whole visit
+  abbrev pub visit_asks : List Event → List Call → Seat → List Question
+  visit_asks events calls seat = reads_of events seat ++ writes_of events calls seat ++ closes_of events calls seat
+
+  -- the visits of a turn, one after another
+  abbrev pub visits_ask : List Event → List Call → List Seat → List Question
+  visits_ask events calls [] = []
+  visits_ask events calls (seat ∷ more) =
+      visit_asks events (visit calls seat) seat ++ visits_ask (events ++ visit_events calls seat) calls more
+
+  -- a newcomer that is not let in is let go
+  abbrev pub turns_away : List Event → ℕ → List Question
+  turns_away events peer = if is_let_in events then [] else Closes peer ∷ []
+
+  -- the whole turn
+  abbrev pub turn_asks : Stand → List Call → List Question
+  turn_asks stand calls = Moments ∷ Newcomers
+      ∷ (flat_map (turns_away (timed stand calls).events) (filter_map newcomer_of calls)
+      ++ visits_ask (begun stand calls).events calls (seats (begun stand calls).places))
+
+  -- the turns, one after another
+  abbrev pub turns_ask : Stand → List (List Call) → List Question
+  turns_ask stand [] = []
+  turns_ask stand (calls ∷ more) = turn_asks stand calls ++ turns_ask (turned stand calls) more
+
+  -- the calls are those of so many turns, none more and none fewer
+  pub record IsServed (count : ℕ) (told : List Call) : Type 0 where
+    pub turns_are : length (turns told) ≡ count
+    pub asked : map question told ≡ turns_ask empty_stand (turns told)
+
+  -- ---- what the peers took
+
+  -- no peer came in twice
+  abbrev pub PeersDiffer : List Call → Type 0
+  PeersDiffer told = IsDistinct (λ a b. a == b) (filter_map newcomer_of told)
+
+  -- what each connection was sent is what its peer took, in the order in which they were let in
+  abbrev pub SendsWhatIsTaken : List Call → Type 0
+  SendsWhatIsTaken told = map sent (course buses (events_of told)).connections
+      ≡ map (λ peer. taken peer told) (stand_after told).guests
+
+  -- so it is wherever the calls are served
+  abbrev pub SentIsTaken : Type 0
+  SentIsTaken = (count : ℕ) (told : List Call) → IsServed count told → PeersDiffer told → AllByRecursion IsFair told
+      → SendsWhatIsTaken told

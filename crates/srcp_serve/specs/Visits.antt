@@ -1,0 +1,196 @@
+-- What the calls of a visit tell and do, step by step: over a core that stands for the course of any events, where no
+-- memory was refused.
+use Rattle.std.specs.Prelude.{◌≡◌, ℕ, ◌<◌, Bool, false, true, not, if◌then◌else◌, ◌⊎◌, List, [], ◌∷◌, ◌++◌, map, take, length, filter_map, Option, Some, None, Result, Ok, Err}
+use Rattle.std.specs.List.{list_any, AllByRecursion}
+use Rattle.srcp_rules.specs.Layout.{IsLayout}
+use Rattle.srcp_rules.specs.declared.layout.Bus.{Bus}
+use Rattle.srcp_core.specs.Course.{course}
+use Rattle.srcp_core.specs.Held.{Held}
+use Rattle.srcp_core.specs.Recording.{key_of, without_key}
+use Rattle.srcp_core.specs.Stands.{StandsFor}
+use Rattle.srcp_core.specs.declared.event.Event.{Event}
+use Rattle.srcp_core.specs.declared.event.Event.TheVariants.{Bytes, Room, Shut}
+use Rattle.srcp_serve.specs.Calls.{Call, ReadCall, WriteCall, CloseCall}
+use Rattle.srcp_serve.specs.Serving.{Writes, question, piece_of, count_of, is_about, is_close, loses, loses_reading, loses_writing, rooms, exchange, lent, handed, reads_of, writes_of, visit_asks, visit_events}
+use Rattle.srcp_serve.specs.declared.door.DoorFault.{DoorFault}
+use Rattle.srcp_serve.specs.declared.door.Got.{Got}
+use Rattle.srcp_serve.specs.declared.serving.visit.Wrote.{Wrote}
+use Rattle.srcp_serve.specs.declared.serving.visit.Wrote.TheVariants.{All, Less, Failed}
+
+-- the door told these calls after what it had told
+pub record Adds (old : Option (List Call)) (told calls : List Call) : Type 0 where
+  pub before : List Call
+  pub was : old ≡ Some before
+  pub is : told ≡ before ++ calls
+
+-- ---- a peer is let go
+
+-- it was let go, or that failed
+pub record IsClosed (peer : ℕ) (old : Option (List Call)) (told : List Call) : Type 0 where
+  pub answer : Result Unit DoorFault
+  pub adds : Adds old told (CloseCall peer answer ∷ [])
+
+-- so it is where the door tells its calls
+abbrev pub Closes : (peer : ℕ) (old new : Option (List Call)) → Type 0
+Closes peer old new = (told : List Call) → new ≡ Some told → IsClosed peer old told
+
+-- ---- a peer that has a place
+
+-- the connection of that number is at that key of a core that stands for the course of the events
+pub record IsSeated (buses : List Bus) (events : List Event) (keys : List (Option ℕ)) (n key : ℕ) (held : Held) : Type 0 where
+  pub layout : IsLayout buses
+  pub named : key_of n keys ≡ Some key
+  pub stands : StandsFor buses keys held (course buses events)
+
+-- a write to that peer
+pub record IsWriteTo (peer : ℕ) (call : Call) : Type 0 where
+  pub bytes : List ℕ
+  pub answer : Result ℕ DoorFault
+  pub is : call ≡ WriteCall peer bytes answer
+
+-- all calls are writes to that peer
+abbrev pub AreWritesTo : ℕ → List Call → Type 0
+AreWritesTo peer calls = AllByRecursion (IsWriteTo peer) calls
+
+-- all calls are about that peer
+abbrev pub AreAbout : ℕ → List Call → Type 0
+AreAbout peer calls = AllByRecursion (λ call. is_about peer call ≡ true) calls
+
+-- the calls of the one read of a visit, if there was one: its answer, and what the buffer held after it
+abbrev pub read_calls : (peer : ℕ) → Option (Result Got DoorFault × List ℕ) → List Call
+read_calls peer None = []
+read_calls peer (Some (answer, buffer)) = ReadCall peer answer buffer ∷ []
+
+module _ (buses : List Bus) (events : List Event) (keys : List (Option ℕ)) (n peer : ℕ)
+    (old : Option (List Call)) (told : List Call) (new : Held) where
+  -- it was read from, where bytes would be taken
+  pub record IsReadFrom (stays : Bool) : Type 0 where
+    pub read : Option (Result Got DoorFault × List ℕ)
+    pub adds : Adds old told (read_calls peer read)
+    pub asked : map question (read_calls peer read) ≡ reads_of buses events (record { peer = peer; conn = n })
+    pub stays_is : list_any loses_reading (read_calls peer read) ≡ not stays
+    pub stands : StandsFor buses keys new (course buses (events ++ map (Bytes n) (filter_map piece_of (read_calls peer read))))
+
+  -- all that is lent was taken, and it was something
+  pub record TookAll : Type 0 where
+    pub count : ℕ
+    pub adds : Adds old told (WriteCall peer (lent buses n events) (Ok count) ∷ [])
+    pub all : count ≡ length (lent buses n events)
+    pub some : 0 < count
+    pub stands : StandsFor buses keys new (course buses (events ++ Room n count ∷ []))
+
+  -- nothing was lent, and nothing told
+  pub record WasLentNone : Type 0 where
+    pub none : lent buses n events ≡ []
+    pub adds : Adds old told []
+    pub stands : StandsFor buses keys new (course buses (events ++ Room n 0 ∷ []))
+
+  -- less was taken than is lent
+  pub record TookLess : Type 0 where
+    pub count : ℕ
+    pub adds : Adds old told (WriteCall peer (lent buses n events) (Ok count) ∷ [])
+    pub short : count < length (lent buses n events)
+    pub stands : StandsFor buses keys new (course buses (events ++ Room n count ∷ []))
+
+  -- the write of what is lent failed
+  pub record TookNone : Type 0 where
+    pub fault : DoorFault
+    pub adds : Adds old told (WriteCall peer (lent buses n events) (Err fault) ∷ [])
+    pub some : 0 < length (lent buses n events)
+    pub stands : StandsFor buses keys new (course buses (events ++ Room n 0 ∷ []))
+
+  -- what a write, or none, did
+  abbrev pub HasWritten : Wrote → Type 0
+  HasWritten All = TookAll
+  HasWritten Less = WasLentNone ⊎ TookLess
+  HasWritten Failed = TookNone
+
+  -- it was written to, again and again while it took all
+  pub record IsWrittenTo (stays : Bool) : Type 0 where
+    pub calls : List Call
+    pub adds : Adds old told calls
+    pub own : AreWritesTo peer calls
+    pub asked : map question calls ≡ map (Writes peer) (take 300 (handed buses n events (filter_map count_of calls)))
+    pub stays_is : list_any loses_writing calls ≡ not stays
+    pub stands : StandsFor buses keys new (course buses (events ++ map (Room n) (rooms calls)))
+
+  -- it was read from and written to
+  pub record IsExchanged (stays : Bool) : Type 0 where
+    pub calls : List Call
+    pub adds : Adds old told calls
+    pub own : AreAbout peer calls
+    pub quiet : list_any is_close calls ≡ false
+    pub asked : map question calls
+        ≡ reads_of buses events (record { peer = peer; conn = n })
+        ++ writes_of buses events calls (record { peer = peer; conn = n })
+    pub loses_is : list_any loses calls ≡ not stays
+    pub stands : StandsFor buses keys new (course buses (events ++ exchange n calls))
+
+  -- its connection was shut, and it was let go
+  pub record IsLetGo : Type 0 where
+    pub closed : IsClosed peer old told
+    pub stands : StandsFor buses (without_key n keys) new (course buses (events ++ Shut n ∷ []))
+
+  -- it was visited, and has its place still or was let go
+  pub record IsVisited (stays : Bool) : Type 0 where
+    pub calls : List Call
+    pub adds : Adds old told calls
+    pub own : AreAbout peer calls
+    pub asked : map question calls ≡ visit_asks buses events calls (record { peer = peer; conn = n })
+    pub closes : list_any is_close calls ≡ not stays
+    pub stands : StandsFor buses (if stays then keys else without_key n keys) new
+        (course buses (events ++ visit_events calls (record { peer = peer; conn = n })))
+
+-- ---- the functions of a visit
+
+-- whatever the events were, so it is afterwards, where no memory was refused and the door tells its calls
+abbrev pub Follows : (List Bus → List Event → List (Option ℕ) → ℕ → List Call → Type 0)
+    → (key : ℕ) (old new : Held) (told_new : Option (List Call)) → Type 0
+Follows So key old new told_new = (buses : List Bus) (events : List Event) (keys : List (Option ℕ)) (n : ℕ) (told : List Call)
+    → IsSeated buses events keys n key old → new.denied ≡ 0 → told_new ≡ Some told → So buses events keys n told
+
+-- it is read from, once at most
+abbrev pub ReadsIn : (peer key : ℕ) (old : Held) (told_old : Option (List Call))
+    (new : Held) (told_new : Option (List Call)) (stays : Bool) → Type 0
+ReadsIn peer key old told_old new told_new stays = Follows
+    (λ buses events keys n told. IsReadFrom buses events keys n peer told_old told new stays) key old new told_new
+
+-- it is written to, once at most
+abbrev pub WritesOnce : (peer key : ℕ) (old : Held) (told_old : Option (List Call))
+    (new : Held) (told_new : Option (List Call)) (wrote : Wrote) → Type 0
+WritesOnce peer key old told_old new told_new wrote = Follows
+    (λ buses events keys n told. HasWritten buses events keys n peer told_old told new wrote) key old new told_new
+
+-- it is written to, again and again while it takes all
+abbrev pub WritesOut : (peer key : ℕ) (old : Held) (told_old : Option (List Call))
+    (new : Held) (told_new : Option (List Call)) (stays : Bool) → Type 0
+WritesOut peer key old told_old new told_new stays = Follows
+    (λ buses events keys n told. IsWrittenTo buses events keys n peer told_old told new stays) key old new told_new
+
+-- it is read from and written to
+abbrev pub Exchanges : (peer key : ℕ) (old : Held) (told_old : Option (List Call))
+    (new : Held) (told_new : Option (List Call)) (stays : Bool) → Type 0
+Exchanges peer key old told_old new told_new stays = Follows
+    (λ buses events keys n told. IsExchanged buses events keys n peer told_old told new stays) key old new told_new
+
+-- its connection is shut, and it is let go
+abbrev pub LetsGo : (peer key : ℕ) (old : Held) (told_old : Option (List Call))
+    (new : Held) (told_new : Option (List Call)) → Type 0
+LetsGo peer key old told_old new told_new = Follows
+    (λ buses events keys n told. IsLetGo buses events keys n peer told_old told new) key old new told_new
+
+-- it is visited
+abbrev pub Visits : (peer key : ℕ) (old : Held) (told_old : Option (List Call))
+    (new : Held) (told_new : Option (List Call)) (stays : Bool) → Type 0
+Visits peer key old told_old new told_new stays = Follows
+    (λ buses events keys n told. IsVisited buses events keys n peer told_old told new stays) key old new told_new
+
+-- no memory was refused, and the door told its calls
+pub record WasFine (held : Held) (told_old : Option (List Call)) : Type 0 where
+  pub denied : held.denied ≡ 0
+  pub told : List Call
+  pub is : told_old ≡ Some told
+
+-- so it was before, where it is so afterwards
+abbrev pub Keeps : (old : Held) (told_old : Option (List Call)) (new : Held) (told_new : Option (List Call)) → Type 0
+Keeps old told_old new told_new = (told : List Call) → new.denied ≡ 0 → told_new ≡ Some told → WasFine old told_old

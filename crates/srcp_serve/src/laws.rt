@@ -1,0 +1,13 @@
+//! What holds of every list of calls that are those of so many turns. Each function does nothing: what
+//! it ensures is a law.
+
+ghost use Rattle.std.specs.Prelude.{List};
+ghost use Rattle.srcp_rules.specs.declared.layout.Bus.{Bus};
+ghost use Rattle.srcp_serve.specs.Serving.{SentIsTaken};
+
+/// What the door took of each peer is to the byte what the course of its answers says was sent to the
+/// peer's connection: wherever the calls are those of so many turns, no peer came in twice, and no
+/// answer is past what was asked.
+pub fn sent_is_taken()
+    ensures { (buses : List Bus) → SentIsTaken buses }
+{}

@@ -1,0 +1,151 @@
+//! The program `srcp_server`: a layout served, a script replayed, information lines mirrored, a configuration checked.
+#![tactic(auto)]
+
+ghost use Rattle.std.specs.Prelude.{◌≡◌};
+ghost use Rattle.srcp_serve.specs.Listening.{listen_text};
+ghost use Rattle.srcp_tool.specs.Faults.{fault_status, fault_text};
+
+use clap::error::ErrorKind;
+use srcp_core::Core;
+use srcp_rules::{Bus, Layout, Nested};
+use srcp_serve::{ListenFault, SocketDoor, serve};
+use srcp_tool::{Tool, ToolFault, check, mirror, read_config, read_layout, read_words, replay};
+use std::alloc::Global;
+use std::io::{Read, Write};
+use std::net::Net;
+use std::process::ExitCode;
+use std::rt::{Env, Files};
+use std::string::String;
+use std::time::Clock;
+use std::vec::Vec;
+use std::{env, fs, io};
+
+/// Does what the words ask for. A fault is told on the standard error and by the status.
+fn main(rt: HostRuntime) -> ExitCode {
+    let words = match words_given(&rt) {
+        Ok(words) => words,
+        Err(fault) => return print_no_words(&rt, &fault),
+    };
+    let tool = match read_words(rt.alloc(), &words) {
+        Ok(tool) => tool,
+        Err(refused) => return print_refusal(&rt, &refused),
+    };
+    let done = match tool {
+        Tool::Mirror => mirror(rt.alloc(), &mut rt.stdin(), &mut rt.stdout()),
+        Tool::Check { config } => check_file(&rt, config, &mut rt.stdout()),
+        Tool::Replay { config } => replay_input(&rt, config, &mut rt.stdin(), &mut rt.stdout()),
+        Tool::Serve { config, turns } => serve_layout(&rt, config, turns),
+    };
+    match done {
+        Ok(()) => ExitCode::SUCCESS,
+        Err(fault) => tell(&rt, fault),
+    }
+}
+
+/// The program's name and the words behind it.
+fn words_given<R: Env + AllocGlobal>(rt: &R) -> io::Result<Vec<String>> {
+    Ok(env::args(rt)?.collect(rt.alloc())?)
+}
+
+/// Prints why the words cannot be had. One that is no UTF-8 is told in the way of `clap`, which is not handed it.
+fn print_no_words<R: Eprint>(rt: &R, fault: &io::Error) -> ExitCode {
+    if fault.kind() == io::ErrorKind::OutOfMemory {
+        return tell(rt, ToolFault::Memory);
+    }
+    let _ = eprintln!(rt;
+        "error: invalid UTF-8 was detected in one or more arguments\n\nFor more information, try '--help'."
+    );
+    ExitCode::from(2)
+}
+
+/// Prints what `clap` says of words that it refuses, or that ask for help or for the version.
+fn print_refusal<R: Print + Eprint>(rt: &R, refused: &clap::Error) -> ExitCode {
+    if refused.kind() == ErrorKind::OutOfMemory {
+        return tell(rt, ToolFault::Memory);
+    }
+    let _ = refused.print(rt);
+    if refused.use_stderr() {
+        ExitCode::from(2)
+    } else {
+        ExitCode::SUCCESS
+    }
+}
+
+fn tell<R: Eprint>(rt: &R, fault: ToolFault) -> ExitCode {
+    let _ = eprintln!(rt; "srcp_server: {fault}");
+    ExitCode::from(fault.status())
+}
+
+/// Checks the configuration in a file.
+fn check_file<R: Files + AllocGlobal, W: Write>(
+    rt: &R,
+    path: &str,
+    writer: &mut W,
+) -> Result<(), ToolFault> {
+    let config = read_config_file(rt, path)?;
+    check(rt.alloc(), &config, writer)
+}
+
+fn read_config_file<R: Files + AllocGlobal>(rt: &R, path: &str) -> Result<Vec<u8>, ToolFault> {
+    match fs::open(rt, path) {
+        Ok(mut file) => read_config(rt.alloc(), &mut file),
+        Err(_) => Err(ToolFault::Unreadable),
+    }
+}
+
+/// Replays a script over the layout of the configuration in a file, or over the built-in layout.
+fn replay_input<R: Files + AllocGlobal, I: Read, W: Write>(
+    rt: &R,
+    path: Option<&str>,
+    reader: &mut I,
+    writer: &mut W,
+) -> Result<(), ToolFault> {
+    let layout = match path {
+        Some(path) => read_layout(rt.alloc(), &read_config_file(rt, path)?)?.layout,
+        None => built_in_layout(rt.alloc())?,
+    };
+    replay::<Nested, I, W>(rt.alloc(), &layout, reader, writer)
+}
+
+/// The layout of a server that was given none: bus 1 with POWER alone.
+fn built_in_layout(alloc: Global) -> Result<Layout, ToolFault> {
+    let mut layout = Layout::new(alloc);
+    let bus = Bus {
+        number: 1,
+        power: true,
+        gl_max: 0,
+        ga_max: 0,
+        ga_ports: 2,
+        fb_ports: 0,
+    };
+    match layout.add(bus) {
+        Ok(()) => Ok(layout),
+        Err(_) => Err(ToolFault::Memory),
+    }
+}
+
+/// Serves the layout of the configuration in a file, for so many turns, to the peers that come to its port.
+fn serve_layout<R: Files + AllocGlobal + Net + Clock>(
+    rt: &R,
+    path: &str,
+    turns: u64,
+) -> Result<(), ToolFault> {
+    let config = read_layout(rt.alloc(), &read_config_file(rt, path)?)?;
+    let mut door = SocketDoor::listen(rt, rt.alloc(), config.port, rt).map_err(tool_fault)?;
+    let Ok(mut core) = Core::<Nested>::new(rt.alloc(), &config.layout, 0, 0) else {
+        return Err(ToolFault::Memory);
+    };
+    serve(&mut core, &mut door, turns);
+    Ok(())
+}
+
+/// The program stops for the same reason as the door, and tells the same of it.
+fn tool_fault(fault: ListenFault) -> ToolFault
+    ensures text { fault_text result ≡ listen_text fault }
+    ensures status { fault_status result ≡ 1 }
+{
+    match fault {
+        ListenFault::Port => ToolFault::Listen,
+        ListenFault::Memory => ToolFault::Memory,
+    }
+}

@@ -1,0 +1,97 @@
+-- What the program's words ask it to do.
+use Rattle.std.specs.Prelude.{ℕ, Bool, true, false, List, Option, Some, None, option_and_then, option_map, unwrap_or, if◌then◌else◌, codes}
+use Rattle.std.specs.Str.{bytes_eq}
+use Rattle.std.specs.Str.Parse.{without_leading_plus}
+use Rattle.clap.specs.Simple.{on_top}
+use Rattle.clap.specs.Words.{App, Row, Rule, Text, first_of, one_of, new_app, new_rule, subcommand_of, with_rule, with_subcommand}
+use Rattle.clap.specs.declared.builder.value_parser.ValueParser.TheVariants.{Unsigned}
+use Rattle.srcp_text.specs.Words.{number_of}
+use Rattle.srcp_tool.specs.declared.tool.Tool.{Tool}
+use Rattle.srcp_tool.specs.declared.tool.Tool.TheVariants as tool
+
+-- ---- the command
+
+-- `--config F`, which some subcommands need
+abbrev pub config_rule : (required : Bool) → Rule
+config_rule needed = record (new_rule (codes "config")) { long = Some (codes "config"); value_names = 1; required = needed }
+
+-- `--turns N`
+abbrev pub turns_rule : Rule
+turns_rule = record (new_rule (codes "turns")) {
+  long = Some (codes "turns");
+  value_names = 1;
+  parser = Some (Unsigned 0 18446744073709551615);
+}
+
+-- `replay`, which takes a configuration where one is given
+abbrev pub replay_app : App
+replay_app = with_rule (new_app (codes "replay")) (config_rule false)
+
+-- `mirror`, which takes nothing
+abbrev pub mirror_app : App
+mirror_app = new_app (codes "mirror")
+
+-- `check`, which needs a configuration
+abbrev pub check_app : App
+check_app = with_rule (new_app (codes "check")) (config_rule true)
+
+-- `serve`, which needs a configuration and takes a number of turns
+abbrev pub serve_app : App
+serve_app = with_rule (with_rule (new_app (codes "serve")) (config_rule true)) turns_rule
+
+-- the command by itself, which has a version
+abbrev pub server_app : App
+server_app = on_top (λ shape. record shape { has_version = true }) (new_app (codes "srcp_server"))
+
+-- the command with the two subcommands that work on standard input
+abbrev pub over_lines_app : App
+over_lines_app = with_subcommand (with_subcommand server_app replay_app.top) mirror_app.top
+
+-- the command with its four subcommands
+abbrev pub program_app : App
+program_app = with_subcommand (with_subcommand over_lines_app check_app.top) serve_app.top
+
+-- ---- what its matches mean
+
+-- a tool, with the texts that its references point to
+pub data Task : Type 0 where
+  Replay : (config : Option Text) → Task
+  Mirror : Task
+  Check : (config : Text) → Task
+  Serve : (config : Text) (turns : ℕ) → Task
+
+-- the task that a tool is
+abbrev pub task_of : Tool → Task
+task_of (tool.Replay config) = Replay (option_map (λ s. s.now) config)
+task_of tool.Mirror = Mirror
+task_of (tool.Check config) = Check config.now
+task_of (tool.Serve config turns) = Serve config.now turns
+
+-- the file that was given
+abbrev pub config_in : List Row → Option Text
+config_in rows = first_of (codes "config") rows
+
+-- a number of turns, with or without a plus before it
+abbrev pub turns_of : Text → Option ℕ
+turns_of text = number_of 18446744073709551615 (without_leading_plus text)
+
+-- the number of turns that was given, or as many as there can be; a text that is no such number is refused
+abbrev pub turns_in : List Row → ℕ
+turns_in rows = unwrap_or (option_and_then turns_of (one_of (codes "turns") rows)) 18446744073709551615
+
+-- the task of the subcommand of that name, by what was given to it
+abbrev pub subtask : Text → List Row → Task
+subtask name rows =
+    if bytes_eq name (codes "mirror") then Mirror
+    else (if bytes_eq name (codes "check") then Check (unwrap_or (config_in rows) (codes ""))
+    else (if bytes_eq name (codes "serve") then Serve (unwrap_or (config_in rows) (codes "")) (turns_in rows)
+    else Replay (config_in rows)))
+
+-- to replay over the built-in layout where there is no subcommand
+abbrev pub task_in : Option (Text × List Row) → Task
+task_in None = Replay None
+task_in (Some found) = subtask found.0 found.1
+
+-- what the words ask, the program's name first
+abbrev pub task : List Text → Task
+task words = task_in (subcommand_of program_app words)

@@ -1,0 +1,216 @@
+-- What the program writes.
+use Rattle.std.specs.Prelude.{◌≡◌, ℕ, ◌+◌, ◌<◌, ◌≤◌, Bool, false, ◌&&◌, ◌==◌, nat_lt, if◌then◌else◌, List, [], ◌∷◌, ◌++◌, map, take, flat_map, length, Option, Result, Ok, Err, codes, decimal, ⊤}
+use Rattle.std.specs.Io.KnownBytes.{Appends}
+use Rattle.std.specs.List.{enumerate_from, list_any, AllByRecursion}
+use Rattle.srcp_text.specs.Marks.{rest, is_lf}
+use Rattle.srcp_text.specs.Words.{is_empty}
+use Rattle.srcp_info.specs.Client.{client, listing, HoldsLines}
+use Rattle.srcp_info.specs.Line.{line, spaced}
+use Rattle.srcp_info.specs.Read.{IsLineOf}
+use Rattle.srcp_info.specs.WellFormed.{IsWellFormed}
+use Rattle.srcp_info.specs.declared.change.Change.{Change}
+use Rattle.srcp_info.specs.declared.change.Row.{Row}
+use Rattle.srcp_info.specs.declared.change.Shown.{Shown}
+use Rattle.srcp_rules.specs.State.{shown_rows}
+use Rattle.srcp_rules.specs.declared.layout.Bus.{Bus}
+use Rattle.srcp_core.specs.Connection.{recorded}
+use Rattle.srcp_core.specs.Course.{course, history, state}
+use Rattle.srcp_core.specs.declared.event.Event.{Event}
+use Rattle.srcp_core.specs.declared.record.ConnRecord.{ConnRecord}
+use Rattle.srcp_core.specs.declared.record.CoreFault.{CoreFault}
+use Rattle.srcp_core.specs.declared.record.CoreFault.TheVariants as fault
+use Rattle.srcp_core.specs.declared.record.Finish.{Finish}
+use Rattle.srcp_core.specs.declared.record.Finish.TheVariants as finish
+use Rattle.srcp_core.specs.declared.record.Record.{Record}
+use Rattle.srcp_core.specs.declared.record.Refusal.{Refusal}
+use Rattle.srcp_tool.specs.Document.{config_of}
+use Rattle.srcp_tool.specs.Script.{script}
+use Rattle.srcp_tool.specs.declared.config.Config.{Config}
+use Rattle.srcp_tool.specs.declared.config.ConfigFault.{ConfigFault}
+use Rattle.srcp_tool.specs.declared.fault.ToolFault.{ToolFault}
+use Rattle.srcp_tool.specs.declared.fault.ToolFault.TheVariants.{Input, Output, TooLarge, Script, Line, Memory, Config as ConfigIs, Unreadable}
+use Rattle.srcp_tool.specs.declared.script.ScriptFault.{ScriptFault}
+
+-- ---- replay: what a run gave
+
+-- how a connection stands at the end
+abbrev pub finish_word : Finish → List ℕ
+finish_word finish.Live = codes "open"
+finish_word finish.Closing = codes "closing"
+finish_word finish.Overrun = codes "overrun"
+finish_word finish.Shut = codes "shut"
+
+-- why an event was refused
+abbrev pub fault_word : CoreFault → List ℕ
+fault_word fault.Full = codes "Full"
+fault_word fault.Memory = codes "Memory"
+fault_word fault.NoSuch = codes "NoSuch"
+fault_word fault.Busy = codes "Busy"
+fault_word fault.PieceTooLong = codes "PieceTooLong"
+fault_word fault.Closing = codes "Closing"
+
+-- the bytes, and an LF where the last line has none
+abbrev pub ended : List ℕ → List ℕ
+ended bytes = if is_empty (rest bytes) then bytes else bytes ++ codes "\n"
+
+-- a connection with its number: how many bytes it was sent, and how it stands
+abbrev pub connection_line : ℕ → ConnRecord → List ℕ
+connection_line number conn =
+    spaced (codes "connection" ∷ decimal number ∷ decimal (length conn.sent) ∷ finish_word conn.finish ∷ [])
+
+-- and what it was sent
+abbrev pub connection_lines : ℕ × ConnRecord → List ℕ
+connection_lines (number, conn) = connection_line number conn ++ ended conn.sent
+
+-- an event that was refused, by its number
+abbrev pub refusal_line : Refusal → List ℕ
+refusal_line refusal = spaced (codes "refused" ∷ decimal refusal.event ∷ fault_word refusal.fault ∷ [])
+
+-- how many rows there are
+abbrev pub rows_line : List Row → List ℕ
+rows_line rows = spaced (codes "rows" ∷ decimal (length rows) ∷ [])
+
+-- what `replay` prints: each connection, the refused events, and the rows
+abbrev pub printed : Record → List ℕ
+printed run =
+    flat_map connection_lines (enumerate_from 1 run.connections)
+    ++ flat_map refusal_line run.refused
+    ++ rows_line run.rows
+    ++ listing (shown_rows run.rows)
+
+-- what a run of these events gives where no memory is refused
+abbrev pub run_of : List Bus → List Event → Record
+run_of buses events = let w = course buses events in record {
+  steps = w.steps;
+  connections = map (recorded (history buses w)) w.connections;
+  refused = w.refused;
+  rows = state buses w;
+  denied = 0;
+}
+
+-- the bytes that may be read of the standard input
+abbrev pub input_limit : ℕ
+input_limit = 16777216
+
+-- what is printed for these events, or why the script is refused
+abbrev pub printed_or : List Bus → Result (List Event) ScriptFault → Result (List ℕ) ToolFault
+printed_or buses (Ok events) = Ok (printed (run_of buses events))
+printed_or buses (Err wrong) = Err (Script wrong)
+
+-- what `replay` prints for a script, or why it refuses it
+abbrev pub replayed : List Bus → (input : List ℕ) → Result (List ℕ) ToolFault
+replayed buses input = if nat_lt input_limit (length input) then Err TooLarge else printed_or buses (script input)
+
+-- ---- mirror: the rows that lines tell of
+
+-- a client of the whole lines of the input holds these rows
+pub record ClientHolds (input : List ℕ) (rows : List Shown) : Type 0 where
+  pub changes : List Change
+  pub begun : List ℕ
+  pub holds : HoldsLines input changes begun
+  pub same : rows ≡ client changes
+
+-- `mirror` prints the rows of a client of the whole lines
+pub record Mirrors (input output : List ℕ) : Type 0 where
+  pub rows : List Shown
+  pub held : ClientHolds input rows
+  pub shows : output ≡ listing rows
+
+-- line n is the first that no change has
+pub record RefusesLine (input : List ℕ) (n : ℕ) : Type 0 where
+  pub changes : List Change
+  pub text : List ℕ
+  pub behind : List ℕ
+  pub each : AllByRecursion IsWellFormed changes
+  pub whole : input ≡ flat_map line changes ++ text ++ codes "\n" ++ behind
+  pub one_line : list_any is_lf text ≡ false
+  pub no_change : (change : Change) → IsLineOf text change → ⊥
+  pub place : n ≡ length changes + 1
+
+-- why `mirror` prints nothing
+abbrev pub RefusesInput : List ℕ → ToolFault → Type 0
+RefusesInput input (Line n) = RefusesLine input n
+RefusesInput input TooLarge = input_limit < length input
+RefusesInput input other = ⊥
+
+-- ---- check: what a configuration says
+
+-- the bytes that a configuration may have
+abbrev pub config_limit : ℕ
+config_limit = 1048576
+
+-- a group's name and how many devices it has, where it has any
+abbrev pub group_words : (name : List ℕ) → ℕ → List (List ℕ)
+group_words name count = if count == 0 then [] else name ∷ decimal count ∷ []
+
+-- the ports of an accessory are told where there are more than two
+abbrev pub port_words : Bus → List (List ℕ)
+port_words bus = if nat_lt 0 bus.ga_max && nat_lt 2 bus.ga_ports then codes "PORTS" ∷ decimal bus.ga_ports ∷ [] else []
+
+-- the word of a bus that has POWER
+abbrev pub power_words : Bool → List (List ℕ)
+power_words power = if power then codes "POWER" ∷ [] else []
+
+-- a bus, with its groups
+abbrev pub bus_line : Bus → List ℕ
+bus_line bus = spaced (codes "bus" ∷ decimal bus.number ∷ (power_words bus.power
+    ++ group_words (codes "GL") bus.gl_max
+    ++ group_words (codes "GA") bus.ga_max
+    ++ port_words bus
+    ++ group_words (codes "FB") bus.fb_ports))
+
+-- the port
+abbrev pub port_line : (port : ℕ) → List ℕ
+port_line port = spaced (codes "port" ∷ decimal port ∷ [])
+
+-- what `check` prints
+abbrev pub checked : Config → List ℕ
+checked config = port_line config.port ++ flat_map bus_line config.layout
+
+-- what is printed for a configuration, or why it is refused
+abbrev pub checked_or : Result Config ConfigFault → Result (List ℕ) ToolFault
+checked_or (Ok config) = Ok (checked config)
+checked_or (Err wrong) = Err (ConfigIs wrong)
+
+-- what `check` prints for the bytes of a configuration, or why it refuses them
+abbrev pub check_output : List ℕ → Result (List ℕ) ToolFault
+check_output bytes = checked_or (config_of bytes)
+
+-- ---- the writing
+
+-- why an input can't be had
+abbrev pub IsInputFault : ToolFault → Type 0
+IsInputFault Input = ⊤
+IsInputFault TooLarge = ⊤
+IsInputFault Memory = ⊤
+IsInputFault other = ⊥
+
+-- why a configuration can't be had
+abbrev pub IsConfigFault : ToolFault → Type 0
+IsConfigFault Unreadable = ⊤
+IsConfigFault TooLarge = ⊤
+IsConfigFault Memory = ⊤
+IsConfigFault other = ⊥
+
+-- why nothing can be printed: the input is refused or can't be read, or memory is refused
+abbrev pub StopsFor : (Refuses : ToolFault → Type 0) → ToolFault → Type 0
+StopsFor Refuses Input = ⊤
+StopsFor Refuses Memory = ⊤
+StopsFor Refuses Output = ⊥
+StopsFor Refuses other = Refuses other
+
+-- known bytes gain a front of the text at their end
+pub record AppendsFront (old new : Option (List ℕ)) (text : List ℕ) : Type 0 where
+  pub count : ℕ
+  pub within : count ≤ length text
+  pub appends : Appends old new (take count text)
+
+-- the text that is to be printed is written whole, or a front of it where the writing fails;
+-- nothing is written where the input is refused or can't be read, or memory is refused
+abbrev pub Writes : (Prints : List ℕ → Type 0) (Refuses : ToolFault → Type 0) → Result Unit ToolFault
+    → (old new : Option (List ℕ)) → Type 0
+Writes Prints Refuses (Ok done) old new = (text : List ℕ) × Prints text × Appends old new text
+Writes Prints Refuses (Err Output) old new = (text : List ℕ) × Prints text × AppendsFront old new text
+Writes Prints Refuses (Err Input) old new = new ≡ old
+Writes Prints Refuses (Err Memory) old new = new ≡ old
+Writes Prints Refuses (Err other) old new = Refuses other × (new ≡ old)

@@ -1,0 +1,174 @@
+//! Why the program stops, what it tells of it, and the status with which it ends.
+
+ghost use Rattle.std.specs.Prelude.{◌≡◌, Some};
+ghost use Rattle.srcp_tool.specs.Faults.{field_key, config_text, script_text, fault_text, fault_status, stops_at};
+
+use crate::config::{ConfigFault, Field};
+use crate::script::{Cause, ScriptFault};
+use srcp_core::RunFault;
+use std::alloc::AllocError;
+use std::fmt;
+use thiserror::Error;
+
+/// Why the program stops. It prints as what the program tells of it on standard error, behind
+/// `srcp_server: `. The texts are our own choice.
+#[derive(Clone, Copy, Debug, PartialEq, Eq, Error)]
+pub enum ToolFault {
+    /// The standard input fails.
+    Input,
+    /// The standard output fails, or takes nothing.
+    Output,
+    /// There is more to read than its limit.
+    TooLarge,
+    /// The script is refused.
+    Script(ScriptFault),
+    /// This line of those to be mirrored, counted from 1, is no information line.
+    Line(usize),
+    /// Memory was refused.
+    Memory,
+    /// The configuration is refused.
+    Config(ConfigFault),
+    /// The configuration cannot be read.
+    Unreadable,
+    /// The port cannot be listened on.
+    Listen,
+}
+
+/// The key as a configuration writes it.
+pub(crate) fn key_of(field: Field) -> &'static str
+    ensures { result.now ≡ field_key field }
+{
+    match field {
+        Field::Port => "port",
+        Field::Bus => "bus",
+        Field::Number => "number",
+        Field::Groups => "groups",
+        Field::GlMax => "gl_max",
+        Field::GaMax => "ga_max",
+        Field::GaPorts => "ga_ports",
+        Field::FbPorts => "fb_ports",
+    }
+}
+
+impl fmt::Display for ScriptFault {
+    ghost output = { λ x. Some (script_text x.line x.cause) };
+
+    fn fmt<W: fmt::Write>(&self, f: &mut fmt::Formatter<W>) -> fmt::Result {
+        let line = self.line;
+        match self.cause {
+            Cause::Word => write!(f, "script line {line}: unknown event"),
+            Cause::Number => write!(f, "script line {line}: wrong number"),
+            Cause::Escape => write!(f, "script line {line}: wrong escape"),
+            Cause::Memory => write!(f, "out of memory"),
+        }
+    }
+}
+
+impl fmt::Display for ConfigFault {
+    ghost output = { λ x. Some (config_text x) };
+
+    fn fmt<W: fmt::Write>(&self, f: &mut fmt::Formatter<W>) -> fmt::Result {
+        match self {
+            ConfigFault::NotToml => write!(f, "config: not TOML"),
+            ConfigFault::Missing(field) => {
+                let key = key_of(*field);
+                write!(f, "config: {key} missing")
+            }
+            ConfigFault::OutOfRange(field) => {
+                let key = key_of(*field);
+                write!(f, "config: {key} out of range")
+            }
+            ConfigFault::Twice(bus) => write!(f, "config: bus {bus} twice"),
+            ConfigFault::UnknownGroup => write!(f, "config: unknown group"),
+            ConfigFault::Memory => write!(f, "out of memory"),
+        }
+    }
+}
+
+impl fmt::Display for ToolFault {
+    ghost output = { λ x. Some (fault_text x) };
+
+    fn fmt<W: fmt::Write>(&self, f: &mut fmt::Formatter<W>) -> fmt::Result {
+        match self {
+            ToolFault::Input => write!(f, "cannot read the input"),
+            ToolFault::Output => write!(f, "cannot write"),
+            ToolFault::TooLarge => write!(f, "input too large"),
+            ToolFault::Script(fault) => write!(f, "{fault}"),
+            ToolFault::Line(line) => { write!(f, "mirror line {line}: not an information line") }
+            ToolFault::Memory => write!(f, "out of memory"),
+            ToolFault::Config(fault) => write!(f, "{fault}"),
+            ToolFault::Unreadable => write!(f, "cannot read the configuration"),
+            ToolFault::Listen => write!(f, "cannot listen"),
+        }
+    }
+}
+
+impl From<ScriptFault> for ToolFault {
+    ghost from_gives = { λ at e. e ≡ stops_at at.line at.cause };
+
+    fn from(fault: ScriptFault) -> ToolFault {
+        match fault.cause {
+            Cause::Memory => ToolFault::Memory,
+            _ => ToolFault::Script(fault),
+        }
+    }
+}
+
+impl From<ConfigFault> for ToolFault {
+    ghost use Rattle.srcp_tool.specs.Faults.{stops_for};
+
+    ghost from_gives = { λ fault e. e ≡ stops_for fault };
+
+    fn from(fault: ConfigFault) -> ToolFault {
+        match fault {
+            ConfigFault::Memory => ToolFault::Memory,
+            _ => ToolFault::Config(fault),
+        }
+    }
+}
+
+impl From<AllocError> for ToolFault {
+    ghost use Rattle.srcp_tool.specs.declared.fault.ToolFault.TheVariants as fault;
+
+    ghost from_gives = { λ refused e. e ≡ fault.Memory };
+
+    fn from(_refused: AllocError) -> ToolFault {
+        ToolFault::Memory
+    }
+}
+
+impl From<RunFault> for ToolFault {
+    ghost use Rattle.srcp_tool.specs.declared.fault.ToolFault.TheVariants as fault;
+
+    ghost from_gives = { λ refused e. e ≡ fault.Memory };
+
+    fn from(_refused: RunFault) -> ToolFault {
+        ToolFault::Memory
+    }
+}
+
+impl ToolFault {
+    /// The status with which the program ends: 1 where a device failed or memory was refused, 2 where
+    /// what was handed in is refused.
+    pub fn status(&self) -> u8
+        ensures { result ≡ fault_status self.now }
+    {
+        match self {
+            ToolFault::Input => 1,
+            ToolFault::Output => 1,
+            ToolFault::TooLarge => 2,
+            ToolFault::Script(fault) => match fault.cause {
+                Cause::Memory => 1,
+                _ => 2,
+            },
+            ToolFault::Line(_) => 2,
+            ToolFault::Memory => 1,
+            ToolFault::Config(fault) => match fault {
+                ConfigFault::Memory => 1,
+                _ => 2,
+            },
+            ToolFault::Unreadable => 1,
+            ToolFault::Listen => 1,
+        }
+    }
+}

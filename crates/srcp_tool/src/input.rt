@@ -1,0 +1,94 @@
+//! What is read to its end: the standard input, a configuration.
+
+ghost use Rattle.std.specs.Prelude.{◌≡◌, ◌<◌, ◌≤◌, length, take, IfOk, IfErr, IfSome, IsErrOf};
+ghost use Rattle.std.specs.Io.KnownBytes.{Consumes, IsAtEnd};
+ghost use Rattle.srcp_tool.specs.Output.{config_limit, input_limit, IsConfigFault, IsInputFault};
+
+use crate::fault::ToolFault;
+use std::alloc::Global;
+use std::io::Read;
+use std::vec::Vec;
+
+/// The bytes that may be read of the standard input: our own choice.
+pub(crate) const INPUT_LIMIT: usize = 16_777_216;
+
+/// The bytes that a configuration may have: our own choice.
+const CONFIG_LIMIT: usize = 1_048_576;
+
+/// The bytes that are asked for at once.
+pub(crate) const PIECE: usize = 65_536;
+
+/// All that the standard input gives.
+///
+/// # Errors
+/// `Input` where a read fails, `TooLarge` where there is more than the limit, `Memory` where a growth
+/// was refused.
+pub(crate) fn read_input<R: Read>(alloc: Global, reader: &mut R) -> Result<Vec<u8>, ToolFault>
+    ensures whole { IfOk result (λ input. IfSome (R.remaining reader.old) (λ bytes. input.items ≡ bytes)) }
+    ensures within { IfOk result (λ input. length input.items ≤ input_limit) }
+    ensures large { IsErrOf result ToolFault.TooLarge
+        → IfSome (R.remaining reader.old) (λ bytes. input_limit < length bytes) }
+    ensures faults { IfErr result IsInputFault }
+{
+    read_within(INPUT_LIMIT, alloc, reader)
+}
+
+/// All bytes of a configuration.
+///
+/// # Errors
+/// `Unreadable` where a read fails, `TooLarge` where there are more than 1,048,576 bytes, `Memory` where
+/// a growth was refused.
+pub fn read_config<R: Read>(alloc: Global, reader: &mut R) -> Result<Vec<u8>, ToolFault>
+    ensures whole { IfOk result (λ config. IfSome (R.remaining reader.old) (λ bytes. config.items ≡ bytes)) }
+    ensures within { IfOk result (λ config. length config.items ≤ config_limit) }
+    ensures large { IsErrOf result ToolFault.TooLarge
+        → IfSome (R.remaining reader.old) (λ bytes. config_limit < length bytes) }
+    ensures faults { IfErr result IsConfigFault }
+{
+    match read_within(CONFIG_LIMIT, alloc, reader) {
+        Err(ToolFault::Input) => Err(ToolFault::Unreadable),
+        read => read,
+    }
+}
+
+/// All that a reader gives, where that is no more than the limit.
+fn read_within<R: Read>(limit: usize, alloc: Global, reader: &mut R) -> Result<Vec<u8>, ToolFault>
+    requires { limit ≤ input_limit }
+    ensures whole { IfOk result (λ input. IfSome (R.remaining reader.old) (λ bytes. input.items ≡ bytes)) }
+    ensures within { IfOk result (λ input. length input.items ≤ limit) }
+    ensures large { IsErrOf result ToolFault.TooLarge
+        → IfSome (R.remaining reader.old) (λ bytes. limit < length bytes) }
+    ensures faults { IfErr result IsInputFault }
+{
+    let mut input = Vec::new(alloc);
+    let mut piece = [0; PIECE];
+    for _ in 0..limit + 1 {
+        let count = read_piece(reader, &mut piece)?;
+        if count == 0 {
+            return Ok(input);
+        }
+        if input.len() + count > limit {
+            return Err(ToolFault::TooLarge);
+        }
+        input
+            .extend_from_slice(&piece[..count])
+            .map_err(|_| ToolFault::Memory)?;
+    }
+    Err(ToolFault::TooLarge)
+}
+
+/// The next bytes that a reader gives, and how many those are: none at its end.
+///
+/// # Errors
+/// `Input` where the read fails.
+pub(crate) fn read_piece<R: Read>(reader: &mut R, piece: &mut [u8]) -> Result<usize, ToolFault>
+    ensures within { IfOk result (λ count. count ≤ length piece.new) }
+    ensures bytes { IfOk result (λ count. Consumes (R.remaining reader.old) (R.remaining reader.new) (take count piece.new)) }
+    ensures end { IfOk result (λ count. count ≡ 0 → 0 < length piece.old → IsAtEnd (R.remaining reader.new)) }
+    ensures input { IfErr result (λ fault. fault ≡ ToolFault.Input) }
+{
+    match reader.read(piece) {
+        Ok(count) => Ok(count),
+        Err(_) => Err(ToolFault::Input),
+    }
+}

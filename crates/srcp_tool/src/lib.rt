@@ -1,0 +1,31 @@
+//! What the program does besides serving: it reads its words (`read_words`), configurations (`read_config`, `read_layout`) and
+//! scripts (`read_script`), replays a script (`replay`), mirrors the lines of a panel (`mirror`), and checks a configuration
+//! (`check`). `ToolFault` says why it stops, what it tells of that, and the status.
+//!
+//! It asks no socket and no clock for anything: `srcp_serve` does that. It opens no file; its callers hand it readers and writers.
+#![tactic(auto)]
+
+mod arguments;
+mod checking;
+mod config;
+mod cut;
+mod document;
+mod fault;
+mod input;
+mod output;
+mod playback;
+mod print;
+mod script;
+mod stream;
+mod tool;
+
+pub use arguments::read_words;
+pub use checking::check;
+pub use config::{Config, ConfigFault, Field};
+pub use document::read_layout;
+pub use fault::ToolFault;
+pub use input::read_config;
+pub use playback::replay;
+pub use script::{Cause, ScriptFault, read_script};
+pub use stream::mirror;
+pub use tool::Tool;

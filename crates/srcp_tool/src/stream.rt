@@ -1,0 +1,107 @@
+//! The rows that information lines tell of.
+
+ghost use Rattle.std.specs.Prelude.{◌≡◌, ◌+◌, ◌^◌, ◌<◌, ◌≤◌, ◌++◌, ℕ, List, length, IfOk, IfSome, IfErr};
+ghost use Rattle.std.specs.List.{AllByRecursion};
+ghost use Rattle.srcp_info.specs.Client.{listing};
+ghost use Rattle.srcp_info.specs.WellFormed.{IsWellFormedShown};
+ghost use Rattle.srcp_tool.specs.Mirroring.{IsAt};
+ghost use Rattle.srcp_tool.specs.Output.{ClientHolds, Writes, Mirrors, RefusesInput, StopsFor};
+
+mod begun;
+mod lines;
+
+use crate::fault::ToolFault;
+use crate::input::{INPUT_LIMIT, PIECE, read_piece};
+use crate::output::write_whole;
+use crate::print::print_shown;
+use lines::MirroredLines;
+use srcp_info::{Mirror, MirrorFault, Shown};
+use std::alloc::{AllocError, Global};
+use std::io::{Read, Write};
+use std::vec::Vec;
+
+/// Reads information lines to the end of the input, and writes the rows of a client that applies them,
+/// as lines in key order. Lines end in LF alone; what follows the last LF is not applied. The input is
+/// not kept: memory is taken for the rows and for what is written of them.
+///
+/// # Errors
+/// `Input` where a read fails, `TooLarge` where there is more than 16,777,216 bytes, `Line` for the
+/// first line that is no information line, `Memory` where a growth was refused: nothing is written
+/// then. `Output` where a write fails or takes nothing: a front of the rows' lines is written.
+pub fn mirror<R: Read, W: Write>(
+    alloc: Global,
+    reader: &mut R,
+    writer: &mut W,
+) -> Result<(), ToolFault>
+    ensures { let input = R.remaining reader.old in Writes
+        (λ output. IfSome input (λ bytes. Mirrors bytes output))
+        (λ fault. IfSome input (λ bytes. RefusesInput bytes fault))
+        result (W.contents writer.old) (W.contents writer.new) }
+{
+    let mirror = read_lines(alloc, reader)?;
+    let text = print_listing(alloc, mirror.rows())?;
+    write_whole(writer, &text)
+}
+
+/// Applies the lines of the input up to its end. The first line that is refused is told at the end
+/// alone, since a read that fails and an input that is too large are told before it.
+fn read_lines<R: Read>(alloc: Global, reader: &mut R) -> Result<Mirror, ToolFault>
+    ensures holds { IfOk result (λ rows. IfSome (R.remaining reader.old) (λ input. ClientHolds input rows)) }
+    ensures stops { IfErr result (StopsFor (λ fault.
+        IfSome (R.remaining reader.old) (λ input. RefusesInput input fault))) }
+{
+    let mut lines = MirroredLines::new(alloc);
+    let mut refused = None;
+    let mut total = 0;
+    let mut piece = [0; PIECE];
+    for _ in 0..INPUT_LIMIT + 1 {
+        let count = read_piece(reader, &mut piece)?;
+        if count == 0 {
+            return match refused {
+                Some(line) => Err(ToolFault::Line(line)),
+                None => Ok(lines.into_mirror()),
+            };
+        }
+        total += count;
+        if total > INPUT_LIMIT {
+            return Err(ToolFault::TooLarge);
+        }
+        refused = take_piece(&mut lines, refused, &piece[..count])?;
+    }
+    Err(ToolFault::TooLarge)
+}
+
+/// Applies the lines that end in a piece, unless a line was refused before. A line that is refused is
+/// told by its number.
+fn take_piece(
+    lines: &mut MirroredLines,
+    refused: Option<usize>,
+    piece: &[u8],
+) -> Result<Option<usize>, ToolFault>
+    requires { lines.old.count + length piece.now + 1 < 2 ^ 64 }
+    ensures taken { (input : List ℕ) → IsAt lines.old refused input
+        → IfOk result (λ now. IsAt lines.new now (input ++ piece.now)) }
+    ensures memory { IfErr result (λ fault. fault ≡ ToolFault.Memory) }
+    ensures count { lines.new.count ≤ lines.old.count + length piece.now }
+{
+    if refused.is_some() {
+        return Ok(refused);
+    }
+    match lines.take(piece) {
+        Ok(()) => Ok(None),
+        Err(MirrorFault::NotInfo) => Ok(Some(lines.count() + 1)),
+        Err(MirrorFault::Memory) => Err(ToolFault::Memory),
+    }
+}
+
+/// The lines of rows.
+fn print_listing(alloc: Global, rows: &[Shown]) -> Result<Vec<u8>, AllocError>
+    requires { AllByRecursion IsWellFormedShown rows.now }
+    ensures { IfOk result (λ text. text.items ≡ listing rows.now) }
+{
+    let mut text = Vec::new(alloc);
+    for shown in rows {
+        print_shown(shown, &mut text)?;
+    }
+    Ok(text)
+}

@@ -1,0 +1,46 @@
+//! A line whose LF has not come yet.
+
+ghost use Rattle.std.specs.Prelude.{◌≡◌, ◌<◌, ◌++◌, ℕ, List, [], length, MatchOption};
+ghost use Rattle.srcp_tool.specs.Mirroring.{IsBegun};
+
+use srcp_text::LineBuf;
+
+/// The bytes of a line that has begun, as far as they may be those of an information line.
+#[derive(Drop)]
+pub(super) struct BegunLine {
+    bytes: LineBuf,
+    too_long: bool,
+}
+
+impl BegunLine {
+    /// No byte.
+    pub(super) fn new() -> BegunLine
+        ensures { IsBegun result [] }
+    {
+        BegunLine {
+            bytes: LineBuf::new(),
+            too_long: false,
+        }
+    }
+
+    /// More bytes of the line.
+    pub(super) fn add(&mut self, text: &[u8])
+        ensures { (front : List ℕ) → IsBegun self.old front → IsBegun self.new (front ++ text.now) }
+    {
+        if self.bytes.try_extend_from_slice(text).is_err() {
+            self.too_long = true;
+        }
+    }
+
+    /// The line, unless it is too long to be that of a change.
+    pub(super) fn line(&self) -> Option<&[u8]>
+        ensures { (text : List ℕ) → IsBegun self.now text
+            → MatchOption result (256 < length text) (λ line. line.now ≡ text) }
+    {
+        if self.too_long {
+            None
+        } else {
+            Some(&self.bytes)
+        }
+    }
+}

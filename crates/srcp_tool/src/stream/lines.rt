@@ -1,0 +1,88 @@
+//! The whole lines of a stream, applied as they come.
+
+ghost use Rattle.std.specs.Prelude.{◌≡◌, ◌+◌, ◌^◌, ◌<◌, ◌≤◌, ◌∷◌, ◌++◌, ℕ, List, [], length, OnOk, IsErrOf};
+ghost use Rattle.srcp_tool.specs.Mirroring.{HasTaken};
+ghost use Rattle.srcp_tool.specs.Output.{RefusesLine};
+
+use crate::cut::cut_at;
+use crate::stream::begun::BegunLine;
+use srcp_info::{Mirror, MirrorFault};
+use std::alloc::Global;
+
+/// The rows that the whole lines of a stream tell of, how many lines those were, and the line that has
+/// begun behind them.
+#[derive(Drop)]
+pub(super) struct MirroredLines {
+    mirror: Mirror,
+    count: usize,
+    begun: BegunLine,
+}
+
+impl MirroredLines {
+    /// No line. Takes no memory.
+    pub(super) fn new(alloc: Global) -> MirroredLines
+        ensures taken { HasTaken result [] }
+        ensures count { result.count ≡ 0 }
+    {
+        MirroredLines {
+            mirror: Mirror::new(alloc),
+            count: 0,
+            begun: BegunLine::new(),
+        }
+    }
+
+    /// How many lines were applied.
+    pub(super) fn count(&self) -> usize
+        ensures { result ≡ self.now.count }
+    {
+        self.count
+    }
+
+    /// The rows.
+    pub(super) fn into_mirror(self) -> Mirror
+        ensures { result ≡ self.mirror }
+    {
+        self.mirror
+    }
+
+    /// Applies the lines that end in a piece of the stream.
+    ///
+    /// # Errors
+    /// `NotInfo` where the line that follows those that were applied is no information line, `Memory`
+    /// where a growth was refused.
+    pub(super) fn take(&mut self, piece: &[u8]) -> Result<(), MirrorFault>
+        requires { self.old.count + length piece.now < 2 ^ 64 }
+        ensures taken { OnOk result ((input : List ℕ) → HasTaken self.old input → HasTaken self.new (input ++ piece.now)) }
+        ensures refused { IsErrOf result MirrorFault.NotInfo
+            → (input : List ℕ) → HasTaken self.old input → RefusesLine (input ++ piece.now) (self.new.count + 1) }
+        ensures count { self.new.count ≤ self.old.count + length piece.now }
+    {
+        let mut rest = piece;
+        loop {
+            let (line, behind) = cut_at(b'\n', rest);
+            self.begun.add(line);
+            let Some(behind) = behind else {
+                return Ok(());
+            };
+            self.end_line()?;
+            rest = behind;
+        }
+    }
+
+    /// Applies the line that has begun, at its LF.
+    fn end_line(&mut self) -> Result<(), MirrorFault>
+        requires { self.old.count + 1 < 2 ^ 64 }
+        ensures taken { OnOk result ((input : List ℕ) → HasTaken self.old input → HasTaken self.new (input ++ 10 ∷ [])) }
+        ensures refused { IsErrOf result MirrorFault.NotInfo
+            → (input : List ℕ) → HasTaken self.old input → RefusesLine (input ++ 10 ∷ []) (self.new.count + 1) }
+        ensures count { self.new.count ≤ self.old.count + 1 }
+    {
+        match self.begun.line() {
+            Some(line) => self.mirror.apply(line)?,
+            None => return Err(MirrorFault::NotInfo),
+        }
+        self.begun = BegunLine::new();
+        self.count += 1;
+        Ok(())
+    }
+}
