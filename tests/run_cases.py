@@ -1,7 +1,6 @@
 #!/usr/bin/env python3
-"""run_cases.py PROGRAM FLAT: runs the built program over every case of cases/, over the failures of its streams, and
-serving. FLAT is the program that replays over the plain keeper of rows: each case that replays a script over a
-configuration is run by it too, and has to print the same and end with the same status.
+"""run_cases.py PROGRAM [NAME ..]: runs the built program over every case of cases/, over the failures of its streams, over
+inputs that are cut or large, and serving; or over the cases that are named.
 
 A case is a folder: `args` (one word a line), `stdin`, or in `stdin.from` the path of a file to read in its place,
 `config.toml` where it needs one, `status`, and what is expected: `stdout` and `stderr` to the byte, or in `expect.json`
@@ -16,8 +15,10 @@ import subprocess
 import sys
 import tempfile
 import time
+from functools import partial
 from pathlib import Path
 
+from inputs import INPUT_CASES
 from serving import SERVING_CASES
 
 CASES = Path(__file__).resolve().parent / "cases"
@@ -77,20 +78,6 @@ def run_case(folder, program):
             return fault
     expected = content("expect.json")
     return unexpected_record(done.stdout, json.loads(expected)) if expected else None
-
-
-def is_replay_over_a_configuration(folder):
-    return (folder / "args").read_text().splitlines() == ["replay", "--config", "config.toml"]
-
-
-def run_over_both(folder, program, flat):
-    """Why the two programs differ over the case, or None."""
-    script = (folder / "stdin").read_bytes()
-    done, plain = (subprocess.run(words, input=script, capture_output=True, cwd=folder, timeout=SECONDS)
-                   for words in ([program, "replay", "--config", "config.toml"], [flat]))
-    if plain.returncode != done.returncode:
-        return f"status {plain.returncode} over the plain keeper, and {done.returncode}"
-    return difference("stdout over the plain keeper", plain.stdout, done.stdout)
 
 
 def ended(done, status, text, out=b""):
@@ -231,13 +218,21 @@ STREAM_CASES = (input_past_its_limit, input_at_its_limit, input_that_cannot_be_r
                 run_in_little_memory, full_bus_that_stalls_nobody)
 
 
+def cases_by_name():
+    """Each case by its name, as a function of the program that returns why the case fails, or None."""
+    cases = {folder.name: partial(run_case, folder) for folder in sorted(CASES.iterdir()) if folder.is_dir()}
+    return cases | {case.__name__.replace("_", "-"): case for case in STREAM_CASES + INPUT_CASES + SERVING_CASES}
+
+
 def main():
-    program, flat = (str(Path(path).resolve()) for path in sys.argv[1:3])
-    folders = [folder for folder in sorted(CASES.iterdir()) if folder.is_dir()]
-    results = [(folder.name, run_case(folder, program)) for folder in folders]
-    results += [(f"{folder.name}, over both keepers", run_over_both(folder, program, flat)) for folder in folders
-                if is_replay_over_a_configuration(folder)]
-    results += [(case.__name__.replace("_", "-"), case(program)) for case in STREAM_CASES + SERVING_CASES]
+    program, names = sys.argv[1], sys.argv[2:]
+    if not os.access(program, os.X_OK):
+        sys.exit(f"{program} is not built: ./run builds it")
+    cases = cases_by_name()
+    if unknown := [name for name in names if name not in cases]:
+        sys.exit(f"no such case: {' '.join(unknown)}")
+    program = str(Path(program).resolve())
+    results = [(name, cases[name](program)) for name in names or cases]
     failed = [(name, fault) for name, fault in results if fault]
     for name, fault in failed:
         print(f"FAIL {name}: {fault}")

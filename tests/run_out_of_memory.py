@@ -1,7 +1,7 @@
 #!/usr/bin/env python3
-"""run_growths.py: refuses each growth of memory in turn, to every call that can want memory and to a whole run.
+"""run_out_of_memory.py: refuses each growth of memory in turn, to every call that can want memory and to a whole run.
 
-`rt try` builds the program of crates/srcp_growths once, without a proof, and refuses the growth of the same number in each
+`rt try` builds the program of crates/out_of_memory_tests once, without a proof, and refuses the growth of the same number in each
 case. A case names a trial and how many growths are made before it, so that each growth of the trial is refused in one of
 them. What came of it is `refused` or `granted` where the promises were kept, `unprepared` where the growth is none of the
 call's, and `broken` else. The last line counts the cases; the status is 0 only where all of them pass.
@@ -13,7 +13,7 @@ import sys
 import tempfile
 from pathlib import Path
 
-CRATE = Path(__file__).resolve().parent.parent / "crates" / "srcp_growths"
+CRATE = Path(__file__).resolve().parent.parent / "crates" / "out_of_memory_tests"
 # how many growths each trial is tried with, which is more than it has
 TRIALS = {"ring": 3, "feed": 5, "mirror": 4, "layout": 5, "connect": 8, "configuration": 18, "script": 4, "words": 66,
           "serve": 8, "play-flat": 52, "play-nested": 56}
