@@ -1,4 +1,4 @@
-use Rattle.std.proofs.Common.{ℕ, ◌≡◌, sym, subst, List, Result, Ok, Err, OnOk, OnErr}
+use Rattle.std.proofs.Common.{rules, ℕ, ◌≡◌, sym, subst, List, Result, Ok, Err, OnOk, OnErr}
 use Rattle.std.specs.List.{AllByRecursion}
 use Rattle.srcp_info.specs.declared.change.Shown.{Shown}
 use Rattle.srcp_info.specs.declared.change.Change.{Change}
@@ -28,3 +28,12 @@ invariant_of-self c = rows_either c.put_row.result (Put c.in-Some-Put.shown) c.s
 
 pub invariant_of-self-in-Some-Gone : goal.invariant_of-self-in-Some-Gone
 invariant_of-self-in-Some-Gone c = rows_after (Gone c.in-Some-Gone.field-0-0 c.in-Some-Gone.device) c.self.inside.rows.items c.drop_device.new.rows.items (told (Gone c.in-Some-Gone.field-0-0 c.in-Some-Gone.device) c.in-Some-Gone.field-0 c.args.line.now c.in-Some-Gone.ensures c.in-Some-Gone.field-0-is) c.drop_device.ensures c.self.invariant
+
+pub returns-in-None-clause-memory : goal.returns-in-None-clause-memory
+returns-in-None-clause-memory c = search rules
+
+pub returns-in-None-clause-ok : goal.returns-in-None-clause-ok
+returns-in-None-clause-ok c = search rules
+
+pub returns-in-Some-Gone-clause-ok : goal.returns-in-Some-Gone-clause-ok
+returns-in-Some-Gone-clause-ok c = search rules
