@@ -1,0 +1,297 @@
+//! A door in memory.
+
+ghost use Rattle.std.specs.Prelude.{◌≡◌, ◌<◌, ◌≤◌, ◌∷◌, ◌++◌, [], ℕ, None, Ok, IfErr, IfOk, IfSome, MatchOption, OnOk, OnErr, length};
+ghost use Rattle.srcp_serve.specs.declared.door.Got.{Got};
+ghost use Rattle.srcp_serve.specs.Calls.{one_more};
+
+use crate::told_turns::{Asked, events_of};
+use srcp_core::Event;
+use srcp_serve::{Door, DoorFault, Got};
+use std::alloc::{AllocError, Global};
+use std::vec::Vec;
+
+/// A peer that comes, what it sends, and what it was written.
+#[derive(Drop)]
+pub(crate) struct ScriptPeer<'a> {
+    /// What the reads find, one after another: an empty piece is the end, and after the last there is nothing.
+    pieces: &'a [&'a [u8]],
+    /// How many bytes a write takes at most.
+    at_once: usize,
+    /// How many pieces are read.
+    reads: usize,
+    written: Vec<u8>,
+    /// How many times the peer was let go.
+    closes: u32,
+}
+
+impl<'a> ScriptPeer<'a> {
+    pub(crate) fn new(alloc: Global, pieces: &'a [&'a [u8]], at_once: usize) -> ScriptPeer<'a> {
+        ScriptPeer {
+            pieces,
+            at_once,
+            reads: 0,
+            written: Vec::new(alloc),
+            closes: 0,
+        }
+    }
+
+    fn read(&mut self, buffer: &mut [u8]) -> Got
+        requires { 0 < length buffer.old }
+        ensures { (n : ℕ) → result ≡ Got.Bytes n → (0 < n) × (n ≤ length buffer.old) }
+    {
+        let pieces = self.pieces;
+        let Some(piece) = pieces.get(self.reads) else {
+            return Got::Nothing;
+        };
+        self.reads = self.reads.saturating_add(1);
+        let count = piece.len().min(buffer.len());
+        if count == 0 {
+            return Got::Ended;
+        }
+        buffer[..count].copy_from_slice(&piece[..count]);
+        Got::Bytes(count)
+    }
+
+    fn take(&mut self, bytes: &[u8]) -> usize
+        ensures { result ≤ length bytes.now }
+    {
+        let count = bytes.len().min(self.at_once);
+        match self.written.extend_from_slice(&bytes[..count]) {
+            Ok(()) => count,
+            Err(_) => 0,
+        }
+    }
+}
+
+/// A door to peers that come in their order, one a call. One call of the door may fail. It tells its calls, up to the
+/// first for which memory is refused.
+#[derive(Drop)]
+pub(crate) struct ScriptDoor<'a> {
+    alloc: Global,
+    /// The moments of the turns; 0 after them.
+    moments: &'a [u64],
+    peers: Vec<ScriptPeer<'a>>,
+    /// Which call fails, counted from 1; none does where it is 0.
+    failing: u32,
+    /// How many peers have come.
+    arrived: u32,
+    pub calls: u32,
+    faults: u64,
+    /// The calls so far, unless memory for one was refused.
+    told: Option<Vec<Asked>>,
+}
+
+impl<'a> ScriptDoor<'a> {
+    pub(crate) fn new(alloc: Global, moments: &'a [u64], failing: u32) -> ScriptDoor<'a>
+        ensures { IfSome result.told (λ told. told.items ≡ []) }
+    {
+        ScriptDoor {
+            alloc,
+            moments,
+            peers: Vec::new(alloc),
+            failing,
+            arrived: 0,
+            calls: 0,
+            faults: 0,
+            told: Some(Vec::new(alloc)),
+        }
+    }
+
+    pub(crate) fn add(&mut self, peer: ScriptPeer<'a>) -> Result<(), AllocError>
+        ensures { self.new.told ≡ self.old.told }
+    {
+        self.peers.push(peer)?;
+        Ok(())
+    }
+
+    /// What the peer that came in this place was written; nothing where none did.
+    pub(crate) fn written(&self, place: usize) -> &[u8] {
+        match self.peers.get(place) {
+            Some(peer) => peer.written.as_slice(),
+            None => &[],
+        }
+    }
+
+    /// How many times the peer that came in this place was let go.
+    pub(crate) fn closes(&self, place: usize) -> u32 {
+        match self.peers.get(place) {
+            Some(peer) => peer.closes,
+            None => 0,
+        }
+    }
+
+    /// The events that the answers so far make.
+    ///
+    /// # Errors
+    /// Where memory is refused, or was for a call.
+    pub(crate) fn events(&self) -> Result<Vec<Event>, AllocError> {
+        match &self.told {
+            Some(calls) => events_of(self.alloc, calls),
+            None => Err(AllocError),
+        }
+    }
+
+    /// One more call; it fails where that is the one to fail.
+    fn call(&mut self, fault: DoorFault) -> Result<(), DoorFault>
+        ensures ok { OnOk result (self.new.faults ≡ self.old.faults) }
+        ensures err { OnErr result (self.new.faults ≡ one_more self.old.faults) }
+        ensures fault { IfErr result (λ told. told ≡ fault) }
+        ensures same { self.new.told ≡ self.old.told }
+    {
+        self.calls = self.calls.saturating_add(1);
+        if self.calls == self.failing {
+            self.faults = self.faults.saturating_add(1);
+            Err(fault)
+        } else {
+            Ok(())
+        }
+    }
+
+    /// Tells a call with its answer.
+    fn tell(&mut self, asked: Asked)
+        ensures faults { self.new.faults ≡ self.old.faults }
+        ensures told { MatchOption self.old.told (self.new.told ≡ None) (λ old.
+            IfSome self.new.told (λ new. new.items ≡ old.items ++ asked ∷ [])) }
+    {
+        if let Some(mut told) = self.told.take()
+            && told.push(asked).is_ok()
+        {
+            self.told = Some(told);
+        }
+    }
+
+    fn moment(&mut self) -> Result<u64, DoorFault>
+        ensures ok { OnOk result (self.new.faults ≡ self.old.faults) }
+        ensures err { OnErr result (self.new.faults ≡ one_more self.old.faults) }
+        ensures fault { IfErr result (λ told. told ≡ DoorFault.Now) }
+        ensures same { self.new.told ≡ self.old.told }
+    {
+        let moment = match self.moments.split_first() {
+            Some((moment, later)) => {
+                self.moments = later;
+                *moment
+            }
+            None => 0,
+        };
+        match self.call(DoorFault::Now) {
+            Ok(()) => Ok(moment),
+            Err(fault) => Err(fault),
+        }
+    }
+
+    fn next_peer(&mut self) -> Result<Option<u32>, DoorFault>
+        ensures ok { OnOk result (self.new.faults ≡ self.old.faults) }
+        ensures err { OnErr result (self.new.faults ≡ one_more self.old.faults) }
+        ensures fault { IfErr result (λ told. told ≡ DoorFault.Accept) }
+        ensures same { self.new.told ≡ self.old.told }
+    {
+        self.call(DoorFault::Accept)?;
+        let next = self.arrived;
+        if next as usize >= self.peers.len() {
+            return Ok(None);
+        }
+        self.arrived = next.saturating_add(1);
+        Ok(Some(next))
+    }
+
+    fn read_from(&mut self, peer: u32, buf: &mut [u8]) -> Result<Got, DoorFault>
+        requires { 0 < length buf.old }
+        ensures ok { OnOk result (self.new.faults ≡ self.old.faults) }
+        ensures err { OnErr result (self.new.faults ≡ one_more self.old.faults) }
+        ensures fault { IfErr result (λ told. told ≡ DoorFault.Read) }
+        ensures count { (n : ℕ) → result ≡ Ok (Got.Bytes n) → (0 < n) × (n ≤ length buf.old) }
+        ensures same { self.new.told ≡ self.old.told }
+    {
+        self.call(DoorFault::Read)?;
+        match self.peers.get_mut(peer as usize) {
+            Some(peer) => Ok(peer.read(buf)),
+            None => Ok(Got::Nothing),
+        }
+    }
+
+    fn write_to(&mut self, peer: u32, bytes: &[u8]) -> Result<usize, DoorFault>
+        ensures ok { OnOk result (self.new.faults ≡ self.old.faults) }
+        ensures err { OnErr result (self.new.faults ≡ one_more self.old.faults) }
+        ensures fault { IfErr result (λ told. told ≡ DoorFault.Write) }
+        ensures count { IfOk result (λ n. n ≤ length bytes.now) }
+        ensures same { self.new.told ≡ self.old.told }
+    {
+        self.call(DoorFault::Write)?;
+        match self.peers.get_mut(peer as usize) {
+            Some(peer) => Ok(peer.take(bytes)),
+            None => Ok(0),
+        }
+    }
+
+    fn let_go(&mut self, peer: u32) -> Result<(), DoorFault>
+        ensures ok { OnOk result (self.new.faults ≡ self.old.faults) }
+        ensures err { OnErr result (self.new.faults ≡ one_more self.old.faults) }
+        ensures fault { IfErr result (λ told. told ≡ DoorFault.Close) }
+        ensures same { self.new.told ≡ self.old.told }
+    {
+        if let Some(peer) = self.peers.get_mut(peer as usize) {
+            peer.closes = peer.closes.saturating_add(1);
+        }
+        self.call(DoorFault::Close)
+    }
+}
+
+impl Door for ScriptDoor<'_> {
+    ghost use Rattle.std.specs.Prelude.{map, option_map};
+    ghost use Rattle.srcp_serve.specs.Calls.{Call, NowCall, AcceptCall, ReadCall, WriteCall, CloseCall};
+    ghost use Rattle.srcp_serve_tests.specs.declared.told_turns.Asked.TheVariants as asked;
+
+    ghost faults = { λ d. d.faults };
+
+    ghost told = { λ d. option_map (λ calls. map (λ call. elim call as (λ _. Call) [
+      | asked.Now answer ↦ NowCall answer
+      | asked.Accept answer ↦ AcceptCall answer
+      | asked.Read peer answer buffer ↦ ReadCall peer answer buffer.items
+      | asked.Write peer bytes answer ↦ WriteCall peer bytes.items answer
+      | asked.Close peer answer ↦ CloseCall peer answer
+    ]) calls.items) d.told };
+
+    fn now(&mut self) -> Result<u64, DoorFault> {
+        let answer = self.moment();
+        self.tell(Asked::Now(answer));
+        answer
+    }
+
+    fn accept(&mut self) -> Result<Option<u32>, DoorFault> {
+        let answer = self.next_peer();
+        self.tell(Asked::Accept(answer));
+        answer
+    }
+
+    fn read(&mut self, peer: u32, buf: &mut [u8]) -> Result<Got, DoorFault> {
+        let answer = self.read_from(peer, buf);
+        match Vec::from_slice(self.alloc, buf) {
+            Ok(buffer) => self.tell(Asked::Read {
+                peer,
+                answer,
+                buffer,
+            }),
+            Err(_) => self.told = None,
+        }
+        answer
+    }
+
+    fn write(&mut self, peer: u32, bytes: &[u8]) -> Result<usize, DoorFault> {
+        let answer = self.write_to(peer, bytes);
+        match Vec::from_slice(self.alloc, bytes) {
+            Ok(bytes) => self.tell(Asked::Write {
+                peer,
+                bytes,
+                answer,
+            }),
+            Err(_) => self.told = None,
+        }
+        answer
+    }
+
+    fn close(&mut self, peer: u32) -> Result<(), DoorFault> {
+        let answer = self.let_go(peer);
+        self.tell(Asked::Close { peer, answer });
+        answer
+    }
+}

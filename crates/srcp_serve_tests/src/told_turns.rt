@@ -1,0 +1,162 @@
+//! What a door in memory was asked and answered, and the events that its answers make.
+
+use srcp_core::{Event, Piece};
+use srcp_serve::{DoorFault, Got};
+use std::alloc::{AllocError, Global};
+use std::vec::Vec;
+
+/// How many times a peer is written to in a turn.
+const MOST_WRITES: usize = 300;
+
+/// A call of the door, with its answer.
+#[derive(Drop)]
+pub(crate) enum Asked {
+    Now(Result<u64, DoorFault>),
+    Accept(Result<Option<u32>, DoorFault>),
+    /// The buffer as it is afterwards.
+    Read {
+        peer: u32,
+        answer: Result<Got, DoorFault>,
+        buffer: Vec<u8>,
+    },
+    /// The bytes that were handed over.
+    Write {
+        peer: u32,
+        bytes: Vec<u8>,
+        answer: Result<usize, DoorFault>,
+    },
+    Close {
+        peer: u32,
+        answer: Result<(), DoorFault>,
+    },
+}
+
+impl Asked {
+    /// Whether the call is about that peer.
+    fn is_about(&self, who: u32) -> bool {
+        match self {
+            Asked::Now(_) | Asked::Accept(_) => false,
+            Asked::Read { peer, .. } | Asked::Write { peer, .. } | Asked::Close { peer, .. } => {
+                *peer == who
+            }
+        }
+    }
+
+    /// Whether the peer is lost, or took less than it was handed.
+    fn stops_writing(&self) -> bool {
+        match self {
+            Asked::Read { answer, .. } => matches!(answer, Ok(Got::Ended) | Err(_)),
+            Asked::Write { bytes, answer, .. } => *answer != Ok(bytes.len()),
+            _ => false,
+        }
+    }
+
+    /// What the call about the peer of a connection makes happen by itself.
+    fn event(&self, alloc: Global, conn: usize) -> Result<Option<Event>, AllocError> {
+        Ok(match self {
+            Asked::Read {
+                answer: Ok(Got::Bytes(count)),
+                buffer,
+                ..
+            } => {
+                let bytes = buffer.get(..*count).unwrap_or(&[]);
+                let piece = Piece::new(Vec::from_slice(alloc, bytes)?);
+                Some(Event::Bytes { conn, piece })
+            }
+            Asked::Write { answer, .. } => Some(Event::Room {
+                conn,
+                bytes: answer.unwrap_or(0),
+            }),
+            _ => None,
+        })
+    }
+}
+
+/// A peer that has a place, and the number of its connection.
+#[derive(Clone, Copy)]
+struct Seat {
+    peer: u32,
+    conn: usize,
+}
+
+/// The events that the answers to these calls make.
+pub(crate) fn events_of(alloc: Global, calls: &[Asked]) -> Result<Vec<Event>, AllocError> {
+    let mut events = Vec::new(alloc);
+    let mut places = Vec::new(alloc);
+    let mut opened = 0usize;
+    for turn in calls.chunk_by(|_, next| !matches!(next, Asked::Now(_))) {
+        if let Some(Asked::Now(Ok(moment))) = turn.first() {
+            events.push(Event::At(*moment))?;
+        }
+        if let Some(Asked::Accept(Ok(Some(peer)))) = turn.get(1) {
+            events.push(Event::Open)?;
+            if !turns_away(turn, *peer) {
+                opened = opened.saturating_add(1);
+                take_place(&mut places, *peer, opened)?;
+            }
+        }
+        push_visits(alloc, turn, &mut places, &mut events)?;
+    }
+    Ok(events)
+}
+
+/// A newcomer is turned away where nothing is asked of it before it is let go.
+fn turns_away(turn: &[Asked], newcomer: u32) -> bool {
+    let first = turn.iter().find(|call| call.is_about(newcomer));
+    first.is_some_and(|call| matches!(call, Asked::Close { .. }))
+}
+
+/// Gives the first free place to a peer.
+fn take_place(places: &mut Vec<Option<Seat>>, peer: u32, conn: usize) -> Result<(), AllocError> {
+    let seat = Seat { peer, conn };
+    match places.iter_mut().find(|place| place.is_none()) {
+        Some(place) => *place = Some(seat),
+        None => places.push(Some(seat))?,
+    }
+    Ok(())
+}
+
+/// Appends the events of the visits of a turn.
+fn push_visits(
+    alloc: Global,
+    turn: &[Asked],
+    places: &mut [Option<Seat>],
+    events: &mut Vec<Event>,
+) -> Result<(), AllocError> {
+    for place in places {
+        push_visit(alloc, turn, place, events)?;
+    }
+    Ok(())
+}
+
+/// Appends the events of the visit of a peer that has a place, which is free where the peer is let go.
+fn push_visit(
+    alloc: Global,
+    turn: &[Asked],
+    place: &mut Option<Seat>,
+    events: &mut Vec<Event>,
+) -> Result<(), AllocError> {
+    let Some(Seat { peer, conn }) = *place else {
+        return Ok(());
+    };
+    let mut goes_on = true;
+    let mut writes = 0usize;
+    for call in turn.iter().filter(|call| call.is_about(peer)) {
+        if let Some(event) = call.event(alloc, conn)? {
+            events.push(event)?;
+        }
+        match call {
+            Asked::Write { .. } => writes = writes.saturating_add(1),
+            Asked::Close { .. } => *place = None,
+            _ => {}
+        }
+        goes_on = goes_on && !call.stops_writing();
+    }
+    if goes_on && writes < MOST_WRITES {
+        events.push(Event::Room { conn, bytes: 0 })?;
+    }
+    if place.is_none() {
+        events.push(Event::Shut { conn })?;
+    }
+    Ok(())
+}

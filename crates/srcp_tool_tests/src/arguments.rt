@@ -1,0 +1,118 @@
+//! Reading the words that the program is given.
+
+use clap::error::ErrorKind;
+use srcp_tool::{Tool, read_words};
+use std::alloc::{AllocError, Global};
+use std::string::String;
+use std::test::Fail;
+use std::vec::Vec;
+
+/// The program's name and these words, as the program is given them.
+fn given(alloc: Global, words: &[&str]) -> Result<Vec<String>, AllocError> {
+    let mut given = Vec::new(alloc);
+    given.push(String::from_str(alloc, "srcp_server")?)?;
+    for word in words {
+        given.push(String::from_str(alloc, word)?)?;
+    }
+    Ok(given)
+}
+
+#[test]
+fn replays_without_words(rt: HostRuntime) -> Result<(), Fail> {
+    let words = given(rt.alloc(), &[])?;
+    let tool = read_words(rt.alloc(), &words)?;
+    assert!(rt; matches!(tool, Tool::Replay { config: None }));
+    Ok(())
+}
+
+#[test]
+fn replays_over_a_configuration(rt: HostRuntime) -> Result<(), Fail> {
+    let words = given(rt.alloc(), &["replay", "--config", "f"])?;
+    let tool = read_words(rt.alloc(), &words)?;
+    assert!(rt; matches!(tool, Tool::Replay { config: Some("f") }));
+    Ok(())
+}
+
+#[test]
+fn mirrors(rt: HostRuntime) -> Result<(), Fail> {
+    let words = given(rt.alloc(), &["mirror"])?;
+    let tool = read_words(rt.alloc(), &words)?;
+    assert!(rt; matches!(tool, Tool::Mirror));
+    Ok(())
+}
+
+#[test]
+fn checks_a_configuration(rt: HostRuntime) -> Result<(), Fail> {
+    let words = given(rt.alloc(), &["check", "--config=f"])?;
+    let tool = read_words(rt.alloc(), &words)?;
+    assert!(rt; matches!(tool, Tool::Check { config: "f" }));
+    Ok(())
+}
+
+#[test]
+fn serves_on_and_on(rt: HostRuntime) -> Result<(), Fail> {
+    let words = given(rt.alloc(), &["serve", "--config", "f"])?;
+    let tool = read_words(rt.alloc(), &words)?;
+    assert!(rt;
+        matches!(
+            tool,
+            Tool::Serve {
+                config: "f",
+                turns: u64::MAX
+            }
+        )
+    );
+    Ok(())
+}
+
+#[test]
+fn serves_so_many_turns(rt: HostRuntime) -> Result<(), Fail> {
+    let words = given(rt.alloc(), &["serve", "--turns", "3", "--config", "f"])?;
+    let tool = read_words(rt.alloc(), &words)?;
+    assert!(rt;
+        matches!(
+            tool,
+            Tool::Serve {
+                config: "f",
+                turns: 3
+            }
+        )
+    );
+    Ok(())
+}
+
+/// What is wrong with the words, and the status of that.
+fn refused(alloc: Global, words: &[&str]) -> Option<(ErrorKind, i32)> {
+    let words = given(alloc, words).ok()?;
+    let error = read_words(alloc, &words).err()?;
+    Some((error.kind(), error.exit_code()))
+}
+
+#[test]
+fn refuses_words_that_ask_for_nothing(rt: HostRuntime) {
+    let told = refused(rt.alloc(), &["check"]);
+    assert_eq!(rt; told, Some((ErrorKind::MissingRequiredArgument, 2)));
+    let told = refused(rt.alloc(), &["serve", "--turns", "3"]);
+    assert_eq!(rt; told, Some((ErrorKind::MissingRequiredArgument, 2)));
+    let told = refused(rt.alloc(), &["serve", "--config", "f", "--turns", "x"]);
+    assert_eq!(rt; told, Some((ErrorKind::ValueValidation, 2)));
+    let past = ["serve", "--config", "f", "--turns", "18446744073709551616"];
+    assert_eq!(rt;
+        refused(rt.alloc(), &past),
+        Some((ErrorKind::ValueValidation, 2))
+    );
+    let told = refused(rt.alloc(), &["mirror", "--config", "f"]);
+    assert_eq!(rt; told, Some((ErrorKind::UnknownArgument, 2)));
+    let told = refused(rt.alloc(), &["reply"]);
+    assert_eq!(rt; told, Some((ErrorKind::InvalidSubcommand, 2)));
+}
+
+#[test]
+fn helps_and_tells_its_version(rt: HostRuntime) {
+    let told = refused(rt.alloc(), &["--help"]);
+    assert_eq!(rt; told, Some((ErrorKind::DisplayHelp, 0)));
+    let told = refused(rt.alloc(), &["serve", "--help"]);
+    assert_eq!(rt; told, Some((ErrorKind::DisplayHelp, 0)));
+    let told = refused(rt.alloc(), &["--version"]);
+    assert_eq!(rt; told, Some((ErrorKind::DisplayVersion, 0)));
+}

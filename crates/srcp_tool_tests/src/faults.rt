@@ -1,0 +1,74 @@
+//! What the program tells of a fault, and its status.
+
+use srcp_tool::{Cause, ConfigFault, Field, ScriptFault, ToolFault};
+use std::test::Fail;
+
+#[test]
+fn tells_a_fault_and_its_status(rt: HostRuntime) -> Result<(), Fail> {
+    let word = ScriptFault {
+        line: 2,
+        cause: Cause::Word,
+    };
+    let number = ScriptFault {
+        line: 30,
+        cause: Cause::Number,
+    };
+    let escape = ScriptFault {
+        line: 1,
+        cause: Cause::Escape,
+    };
+    let memory = ScriptFault {
+        line: 1,
+        cause: Cause::Memory,
+    };
+    let faults = [
+        (ToolFault::Input, "cannot read the input", 1),
+        (ToolFault::Output, "cannot write", 1),
+        (ToolFault::TooLarge, "input too large", 2),
+        (ToolFault::from(word), "script line 2: unknown event", 2),
+        (ToolFault::from(number), "script line 30: wrong number", 2),
+        (ToolFault::from(escape), "script line 1: wrong escape", 2),
+        (ToolFault::from(memory), "out of memory", 1),
+        (ToolFault::Script(memory), "out of memory", 1),
+        (
+            ToolFault::Line(7),
+            "mirror line 7: not an information line",
+            2,
+        ),
+        (ToolFault::Memory, "out of memory", 1),
+        (
+            ToolFault::Config(ConfigFault::NotToml),
+            "config: not TOML",
+            2,
+        ),
+        (
+            ToolFault::Config(ConfigFault::Missing(Field::Bus)),
+            "config: bus missing",
+            2,
+        ),
+        (
+            ToolFault::Config(ConfigFault::OutOfRange(Field::GlMax)),
+            "config: gl_max out of range",
+            2,
+        ),
+        (
+            ToolFault::Config(ConfigFault::Twice(250)),
+            "config: bus 250 twice",
+            2,
+        ),
+        (
+            ToolFault::Config(ConfigFault::UnknownGroup),
+            "config: unknown group",
+            2,
+        ),
+        (ToolFault::Config(ConfigFault::Memory), "out of memory", 1),
+        (ToolFault::Unreadable, "cannot read the configuration", 1),
+        (ToolFault::Listen, "cannot listen", 1),
+    ];
+    for (fault, text, status) in faults {
+        let told = format!(in rt.alloc(); "{fault}")?;
+        assert_eq!(rt; told.as_str(), text);
+        assert_eq!(rt; fault.status(), status);
+    }
+    Ok(())
+}

@@ -1,0 +1,23 @@
+//! Tests of `srcp_tool`: they stand here so that it is not proved twice.
+#![tactic(auto)]
+
+#[cfg(test)]
+mod arguments;
+#[cfg(test)]
+mod checking;
+#[cfg(test)]
+mod document;
+#[cfg(test)]
+mod faults;
+#[cfg(test)]
+mod keepers;
+#[cfg(test)]
+mod memory_io;
+#[cfg(test)]
+mod mirroring;
+#[cfg(test)]
+mod replaying;
+#[cfg(test)]
+mod script;
+#[cfg(test)]
+mod streams;
