@@ -1,6 +1,6 @@
 #!/usr/bin/env python3
 """run_cases.py PROGRAM [NAME ..]: runs the built program over every case of cases/, over the failures of its streams, over
-inputs that are cut or large, and serving; or over the cases that are named.
+tables of inputs, over inputs that are cut or large, and serving; or over the cases that are named.
 
 A case is a folder: `args` (one word a line), `stdin`, or in `stdin.from` the path of a file to read in its place,
 `config.toml` where it needs one, `status`, and what is expected: `stdout` and `stderr` to the byte, or in `expect.json`
@@ -20,6 +20,7 @@ from pathlib import Path
 
 from inputs import INPUT_CASES
 from serving import SERVING_CASES
+from tables import TABLE_CASES
 
 CASES = Path(__file__).resolve().parent / "cases"
 INPUT_LIMIT = 16_777_216
@@ -221,7 +222,7 @@ STREAM_CASES = (input_past_its_limit, input_at_its_limit, input_that_cannot_be_r
 def cases_by_name():
     """Each case by its name, as a function of the program that returns why the case fails, or None."""
     cases = {folder.name: partial(run_case, folder) for folder in sorted(CASES.iterdir()) if folder.is_dir()}
-    return cases | {case.__name__.replace("_", "-"): case for case in STREAM_CASES + INPUT_CASES + SERVING_CASES}
+    return cases | {case.__name__.replace("_", "-"): case for case in STREAM_CASES + TABLE_CASES + INPUT_CASES + SERVING_CASES}
 
 
 def main():

@@ -1,4 +1,4 @@
-//! Checking a configuration.
+//! Checking a configuration. The cases of `tests/tables.py` check more of them.
 
 use crate::memory_io::Source;
 use srcp_tool::{ConfigFault, Field, ToolFault, check, read_config};
@@ -7,26 +7,12 @@ use std::vec::Vec;
 
 #[test]
 fn tells_what_a_configuration_says(rt: HostRuntime) -> Result<(), Fail> {
-    let told = [
-        (
-            b"bus = [{number = 1, groups = [\"FB\", \"GA\", \"GL\", \"POWER\"], gl_max = 10239, ga_max = 2044, fb_ports = 2}]".as_slice(),
-            b"port 4303\nbus 1 POWER GL 10239 GA 2044 FB 2\n".as_slice(),
-        ),
-        (
-            b"bus = [{number = 1, groups = [\"GA\", \"FB\"], ga_max = 2044, ga_ports = 4, fb_ports = 2}]".as_slice(),
-            b"port 4303\nbus 1 GA 2044 PORTS 4 FB 2\n".as_slice(),
-        ),
-        (
-            b"port = 80\nbus = [{number = 9, groups = []}, {number = 2, groups = [\"GA\"], ga_max = 1, ga_ports = 2}]".as_slice(),
-            b"port 80\nbus 2 GA 1\nbus 9\n".as_slice(),
-        ),
-        (b"bus = []".as_slice(), b"port 4303\n".as_slice()),
-    ];
-    for (document, wanted) in told {
-        let mut output = Vec::new(rt.alloc());
-        check(rt.alloc(), document, &mut output)?;
-        assert_eq!(rt; output.as_slice(), wanted);
-    }
+    let document =
+        b"bus = [{number = 1, groups = [\"GA\", \"FB\"], ga_max = 2044, ga_ports = 4, fb_ports = 2}]";
+    let mut output = Vec::new(rt.alloc());
+    check(rt.alloc(), document, &mut output)?;
+    let wanted = b"port 4303\nbus 1 GA 2044 PORTS 4 FB 2\n";
+    assert_eq!(rt; output.as_slice(), wanted.as_slice());
     Ok(())
 }
 

@@ -1,4 +1,4 @@
-//! Reading scripts.
+//! Reading scripts. The cases of `tests/tables.py` say which scripts are refused.
 
 use srcp_core::Event;
 use srcp_tool::{Cause, ScriptFault, ToolFault, read_script};
@@ -27,30 +27,15 @@ fn reads_a_script(rt: HostRuntime) -> Result<(), Fail> {
 }
 
 #[test]
-fn tells_the_first_fault(rt: HostRuntime) {
-    let faults = [
-        (b"shut x\n".as_slice(), 1, Cause::Number),
-        (
-            b"open\n# none\n\nbytes 0 \\q\nOPEN\n".as_slice(),
-            4,
-            Cause::Number,
-        ),
-        (b"bytes 1 \\q".as_slice(), 1, Cause::Escape),
-        (b"bytes 1 \\x0".as_slice(), 1, Cause::Escape),
-        (b"bytes 1".as_slice(), 1, Cause::Number),
-        (b"bytes 4294967296 a".as_slice(), 1, Cause::Number),
-        (b"room 1 4294967296".as_slice(), 1, Cause::Number),
-        (b"room 1 5 ".as_slice(), 1, Cause::Number),
-        (b"at 18446744073709551616".as_slice(), 1, Cause::Number),
-        (b"open now".as_slice(), 1, Cause::Number),
-        (b"shut +1".as_slice(), 1, Cause::Number),
-        (b" open".as_slice(), 1, Cause::Word),
-        (b"open\r\n".as_slice(), 1, Cause::Word),
-    ];
-    for (script, line, cause) in faults {
-        let told = read_script(rt.alloc(), script).err();
-        assert_eq!(rt; told, Some(ScriptFault { line, cause }));
-    }
+fn tells_a_fault_with_its_line(rt: HostRuntime) {
+    let told = read_script(rt.alloc(), b"open\n# none\n\nbytes 0 \\q\nOPEN\n").err();
+    assert_eq!(rt;
+        told,
+        Some(ScriptFault {
+            line: 4,
+            cause: Cause::Number
+        })
+    );
 }
 
 #[test]
