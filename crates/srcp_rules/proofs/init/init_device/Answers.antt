@@ -1,4 +1,4 @@
-use Rattle.std.proofs.Common.{◌≡◌, List, Result, Ok, Err, OnOk, is_ok, not, true, false, inl, map, ◌++◌, true≢false, sym, ap, subst, ◌∙◌}
+use Rattle.std.proofs.Common.{◌≡◌, List, Result, Ok, Err, OnOk, is_ok, not, true, false, inl, map, ◌++◌, true≢false, sym, ap, subst, ◌∙◌, rules}
 use Rattle.srcp_info.specs.declared.key.Device.{Device}
 use Rattle.srcp_info.specs.declared.change.Row.{Row}
 use Rattle.srcp_info.specs.declared.change.Change.{Change}
@@ -39,3 +39,6 @@ returns-clause-took g c =
     (subst (λ (did : Effect). Took did state (g.R.Rows.state c.add.new.self) c.accepted-2.result)
     (init_accepted state c.args.session c.args.moment c.args.group c.args.bus c.args.address c.args.init.now (map put_of fresh) free other)
     (record { told = record { reply = c.accepted-2.ensures.reply; changes = changes; ends = c.accepted-2.ensures.ends }; rows = rows }))
+
+pub returns-then-is_there-clause-took : goal.returns-then-is_there-clause-took
+returns-then-is_there-clause-took g c = search rules
