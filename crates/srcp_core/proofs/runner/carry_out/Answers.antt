@@ -1,7 +1,23 @@
-use Rattle.std.proofs.Common.{◌≤◌, length, ◌∙◌, sym, arith}
-use Rattle.srcp_core.proofs.Promises.{moments_all}
-use Rattle.srcp_core.proofs.Recorded.{record_is, runs_all}
+use Rattle.std.proofs.Common.{◌<◌, ◌≤◌, length, refl, ◌∙◌, sym, arith}
+use Rattle.std.proofs.lemmas.Option.{slice_get_read}
+use Rattle.srcp_core.proofs.Promises.{moments_all, moments_more}
+use Rattle.srcp_core.proofs.Recorded.{follows_more, record_is, runs_all, runs_start}
 use Rattle.srcp_core.proofs.runner.carry_out.Goals as goal
+
+pub loop-index-init : goal.loop-index-init
+loop-index-init g c = record {
+  runs = λ _. runs_start c.args.layout.now c.new-recorder.result c.in_ok-core.core c.new-recorder.ensures c.in_ok-core.ensures.core;
+  moments = tt;
+}
+
+pub loop-index-preserved : goal.loop-index-preserved
+loop-index-preserved g c =
+    let within : c.loop-index.index < length c.args.events.now = omega (arith, c.loop-index-test.true) in
+    let at = slice_get_read c.args.events.now (length c.args.events.now) c.loop-index.index c.index-events-index.result refl within c.index-events-index.is in record {
+      runs = follows_more c.args.layout.now c.args.events.now c.loop-index.index c.index-events-index.result c.loop-index.recorder c.follow.new.recorder c.loop-index.core c.follow.new.core
+          c.buses.ensures.laid_out at c.in_ok-follow.ensures.course c.follow.ensures.denied c.loop-index.invariant.runs;
+      moments = moments_more c.args.events.now c.loop-index.index c.index-events-index.result at c.follow.ensures.moment c.loop-index.invariant.moments;
+    }
 
 pub returns-clause-record : goal.returns-clause-record
 returns-clause-record g c = λ d.
