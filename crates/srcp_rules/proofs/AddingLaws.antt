@@ -1,7 +1,6 @@
 -- What may be added to a registry: all the rows of a device that is not there.
 use Rattle.std.specs.Prelude.{◌≡◌, ℕ, ◌<◌, ◌≤◌, Bool, true, false, ◌&&◌, ◌==◌, List, [], ◌∷◌, map, Option, None}
 use Rattle.std.proofs.Common.{refl, sym, ap, ◌∙◌, true≢false, arith}
-use Rattle.std.proofs.lemmas.Bool.{le-leb}
 use Rattle.std.specs.List.{range_with_len}
 use Rattle.srcp_info.specs.declared.key.Device.{Device}
 use Rattle.srcp_info.specs.declared.value.Mode.{Mode}
@@ -10,7 +9,7 @@ use Rattle.srcp_info.specs.declared.value.Value.TheVariants as value
 use Rattle.srcp_info.specs.Key.{first_key}
 use Rattle.srcp_info.specs.WellFormed.{IsMoment}
 use Rattle.srcp_rules.specs.declared.layout.Bus.{Bus}
-use Rattle.srcp_rules.specs.Layout.{row_count, rows_if, is_within}
+use Rattle.srcp_rules.specs.Layout.{row_count, rows_if}
 use Rattle.srcp_rules.specs.State.{State, IsWhole, IsRowOf, has_row, is_there, key_at, session_device, row_put}
 use Rattle.srcp_rules.specs.Rows.{AreNewRowsOf}
 use Rattle.srcp_rules.proofs.StepLaws.{IsRowOf-put}

@@ -1,6 +1,6 @@
 -- Rows in entries by rising number, where keys go by that number: the entries after a row is set, a device added or taken out.
-use Rattle.std.specs.Prelude.{◌≡◌, ℕ, ◌<◌, Bool, true, false, List, [], ◌++◌, Some, None}
-use Rattle.std.proofs.Common.{refl, sym, ap, arith}
+use Rattle.std.specs.Prelude.{◌≡◌, ℕ, ◌<◌, false, List, [], ◌++◌, Some, None}
+use Rattle.std.proofs.Common.{refl, sym, arith}
 use Rattle.std.specs.List.{AllByRecursion}
 use Rattle.std.specs.Map.{set_value, remove_entry}
 use Rattle.std.specs.Ordering.{nat_cmp}
@@ -14,7 +14,7 @@ use Rattle.srcp_rules.specs.State.{State, put_row, row_at, without}
 use Rattle.srcp_rules.specs.Rows.{put_rows}
 use Rattle.srcp_rules.specs.Nested.{AreSorted, entry_at, listed}
 use Rattle.srcp_rules.proofs.FindLaws.{each-weaken}
-use Rattle.srcp_rules.proofs.KeyLaws.{same_key, same_key-true}
+use Rattle.srcp_rules.proofs.KeyLaws.{same_key}
 use Rattle.srcp_rules.proofs.PutLaws.{find_past, find_before, put_row-before, put_row-past, put_rows-before, put_rows-past, without-before, without-past}
 use Rattle.srcp_rules.proofs.ListedLaws.{IsTagged, Above, Below, listed-absent, listed-insert_entry, listed-remove_entry, listed-set_value, other_key, unequal}
 

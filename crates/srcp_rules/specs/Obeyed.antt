@@ -1,6 +1,7 @@
 -- What became of a command, against what the command does.
 use Rattle.std.specs.Prelude.{◌≡◌, ℕ, Bool, IsTrue, ◌⊎◌, List, map}
 use Rattle.srcp_info.specs.declared.change.Code.TheVariants.{C500}
+use Rattle.srcp_info.specs.declared.change.Reply.TheVariants.{Accepted}
 use Rattle.srcp_rules.specs.declared.obeyed.Obeyed.{Obeyed}
 use Rattle.srcp_rules.specs.declared.command.Command.{Command}
 use Rattle.srcp_rules.specs.declared.layout.Bus.{Bus}
@@ -19,14 +20,15 @@ pub record Took (did : Effect) (before after : State) (obeyed : Obeyed) : Type 0
   pub told : IsTold did obeyed
   pub rows : after ≡ updated_all did.updates before
 
--- memory was refused, and nothing has changed
-pub record WantsMemory (before after : State) (obeyed : Obeyed) : Type 0 where
+-- memory was refused to a command that nothing else refuses, and nothing has changed
+pub record WantsMemory (did : Effect) (before after : State) (obeyed : Obeyed) : Type 0 where
+  pub accepts : did.reply ≡ Accepted
   pub told : IsTold (refused C500) obeyed
   pub rows : after ≡ before
 
 -- the effect took place, or, where rows are added, memory was refused
 abbrev pub TookUnless : (adds : Bool) → Effect → (before after : State) → Obeyed → Type 0
-TookUnless adds did before after obeyed = Took did before after obeyed ⊎ (IsTrue adds × WantsMemory before after obeyed)
+TookUnless adds did before after obeyed = Took did before after obeyed ⊎ (IsTrue adds × WantsMemory did before after obeyed)
 
 -- the command did what it does, or it adds rows and memory was refused
 abbrev pub IsObeyed : (before after : State) → (session moment : ℕ) → Command → Obeyed → Type 0

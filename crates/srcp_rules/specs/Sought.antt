@@ -1,5 +1,5 @@
 -- Which rows a walk along the registry seeks, and where it may pass over them.
-use Rattle.std.specs.Prelude.{ℕ, Bool, true, false, ◌&&◌, if◌then◌else◌, find, not, Option}
+use Rattle.std.specs.Prelude.{Bool, true, false, ◌&&◌, if◌then◌else◌, find, not, Option}
 use Rattle.srcp_info.specs.declared.key.Group.{Group}
 use Rattle.srcp_info.specs.declared.key.Group.TheVariants as group
 use Rattle.srcp_info.specs.declared.key.Key.{Key}

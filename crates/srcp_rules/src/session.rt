@@ -9,9 +9,11 @@ use crate::registry::{put_of, row_put};
 use crate::rows::Rows;
 use srcp_info::{Change, Mode, Value};
 
-/// Adds the row of a session that begins, whose id has to be at least 1 and not to be there, and
-/// gives its Put. `Err` is want of memory, and the rows are as before. That ids count from 1 is our
-/// own choice.
+/// Adds the row of a session that begins, and returns its Put. Its id is at least 1 and not there. The registry is whole:
+/// only then has an id that is not there no row at all, which is what `Rows::add` asks for.
+///
+/// # Errors
+/// `Memory` where memory is refused; the rows are as before.
 pub fn begin_session<R: Rows>(
     rows: &mut R,
     session: u32,

@@ -1,4 +1,4 @@
-use Rattle.std.proofs.Common.{◌≡◌, false, sym, ap, ◌∙◌}
+use Rattle.std.proofs.Common.{◌≡◌, false, sym, ap, ◌∙◌, rules}
 use Rattle.srcp_info.specs.declared.key.Device.{Device}
 use Rattle.srcp_info.specs.declared.value.Value.TheVariants as value
 use Rattle.srcp_rules.specs.Effect.{lock_end}
@@ -24,3 +24,6 @@ add-requires g c =
       rw (c.row_put-row.ensures, c.first_key-2.ensures, c.lock_on-lock.ensures, c.lock_end-due.ensures)
           (single_added buses state c.requires.whole lock c.args.moment (value.Lock c.args.seconds c.args.session) (lock_end c.args.moment c.args.seconds) c.requires.of.0 (one_lock buses c.args.group c.args.bus c.args.address) absent fits),
     )
+
+pub returns-in-Some-clause-obeyed : goal.returns-in-Some-clause-obeyed
+returns-in-Some-clause-obeyed g c = search rules
