@@ -1,5 +1,5 @@
 -- What the answers of a core's calls say of the course that it stands for.
-use Rattle.std.proofs.Common.{◌≡◌, ◌≢◌, ℕ, suc, ◌+◌, Bool, true, false, List, [], ◌∷◌, ◌++◌, length, refl, ap, sym, ◌∙◌, arith, ◌⊎◌, inl, inr}
+use Rattle.std.proofs.Common.{◌≡◌, ℕ, suc, ◌+◌, ◌<◌, Bool, true, false, List, [], ◌∷◌, ◌++◌, length, refl, ap, sym, ◌∙◌, arith, ◌⊎◌, inl, inr}
 use Rattle.std.proofs.lemmas.Option.{none-some}
 use Rattle.std.proofs.lemmas.Bool.{le-ltb}
 use Rattle.std.specs.List.{filter}
@@ -8,15 +8,14 @@ use Rattle.std.specs.Prelude.{Option, Some, None, is_none, is_some, count_by, na
 use Rattle.srcp_rules.specs.declared.layout.Bus.{Bus}
 use Rattle.srcp_rules.specs.Layout.{IsLayout}
 use Rattle.srcp_rules.specs.State.{opening, shown_rows}
-use Rattle.srcp_core.specs.Agrees.{OfCourse, OfConnection, NamesNewest, IsWhyNotOpened, CountsOpen, TakesPieces, is_last, closes, lent_of, lent}
+use Rattle.srcp_core.specs.Under.{Event, Open, Bytes, Room, Shut, giving}
+use Rattle.srcp_core.specs.Agrees.{OfCourse, OfConnection, NamesNewest, CountsOpen, TakesPieces, is_last, closes, lent_of, lent}
 use Rattle.srcp_core.specs.Connection.{Connection, is_open, is_nil, overran, unsent, finish}
 use Rattle.srcp_core.specs.Course.{World, course, fault, absent_fault, bytes_fault as course_fault, history, open_connection}
 use Rattle.srcp_core.specs.Held.{Place, Held, at, open_count}
 use Rattle.srcp_core.specs.Machine.{IsAdmitted, bytes_fault, is_closing, is_closing_from, unsent_at, unsent_of, let_out}
 use Rattle.srcp_core.specs.Recording.{key_of}
 use Rattle.srcp_core.specs.Stands.{StandsFor, place_of}
-use Rattle.srcp_core.specs.declared.event.Event.{Event}
-use Rattle.srcp_core.specs.declared.event.Event.TheVariants.{Open, Bytes, Room, Shut}
 use Rattle.srcp_core.specs.declared.record.CoreFault.{CoreFault}
 use Rattle.srcp_core.specs.declared.record.CoreFault.TheVariants.{Full, Memory as MemoryFault, NoSuch, Busy, PieceTooLong, Closing as ClosingFault}
 use Rattle.srcp_core.specs.declared.record.Finish.TheVariants.{Live, Closing, Overrun, Shut as ShutFinish}
@@ -36,25 +35,23 @@ fine buses layout events = sound buses (opening_in_order buses layout) Anything 
 
 -- ---- a connection is opened
 
-pub opened_agrees : (key : ℕ) (old new : Held) → IsAdmitted key old new → OfCourse old (λ buses events. fault buses (course buses events) Open ≡ None)
-opened_agrees key old new a buses events keys layout s = free_fault buses keys old (course buses events) s a.room
+pub opened_agrees : (key : ℕ) (old new : Held) → IsAdmitted key old new → OfCourse old (λ buses events. fault buses (course buses events) (Open true) ≡ None)
+opened_agrees key old new a buses events keys layout s = free_fault buses keys old (course buses events) s a.room true
 
-pub full_agrees : (old : Held) → open_count old ≡ 64 → OfCourse old (λ buses events. fault buses (course buses events) Open ≡ Some Full)
-full_agrees old full buses events keys layout s = full_fault buses keys old (course buses events) s full
+pub full_agrees : (old : Held) → open_count old ≡ 64 → OfCourse old (λ buses events. fault buses (course buses events) (Open false) ≡ Some Full)
+full_agrees old full buses events keys layout s = full_fault buses keys old (course buses events) s full false
 
-other_cause : (cause : CoreFault) → cause ≢ Full → cause ≢ MemoryFault → (cause ≡ Full) ⊎ (cause ≡ MemoryFault) → ⊥
-other_cause cause full memory (inl e) = full e
-other_cause cause full memory (inr e) = memory e
+memory_agrees : (old : Held) → open_count old < 64 → OfCourse old (λ buses events. fault buses (course buses events) (Open false) ≡ Some MemoryFault)
+memory_agrees old room buses events keys layout s = free_fault buses keys old (course buses events) s room false
 
-pub connect_agrees : (old new : Held) (result : Result ℕ CoreFault) → IsErrOf result Full ↔ (open_count old ≡ 64) → IfOk result (λ key. IsAdmitted key old new) → IfErr result (λ cause. (cause ≡ Full) ⊎ (cause ≡ MemoryFault))
-    → OfCourse old (λ buses events. MatchResult result (λ _. fault buses (course buses events) Open ≡ None) (λ cause. IsWhyNotOpened cause (fault buses (course buses events) Open)))
-connect_agrees old new (Ok key) full a causes = opened_agrees key old new a
-connect_agrees old new (Err Full) full a causes = full_agrees old (full.0 refl)
-connect_agrees old new (Err MemoryFault) full a causes = λ buses events keys layout s. tt
-connect_agrees old new (Err NoSuch) full a causes = absurd (other_cause NoSuch (λ e. cc) (λ e. cc) causes)
-connect_agrees old new (Err Busy) full a causes = absurd (other_cause Busy (λ e. cc) (λ e. cc) causes)
-connect_agrees old new (Err PieceTooLong) full a causes = absurd (other_cause PieceTooLong (λ e. cc) (λ e. cc) causes)
-connect_agrees old new (Err ClosingFault) full a causes = absurd (other_cause ClosingFault (λ e. cc) (λ e. cc) causes)
+pub connect_agrees : (old new : Held) (result : Result ℕ CoreFault) → IsErrOf result Full ↔ (open_count old ≡ 64) → (IsErrOf result MemoryFault → open_count old < 64) → IfOk result (λ key. IsAdmitted key old new) → IfErr result (λ cause. (cause ≡ Full) ⊎ (cause ≡ MemoryFault))
+    → OfCourse old (λ buses events. MatchResult result (λ _. fault buses (course buses events) (Open true) ≡ None) (λ cause. fault buses (course buses events) (Open false) ≡ Some cause))
+connect_agrees old new (Ok key) full memory a causes = opened_agrees key old new a
+connect_agrees old new (Err cause) full memory a causes = by causes
+  where
+    by : (cause ≡ Full) ⊎ (cause ≡ MemoryFault) → OfCourse old (λ buses events. fault buses (course buses events) (Open false) ≡ Some cause)
+    by (inl e) = λ buses events keys layout s. full_agrees old (full.0 (ap (λ (c : CoreFault). let r : Result ℕ CoreFault = Err c in r) e)) buses events keys layout s ∙ ap Some (sym e)
+    by (inr e) = λ buses events keys layout s. memory_agrees old (memory (ap (λ (c : CoreFault). let r : Result ℕ CoreFault = Err c in r) e)) buses events keys layout s ∙ ap Some (sym e)
 
 names_newest : (key : ℕ) (held : Held) → NamesNewest key held
 names_newest key held buses events keys s =
@@ -94,7 +91,7 @@ module _ (buses : List Bus) (layout : IsLayout buses) (events : List Event) (key
   its_over : overran its.conn (history buses w) ≡ is_over_place (history buses w) its.conn
   its_over = over_is buses (history buses w) its.conn its.shut (at_number (Fine buses (history buses w)) n w.connections its.conn (fine buses layout events) its.there)
 
-  fault_is : (piece : List ℕ) → bytes_fault key piece held ≡ fault buses w (Bytes n piece)
+  fault_is : (piece : List ℕ) → bytes_fault key piece held ≡ fault buses w (Bytes n (giving piece))
   fault_is piece = fault_same buses (opening_in_order buses layout) (λ n fed. fed) keys held w n key piece (fine buses layout events) s named
 
   there_is : absent_fault buses (open_connection w n) ≡ None
@@ -147,7 +144,7 @@ module _ (buses : List Bus) (layout : IsLayout buses) (events : List Event) (key
 
 -- ---- the calls of a connection
 
-pub ready_agrees : (key : ℕ) (held : Held) (answer : Bool) → answer ≡ is_none (bytes_fault key [] held) → OfConnection key held (λ buses events n. answer ≡ is_none (fault buses (course buses events) (Bytes n [])))
+pub ready_agrees : (key : ℕ) (held : Held) (answer : Bool) → answer ≡ is_none (bytes_fault key [] held) → OfConnection key held (λ buses events n. answer ≡ is_none (fault buses (course buses events) (Bytes n (giving []))))
 ready_agrees key held answer is buses events keys n layout named s = is ∙ ap is_none (fault_is buses layout events keys n key named held s [])
 
 -- where a piece of no bytes is accepted, so is any of at most 256
@@ -155,21 +152,21 @@ pub ready_takes : (key : ℕ) (held : Held) (answer : Bool) → answer ≡ is_no
 ready_takes key held answer is buses events keys n layout named s accepts piece few =
     from (open_connection (course buses events) n) (sym (ready_agrees key held answer is buses events keys n layout named s) ∙ accepts)
   where
-    from : (o : Option Connection) → is_none (course_fault buses (course buses events) o []) ≡ true → course_fault buses (course buses events) o piece ≡ None
+    from : (o : Option Connection) → is_none (course_fault buses (course buses events) o []) ≡ true → course_fault buses (course buses events) o piece.bytes ≡ None
     from None e = cc
     from (Some conn) e = by (conn.ended || overran conn (history buses (course buses events))) (is_nil (unsent conn)) e
       where
         by : (over idle : Bool) → is_none (if over then Some ClosingFault else (if not idle then Some Busy else None)) ≡ true
-            → (if over then Some ClosingFault else (if not idle then Some Busy else (if nat_lt 256 (length piece) then Some PieceTooLong else None))) ≡ None
+            → (if over then Some ClosingFault else (if not idle then Some Busy else (if nat_lt 256 (length piece.bytes) then Some PieceTooLong else None))) ≡ None
         by true idle e = cc
         by false false e = cc
-        by false true e = ap (λ t. if t then Some PieceTooLong else None) (le-ltb 256 (length piece) few)
+        by false true e = ap (λ t. if t then Some PieceTooLong else None) (le-ltb 256 (length piece.bytes) few)
 
 pub closing_agrees : (key : ℕ) (held : Held) (answer : Bool) → answer ≡ is_closing key held → OfConnection key held (λ buses events n. answer ≡ closes buses (course buses events) n)
 closing_agrees key held answer is buses events keys n layout named s = is ∙ closing_is buses layout events keys n key named held s
 
 pub received_agrees : {A : Type 0} (key : ℕ) (piece : List ℕ) (held : Held) (result : Result A CoreFault) → MatchResult result (λ _. bytes_fault key piece held ≡ None) (λ cause. bytes_fault key piece held ≡ Some cause)
-    → OfConnection key held (λ buses events n. MatchResult result (λ _. fault buses (course buses events) (Bytes n piece) ≡ None) (λ cause. fault buses (course buses events) (Bytes n piece) ≡ Some cause))
+    → OfConnection key held (λ buses events n. MatchResult result (λ _. fault buses (course buses events) (Bytes n (giving piece)) ≡ None) (λ cause. fault buses (course buses events) (Bytes n (giving piece)) ≡ Some cause))
 received_agrees key piece held (Ok x) e buses events keys n layout named s = sym (fault_is buses layout events keys n key named held s piece) ∙ e
 received_agrees key piece held (Err cause) e buses events keys n layout named s = sym (fault_is buses layout events keys n key named held s piece) ∙ e
 

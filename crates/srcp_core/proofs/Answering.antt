@@ -2,7 +2,7 @@
 use Rattle.std.proofs.Common.{◌≡◌, ℕ, ◌+◌, ◌≤◌, Bool, true, false, List, [], ◌∷◌, ◌++◌, length, refl, ap, sym, ◌∙◌, subst}
 use Rattle.std.proofs.Math.Bool.{and-false}
 use Rattle.std.specs.Option.{option_map}
-use Rattle.std.specs.Prelude.{Option, Some, None, ◌&&◌, ◌||◌, ◌==◌, nat_lt, Result, Ok, Err, if◌then◌else◌}
+use Rattle.std.specs.Prelude.{Option, Some, None, ◌&&◌, ◌||◌, ◌==◌, nat_lt, Result, Ok, Err, not, if◌then◌else◌}
 use Rattle.srcp_info.specs.Line.{reply_line}
 use Rattle.srcp_info.specs.declared.change.Code.{Code}
 use Rattle.srcp_info.specs.declared.change.Code.TheVariants.{C500}
@@ -10,23 +10,23 @@ use Rattle.srcp_info.specs.declared.change.Reply.{Reply}
 use Rattle.srcp_info.specs.declared.change.Reply.TheVariants.{Protocol, Mode as ModeReply, Go, Refused}
 use Rattle.srcp_text.specs.Marks.{Mark}
 use Rattle.srcp_text.specs.Reading.{Reading}
-use Rattle.srcp_rules.specs.declared.layout.Bus.{Bus}
 use Rattle.srcp_rules.specs.declared.command.Command.{Command}
-use Rattle.srcp_rules.specs.Effect.{Effect, effect}
+use Rattle.srcp_rules.specs.declared.layout.Bus.{Bus}
+use Rattle.srcp_rules.specs.Effect.{Effect, effect as effect_of, adds_rows, refused}
 use Rattle.srcp_rules.specs.Due.{began}
 use Rattle.srcp_rules.specs.State.{State, Update, opening, shown_rows}
 use Rattle.srcp_info.proofs.ClientLaws.{key_at}
 use Rattle.srcp_info.specs.Client.{IsRisingBy}
+use Rattle.srcp_core.specs.Under.{Obeyed, Began, Ended, Order, effect, greeting_under}
 use Rattle.srcp_core.specs.Connection.{Connection, is_open, given, untold}
-use Rattle.srcp_core.specs.Course.{World, numbered, at_connection, did, is_info, state, history, command_of, replied as course_replied, entered, goes as course_goes, greeted as course_greeted, ended as course_ended, obeyed as course_obeyed, commanded as course_commanded, answered_as, answered as course_answered}
-use Rattle.srcp_core.specs.Handshake.{Greeting, Speaks, Chooses, Goes, Refuses, greets}
+use Rattle.srcp_core.specs.Course.{World, numbered, at_connection, did, is_info, state, history, command_of, ordered, replied as course_replied, entered, goes as course_goes, greeted as course_greeted, ended as course_ended, obeyed as course_obeyed, commanded as course_commanded, answered_as, answered as course_answered}
+use Rattle.srcp_core.specs.Handshake.{Greeting, Speaks, Chooses, Goes, Refuses, greets as greets_of}
 use Rattle.srcp_core.specs.Held.{Place, Held, at}
-use Rattle.srcp_core.specs.Machine.{with_unsent, entered_place, carried, changed_at, replied, begun, goes, greeted, freed_of, finished, obeyed, commanded, asked_of, answered, answered_from}
+use Rattle.srcp_core.specs.Machine.{with_unsent, entered_place, carried, changed_at, replied, begun, goes, greeted, freed_of, finished, obeyed, one_denied, denied_line, commanded, asked_of, answered, answered_from}
 use Rattle.srcp_core.specs.Recording.{key_of}
 use Rattle.srcp_core.specs.Stands.{StandsBy, place_of}
 use Rattle.srcp_core.specs.declared.asked.Asked.{Asked}
 use Rattle.srcp_core.specs.declared.asked.Asked.TheVariants.{Dropped, Greets, Commands}
-use Rattle.srcp_core.specs.declared.record.Step.TheVariants.{Obeyed, Began, Ended}
 use Rattle.srcp_core.proofs.Placing.{replied_still, chosen_place, ended_place, entered_place_of, is_over_place, untold_shut, place_mode, place_session, place_info, place_ended}
 use Rattle.srcp_core.proofs.SessionLaws.{anything, at_number}
 use Rattle.srcp_core.proofs.Sessions.{untold_by}
@@ -39,12 +39,12 @@ IsFine buses order w = IsSound buses order Anything (anything (shown_rows (openi
 
 -- a line asks the same of a place and of a connection that are in the same state
 pub asked_alike : (buses held_buses : List Bus) (p : Place) (conn : Connection) (mark : Mark) → held_buses ≡ buses → p.info ≡ conn.info → p.ended ≡ conn.ended → p.session ≡ conn.session
-    → asked_of held_buses p mark ≡ (if conn.info || conn.ended then Dropped else (if conn.session == 0 then Greets (greets mark) else Commands (command_of buses mark)))
+    → asked_of held_buses p mark ≡ (if conn.info || conn.ended then Dropped else (if conn.session == 0 then Greets (greets_of mark) else Commands (command_of buses mark)))
 asked_alike buses held_buses p conn mark same info ended session =
     ap (λ b. asked_of b p mark) same
-    ∙ ap (λ t. if t || p.ended then Dropped else (if p.session == 0 then Greets (greets mark) else Commands (command_of buses mark))) info
-    ∙ ap (λ t. if conn.info || t then Dropped else (if p.session == 0 then Greets (greets mark) else Commands (command_of buses mark))) ended
-    ∙ ap (λ n. if conn.info || conn.ended then Dropped else (if n == 0 then Greets (greets mark) else Commands (command_of buses mark))) session
+    ∙ ap (λ t. if t || p.ended then Dropped else (if p.session == 0 then Greets (greets_of mark) else Commands (command_of buses mark))) info
+    ∙ ap (λ t. if conn.info || t then Dropped else (if p.session == 0 then Greets (greets_of mark) else Commands (command_of buses mark))) ended
+    ∙ ap (λ n. if conn.info || conn.ended then Dropped else (if n == 0 then Greets (greets_of mark) else Commands (command_of buses mark))) session
 
 module _ (buses : List Bus) (order : IsRisingBy key_at (shown_rows (opening buses 0))) (read : ℕ → List ℕ → List ℕ) (keys : List (Option ℕ)) (n key : ℕ) (named : key_of n keys ≡ Some key) where
   pub fine_of : (w : World) → IsFine buses order w → AllFine buses w
@@ -145,7 +145,7 @@ module _ (buses : List Bus) (order : IsRisingBy key_at (shown_rows (opening buse
       subst (λ m. StandsBy buses read keys (freed_of session (changed_at key (λ p. record p { ended = true }) held)) (did (Ended session m) ends)) s.moment
       (stands_did buses read keys (changed_at key (λ p. record p { ended = true }) held) ends (Ended session held.moment) (fine_of ends b) e)
 
-  stands_obeyed : (held : Held) (w : World) (conn : Connection) (session : ℕ) (command : Command) → IsFine buses order w → StandsBy buses read keys held w → numbered n w.connections ≡ Some conn → conn.info ≡ false
+  stands_obeyed : (held : Held) (w : World) (conn : Connection) (session : ℕ) (command : Order) → IsFine buses order w → StandsBy buses read keys held w → numbered n w.connections ≡ Some conn → conn.info ≡ false
       → StandsBy buses read keys (obeyed key session (effect held.rows session held.moment command) held) (course_obeyed buses n session command (effect (state buses w) session w.moment command) w)
   stands_obeyed held w conn session command a s there plain =
       subst (λ (state : State). StandsBy buses read keys (obeyed key session (effect held.rows session held.moment command) held) (course_obeyed buses n session command (effect state session w.moment command) w)) s.rows
@@ -174,28 +174,55 @@ module _ (buses : List Bus) (order : IsRisingBy key_at (shown_rows (opening buse
       sound_two : IsFine buses order (course_replied n result.reply (did (Obeyed session held.moment command) w))
       sound_two = sound_replied buses order Anything (anything (shown_rows (opening buses 0))) n result.reply (did (Obeyed session held.moment command) w) sound_one
 
-  stands_commanded : (held : Held) (w : World) (conn : Connection) (session : ℕ) (command : Result Command Code) → IsFine buses order w → StandsBy buses read keys held w → numbered n w.connections ≡ Some conn → conn.info ≡ false
-      → StandsBy buses read keys (commanded true key session command held) (course_commanded buses n session command w)
-  stands_commanded held w conn session (Err code) a s there plain = stands_plainly held w conn (Refused code) a s there plain
-  stands_commanded held w conn session (Ok command) a s there plain = stands_obeyed held w conn session command a s there plain
+  -- ---- what memory answers
+
+  -- a growth that was refused is nothing to the course
+  stands_denied : (held : Held) (w : World) → StandsBy buses read keys held w → StandsBy buses read keys (one_denied held) w
+  stands_denied held w s = record { layout = s.layout; rows = s.rows; moment = s.moment; last_id = s.last_id; count = s.count; long = s.long; opens = s.opens; closed = s.closed; apart = s.apart; owned = s.owned }
+
+  stands_commanded : (granted : Bool) (held : Held) (w : World) (conn : Connection) (session : ℕ) (command : Result Command Code) → IsFine buses order w → StandsBy buses read keys held w → numbered n w.connections ≡ Some conn → conn.info ≡ false
+      → StandsBy buses read keys (commanded granted key session command held) (course_commanded buses n session (ordered buses granted command) w)
+  stands_commanded granted held w conn session (Err code) a s there plain = stands_plainly held w conn (Refused code) a s there plain
+  stands_commanded granted held w conn session (Ok command) a s there plain =
+      by (granted || not (adds_rows held.rows command)) (stands_obeyed held w conn session (record { command = command; granted = granted }) a s there plain)
+    where
+      by : (t : Bool) → StandsBy buses read keys (obeyed key session (if t then effect_of held.rows session held.moment command else refused C500) held) (course_commanded buses n session (ordered buses granted (Ok command)) w)
+          → StandsBy buses read keys (if t then obeyed key session (effect_of held.rows session held.moment command) held else denied_line key held) (course_commanded buses n session (ordered buses granted (Ok command)) w)
+      by true h = h
+      by false h = stands_denied (replied key (Refused C500) held) _ h
+
+  stands_greeted_under : (granted : Bool) (held : Held) (w : World) (conn : Connection) (greeting : Greeting) → IsFine buses order w → StandsBy buses read keys held w → numbered n w.connections ≡ Some conn → conn.shut ≡ None → conn.info ≡ false
+      → StandsBy buses read keys (greeted granted key conn.mode greeting held) (course_greeted buses n conn.mode (greeting_under granted greeting) w)
+  stands_greeted_under true held w conn greeting a s there shut plain = stands_greeted held w conn greeting a s there shut plain
+  stands_greeted_under false held w conn Speaks a s there shut plain = stands_greeted held w conn Speaks a s there shut plain
+  stands_greeted_under false held w conn (Chooses chosen) a s there shut plain = stands_greeted held w conn (Chooses chosen) a s there shut plain
+  stands_greeted_under false held w conn (Refuses code) a s there shut plain = stands_greeted held w conn (Refuses code) a s there shut plain
+  stands_greeted_under false held w conn Goes a s there shut plain =
+      elim (nat_lt held.last_id 4294967295) as (λ t. StandsBy buses read keys (if t then denied_line key held else replied key (Refused C500) held) (course_replied n (Refused C500) w)) [
+        | true ↦ stands_denied (replied key (Refused C500) held) _ refuses
+        | false ↦ refuses
+      ]
+    where
+      refuses : StandsBy buses read keys (replied key (Refused C500) held) (course_replied n (Refused C500) w)
+      refuses = stands_plainly held w conn (Refused C500) a s there plain
 
   -- ---- any line
 
-  stands_asked : (held : Held) (w : World) (conn : Connection) (mark : Mark) (p : Place) (info ended first : Bool) → IsFine buses order w → StandsBy buses read keys held w → numbered n w.connections ≡ Some conn → conn.shut ≡ None
+  stands_asked : (held : Held) (w : World) (conn : Connection) (granted : Bool) (mark : Mark) (p : Place) (info ended first : Bool) → IsFine buses order w → StandsBy buses read keys held w → numbered n w.connections ≡ Some conn → conn.shut ≡ None
       → conn.info ≡ info → p.mode ≡ conn.mode → p.session ≡ conn.session
-      → StandsBy buses read keys (answered_from true key (if info || ended then Dropped else (if first then Greets (greets mark) else Commands (command_of buses mark))) held (Some p))
-      (if info || ended then w else (if first then course_greeted buses n conn.mode (greets mark) w else course_commanded buses n conn.session (command_of buses mark) w))
-  stands_asked held w conn mark p true ended first a s there shut i m z = s
-  stands_asked held w conn mark p false true first a s there shut i m z = s
-  stands_asked held w conn mark p false false true a s there shut i m z =
-      subst (λ mode. StandsBy buses read keys (greeted true key mode (greets mark) held) (course_greeted buses n conn.mode (greets mark) w)) (sym m) (stands_greeted held w conn (greets mark) a s there shut i)
-  stands_asked held w conn mark p false false false a s there shut i m z =
-      subst (λ session. StandsBy buses read keys (commanded true key session (command_of buses mark) held) (course_commanded buses n conn.session (command_of buses mark) w)) (sym z) (stands_commanded held w conn conn.session (command_of buses mark) a s there i)
+      → StandsBy buses read keys (answered_from granted key (if info || ended then Dropped else (if first then Greets (greets_of mark) else Commands (command_of buses mark))) held (Some p))
+      (if info || ended then w else (if first then course_greeted buses n conn.mode (greeting_under granted (greets_of mark)) w else course_commanded buses n conn.session (ordered buses granted (command_of buses mark)) w))
+  stands_asked held w conn granted mark p true ended first a s there shut i m z = s
+  stands_asked held w conn granted mark p false true first a s there shut i m z = s
+  stands_asked held w conn granted mark p false false true a s there shut i m z =
+      subst (λ mode. StandsBy buses read keys (greeted granted key mode (greets_of mark) held) (course_greeted buses n conn.mode (greeting_under granted (greets_of mark)) w)) (sym m) (stands_greeted_under granted held w conn (greets_of mark) a s there shut i)
+  stands_asked held w conn granted mark p false false false a s there shut i m z =
+      subst (λ session. StandsBy buses read keys (commanded granted key session (command_of buses mark) held) (course_commanded buses n conn.session (ordered buses granted (command_of buses mark)) w)) (sym z) (stands_commanded granted held w conn conn.session (command_of buses mark) a s there i)
 
   -- what a line asks for is answered as in the course
-  pub stands_answered : (held : Held) (w : World) (mark : Mark) (p : Place) → IsFine buses order w → StandsBy buses read keys held w → at held key ≡ Some p
-      → StandsBy buses read keys (answered true key (asked_of held.buses p mark) held) (course_answered buses n w mark)
-  stands_answered held w mark p a s here =
+  pub stands_answered : (held : Held) (w : World) (granted : Bool) (mark : Mark) (p : Place) → IsFine buses order w → StandsBy buses read keys held w → at held key ≡ Some p
+      → StandsBy buses read keys (answered granted key (asked_of held.buses p mark) held) (course_answered buses n w (record { mark = mark; granted = granted }))
+  stands_answered held w granted mark p a s here =
       let h = found_at buses read keys held w n key s named in
       let q : Place = place_of h.reader (history buses w) h.conn in
       let same : q ≡ p = let both : Some q ≡ Some p = sym h.place ∙ here in cc in
@@ -204,7 +231,7 @@ module _ (buses : List Bus) (order : IsRisingBy key_at (shown_rows (opening buse
       let z : p.session ≡ h.conn.session = ap (λ (p : Place). p.session) (sym same) ∙ place_session h.reader (history buses w) h.conn in
       let m : p.mode ≡ h.conn.mode = ap (λ (p : Place). p.mode) (sym same) ∙ place_mode h.reader (history buses w) h.conn in
       let asks = asked_alike buses held.buses p h.conn mark s.layout i e z in
-      subst (λ (o : Option Connection). StandsBy buses read keys (answered true key (asked_of held.buses p mark) held) (answered_as buses n o mark w)) (sym h.opened)
-      (subst (λ (asked : Asked). StandsBy buses read keys (answered true key asked held) (answered_as buses n (Some h.conn) mark w)) (sym asks)
-      (subst (λ (o : Option Place). StandsBy buses read keys (answered_from true key (if h.conn.info || h.conn.ended then Dropped else (if h.conn.session == 0 then Greets (greets mark) else Commands (command_of buses mark))) held o) (answered_as buses n (Some h.conn) mark w)) (sym here)
-      (stands_asked held w h.conn mark p h.conn.info h.conn.ended (h.conn.session == 0) a s h.there h.shut refl m z)))
+      subst (λ (o : Option Connection). StandsBy buses read keys (answered granted key (asked_of held.buses p mark) held) (answered_as buses n o (record { mark = mark; granted = granted }) w)) (sym h.opened)
+      (subst (λ (asked : Asked). StandsBy buses read keys (answered granted key asked held) (answered_as buses n (Some h.conn) (record { mark = mark; granted = granted }) w)) (sym asks)
+      (subst (λ (o : Option Place). StandsBy buses read keys (answered_from granted key (if h.conn.info || h.conn.ended then Dropped else (if h.conn.session == 0 then Greets (greets_of mark) else Commands (command_of buses mark))) held o) (answered_as buses n (Some h.conn) (record { mark = mark; granted = granted }) w)) (sym here)
+      (stands_asked held w h.conn granted mark p h.conn.info h.conn.ended (h.conn.session == 0) a s h.there h.shut refl m z)))

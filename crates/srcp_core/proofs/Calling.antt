@@ -9,16 +9,15 @@ use Rattle.srcp_rules.specs.declared.layout.Bus.{Bus}
 use Rattle.srcp_rules.specs.State.{opening, shown_rows}
 use Rattle.srcp_info.proofs.ClientLaws.{key_at}
 use Rattle.srcp_info.specs.Client.{IsRisingBy}
+use Rattle.srcp_core.specs.Under.{Open, At, Shut, Moment, Ended}
 use Rattle.srcp_core.specs.Connection.{Connection, History, is_open, is_nil, overran, unsent, untold}
 use Rattle.srcp_core.specs.Course.{World, numbered, at_connection, open_connection, if_open, did, history, fresh, counted, fault, bytes_fault as course_fault, accepted, shut_as}
 use Rattle.srcp_core.specs.Held.{Place, Held, at, place_at, open_count}
 use Rattle.srcp_core.specs.Machine.{IsAdmitted, bytes_fault, bytes_fault_from, freed_place, freed_of, hung_up, hung_up_from, advanced}
 use Rattle.srcp_core.specs.Recording.{key_of, without_key}
 use Rattle.srcp_core.specs.Stands.{StandsBy, StandsFor, IsAt, IsOwned, place_of}
-use Rattle.srcp_core.specs.declared.event.Event.TheVariants.{Open, At, Shut}
-use Rattle.srcp_core.specs.declared.record.CoreFault.TheVariants.{Full, Busy, PieceTooLong, Closing}
+use Rattle.srcp_core.specs.declared.record.CoreFault.TheVariants.{Full, Memory as MemoryFault, Busy, PieceTooLong, Closing}
 use Rattle.srcp_core.specs.declared.record.Refusal.{Refusal}
-use Rattle.srcp_core.specs.declared.record.Step.TheVariants.{Moment, Ended}
 use Rattle.srcp_core.proofs.Answering.{IsFine}
 use Rattle.srcp_core.proofs.Covers.{Where, Here, Away, where_is, place_set, place_set_here, no_place}
 use Rattle.srcp_core.proofs.Numbers.{opens, one_if, opens_with, opens_push, length_with, length_without, without_here, without_other, key_within, key_push, key_push_last, key_push_is, numbered_push_is, numbered_within}
@@ -80,14 +79,14 @@ module _ (buses : List Bus) where
       by false true h e = refl
       by false false h e = ap (λ bytes. if not (is_nil bytes) then Some Busy else (if nat_lt 256 (length piece) then Some PieceTooLong else None)) (h refl)
 
-  pub full_fault : (keys : List (Option ℕ)) (held : Held) (w : World) → StandsFor buses keys held w → open_count held ≡ 64 → fault buses w Open ≡ Some Full
-  full_fault keys held w s e = ap (λ t. if t then None else Some Full) many
+  pub full_fault : (keys : List (Option ℕ)) (held : Held) (w : World) → StandsFor buses keys held w → open_count held ≡ 64 → (granted : Bool) → fault buses w (Open granted) ≡ Some Full
+  full_fault keys held w s e granted = ap (λ t. if t then (if granted then None else Some MemoryFault) else Some Full) many
     where
       many : nat_lt (length (filter is_open w.connections)) 64 ≡ false
       many = let c = s.count in grind (arith, nat_tests)
 
-  pub free_fault : (keys : List (Option ℕ)) (held : Held) (w : World) → StandsFor buses keys held w → open_count held < 64 → fault buses w Open ≡ None
-  free_fault keys held w s e = ap (λ t. if t then None else Some Full) few
+  pub free_fault : (keys : List (Option ℕ)) (held : Held) (w : World) → StandsFor buses keys held w → open_count held < 64 → (granted : Bool) → fault buses w (Open granted) ≡ (if granted then None else Some MemoryFault)
+  free_fault keys held w s e granted = ap (λ t. if t then (if granted then None else Some MemoryFault) else Some Full) few
     where
       few : nat_lt (length (filter is_open w.connections)) 64 ≡ true
       few = let c = s.count in grind (arith, nat_tests)
@@ -110,7 +109,7 @@ module _ (buses : List Bus) where
 
   -- ---- a connection is opened
 
-  pub stands_opened : (keys : List (Option ℕ)) (key : ℕ) (old new : Held) (w : World) → IsAdmitted key old new → StandsFor buses keys old w → StandsFor buses (keys ++ Some key ∷ []) new (accepted buses Open w)
+  pub stands_opened : (keys : List (Option ℕ)) (key : ℕ) (old new : Held) (w : World) → IsAdmitted key old new → StandsFor buses keys old w → StandsFor buses (keys ++ Some key ∷ []) new (accepted buses (Open true) w)
   stands_opened keys key old new w a s = record {
     layout = ap (λ (h : Held). h.buses) a.rest ∙ s.layout;
     rows = ap (λ (h : Held). h.rows) a.rest ∙ s.rows;

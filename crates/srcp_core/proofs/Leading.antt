@@ -1,24 +1,23 @@
 -- Each call of the core leads from the course of any events to that with its event.
-use Rattle.std.proofs.Common.{◌≡◌, ℕ, ◌+◌, ◌<◌, ◌≤◌, List, [], ◌∷◌, ◌++◌, map, length, min, ◌-◌, refl, ap, sym, ◌∙◌, subst, arith, ◌⊎◌, inl, inr}
+use Rattle.std.proofs.Common.{◌≡◌, ℕ, ◌+◌, ◌<◌, ◌≤◌, List, [], ◌∷◌, ◌++◌, map, length, min, ◌-◌, refl, ap, sym, ◌∙◌, subst, arith, ◌⊎◌, inl, inr, true, false}
 use Rattle.std.specs.Prelude.{Option, Some, None, Result, Ok, Err, IfOk, IfErr, IsErrOf, MatchResult, ◌↔◌}
 use Rattle.srcp_rules.specs.declared.layout.Bus.{Bus}
 use Rattle.srcp_rules.specs.Layout.{IsLayout}
 use Rattle.srcp_rules.specs.State.{opening}
+use Rattle.srcp_core.specs.Under.{Event, Open, Room, At, Shut, step_told}
+use Rattle.srcp_core.specs.declared.record.Step.TheVariants as told
 use Rattle.srcp_core.specs.Course.{World, counted, fault, absent_fault, accepted, course}
 use Rattle.srcp_core.specs.Held.{Place, Held, at, open_count}
-use Rattle.srcp_core.specs.Machine.{IsAdmitted, refused_connect, advanced, hung_up, let_out, unsent_at, changed_at, changed_in, without_sent, live_session}
+use Rattle.srcp_core.specs.Machine.{IsAdmitted, refused_connect, one_denied, advanced, hung_up, let_out, unsent_at, changed_at, changed_in, without_sent, live_session}
 use Rattle.srcp_core.specs.Recording.{Recording, nothing_told, key_of, told_of, opened, stepped, shut}
 use Rattle.srcp_core.specs.Run.{Runs, count_at, taken_at, taking, LeadsTo, LeadsAt, LeadsToFree, LeadsToOpen}
 use Rattle.srcp_core.specs.Stands.{StandsFor}
-use Rattle.srcp_core.specs.declared.event.Event.{Event}
-use Rattle.srcp_core.specs.declared.event.Event.TheVariants.{Open, Room, At, Shut}
 use Rattle.srcp_core.specs.declared.record.CoreFault.{CoreFault}
 use Rattle.srcp_core.specs.declared.record.CoreFault.TheVariants.{Full, Memory as MemoryFault}
-use Rattle.srcp_core.specs.declared.record.Step.TheVariants.{Moment}
-use Rattle.srcp_core.proofs.Calling.{stands_counted}
+use Rattle.srcp_core.proofs.Calling.{stands_counted, full_fault}
 use Rattle.srcp_core.proofs.Pieces.{set_same}
 use Rattle.srcp_core.proofs.Recorded.{runs_on, runs_start}
-use Rattle.srcp_core.proofs.Running.{fine_course, open_happens, full_happens, at_happens, shut_happens, with_end, shut_keys, gives_first, room_happens, taking_keys}
+use Rattle.srcp_core.proofs.Running.{fine_course, open_with, full_happens, memory_with, at_happens, shut_happens, with_end, shut_keys, gives_first, room_happens, taking_keys}
 use Rattle.srcp_core.proofs.SessionLaws.{opening_in_order}
 use Rattle.srcp_core.proofs.Standing.{found_at}
 use Rattle.srcp_core.proofs.Taking.{filled_kept, taken_kept, Kept}
@@ -26,22 +25,22 @@ use Rattle.srcp_core.proofs.Granting.{counts}
 
 -- what a run would have told of the course
 abbrev pub telling : List (Option ℕ) → World → Recording
-telling keys w = record { keys = keys; steps = w.steps; connections = map told_of w.connections; refused = w.refused }
+telling keys w = record { keys = keys; steps = map step_told w.steps; connections = map told_of w.connections; refused = w.refused }
 
 pub runs_telling : (buses : List Bus) (keys : List (Option ℕ)) (held : Held) (w : World) → StandsFor buses keys held w → Runs buses (telling keys w) held w
 runs_telling buses keys held w s = record { stands = s; tells = record { steps = refl; refused = refl; connections = refl } }
 
 pub at_leads : (moment : ℕ) (old new : Held) → new ≡ advanced moment old → LeadsTo (At moment) old new
-at_leads moment old new is buses events keys layout d s =
+at_leads moment old new is buses events keys layout s =
     let w = course buses events in
-    let h = at_happens moment (telling keys w) old new new.moment is refl buses events layout d (runs_telling buses keys old w s) in
-    (runs_on buses events (At moment) None (length events + 1) (stepped (Moment new.moment ∷ []) (telling keys w)) new refl h).stands
+    let h = (at_happens moment (telling keys w) old new new.moment is refl).happens buses events layout (runs_telling buses keys old w s) in
+    (runs_on buses events (At moment) None (length events + 1) (stepped (told.Moment new.moment ∷ []) (telling keys w)) new refl h).stands
 
 pub open_leads : (key : ℕ) (old new : Held) → IsAdmitted key old new → LeadsToOpen key old new
-open_leads key old new a buses events keys layout d s =
+open_leads key old new a buses events keys layout s =
     let w = course buses events in
-    let h = open_happens key (telling keys w) old new a buses events layout d (runs_telling buses keys old w s) in
-    (runs_on buses events Open None (length events + 1) (opened key (telling keys w)) new refl h).stands
+    let h = open_with key (telling keys w) old new a buses events layout (runs_telling buses keys old w s) in
+    (runs_on buses events (Open true) None (length events + 1) (opened key (telling keys w)) new refl h).stands
 
 -- before all events
 pub stands_first : {E : Type 0} (buses : List Bus) (moment last_id : ℕ) (result : Result Held E) → IfOk result (λ core. core ≡ record { buses = buses; rows = opening buses moment; moment = moment; last_id = last_id; places = []; denied = 0 })
@@ -53,21 +52,26 @@ stands_first buses moment last_id (Ok core) e m l =
     (runs_start buses nothing_told core refl first).stands
 stands_first buses moment last_id (Err fault) e m l = tt
 
-pub full_leads : (old new : Held) → open_count old ≡ 64 → new ≡ old → LeadsTo Open old new
-full_leads old new full same buses events keys layout d s =
+pub full_leads : (old new : Held) → open_count old ≡ 64 → new ≡ old → LeadsTo (Open false) old new
+full_leads old new full same buses events keys layout s =
     let w = course buses events in
-    let h = full_happens (telling keys w) old new full same buses events layout d (runs_telling buses keys old w s) in
-    (runs_on buses events Open (Some Full) (length events + 1) (telling keys w) new refl h).stands
+    let h = (full_happens (telling keys w) old new full same).happens buses events layout (runs_telling buses keys old w s) in
+    (runs_on buses events (Open false) (Some Full) (length events + 1) (telling keys w) new refl (full_fault buses keys old (counted w) (stands_counted buses keys old w s) full false, h.1)).stands
+
+memory_leads : (old new : Held) → open_count old < 64 → new ≡ one_denied old → LeadsTo (Open false) old new
+memory_leads old new room same buses events keys layout s =
+    let w = course buses events in
+    (runs_on buses events (Open false) (Some MemoryFault) (length events + 1) (telling keys w) new refl (memory_with (telling keys w) old new room same buses events layout (runs_telling buses keys old w s))).stands
 
 -- a connection is opened, or there are 64, or memory was refused
-pub opens_or_not : (old new : Held) (result : Result ℕ CoreFault) → IsErrOf result Full ↔ (open_count old ≡ 64) → IfOk result (λ key. IsAdmitted key old new) → IfErr result (λ cause. new ≡ refused_connect cause old) → IfErr result (λ cause. (cause ≡ Full) ⊎ (cause ≡ MemoryFault))
-    → MatchResult result (λ key. LeadsToOpen key old new) (λ _. LeadsTo Open old new)
-opens_or_not old new (Ok key) full a refused causes = open_leads key old new a
-opens_or_not old new (Err cause) full a refused causes = by causes
+pub opens_or_not : (old new : Held) (result : Result ℕ CoreFault) → IsErrOf result Full ↔ (open_count old ≡ 64) → (IsErrOf result MemoryFault → open_count old < 64) → IfOk result (λ key. IsAdmitted key old new) → IfErr result (λ cause. new ≡ refused_connect cause old) → IfErr result (λ cause. (cause ≡ Full) ⊎ (cause ≡ MemoryFault))
+    → MatchResult result (λ key. LeadsToOpen key old new) (λ _. LeadsTo (Open false) old new)
+opens_or_not old new (Ok key) full memory a refused causes = open_leads key old new a
+opens_or_not old new (Err cause) full memory a refused causes = by causes
   where
-    by : (cause ≡ Full) ⊎ (cause ≡ MemoryFault) → LeadsTo Open old new
+    by : (cause ≡ Full) ⊎ (cause ≡ MemoryFault) → LeadsTo (Open false) old new
     by (inl e) = full_leads old new (full.0 (ap (λ (c : CoreFault). let r : Result ℕ CoreFault = Err c in r) e)) (refused ∙ ap (λ (c : CoreFault). refused_connect c old) e)
-    by (inr e) = λ buses events keys layout d s. absurd (counts old.denied (sym (ap (λ (x : Held). x.denied) (refused ∙ ap (λ (c : CoreFault). refused_connect c old) e)) ∙ d))
+    by (inr e) = memory_leads old new (memory (ap (λ (c : CoreFault). let r : Result ℕ CoreFault = Err c in r) e)) (refused ∙ ap (λ (c : CoreFault). refused_connect c old) e)
 
 pub opens_denied : (old new : Held) (result : Result ℕ CoreFault) → IfOk result (λ key. IsAdmitted key old new) → IfErr result (λ cause. new ≡ refused_connect cause old) → IfErr result (λ cause. (cause ≡ Full) ⊎ (cause ≡ MemoryFault))
     → new.denied ≡ 0 → old.denied ≡ 0
@@ -79,9 +83,9 @@ opens_denied old new (Err cause) a refused causes d = by causes
     by (inr e) = absurd (counts old.denied (sym (ap (λ (x : Held). x.denied) (refused ∙ ap (λ (c : CoreFault). refused_connect c old) e)) ∙ d))
 
 pub shut_leads : (key : ℕ) (old new : Held) → new ≡ hung_up key old → LeadsToFree key old new
-shut_leads key old new is buses events keys n layout d named s =
+shut_leads key old new is buses events keys n layout named s =
     let w = course buses events in
-    let h = shut_happens n key (telling keys w) old new new.moment named is refl buses events layout d (runs_telling buses keys old w s) in
+    let h = (shut_happens n key (telling keys w) old new new.moment named is refl).happens buses events layout (runs_telling buses keys old w s) in
     subst (λ (ks : List (Option ℕ)). StandsFor buses ks new (course buses (events ++ Shut n ∷ []))) (shut_keys n (live_session key old) new.moment (telling keys w))
     (runs_on buses events (Shut n) None (length events + 1) (with_end (live_session key old) new.moment (shut n (telling keys w))) new refl h).stands
 
@@ -108,10 +112,10 @@ out_stands key old buses events keys n layout named s =
     room_leads buses events keys n 0 (let_out key old) (room_free buses events keys n key 0 old named s) k.stands
 
 pub out_leads : (key : ℕ) (old : Held) → LeadsAt key (λ n. Room n 0) old (let_out key old)
-out_leads key old buses events keys n layout d named s = out_stands key old buses events keys n layout named s
+out_leads key old buses events keys n layout named s = out_stands key old buses events keys n layout named s
 
 pub sent_leads : (key count : ℕ) (old new : Held) → count ≤ length (unsent_at key old) → new ≡ changed_at key (without_sent count) old → 0 < count → LeadsAt key (λ n. Room n count) old new
-sent_leads key count old new few is some buses events keys n layout d named s =
+sent_leads key count old new few is some buses events keys n layout named s =
     let k = taken_kept buses layout (opening_in_order buses layout) keys n key named (telling keys (course buses events)) old (counted (course buses events)) count some few (kept_of buses layout events keys n key named old s) in
     room_leads buses events keys n count new (room_free buses events keys n key count old named s) (subst (λ (x : Held). StandsFor buses keys x (accepted buses (Room n count) (counted (course buses events)))) (sym is) k.stands)
 
@@ -125,14 +129,13 @@ sent_none key count old new is none = is ∙ ap (λ k. changed_at key (without_s
     by (Some p) e = ap (λ places. record old { places = places }) (set_same old.places key p e)
 
 pub lent_leads : (key count : ℕ) (old new held : Held) → count ≤ length (unsent_at key old) → new ≡ changed_at key (without_sent count) old → old ≡ let_out key held → LeadsAt key (λ n. Room n count) held new
-lent_leads key count old new held few is lent buses events keys n layout d named s =
+lent_leads key count old new held few is lent buses events keys n layout named s =
     let w = course buses events in
     let first_r = telling keys w in
     let now : min (length (unsent_at key (let_out key held))) count ≡ count = let most = subst (λ (x : Held). count ≤ length (unsent_at key x)) lent few in omega (arith, most) in
     let taken : new ≡ taken_at key count held = is ∙ ap (changed_at key (without_sent count)) lent ∙ ap (λ k. changed_at key (without_sent k) (let_out key held)) (sym now) in
     let all : count - count_at key count held ≡ 0 = omega (arith, now) in
-    let denied : (taken_at key count held).denied ≡ 0 = ap (λ (x : Held). x.denied) (sym taken) ∙ d in
-    let h = room_happens n key count first_r held count first_r held (inl all) (gives_first n key count first_r held named) buses events layout denied (runs_telling buses keys held w s) in
+    let h = (room_happens n key count first_r held count first_r held (inl all) (gives_first n key count first_r held named)).happens buses events layout (runs_telling buses keys held w s) in
     subst (λ (x : Held). StandsFor buses keys x (course buses (events ++ Room n count ∷ []))) (sym taken)
     (subst (λ (ks : List (Option ℕ)). StandsFor buses ks (taken_at key count held) (course buses (events ++ Room n count ∷ []))) (taking_keys n key count held first_r)
     (runs_on buses events (Room n count) None (length events + 1) (taking n key count held first_r) (taken_at key count held) refl h).stands)

@@ -1,23 +1,27 @@
 -- What the recorder notes of the answer to a line is what the course gains.
 use Rattle.std.proofs.Common.{◌≡◌, ℕ, zero, suc, ◌+◌, ◌≤◌, Bool, true, false, List, [], ◌∷◌, ◌++◌, map, take, length, refl, ap, sym, ◌∙◌, subst, append_assoc}
-use Rattle.std.proofs.lemmas.List.{take-append-le}
+use Rattle.std.proofs.lemmas.List.{take-append-le, map-append, length-map}
 use Rattle.std.specs.Option.{option_map}
-use Rattle.std.specs.Prelude.{Option, Some, None, ◌||◌, ◌&&◌, ◌==◌, nat_lt, slice_get, Result, Ok, Err, if◌then◌else◌}
+use Rattle.std.specs.Prelude.{Option, Some, None, not, ◌||◌, ◌&&◌, ◌==◌, nat_lt, slice_get, Result, Ok, Err, if◌then◌else◌}
 use Rattle.srcp_info.specs.Line.{reply_line}
 use Rattle.srcp_info.specs.declared.change.Code.{Code}
 use Rattle.srcp_info.specs.declared.change.Code.TheVariants.{C500}
 use Rattle.srcp_info.specs.declared.change.Reply.{Reply}
 use Rattle.srcp_info.specs.declared.change.Reply.TheVariants.{Protocol, Mode as ModeReply, Go, Refused}
-use Rattle.srcp_text.specs.Marks.{Mark}
 use Rattle.srcp_rules.specs.declared.layout.Bus.{Bus}
-use Rattle.srcp_rules.specs.declared.command.Command.{Command}
-use Rattle.srcp_rules.specs.Effect.{Effect, effect}
+use Rattle.srcp_rules.specs.Effect.{Effect}
 use Rattle.srcp_rules.specs.State.{State, opening, shown_rows}
 use Rattle.srcp_info.proofs.ClientLaws.{key_at}
 use Rattle.srcp_info.specs.Client.{IsRisingBy}
+use Rattle.srcp_text.specs.Marks.{Mark}
+use Rattle.srcp_rules.specs.declared.command.Command.{Command}
+use Rattle.srcp_rules.specs.Effect.{effect as effect_of, adds_rows, refused}
+use Rattle.srcp_core.specs.Under.{Step, Obeyed, Began, Ended, Order, greeting_under, step_told}
+use Rattle.srcp_core.specs.declared.record.Step.{Step as PlainStep}
+use Rattle.srcp_core.specs.declared.record.Step.TheVariants as told
 use Rattle.srcp_core.specs.Connection.{Connection, given, sent}
-use Rattle.srcp_core.specs.Course.{World, numbered, with_numbered, at_connection, did, is_info, state, history, command_of, replied, entered, goes, greeted, ended, commanded, answered_as, answered}
-use Rattle.srcp_core.specs.Handshake.{Greeting, Speaks, Chooses, Goes, Refuses, greets}
+use Rattle.srcp_core.specs.Course.{World, numbered, with_numbered, at_connection, did, is_info, state, history, command_of, ordered, replied, entered, goes, greeted, ended, obeyed, commanded, answered_as, answered}
+use Rattle.srcp_core.specs.Handshake.{Greeting, Speaks, Chooses, Goes, Refuses, greets as greets_of}
 use Rattle.srcp_core.specs.Held.{Place, Held, at}
 use Rattle.srcp_core.specs.Machine.{asked_of, steps_gone, steps_greeted, steps_commanded, steps_answered_from}
 use Rattle.srcp_core.specs.Recording.{Recording, key_of, told_of, changed_record, changed_in, noted, stepped}
@@ -26,8 +30,6 @@ use Rattle.srcp_core.specs.Stands.{StandsBy, place_of}
 use Rattle.srcp_core.specs.declared.asked.Asked.{Asked}
 use Rattle.srcp_core.specs.declared.asked.Asked.TheVariants.{Dropped, Greets, Commands}
 use Rattle.srcp_core.specs.declared.record.ConnRecord.{ConnRecord}
-use Rattle.srcp_core.specs.declared.record.Step.{Step}
-use Rattle.srcp_core.specs.declared.record.Step.TheVariants.{Obeyed, Began, Ended}
 use Rattle.srcp_core.proofs.Answering.{IsFine, asked_alike}
 use Rattle.srcp_core.proofs.Placing.{place_mode, place_session, place_info, place_ended, given_reply}
 use Rattle.srcp_core.proofs.SessionLaws.{at_number}
@@ -67,8 +69,8 @@ told_reply conn line none within = ap (λ bytes. record (told_of conn) { sent = 
 pub tells_same : (r : Recording) (w : World) (n : ℕ) (f : Connection → Connection) → ((conn : Connection) → numbered n w.connections ≡ Some conn → told_of (f conn) ≡ told_of conn) → Tells r w → Tells r (at_connection n f w)
 tells_same r w n f h t = record { steps = t.steps; refused = t.refused; connections = t.connections ∙ sym (told_same n f w.connections h) }
 
-pub tells_did : (r : Recording) (w : World) (step : Step) → Tells r w → Tells (stepped (step ∷ []) r) (did step w)
-tells_did r w step t = record { steps = ap (λ steps. steps ++ step ∷ []) t.steps; refused = t.refused; connections = t.connections }
+pub tells_did : (r : Recording) (w : World) (step : Step) → Tells r w → Tells (stepped (step_told step ∷ []) r) (did step w)
+tells_did r w step t = record { steps = ap (λ steps. steps ++ step_told step ∷ []) t.steps ∙ sym (map-append step_told w.steps (step ∷ [])); refused = t.refused; connections = t.connections }
 
 pub tells_changed : (r : Recording) (w : World) (n : ℕ) (conn : Connection) (f : Connection → Connection) (g : ConnRecord → ConnRecord) → numbered n w.connections ≡ Some conn → told_of (f conn) ≡ g (told_of conn) → Tells r w
     → Tells (record r { connections = changed_record n g r.connections }) (at_connection n f w)
@@ -91,21 +93,21 @@ module _ (buses : List Bus) (n : ℕ) (r : Recording) where
       subst (λ (c : Connection). (c.items ≡ []) × (c.taken ≤ length (given c))) same p.1
 
   tells_begun : (w : World) (conn : Connection) (id moment : ℕ) → IsPlain w conn → Tells r w
-      → Tells (noted n (Began id moment conn.mode ∷ []) r) (replied n (Go id) (entered buses n id (did (Began id moment conn.mode) w)))
+      → Tells (noted n (told.Began id moment conn.mode ∷ []) r) (replied n (Go id) (entered buses n id (did (Began id moment conn.mode) w)))
   tells_begun w conn id moment p t =
       let step = Began id moment conn.mode in
       let d = tells_did r w step t in
       let f : Connection → Connection = λ c. record c { session = id; info = is_info c.mode; go_step = length (w.steps ++ step ∷ []) } in
       let there_after = numbered_with n f w.connections ∙ ap (option_map f) p.0 in
-      tells_replied (noted n (step ∷ []) r) (entered buses n id (did step w)) (Go id) (plain_at (entered buses n id (did step w)) (f conn) (there_after, p.1))
-      (tells_changed (stepped (step ∷ []) r) (did step w) n conn f (λ told. record told { session = id; info = is_info conn.mode; go_step = length (r.steps ++ step ∷ []) }) p.0
-      (ap (λ steps. record (told_of conn) { session = id; info = is_info conn.mode; go_step = length (steps ++ step ∷ []) }) (sym t.steps)) d)
+      tells_replied (noted n (step_told step ∷ []) r) (entered buses n id (did step w)) (Go id) (plain_at (entered buses n id (did step w)) (f conn) (there_after, p.1))
+      (tells_changed (stepped (step_told step ∷ []) r) (did step w) n conn f (λ told. record told { session = id; info = is_info conn.mode; go_step = length (r.steps ++ step_told step ∷ []) }) p.0
+      (ap (λ k. record (told_of conn) { session = id; info = is_info conn.mode; go_step = k }) (sym (length-map (w.steps ++ step ∷ []) step_told) ∙ sym (ap length d.steps))) d)
 
   tells_goes : (w : World) (conn : Connection) (held : Held) → held.moment ≡ w.moment → held.last_id ≡ w.last_id → IsPlain w conn → Tells r w → Tells (noted n (steps_gone true conn.mode held) r) (goes buses n conn.mode w)
   tells_goes w conn held m l p t =
-      subst (λ k. Tells (noted n (if nat_lt k 4294967295 && true then Began (k + 1) held.moment conn.mode ∷ [] else []) r) (goes buses n conn.mode w)) (sym l)
-      (subst (λ k. Tells (noted n (if nat_lt w.last_id 4294967295 && true then Began (w.last_id + 1) k conn.mode ∷ [] else []) r) (goes buses n conn.mode w)) (sym m)
-      (elim (nat_lt w.last_id 4294967295) as (λ b. Tells (noted n (if b && true then Began (w.last_id + 1) w.moment conn.mode ∷ [] else []) r)
+      subst (λ k. Tells (noted n (if nat_lt k 4294967295 && true then told.Began (k + 1) held.moment conn.mode ∷ [] else []) r) (goes buses n conn.mode w)) (sym l)
+      (subst (λ k. Tells (noted n (if nat_lt w.last_id 4294967295 && true then told.Began (w.last_id + 1) k conn.mode ∷ [] else []) r) (goes buses n conn.mode w)) (sym m)
+      (elim (nat_lt w.last_id 4294967295) as (λ b. Tells (noted n (if b && true then told.Began (w.last_id + 1) w.moment conn.mode ∷ [] else []) r)
       (if b then replied n (Go (w.last_id + 1)) (entered buses n (w.last_id + 1) (did (Began (w.last_id + 1) w.moment conn.mode) (record w { last_id = w.last_id + 1 }))) else replied n (Refused C500) w)) [
         | true ↦ tells_begun (record w { last_id = w.last_id + 1 }) conn (w.last_id + 1) w.moment p (record { steps = t.steps; refused = t.refused; connections = t.connections })
         | false ↦ tells_replied r w (Refused C500) (plain_at w conn p) t
@@ -119,46 +121,64 @@ module _ (buses : List Bus) (n : ℕ) (r : Recording) where
   tells_greeted w conn held Goes m l p t = tells_goes w conn held m l p t
   tells_greeted w conn held (Refuses code) m l p t = tells_replied r w (Refused code) (plain_at w conn p) t
 
-  tells_commanded : (w : World) (conn : Connection) (held : Held) (session : ℕ) (command : Result Command Code) → held.moment ≡ w.moment → held.rows ≡ state buses w → IsPlain w conn → Tells r w
-      → Tells (noted n (steps_commanded true session command held) r) (commanded buses n session command w)
-  tells_commanded w conn held session (Err code) m s p t = tells_replied r w (Refused code) (plain_at w conn p) t
-  tells_commanded w conn held session (Ok command) m s p t =
-      subst (λ (k : State). Tells (noted n (steps_by held.moment (effect k session held.moment command)) r) (commanded buses n session (Ok command) w)) (sym s)
-      (subst (λ k. Tells (noted n (steps_by k (effect (state buses w) session k command)) r) (commanded buses n session (Ok command) w)) (sym m) (by result.ends))
+  tells_greeted_under : (granted : Bool) (w : World) (conn : Connection) (held : Held) (greeting : Greeting) → held.moment ≡ w.moment → held.last_id ≡ w.last_id → IsPlain w conn → Tells r w
+      → Tells (noted n (steps_greeted granted conn.mode greeting held) r) (greeted buses n conn.mode (greeting_under granted greeting) w)
+  tells_greeted_under true w conn held greeting m l p t = tells_greeted w conn held greeting m l p t
+  tells_greeted_under false w conn held Speaks m l p t = tells_greeted w conn held Speaks m l p t
+  tells_greeted_under false w conn held (Chooses chosen) m l p t = tells_greeted w conn held (Chooses chosen) m l p t
+  tells_greeted_under false w conn held (Refuses code) m l p t = tells_greeted w conn held (Refuses code) m l p t
+  tells_greeted_under false w conn held Goes m l p t =
+      elim (nat_lt held.last_id 4294967295) as (λ b. Tells (noted n (if b && false then told.Began (held.last_id + 1) held.moment conn.mode ∷ [] else []) r) (replied n (Refused C500) w)) [
+        | true ↦ tells_replied r w (Refused C500) (plain_at w conn p) t
+        | false ↦ tells_replied r w (Refused C500) (plain_at w conn p) t
+      ]
+
+  tells_commanded : (granted : Bool) (w : World) (conn : Connection) (held : Held) (session : ℕ) (command : Result Command Code) → held.moment ≡ w.moment → held.rows ≡ state buses w → IsPlain w conn → Tells r w
+      → Tells (noted n (steps_commanded granted session command held) r) (commanded buses n session (ordered buses granted command) w)
+  tells_commanded granted w conn held session (Err code) m s p t = tells_replied r w (Refused code) (plain_at w conn p) t
+  tells_commanded granted w conn held session (Ok command) m s p t =
+      subst (λ (k : State). Tells (noted n (steps_by k held.moment) r) (commanded buses n session (Ok ordering) w)) (sym s)
+      (subst (λ k. Tells (noted n (steps_by (state buses w) k) r) (commanded buses n session (Ok ordering) w)) (sym m)
+      (split (granted || not (adds_rows (state buses w) command))))
     where
-      steps_by : ℕ → Effect → List Step
-      steps_by moment result = Obeyed session moment command ∷ (if result.ends then Ended session moment ∷ [] else [])
+      ordering : Order
+      ordering = record { command = command; granted = granted }
 
-      result : Effect
-      result = effect (state buses w) session w.moment command
+      steps_by : State → ℕ → List PlainStep
+      steps_by k moment = told.Obeyed session moment command ∷ (if (granted || not (adds_rows k command)) && (effect_of k session moment command).ends then told.Ended session moment ∷ [] else [])
 
-      one : Tells (stepped (Obeyed session w.moment command ∷ []) r) (replied n result.reply (did (Obeyed session w.moment command) w))
-      one = tells_replied (stepped (Obeyed session w.moment command ∷ []) r) (did (Obeyed session w.moment command) w) result.reply (plain_at (did (Obeyed session w.moment command) w) conn p) (tells_did r w (Obeyed session w.moment command) t)
+      one : (result : Effect) → Tells (stepped (told.Obeyed session w.moment command ∷ []) r) (replied n result.reply (did (Obeyed session w.moment ordering) w))
+      one result = tells_replied (stepped (told.Obeyed session w.moment command ∷ []) r) (did (Obeyed session w.moment ordering) w) result.reply (plain_at (did (Obeyed session w.moment ordering) w) conn p) (tells_did r w (Obeyed session w.moment ordering) t)
 
-      by : (b : Bool) → Tells (noted n (Obeyed session w.moment command ∷ (if b then Ended session w.moment ∷ [] else [])) r)
-          (if b then ended buses n session (replied n result.reply (did (Obeyed session w.moment command) w)) else replied n result.reply (did (Obeyed session w.moment command) w))
-      by false = one
-      by true =
-          let two = tells_did (stepped (Obeyed session w.moment command ∷ []) r) (at_connection n (λ c. record c { ended = true }) (replied n result.reply (did (Obeyed session w.moment command) w))) (Ended session w.moment)
-          (tells_same (stepped (Obeyed session w.moment command ∷ []) r) (replied n result.reply (did (Obeyed session w.moment command) w)) n (λ c. record c { ended = true }) (λ c e. refl) one) in
-          record { steps = sym (append_assoc r.steps (Obeyed session w.moment command ∷ []) (Ended session w.moment ∷ [])) ∙ two.steps; refused = two.refused; connections = two.connections }
+      by : (result : Effect) (b : Bool) → Tells (noted n (told.Obeyed session w.moment command ∷ (if b then told.Ended session w.moment ∷ [] else [])) r)
+          (if b then ended buses n session (replied n result.reply (did (Obeyed session w.moment ordering) w)) else replied n result.reply (did (Obeyed session w.moment ordering) w))
+      by result false = one result
+      by result true =
+          let two = tells_did (stepped (told.Obeyed session w.moment command ∷ []) r) (at_connection n (λ c. record c { ended = true }) (replied n result.reply (did (Obeyed session w.moment ordering) w))) (Ended session w.moment)
+          (tells_same (stepped (told.Obeyed session w.moment command ∷ []) r) (replied n result.reply (did (Obeyed session w.moment ordering) w)) n (λ c. record c { ended = true }) (λ c e. refl) (one result)) in
+          record { steps = sym (append_assoc r.steps (told.Obeyed session w.moment command ∷ []) (told.Ended session w.moment ∷ [])) ∙ two.steps; refused = two.refused; connections = two.connections }
 
-  tells_asked : (w : World) (conn : Connection) (held : Held) (mark : Mark) (p : Place) (info over first : Bool) → held.moment ≡ w.moment → held.last_id ≡ w.last_id → held.rows ≡ state buses w → (info ≡ false → IsPlain w conn) → Tells r w
+      split : (g : Bool) → Tells (noted n (told.Obeyed session w.moment command ∷ (if g && (effect_of (state buses w) session w.moment command).ends then told.Ended session w.moment ∷ [] else [])) r)
+          (obeyed buses n session ordering (if g then effect_of (state buses w) session w.moment command else refused C500) w)
+      split true = by (effect_of (state buses w) session w.moment command) (effect_of (state buses w) session w.moment command).ends
+      split false = by (refused C500) false
+
+  tells_asked : (w : World) (conn : Connection) (held : Held) (granted : Bool) (mark : Mark) (p : Place) (info over first : Bool) → held.moment ≡ w.moment → held.last_id ≡ w.last_id → held.rows ≡ state buses w → (info ≡ false → IsPlain w conn) → Tells r w
       → p.mode ≡ conn.mode → p.session ≡ conn.session
-      → Tells (noted n (steps_answered_from true (if info || over then Dropped else (if first then Greets (greets mark) else Commands (command_of buses mark))) held (Some p)) r)
-      (if info || over then w else (if first then greeted buses n conn.mode (greets mark) w else commanded buses n conn.session (command_of buses mark) w))
-  tells_asked w conn held mark p true over first m l s plain t mode session = t
-  tells_asked w conn held mark p false true first m l s plain t mode session = t
-  tells_asked w conn held mark p false false true m l s plain t mode session =
-      subst (λ k. Tells (noted n (steps_greeted true k (greets mark) held) r) (greeted buses n conn.mode (greets mark) w)) (sym mode) (tells_greeted w conn held (greets mark) m l (plain refl) t)
-  tells_asked w conn held mark p false false false m l s plain t mode session =
-      subst (λ k. Tells (noted n (steps_commanded true k (command_of buses mark) held) r) (commanded buses n conn.session (command_of buses mark) w)) (sym session) (tells_commanded w conn held conn.session (command_of buses mark) m s (plain refl) t)
+      → Tells (noted n (steps_answered_from granted (if info || over then Dropped else (if first then Greets (greets_of mark) else Commands (command_of buses mark))) held (Some p)) r)
+      (if info || over then w else (if first then greeted buses n conn.mode (greeting_under granted (greets_of mark)) w else commanded buses n conn.session (ordered buses granted (command_of buses mark)) w))
+  tells_asked w conn held granted mark p true over first m l s plain t mode session = t
+  tells_asked w conn held granted mark p false true first m l s plain t mode session = t
+  tells_asked w conn held granted mark p false false true m l s plain t mode session =
+      subst (λ k. Tells (noted n (steps_greeted granted k (greets_of mark) held) r) (greeted buses n conn.mode (greeting_under granted (greets_of mark)) w)) (sym mode) (tells_greeted_under granted w conn held (greets_of mark) m l (plain refl) t)
+  tells_asked w conn held granted mark p false false false m l s plain t mode session =
+      subst (λ k. Tells (noted n (steps_commanded granted k (command_of buses mark) held) r) (commanded buses n conn.session (ordered buses granted (command_of buses mark)) w)) (sym session) (tells_commanded granted w conn held conn.session (command_of buses mark) m s (plain refl) t)
 
 -- what is noted of the answer to a line
-pub tells_answered : (buses : List Bus) (order : IsRisingBy key_at (shown_rows (opening buses 0))) (read : ℕ → List ℕ → List ℕ) (keys : List (Option ℕ)) (n key : ℕ) (r : Recording) (held : Held) (w : World) (mark : Mark) (p : Place)
+pub tells_answered : (buses : List Bus) (order : IsRisingBy key_at (shown_rows (opening buses 0))) (read : ℕ → List ℕ → List ℕ) (keys : List (Option ℕ)) (n key : ℕ) (r : Recording) (held : Held) (w : World) (granted : Bool) (mark : Mark) (p : Place)
     → IsFine buses order w → StandsBy buses read keys held w → key_of n keys ≡ Some key → at held key ≡ Some p → Tells r w
-    → Tells (noted n (steps_answered_from true (asked_of held.buses p mark) held (Some p)) r) (answered buses n w mark)
-tells_answered buses order read keys n key r held w mark p a s named here t =
+    → Tells (noted n (steps_answered_from granted (asked_of held.buses p mark) held (Some p)) r) (answered buses n w (record { mark = mark; granted = granted }))
+tells_answered buses order read keys n key r held w granted mark p a s named here t =
     let h = found_at buses read keys held w n key s named in
     let q : Place = place_of h.reader (history buses w) h.conn in
     let same : q ≡ p = let both : Some q ≡ Some p = sym h.place ∙ here in cc in
@@ -168,6 +188,6 @@ tells_answered buses order read keys n key r held w mark p a s named here t =
     let m : p.mode ≡ h.conn.mode = ap (λ (p : Place). p.mode) (sym same) ∙ place_mode h.reader (history buses w) h.conn in
     let f : Fine buses (history buses w) h.conn = at_number (Fine buses (history buses w)) n w.connections h.conn a h.there in
     let asks = asked_alike buses held.buses p h.conn mark s.layout i e z in
-    subst (λ (o : Option Connection). Tells (noted n (steps_answered_from true (asked_of held.buses p mark) held (Some p)) r) (answered_as buses n o mark w)) (sym h.opened)
-    (subst (λ (asked : Asked). Tells (noted n (steps_answered_from true asked held (Some p)) r) (answered_as buses n (Some h.conn) mark w)) (sym asks)
-    (tells_asked buses n r w h.conn held mark p h.conn.info h.conn.ended (h.conn.session == 0) s.moment s.last_id s.rows (λ plain. (h.there, ((f.plain plain).0, f.within))) t m z))
+    subst (λ (o : Option Connection). Tells (noted n (steps_answered_from granted (asked_of held.buses p mark) held (Some p)) r) (answered_as buses n o (record { mark = mark; granted = granted }) w)) (sym h.opened)
+    (subst (λ (asked : Asked). Tells (noted n (steps_answered_from granted asked held (Some p)) r) (answered_as buses n (Some h.conn) (record { mark = mark; granted = granted }) w)) (sym asks)
+    (tells_asked buses n r w h.conn held granted mark p h.conn.info h.conn.ended (h.conn.session == 0) s.moment s.last_id s.rows (λ plain. (h.there, ((f.plain plain).0, f.within))) t m z))

@@ -3,16 +3,12 @@ use Rattle.std.proofs.Common.{◌≡◌, ℕ, ◌+◌, Bool, true, false, List, 
 use Rattle.std.specs.List.{fold}
 use Rattle.std.specs.Prelude.{◌==◌, ◌||◌, Option, Some, None, option_map, if◌then◌else◌}
 use Rattle.srcp_rules.specs.declared.layout.Bus.{Bus}
-use Rattle.srcp_text.specs.Marks.{Mark}
+use Rattle.srcp_core.specs.Under.{Event, Bytes, Room, Ended, Heard, greets, Piece}
 use Rattle.srcp_core.specs.Connection.{Connection, is_open, overran, owed, took, given_room}
-use Rattle.srcp_core.specs.Course.{World, numbered, with_numbered, at_connection, if_open, open_connection, did, counted, rows, history, greeted, commanded, answered_as, answered, command_of, fault, new_marks, fed_to, shut_as, accepted, or_refused, happens}
-use Rattle.srcp_core.specs.Handshake.{greets}
+use Rattle.srcp_core.specs.Course.{World, numbered, with_numbered, at_connection, if_open, open_connection, did, counted, rows, history, greeted, commanded, answered_as, answered, order_of, fault, new_lines, fed_to, shut_as, accepted, or_refused, happens}
 use Rattle.srcp_core.specs.Laws.{is_info_session}
-use Rattle.srcp_core.specs.declared.event.Event.{Event}
-use Rattle.srcp_core.specs.declared.event.Event.TheVariants.{Bytes, Room}
 use Rattle.srcp_core.specs.declared.record.CoreFault.{CoreFault}
 use Rattle.srcp_core.specs.declared.record.Refusal.{Refusal}
-use Rattle.srcp_core.specs.declared.record.Step.TheVariants.{Ended}
 use Rattle.srcp_core.proofs.Numbers.{numbered_with, with_itself}
 use Rattle.srcp_core.proofs.Twins.{Alike, IsSimilar, IsTwin, alike_change}
 use Rattle.srcp_core.proofs.TwinWorlds.{Twin, twin}
@@ -66,15 +62,15 @@ twin_sides number a after after' conns refs evs l i s t =
     (record { conns = with_numbered number t.change conns; refs = t.refs; evs = t.evs; is = refl; alike = alike_sides number s.change t.change a.connections conns s.keeps t.keeps i l }))
 
 module _ (buses : List Bus) (number : ℕ) where
-  dropped_as : (o : Option Connection) (mark : Mark) (w : World) → is_info_session o ≡ true → answered_as buses number (if_open o) mark w ≡ w
+  dropped_as : (o : Option Connection) (mark : Heard) (w : World) → is_info_session o ≡ true → answered_as buses number (if_open o) mark w ≡ w
   dropped_as None mark w i = refl
   dropped_as (Some conn) mark w i = by (is_open conn)
     where
       by : (t : Bool) → answered_as buses number (if t then Some conn else None) mark w ≡ w
-      by true = subst (λ t. (if t || conn.ended then w else (if conn.session == 0 then greeted buses number conn.mode (greets mark) w else commanded buses number conn.session (command_of buses mark) w)) ≡ w) (sym i) refl
+      by true = subst (λ t. (if t || conn.ended then w else (if conn.session == 0 then greeted buses number conn.mode (greets mark) w else commanded buses number conn.session (order_of buses mark) w)) ≡ w) (sym i) refl
       by false = refl
 
-  dropped : (marks : List Mark) (w : World) → is_info_session (numbered number w.connections) ≡ true → fold (answered buses number) w marks ≡ w
+  dropped : (marks : List Heard) (w : World) → is_info_session (numbered number w.connections) ≡ true → fold (answered buses number) w marks ≡ w
   dropped [] w i = refl
   dropped (mark ∷ marks) w i = ap (λ v. fold (answered buses number) v marks) (dropped_as (numbered number w.connections) mark w i) ∙ dropped marks w i
 
@@ -82,24 +78,24 @@ module _ (buses : List Bus) (number : ℕ) where
   info_with f None k i = i
   info_with f (Some c) k i = k.info c ∙ i
 
-  one_fed : (piece : List ℕ) (o : Option Connection) (w : World) (refs : List Refusal) (evs : ℕ) → is_info_session (numbered number w.connections) ≡ true → OneSided number w (fed_to buses number piece o (twin w w.connections refs evs))
+  one_fed : (piece : Piece) (o : Option Connection) (w : World) (refs : List Refusal) (evs : ℕ) → is_info_session (numbered number w.connections) ≡ true → OneSided number w (fed_to buses number piece o (twin w w.connections refs evs))
   one_fed piece None w refs evs i = one_itself number w refs evs
   one_fed piece (Some conn) w refs evs i =
-      let k : Keeps (λ (c : Connection). record c { fed = c.fed ++ piece }) = record { info = λ c. refl; session = λ c. refl; ended = λ c. refl; shut = λ c. refl } in
+      let k : Keeps (λ (c : Connection). record c { fed = c.fed ++ piece.bytes }) = record { info = λ c. refl; session = λ c. refl; ended = λ c. refl; shut = λ c. refl } in
       record {
-        change = λ c. record c { fed = c.fed ++ piece };
+        change = λ c. record c { fed = c.fed ++ piece.bytes };
         keeps = k;
         refs = refs;
         evs = evs;
-        is = dropped (new_marks buses conn.fed piece) (at_connection number (λ c. record c { fed = c.fed ++ piece }) (twin w w.connections refs evs))
-            (ap is_info_session (numbered_with number (λ c. record c { fed = c.fed ++ piece }) w.connections) ∙ info_with (λ c. record c { fed = c.fed ++ piece }) (numbered number w.connections) k i);
+        is = dropped (new_lines buses conn.fed piece) (at_connection number (λ c. record c { fed = c.fed ++ piece.bytes }) (twin w w.connections refs evs))
+            (ap is_info_session (numbered_with number (λ c. record c { fed = c.fed ++ piece.bytes }) w.connections) ∙ info_with (λ c. record c { fed = c.fed ++ piece.bytes }) (numbered number w.connections) k i);
       }
 
   one_refused : (o : Option CoreFault) (event : Event) (w : World) → OneSided number w (accepted buses event (counted w)) → OneSided number w (or_refused buses o event (counted w))
   one_refused None event w s = s
   one_refused (Some cause) event w s = one_itself number w (w.refused ++ record { event = w.events + 1; fault = cause } ∷ []) (w.events + 1)
 
-  pub one_bytes : (piece : List ℕ) (w : World) → is_info_session (numbered number w.connections) ≡ true → OneSided number w (happens buses w (Bytes number piece))
+  pub one_bytes : (piece : Piece) (w : World) → is_info_session (numbered number w.connections) ≡ true → OneSided number w (happens buses w (Bytes number piece))
   one_bytes piece w i = one_refused (fault buses (counted w) (Bytes number piece)) (Bytes number piece) w (one_fed piece (open_connection w number) w w.refused (w.events + 1) i)
 
   pub one_room : (bytes : ℕ) (w : World) → OneSided number w (happens buses w (Room number bytes))

@@ -1,5 +1,5 @@
 -- A core that stands for a course takes a piece as the course does.
-use Rattle.std.proofs.Common.{◌≡◌, ◌≢◌, ℕ, zero, suc, ◌+◌, ◌<◌, ◌≤◌, Bool, true, false, List, [], ◌∷◌, ◌++◌, take, drop, length, refl, ap, sym, ◌∙◌, subst, arith, append-nil}
+use Rattle.std.proofs.Common.{◌≡◌, ◌≢◌, ℕ, zero, suc, ◌+◌, ◌<◌, ◌≤◌, Bool, true, false, List, [], ◌∷◌, ◌++◌, take, drop, length, refl, ap, sym, ◌∙◌, subst, arith, append-nil, length-append}
 use Rattle.std.proofs.lemmas.Bool.{eqb-true, eq-eqb}
 use Rattle.std.proofs.lemmas.List.{drop_all}
 use Rattle.std.proofs.lemmas.List.Sums.{fold-append}
@@ -21,22 +21,22 @@ use Rattle.srcp_text.specs.declared.reader.Fed.{Fed}
 use Rattle.srcp_text.specs.declared.reader.Fed.TheVariants.{Line as FoundLine, TooLong as FoundTooLong, More}
 use Rattle.srcp_text.proofs.ReadingLaws.{marks-fed, stands-fed, fed_to_stop, fed_to_end, later_marks}
 use Rattle.srcp_rules.specs.declared.layout.Bus.{Bus}
-use Rattle.srcp_rules.specs.declared.command.Command.{Command}
-use Rattle.srcp_rules.specs.Effect.{Effect, effect}
+use Rattle.srcp_rules.specs.Effect.{Effect}
 use Rattle.srcp_rules.specs.State.{opening, shown_rows}
 use Rattle.srcp_info.proofs.ClientLaws.{key_at}
 use Rattle.srcp_info.specs.Client.{IsRisingBy}
+use Rattle.srcp_core.specs.Under.{Obeyed, Began, Heard, Order, effect, greets, lines_under}
 use Rattle.srcp_core.specs.Connection.{Connection}
-use Rattle.srcp_core.specs.Course.{World, numbered, at_connection, did, is_info, state, history, command_of, replied, entered, goes, greeted, ended, obeyed, commanded, answered_as, answered as course_answered, open_connection, new_marks}
-use Rattle.srcp_core.specs.Handshake.{Greeting, Speaks, Chooses, Goes, Refuses, greets}
+use Rattle.srcp_core.specs.Course.{World, numbered, at_connection, did, is_info, state, history, order_of, replied, entered, goes, greeted, ended, obeyed, commanded, answered_as, answered as course_answered, open_connection, new_marks}
+use Rattle.srcp_core.specs.Handshake.{Greeting, Speaks, Chooses, Goes, Refuses}
 use Rattle.srcp_core.specs.Held.{Place, Held, at, place_at}
 use Rattle.srcp_core.specs.Machine.{asked_of, heard_from, heard_in, heard_at, line_taken, steps_of_line, answered, steps_answered, steps_answered_from}
 use Rattle.srcp_core.specs.Recording.{Recording, key_of, noted}
 use Rattle.srcp_core.specs.Stands.{StandsBy, StandsFor, place_of}
 use Rattle.srcp_core.specs.declared.asked.Asked.{Asked}
 use Rattle.srcp_core.proofs.Answering.{IsFine, stands_answered}
-use Rattle.srcp_core.specs.declared.record.Step.TheVariants.{Obeyed, Began}
 use Rattle.srcp_core.proofs.Covers.{Where, Here, Away, where_is, place_set_here}
+use Rattle.srcp_core.proofs.Given.{lines_push, given_of}
 use Rattle.srcp_core.proofs.Granting.{granted_from}
 use Rattle.srcp_core.proofs.Noting.{Tells, tells_answered}
 use Rattle.srcp_core.proofs.Placing.{place_reader, place_read}
@@ -105,25 +105,25 @@ module _ (buses : List Bus) (n : ℕ) where
   fed_greeted mode Goes w = fed_goes mode w
   fed_greeted mode (Refuses code) w = fed_replied (Refused code) w
 
-  fed_obeyed : (session : ℕ) (command : Command) (result : Effect) (w : World) → fed_of n (obeyed buses n session command result w) ≡ fed_of n w
+  fed_obeyed : (session : ℕ) (command : Order) (result : Effect) (w : World) → fed_of n (obeyed buses n session command result w) ≡ fed_of n w
   fed_obeyed session command result w =
       elim result.ends as (λ t. fed_of n (if t then ended buses n session (replied n result.reply (did (Obeyed session w.moment command) w)) else replied n result.reply (did (Obeyed session w.moment command) w)) ≡ fed_of n w) [
         | true ↦ fed_at (λ conn. record conn { ended = true }) (replied n result.reply (did (Obeyed session w.moment command) w)) (λ c. refl) ∙ fed_replied result.reply (did (Obeyed session w.moment command) w)
         | false ↦ fed_replied result.reply (did (Obeyed session w.moment command) w)
       ]
 
-  fed_commanded : (session : ℕ) (command : Result Command Code) (w : World) → fed_of n (commanded buses n session command w) ≡ fed_of n w
+  fed_commanded : (session : ℕ) (command : Result Order Code) (w : World) → fed_of n (commanded buses n session command w) ≡ fed_of n w
   fed_commanded session (Err code) w = fed_replied (Refused code) w
   fed_commanded session (Ok command) w = fed_obeyed session command (effect (state buses w) session w.moment command) w
 
-  fed_answered_as : (o : Option Connection) (mark : Mark) (w : World) → fed_of n (answered_as buses n o mark w) ≡ fed_of n w
+  fed_answered_as : (o : Option Connection) (mark : Heard) (w : World) → fed_of n (answered_as buses n o mark w) ≡ fed_of n w
   fed_answered_as None mark w = refl
   fed_answered_as (Some conn) mark w =
-      elim (conn.info || conn.ended) as (λ t. fed_of n (if t then w else (if conn.session == 0 then greeted buses n conn.mode (greets mark) w else commanded buses n conn.session (command_of buses mark) w)) ≡ fed_of n w) [
+      elim (conn.info || conn.ended) as (λ t. fed_of n (if t then w else (if conn.session == 0 then greeted buses n conn.mode (greets mark) w else commanded buses n conn.session (order_of buses mark) w)) ≡ fed_of n w) [
         | true ↦ refl
-        | false ↦ elim (conn.session == 0) as (λ t. fed_of n (if t then greeted buses n conn.mode (greets mark) w else commanded buses n conn.session (command_of buses mark) w) ≡ fed_of n w) [
+        | false ↦ elim (conn.session == 0) as (λ t. fed_of n (if t then greeted buses n conn.mode (greets mark) w else commanded buses n conn.session (order_of buses mark) w) ≡ fed_of n w) [
           | true ↦ fed_greeted conn.mode (greets mark) w
-          | false ↦ fed_commanded conn.session (command_of buses mark) w
+          | false ↦ fed_commanded conn.session (order_of buses mark) w
         ]
       ]
 
@@ -135,101 +135,123 @@ module _ (buses : List Bus) (order : IsRisingBy key_at (shown_rows (opening buse
   abbrev pub marks_upto : ℕ → List Mark
   marks_upto start = drop (length (marks fed)) (marks (fed ++ take start piece))
 
-  abbrev pub world_upto : ℕ → World
-  world_upto start = fold (course_answered buses n) w (marks_upto start)
+  abbrev pub world_upto : List Bool → ℕ → World
+  world_upto grants start = fold (course_answered buses n) w (lines_under grants (marks_upto start))
 
-  pub record IsUpTo (start : ℕ) (held : Held) : Type 0 where
-    pub fine : IsFine buses order (world_upto start)
-    pub fed_is : fed_of n (world_upto start) ≡ Some (fed ++ piece)
-    pub stands : StandsBy buses (partly n (fed ++ take start piece)) keys held (world_upto start)
+  pub record IsUpTo (grants : List Bool) (start : ℕ) (held : Held) : Type 0 where
+    pub count : length grants ≡ length (marks_upto start)
+    pub fine : IsFine buses order (world_upto grants start)
+    pub fed_is : fed_of n (world_upto grants start) ≡ Some (fed ++ piece)
+    pub stands : StandsBy buses (partly n (fed ++ take start piece)) keys held (world_upto grants start)
 
   -- one line more
-  line_answered : (start stop : ℕ) (mark : Mark) (held : Held) (p : Place) (reader : Reading) (r : Recording) → start < stop → at held key ≡ Some p
+  line_answered : (grants : List Bool) (granted : Bool) (start stop : ℕ) (mark : Mark) (held : Held) (p : Place) (reader : Reading) (r : Recording) → start < stop → at held key ≡ Some p
       → ((bytes : List ℕ) → StandsAt bytes p.reader → marks (bytes ++ slice_range piece start stop) ≡ marks bytes ++ mark ∷ [])
       → ((bytes : List ℕ) → StandsAt bytes p.reader → StandsAt (bytes ++ slice_range piece start stop) reader)
-      → IsUpTo start held → Tells r (world_upto start)
-      → IsUpTo stop (answered true key (asked_of held.buses p mark) (record held { places = slice_set held.places key (Some (record p { reader = reader })) }))
-      × Tells (noted n (steps_answered true key (asked_of held.buses p mark) (record held { places = slice_set held.places key (Some (record p { reader = reader })) })) r) (world_upto stop)
-  line_answered start stop mark held p reader r onward here adds moves u t =
-      let h = found_at buses (partly n (fed ++ take start piece)) keys held (world_upto start) n key u.stands named in
-      let same : place_of h.reader (history buses (world_upto start)) h.conn ≡ p = let both : Some (place_of h.reader (history buses (world_upto start)) h.conn) ≡ Some p = sym h.place ∙ here in cc in
-      let its : h.reader ≡ p.reader = sym (place_reader h.reader (history buses (world_upto start)) h.conn) ∙ ap (λ (q : Place). q.reader) same in
+      → IsUpTo grants start held → Tells r (world_upto grants start)
+      → IsUpTo (grants ++ granted ∷ []) stop (answered granted key (asked_of held.buses p mark) (record held { places = slice_set held.places key (Some (record p { reader = reader })) }))
+      × Tells (noted n (steps_answered granted key (asked_of held.buses p mark) (record held { places = slice_set held.places key (Some (record p { reader = reader })) })) r) (world_upto (grants ++ granted ∷ []) stop)
+  line_answered grants granted start stop mark held p reader r onward here adds moves u t =
+      let h = found_at buses (partly n (fed ++ take start piece)) keys held (world_upto grants start) n key u.stands named in
+      let same : place_of h.reader (history buses (world_upto grants start)) h.conn ≡ p = let both : Some (place_of h.reader (history buses (world_upto grants start)) h.conn) ≡ Some p = sym h.place ∙ here in cc in
+      let its : h.reader ≡ p.reader = sym (place_reader h.reader (history buses (world_upto grants start)) h.conn) ∙ ap (λ (q : Place). q.reader) same in
       let stood : StandsAt (fed ++ take start piece) p.reader = subst (λ r. StandsAt (fed ++ take start piece) r) its (subst (λ bytes. StandsAt bytes h.reader) (partly_here n (fed ++ take start piece) h.conn.fed) h.reads) in
       let le : start ≤ stop = omega (arith, onward) in
       let both = fed_to_stop fed piece start stop (mark ∷ []) p.reader reader le adds moves stood in
       let more : marks_upto stop ≡ marks_upto start ++ mark ∷ [] = later_marks fed (take start piece) (marks (fed ++ take stop piece)) (mark ∷ []) both.0 in
-      let next : world_upto stop ≡ course_answered buses n (world_upto start) mark = ap (fold (course_answered buses n) w) more ∙ fold-append (course_answered buses n) w (marks_upto start) (mark ∷ []) in
+      let line : Heard = record { mark = mark; granted = granted } in
+      let next : world_upto (grants ++ granted ∷ []) stop ≡ course_answered buses n (world_upto grants start) line =
+      ap (λ ms. fold (course_answered buses n) w (lines_under (grants ++ granted ∷ []) ms)) more ∙ ap (fold (course_answered buses n) w) (lines_push grants (marks_upto start) granted mark u.count) ∙ fold-append (course_answered buses n) w (lines_under grants (marks_upto start)) (line ∷ []) in
       let mid = record held { places = slice_set held.places key (Some (record p { reader = reader })) } in
-      let reads : StandsBy buses (partly n (fed ++ take stop piece)) keys mid (world_upto start) =
-      stands_read buses keys n key named (partly n (fed ++ take start piece)) (partly n (fed ++ take stop piece)) held (world_upto start) p reader u.stands here
+      let reads : StandsBy buses (partly n (fed ++ take stop piece)) keys mid (world_upto grants start) =
+      stands_read buses keys n key named (partly n (fed ++ take start piece)) (partly n (fed ++ take stop piece)) held (world_upto grants start) p reader u.stands here
       (λ conn e. subst (λ bytes. StandsAt bytes reader) (sym (partly_here n (fed ++ take stop piece) conn.fed)) both.1)
       (λ m bytes d. partly_other n m (fed ++ take stop piece) bytes d ∙ sym (partly_other n m (fed ++ take start piece) bytes d)) in
       let here_now : at mid key ≡ Some (record p { reader = reader }) = place_set_here held.places key p (Some (record p { reader = reader })) here in (
         record {
-          fine = subst (λ (v : World). IsFine buses order v) (sym next) (sound_answered buses order Anything (anything (shown_rows (opening buses 0))) n (world_upto start) mark u.fine);
-          fed_is = ap (fed_of n) next ∙ fed_answered_as buses n (open_connection (world_upto start) n) mark (world_upto start) ∙ u.fed_is;
-          stands = subst (λ (v : World). StandsBy buses (partly n (fed ++ take stop piece)) keys (answered true key (asked_of held.buses p mark) mid) v) (sym next)
-              (stands_answered buses order (partly n (fed ++ take stop piece)) keys n key named mid (world_upto start) mark (record p { reader = reader }) u.fine reads here_now);
+          count = length-append grants (granted ∷ []) ∙ ap (λ k. k + 1) u.count ∙ sym (ap length more ∙ length-append (marks_upto start) (mark ∷ []));
+          fine = subst (λ (v : World). IsFine buses order v) (sym next) (sound_answered buses order Anything (anything (shown_rows (opening buses 0))) n (world_upto grants start) line u.fine);
+          fed_is = ap (fed_of n) next ∙ fed_answered_as buses n (open_connection (world_upto grants start) n) line (world_upto grants start) ∙ u.fed_is;
+          stands = subst (λ (v : World). StandsBy buses (partly n (fed ++ take stop piece)) keys (answered granted key (asked_of held.buses p mark) mid) v) (sym next)
+              (stands_answered buses order (partly n (fed ++ take stop piece)) keys n key named mid (world_upto grants start) granted mark (record p { reader = reader }) u.fine reads here_now);
         },
-        subst (λ (v : World). Tells (noted n (steps_answered true key (asked_of held.buses p mark) mid) r) v) (sym next)
-            (subst (λ (o : Option Place). Tells (noted n (steps_answered_from true (asked_of held.buses p mark) mid o) r) (course_answered buses n (world_upto start) mark)) (sym here_now)
-            (tells_answered buses order (partly n (fed ++ take stop piece)) keys n key r mid (world_upto start) mark (record p { reader = reader }) u.fine reads named here_now t)),
+        subst (λ (v : World). Tells (noted n (steps_answered granted key (asked_of held.buses p mark) mid) r) v) (sym next)
+            (subst (λ (o : Option Place). Tells (noted n (steps_answered_from granted (asked_of held.buses p mark) mid o) r) (course_answered buses n (world_upto grants start) line)) (sym here_now)
+            (tells_answered buses order (partly n (fed ++ take stop piece)) keys n key r mid (world_upto grants start) granted mark (record p { reader = reader }) u.fine reads named here_now t)),
       )
 
   -- after one more line of the piece
-  pub record IsLined (start stop : ℕ) (granted : Bool) (held new : Held) (r : Recording) : Type 0 where
-    pub upto : IsUpTo stop new
-    pub tells : Tells (noted n (steps_of_line key granted (heard_at key piece start held)) r) (world_upto stop)
-    pub before : held.denied ≡ 0
+  pub record IsLinedAs (grants : List Bool) (start stop : ℕ) (granted : Bool) (held new : Held) (r : Recording) : Type 0 where
+    pub upto : IsUpTo grants stop new
+    pub tells : Tells (noted n (steps_of_line key granted (heard_at key piece start held)) r) (world_upto grants stop)
+
+  abbrev pub IsLined : List Bool → ℕ → ℕ → Bool → Held → Held → Recording → Type 0
+  IsLined grants start stop granted held new r = IsLinedAs (grants ++ given_of granted new ∷ []) start stop granted held new r
 
   -- what the reader finds
   abbrev finds : Held → Place → Fed → Reading → Option (ℕ × Asked) × Held
   finds held p result reading = ((heard_from held.buses p (result, reading)).0, record held { places = slice_set held.places key (Some (heard_from held.buses p (result, reading)).1) })
 
-  lined_at : (start stop : ℕ) (granted : Bool) (held new : Held) (r : Recording) (p : Place) (mark : Mark) (s : ℕ) (reading : Reading) → start < stop → at held key ≡ Some p
+  lined_at : (grants : List Bool) (start stop : ℕ) (granted : Bool) (held new : Held) (r : Recording) (p : Place) (mark : Mark) (s : ℕ) (reading : Reading) → start < stop → at held key ≡ Some p
       → ((bytes : List ℕ) → StandsAt bytes p.reader → marks (bytes ++ slice_range piece start s) ≡ marks bytes ++ mark ∷ [])
       → ((bytes : List ℕ) → StandsAt bytes p.reader → StandsAt (bytes ++ slice_range piece start s) reading)
       → ◌≡◌ {A = ℕ × Held} (stop, new) (s, answered granted key (asked_of held.buses p mark) (record held { places = slice_set held.places key (Some (record p { reader = reading })) }))
       → ◌≡◌ {A = Option (ℕ × Asked) × Held} (heard_at key piece start held) (Some (s, asked_of held.buses p mark), record held { places = slice_set held.places key (Some (record p { reader = reading })) })
-      → new.denied ≡ 0 → IsUpTo start held → Tells r (world_upto start) → IsLined start stop granted held new r
-  lined_at start stop granted held new r p mark s reading onward here adds moves is finding d u t =
-      let mid : Held = record held { places = slice_set held.places key (Some (record p { reader = reading })) } in
-      let asked = asked_of held.buses p mark in
-      let stop_is : stop ≡ s = ap (λ (x : ℕ × Held). x.0) is in
-      let new_is : new ≡ answered granted key asked mid = ap (λ (x : ℕ × Held). x.1) is in
-      let g = granted_from key mid granted asked (at mid key) (ap (λ (x : Held). x.denied) (sym new_is) ∙ d) in
-      let onward_s : start < s = subst (λ k. start < k) stop_is onward in
-      let both = line_answered start s mark held p reading r onward_s here adds moves u t in
-      record {
-        upto = subst (λ k. IsUpTo k new) (sym stop_is) (subst (λ (x : Held). IsUpTo s x) (sym (new_is ∙ g.core)) both.0);
-        tells = subst (λ k. Tells (noted n (steps_of_line key granted (heard_at key piece start held)) r) (world_upto k)) (sym stop_is)
-            (subst (λ steps. Tells (noted n steps r) (world_upto s)) (sym (ap (steps_of_line key granted) finding ∙ g.steps)) both.1);
-        before = g.before;
-      }
-
-  pub lined : (start stop : ℕ) (granted : Bool) (held new : Held) (r : Recording) → start < stop → ◌≡◌ {A = ℕ × Held} (stop, new) (line_taken key granted (start, held) (heard_at key piece start held))
-      → new.denied ≡ 0 → IsUpTo start held → Tells r (world_upto start) → IsLined start stop granted held new r
-  lined start stop granted held new r onward is d u t =
-      let h = found_at buses (partly n (fed ++ take start piece)) keys held (world_upto start) n key u.stands named in
-      from (place_of h.reader (history buses (world_upto start)) h.conn) h.place (feed_of (place_of h.reader (history buses (world_upto start)) h.conn).reader piece start).0 (feed_of (place_of h.reader (history buses (world_upto start)) h.conn).reader piece start).1 refl
+      → IsUpTo grants start held → Tells r (world_upto grants start) → IsLined grants start stop granted held new r
+  lined_at grants start stop granted held new r p mark s reading onward here adds moves is finding u t = by (new.denied == 0) refl
     where
-      from : (p : Place) → at held key ≡ Some p → (result : Fed) (reading : Reading) → ◌≡◌ {A = Fed × Reading} (feed_of p.reader piece start) (result, reading) → IsLined start stop granted held new r
+      mid : Held
+      mid = record held { places = slice_set held.places key (Some (record p { reader = reading })) }
+
+      asked : Asked
+      asked = asked_of held.buses p mark
+
+      stop_is : stop ≡ s
+      stop_is = ap (λ (x : ℕ × Held). x.0) is
+
+      new_is : new ≡ answered granted key asked mid
+      new_is = ap (λ (x : ℕ × Held). x.1) is
+
+      onward_s : start < s
+      onward_s = subst (λ k. start < k) stop_is onward
+
+      with : (g : Bool) → given_of granted new ≡ g → answered granted key asked mid ≡ answered g key asked mid → steps_answered granted key asked mid ≡ steps_answered g key asked mid → IsLined grants start stop granted held new r
+      with g is_g core steps =
+          let both = line_answered grants g start s mark held p reading r onward_s here adds moves u t in
+          subst (λ x. IsLinedAs (grants ++ x ∷ []) start stop granted held new r) (sym is_g)
+          (record {
+            upto = subst (λ k. IsUpTo (grants ++ g ∷ []) k new) (sym stop_is) (subst (λ (x : Held). IsUpTo (grants ++ g ∷ []) s x) (sym (new_is ∙ core)) both.0);
+            tells = subst (λ k. Tells (noted n (steps_of_line key granted (heard_at key piece start held)) r) (world_upto (grants ++ g ∷ []) k)) (sym stop_is)
+                (subst (λ steps. Tells (noted n steps r) (world_upto (grants ++ g ∷ []) s)) (sym (ap (steps_of_line key granted) finding ∙ steps)) both.1);
+          })
+
+      by : (t : Bool) → (new.denied == 0) ≡ t → IsLined grants start stop granted held new r
+      by true e = let g = granted_from key mid granted asked (at mid key) (ap (λ (x : Held). x.denied) (sym new_is) ∙ eqb-true new.denied 0 e) in with true (ap (λ t. if t then true else granted) e) g.core g.steps
+      by false e = with granted (ap (λ t. if t then true else granted) e) refl refl
+
+  pub lined : (grants : List Bool) (start stop : ℕ) (granted : Bool) (held new : Held) (r : Recording) → start < stop → ◌≡◌ {A = ℕ × Held} (stop, new) (line_taken key granted (start, held) (heard_at key piece start held))
+      → IsUpTo grants start held → Tells r (world_upto grants start) → IsLined grants start stop granted held new r
+  lined grants start stop granted held new r onward is u t =
+      let h = found_at buses (partly n (fed ++ take start piece)) keys held (world_upto grants start) n key u.stands named in
+      from (place_of h.reader (history buses (world_upto grants start)) h.conn) h.place (feed_of (place_of h.reader (history buses (world_upto grants start)) h.conn).reader piece start).0 (feed_of (place_of h.reader (history buses (world_upto grants start)) h.conn).reader piece start).1 refl
+    where
+      from : (p : Place) → at held key ≡ Some p → (result : Fed) (reading : Reading) → ◌≡◌ {A = Fed × Reading} (feed_of p.reader piece start) (result, reading) → IsLined grants start stop granted held new r
       from p here result reading e = by result reading e
           (ap (λ (o : Option Place). heard_in key piece start held o) here ∙ ap (λ (x : Fed × Reading). let y : Option (ℕ × Asked) × Held = finds held p x.0 x.1 in y) e)
         where
-          by : (result : Fed) (reading : Reading) → ◌≡◌ {A = Fed × Reading} (feed_of p.reader piece start) (result, reading) → ◌≡◌ {A = Option (ℕ × Asked) × Held} (heard_at key piece start held) (finds held p result reading) → IsLined start stop granted held new r
+          by : (result : Fed) (reading : Reading) → ◌≡◌ {A = Fed × Reading} (feed_of p.reader piece start) (result, reading) → ◌≡◌ {A = Option (ℕ × Asked) × Held} (heard_at key piece start held) (finds held p result reading) → IsLined grants start stop granted held new r
           by More reading e finding =
               let both : ◌≡◌ {A = ℕ × Held} (stop, new) (start, held) = is ∙ ap (line_taken key granted (start, held)) finding in
               let same : stop ≡ start = ap (λ (x : ℕ × Held). x.0) both in
               absurd (omega (arith, onward, same))
           by (FoundLine s) reading e finding =
-              lined_at start stop granted held new r p (Line reading.line) s reading onward here
+              lined_at grants start stop granted held new r p (Line reading.line) s reading onward here
               (λ bytes stood. marks-fed bytes p.reader reading piece start (FoundLine s) (sym e) stood) (λ bytes stood. stands-fed bytes p.reader reading piece start (FoundLine s) (sym e) stood)
-              (is ∙ ap (line_taken key granted (start, held)) finding) finding d u t
+              (is ∙ ap (line_taken key granted (start, held)) finding) finding u t
           by (FoundTooLong s) reading e finding =
-              lined_at start stop granted held new r p TooLong s reading onward here
+              lined_at grants start stop granted held new r p TooLong s reading onward here
               (λ bytes stood. marks-fed bytes p.reader reading piece start (FoundTooLong s) (sym e) stood) (λ bytes stood. stands-fed bytes p.reader reading piece start (FoundTooLong s) (sym e) stood)
-              (is ∙ ap (line_taken key granted (start, held)) finding) finding d u t
+              (is ∙ ap (line_taken key granted (start, held)) finding) finding u t
 
   -- ---- the end of a piece
 
@@ -255,38 +277,38 @@ module _ (buses : List Bus) (order : IsRisingBy key_at (shown_rows (opening buse
           ap (λ j. partly n bytes j conn.fed) same ∙ partly_here n bytes conn.fed ∙ sym equal
       read_is m conn e (Away d) = partly_other n m bytes conn.fed d
 
-  pub record IsEnded (new : Held) (v : World) : Type 0 where
-    pub fine : IsFine buses order (fold (course_answered buses n) w (new_marks buses fed piece))
-    pub stands : StandsFor buses keys new (fold (course_answered buses n) w (new_marks buses fed piece))
-    pub world_is : v ≡ fold (course_answered buses n) w (new_marks buses fed piece)
+  pub record IsEnded (grants : List Bool) (new : Held) (v : World) : Type 0 where
+    pub fine : IsFine buses order (fold (course_answered buses n) w (lines_under grants (new_marks buses fed piece)))
+    pub stands : StandsFor buses keys new (fold (course_answered buses n) w (lines_under grants (new_marks buses fed piece)))
+    pub world_is : v ≡ fold (course_answered buses n) w (lines_under grants (new_marks buses fed piece))
 
-  pub lines_ended : (start : ℕ) (held new : Held) → ◌≡◌ {A = Option (ℕ × Asked) × Held} (None, new) (heard_at key piece start held) → IsUpTo start held → IsEnded new (world_upto start)
-  lines_ended start held new is u =
-      let h = found_at buses (partly n (fed ++ take start piece)) keys held (world_upto start) n key u.stands named in
-      let p = place_of h.reader (history buses (world_upto start)) h.conn in
+  pub lines_ended : (grants : List Bool) (start : ℕ) (held new : Held) → ◌≡◌ {A = Option (ℕ × Asked) × Held} (None, new) (heard_at key piece start held) → IsUpTo grants start held → IsEnded grants new (world_upto grants start)
+  lines_ended grants start held new is u =
+      let h = found_at buses (partly n (fed ++ take start piece)) keys held (world_upto grants start) n key u.stands named in
+      let p = place_of h.reader (history buses (world_upto grants start)) h.conn in
       let stood : StandsAt (fed ++ take start piece) p.reader =
-      subst (λ r. StandsAt (fed ++ take start piece) r) (sym (place_reader h.reader (history buses (world_upto start)) h.conn)) (subst (λ bytes. StandsAt bytes h.reader) (partly_here n (fed ++ take start piece) h.conn.fed) h.reads) in
+      subst (λ r. StandsAt (fed ++ take start piece) r) (sym (place_reader h.reader (history buses (world_upto grants start)) h.conn)) (subst (λ bytes. StandsAt bytes h.reader) (partly_here n (fed ++ take start piece) h.conn.fed) h.reads) in
       from p h.place stood (feed_of p.reader piece start).0 (feed_of p.reader piece start).1 refl
     where
-      from : (p : Place) → at held key ≡ Some p → StandsAt (fed ++ take start piece) p.reader → (result : Fed) (reading : Reading) → ◌≡◌ {A = Fed × Reading} (feed_of p.reader piece start) (result, reading) → IsEnded new (world_upto start)
+      from : (p : Place) → at held key ≡ Some p → StandsAt (fed ++ take start piece) p.reader → (result : Fed) (reading : Reading) → ◌≡◌ {A = Fed × Reading} (feed_of p.reader piece start) (result, reading) → IsEnded grants new (world_upto grants start)
       from p here stood result reading e = by result reading e
           (is ∙ ap (λ (o : Option Place). heard_in key piece start held o) here ∙ ap (λ (x : Fed × Reading). let y : Option (ℕ × Asked) × Held = finds held p x.0 x.1 in y) e)
         where
-          by : (result : Fed) (reading : Reading) → ◌≡◌ {A = Fed × Reading} (feed_of p.reader piece start) (result, reading) → ◌≡◌ {A = Option (ℕ × Asked) × Held} (None, new) (finds held p result reading) → IsEnded new (world_upto start)
+          by : (result : Fed) (reading : Reading) → ◌≡◌ {A = Fed × Reading} (feed_of p.reader piece start) (result, reading) → ◌≡◌ {A = Option (ℕ × Asked) × Held} (None, new) (finds held p result reading) → IsEnded grants new (world_upto grants start)
           by (FoundLine s) reading e finding = absurd (none-some (s, asked_of held.buses p (Line reading.line)) (ap (λ (x : Option (ℕ × Asked) × Held). x.0) finding))
           by (FoundTooLong s) reading e finding = absurd (none-some (s, asked_of held.buses p TooLong) (ap (λ (x : Option (ℕ × Asked) × Held). x.0) finding))
           by More reading e finding =
               let new_is : new ≡ record held { places = slice_set held.places key (Some (record p { reader = reading })) } = ap (λ (x : Option (ℕ × Asked) × Held). x.1) finding in
               let both = fed_to_end fed piece start [] p.reader reading (λ bytes stood. marks-fed bytes p.reader reading piece start More (sym e) stood) (λ bytes stood. stands-fed bytes p.reader reading piece start More (sym e) stood) stood in
               let last : new_marks buses fed piece ≡ marks_upto start = later_marks fed (take start piece) (marks (fed ++ piece)) [] both.0 ∙ append-nil (marks_upto start) in
-              let world : world_upto start ≡ fold (course_answered buses n) w (new_marks buses fed piece) = ap (fold (course_answered buses n) w) (sym last) in
-              let reads : StandsBy buses (partly n (fed ++ piece)) keys (record held { places = slice_set held.places key (Some (record p { reader = reading })) }) (world_upto start) =
-              stands_read buses keys n key named (partly n (fed ++ take start piece)) (partly n (fed ++ piece)) held (world_upto start) p reading u.stands here
+              let world : world_upto grants start ≡ fold (course_answered buses n) w (lines_under grants (new_marks buses fed piece)) = ap (λ ms. fold (course_answered buses n) w (lines_under grants ms)) (sym last) in
+              let reads : StandsBy buses (partly n (fed ++ piece)) keys (record held { places = slice_set held.places key (Some (record p { reader = reading })) }) (world_upto grants start) =
+              stands_read buses keys n key named (partly n (fed ++ take start piece)) (partly n (fed ++ piece)) held (world_upto grants start) p reading u.stands here
               (λ conn e. subst (λ bytes. StandsAt bytes reading) (sym (partly_here n (fed ++ piece) conn.fed)) both.1)
               (λ m bytes d. partly_other n m (fed ++ piece) bytes d ∙ sym (partly_other n m (fed ++ take start piece) bytes d)) in
               record {
                 fine = subst (λ (v : World). IsFine buses order v) world u.fine;
-                stands = subst (λ (v : World). StandsFor buses keys new v) world (subst (λ (x : Held). StandsFor buses keys x (world_upto start)) (sym new_is) (stands_all (record held { places = slice_set held.places key (Some (record p { reader = reading })) }) (world_upto start) (fed ++ piece) u.fed_is reads));
+                stands = subst (λ (v : World). StandsFor buses keys new v) world (subst (λ (x : Held). StandsFor buses keys x (world_upto grants start)) (sym new_is) (stands_all (record held { places = slice_set held.places key (Some (record p { reader = reading })) }) (world_upto grants start) (fed ++ piece) u.fed_is reads));
                 world_is = world;
               }
 
@@ -303,13 +325,13 @@ accepting n piece w = at_connection n (λ c. record c { fed = c.fed ++ piece }) 
 
 pub piece_begun : (buses : List Bus) (order : IsRisingBy key_at (shown_rows (opening buses 0))) (keys : List (Option ℕ)) (n key : ℕ) (named : key_of n keys ≡ Some key) (piece : List ℕ) (held : Held) (w : World) (conn : Connection)
     → IsFine buses order w → StandsFor buses keys held w → numbered n w.connections ≡ Some conn
-    → IsUpTo buses order keys n key named conn.fed piece (accepting n piece w) 0 held × (world_upto buses order keys n key named conn.fed piece (accepting n piece w) 0 ≡ accepting n piece w)
+    → IsUpTo buses order keys n key named conn.fed piece (accepting n piece w) [] 0 held × (world_upto buses order keys n key named conn.fed piece (accepting n piece w) [] 0 ≡ accepting n piece w)
 piece_begun buses order keys n key named piece held w conn a s there =
     let h = found_at buses (λ n fed. fed) keys held w n key s named in
     let f : Connection → Connection = λ c. record c { fed = c.fed ++ piece } in
     let same : h.conn ≡ conn = let both : Some h.conn ≡ Some conn = sym h.there ∙ there in cc in
     let none : drop (length (marks conn.fed)) (marks (conn.fed ++ [])) ≡ [] = ap (λ bytes. drop (length (marks conn.fed)) (marks bytes)) (append-nil conn.fed) ∙ drop_all (length (marks conn.fed)) (marks conn.fed) (le_refl (length (marks conn.fed))) in
-    let world : fold (course_answered buses n) (accepting n piece w) (drop (length (marks conn.fed)) (marks (conn.fed ++ []))) ≡ accepting n piece w = ap (fold (course_answered buses n) (accepting n piece w)) none in
+    let world : fold (course_answered buses n) (accepting n piece w) (lines_under [] (drop (length (marks conn.fed)) (marks (conn.fed ++ [])))) ≡ accepting n piece w = ap (λ ms. fold (course_answered buses n) (accepting n piece w) (lines_under [] ms)) none in
     let p = place_of h.reader (history buses w) h.conn in
     let changed : StandsBy buses (partly n (conn.fed ++ [])) keys (record held { places = slice_set held.places key (Some p) }) (accepting n piece w) =
     stands_changed buses (λ n fed. fed) (partly n (conn.fed ++ [])) keys held w n key h.conn f p h.reader s named h.there h.up h.up refl
@@ -319,6 +341,7 @@ piece_begun buses order keys n key named piece held w conn a s there =
     subst (λ (places : List (Option Place)). StandsBy buses (partly n (conn.fed ++ [])) keys (record held { places = places }) (accepting n piece w)) (set_same held.places key p h.place) changed in
     let fine : IsFine buses order (accepting n piece w) = sound_at buses order Anything (anything (shown_rows (opening buses 0))) n f w (λ other k g. record { fits = g.fits; before = g.before; plain = g.plain; within = g.within }) a in (
       record {
+        count = sym (ap length none);
         fine = subst (λ (v : World). IsFine buses order v) (sym world) fine;
         fed_is = ap (fed_of n) world ∙ ap (option_map (λ (c : Connection). c.fed)) (numbered_with n f w.connections ∙ ap (option_map f) there);
         stands = subst (λ (v : World). StandsBy buses (partly n (conn.fed ++ [])) keys held v) (sym world) stands;

@@ -7,11 +7,14 @@ use Rattle.std.specs.Prelude.{Some, slice_get, Result, Ok, Err, IfOk}
 use Rattle.srcp_rules.specs.declared.layout.Bus.{Bus}
 use Rattle.srcp_rules.specs.Layout.{IsLayout}
 use Rattle.srcp_rules.specs.State.{State, IsWhole, opening}
+use Rattle.srcp_core.specs.Under.{Event, all_under}
+use Rattle.srcp_core.specs.Run.{RunsRecord, HasPlainMoment, PlainMoments}
+use Rattle.srcp_core.proofs.Given.{all_moments}
+use Rattle.srcp_core.specs.declared.event.Event.{Event as PlainEvent}
 use Rattle.srcp_core.specs.Connection.{Connection, recorded}
 use Rattle.srcp_core.specs.Course.{World, course, history, numbered, state, state_after}
-use Rattle.srcp_core.specs.Promised.{told_at, ToldSessions, ToldReplies, ToldRooms, IsToldRegistry}
+use Rattle.srcp_core.specs.Promised.{told_at, ToldSessions, ToldReplies, ToldRooms, IsToldRegistry, IsPromised}
 use Rattle.srcp_core.specs.Laws.{IsRecordOf, IsSession, IsPrefixOf, IsWholeWorld, AllMoments, HasMoment, times_listed, without_events}
-use Rattle.srcp_core.specs.declared.event.Event.{Event}
 use Rattle.srcp_core.specs.declared.record.ConnRecord.{ConnRecord}
 use Rattle.srcp_core.specs.declared.record.Record.{Record}
 use Rattle.srcp_core.proofs.EveryCourse.{told_rightly, served_rightly}
@@ -102,18 +105,30 @@ told_registry buses events told layout moments r =
     }
 
 -- so it is of each record that is given
-pub promised : {E : Type 0} (buses : List Bus) (events : List Event) (Law : Record → Type 0) → (IsLayout buses → AllMoments events → (told : Record) → IsRecordOf buses events told → Law told) → (result : Result Record E)
-    → IfOk result (λ told. told.denied ≡ 0 → IsRecordOf buses events told) → IfOk result (λ _. AllMoments events) → IfOk result (λ _. IsLayout buses) → IfOk result (λ told. told.denied ≡ 0 → Law told)
-promised buses events Law law (Ok told) record_is moments layout = λ d. law layout moments told (record_is d)
-promised buses events Law law (Err fault) record_is moments layout = tt
+pub promised : {E : Type 0} (buses : List Bus) (events : List PlainEvent) (result : Result Record E)
+    → IfOk result (λ told. RunsRecord buses events told) → IfOk result (λ _. PlainMoments events) → IfOk result (λ _. IsLayout buses) → IfOk result (λ told. IsPromised buses events told)
+promised buses events (Ok told) r plain_moments layout =
+    let all = all_under r.grants events in
+    let moments = all_moments r.grants events plain_moments in
+    record {
+      grants = r.grants;
+      count = r.count;
+      given = r.given;
+      is = r.is;
+      sessions = told_sessions buses all told layout moments r.is;
+      replies = told_replies buses all told layout r.is;
+      rooms = told_rooms buses all told layout r.is;
+      registry = told_registry buses all told layout moments r.is;
+    }
+promised buses events (Err fault) r moments layout = tt
 
 -- one moment more
-pub moments_more : (events : List Event) (index : ℕ) (event : Event) → slice_get events index ≡ Some event → HasMoment event → AllByRecursion HasMoment (take index events) → AllByRecursion HasMoment (take (index + 1) events)
+pub moments_more : (events : List PlainEvent) (index : ℕ) (event : PlainEvent) → slice_get events index ≡ Some event → HasPlainMoment event → AllByRecursion HasPlainMoment (take index events) → AllByRecursion HasPlainMoment (take (index + 1) events)
 moments_more [] index event e h all = cc
-moments_more (x ∷ events) zero event e h all = let same : x ≡ event = cc in (subst HasMoment (sym same) h, tt)
+moments_more (x ∷ events) zero event e h all = let same : x ≡ event = cc in (subst HasPlainMoment (sym same) h, tt)
 moments_more (x ∷ events) (suc index) event e h all =
     let one : suc index + 1 ≡ suc (index + 1) = omega arith in
-    subst (λ k. AllByRecursion HasMoment (take k (x ∷ events))) (sym one) (all.0, moments_more events index event e h all.1)
+    subst (λ k. AllByRecursion HasPlainMoment (take k (x ∷ events))) (sym one) (all.0, moments_more events index event e h all.1)
 
-pub moments_all : (events : List Event) (index : ℕ) → length events ≤ index → AllByRecursion HasMoment (take index events) → AllMoments events
-moments_all events index h all = subst AllMoments (take_all index events h) all
+pub moments_all : (events : List PlainEvent) (index : ℕ) → length events ≤ index → AllByRecursion HasPlainMoment (take index events) → PlainMoments events
+moments_all events index h all = subst PlainMoments (take_all index events h) all

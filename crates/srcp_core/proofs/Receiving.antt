@@ -2,19 +2,20 @@
 use Rattle.std.proofs.Common.{◌≡◌, ℕ, ◌+◌, Bool, List, [], ◌∷◌, ◌++◌, length, refl, ap, sym, ◌∙◌, subst}
 use Rattle.std.specs.List.{fold}
 use Rattle.std.specs.Prelude.{Option, Some, None, Result, Ok, Err, MatchResult, OnOk, OnErr}
+use Rattle.srcp_core.specs.Under.{Bytes, Piece, giving}
 use Rattle.srcp_core.specs.Course.{course}
 use Rattle.srcp_core.specs.Held.{Held, at}
 use Rattle.srcp_core.specs.Machine.{IsReceived, bytes_fault, heard_at, line_taken, lines_taken, steps_of_line, answered}
-use Rattle.srcp_core.specs.Recording.{Recording, noted}
-use Rattle.srcp_core.specs.Run.{LeadsAt}
+use Rattle.srcp_core.specs.Recording.{Recording, key_of, noted}
+use Rattle.srcp_core.specs.Run.{GivesAll, LeadsOn}
 use Rattle.srcp_core.specs.Stands.{StandsFor}
 use Rattle.srcp_core.specs.declared.asked.Asked.{Asked}
-use Rattle.srcp_core.specs.declared.event.Event.TheVariants.{Bytes}
 use Rattle.srcp_core.specs.declared.record.CoreFault.{CoreFault}
 use Rattle.srcp_core.proofs.Hearing.{line_found}
 use Rattle.srcp_core.proofs.Leading.{telling, runs_telling}
 use Rattle.srcp_core.proofs.Recorded.{runs_on}
-use Rattle.srcp_core.proofs.Running.{ReadsOn, reads_first, reads_more, bytes_happens, bytes_refused, line_denied, noted_keys, heard_denied}
+use Rattle.srcp_core.proofs.Given.{given_of, given_gives, all_given}
+use Rattle.srcp_core.proofs.Running.{ReadsWith, reads_with_none, reads_with_more, bytes_with, bytes_refused, line_denied, noted_keys, heard_denied}
 
 -- a line of a piece, taken at a place of it
 abbrev line_on : ℕ → List ℕ → ℕ × Held → Bool → ℕ × Held
@@ -22,32 +23,44 @@ line_on key piece before granted = line_taken key granted before (heard_at key p
 
 -- ---- the lines of a piece, with what a run would have told of them
 
-record IsRead (n key : ℕ) (piece : List ℕ) (first_r : Recording) (first : Held) (reached : ℕ × Held) : Type 0 where
+record IsRead (n key : ℕ) (piece : List ℕ) (grants : List Bool) (first_r : Recording) (first : Held) (reached : ℕ × Held) : Type 0 where
   told : Recording
   keys : told.keys ≡ first_r.keys
-  reads : ReadsOn n key piece first_r first reached.0 told reached.1
+  reads : ReadsWith grants n key piece first_r first reached.0 told reached.1
 
-line_read : (n key : ℕ) (piece : List ℕ) (first_r : Recording) (first : Held) (before : ℕ × Held) (granted : Bool) → IsRead n key piece first_r first before → IsRead n key piece first_r first (line_on key piece before granted)
-line_read n key piece first_r first before granted i = by (heard_at key piece before.0 before.1).0 (heard_at key piece before.0 before.1).1 refl
+-- what memory answered to them, with which it is, whatever a run has told before
+record AreRead (key : ℕ) (piece : List ℕ) (first : Held) (reached : ℕ × Held) : Type 0 where
+  grants : List Bool
+  given : GivesAll grants reached.1
+  is : (n : ℕ) (first_r : Recording) → key_of n first_r.keys ≡ Some key → IsRead n key piece grants first_r first reached
+
+line_read : (key : ℕ) (piece : List ℕ) (first : Held) (before : ℕ × Held) (granted : Bool) → AreRead key piece first before → AreRead key piece first (line_on key piece before granted)
+line_read key piece first before granted a = by (heard_at key piece before.0 before.1).0 (heard_at key piece before.0 before.1).1 refl
   where
-    by : (found : Option (ℕ × Asked)) (mid : Held) → ◌≡◌ {A = Option (ℕ × Asked) × Held} (heard_at key piece before.0 before.1) (found, mid) → IsRead n key piece first_r first (line_on key piece before granted)
+    by : (found : Option (ℕ × Asked)) (mid : Held) → ◌≡◌ {A = Option (ℕ × Asked) × Held} (heard_at key piece before.0 before.1) (found, mid) → AreRead key piece first (line_on key piece before granted)
     by None mid e =
         let same : ◌≡◌ {A = ℕ × Held} (line_on key piece before granted) before = ap (line_taken key granted before) e in
-        subst (λ (reached : ℕ × Held). IsRead n key piece first_r first reached) (sym same) i
+        subst (λ (reached : ℕ × Held). AreRead key piece first reached) (sym same) a
     by (Some (stop, asked)) mid e =
         let new : Held = answered granted key asked mid in
         let is : ◌≡◌ {A = ℕ × Held} (stop, new) (line_on key piece before granted) = sym (ap (line_taken key granted before) e) in
         let steps = steps_of_line key granted (heard_at key piece before.0 before.1) in
-        subst (λ (reached : ℕ × Held). IsRead n key piece first_r first reached) is
+        subst (λ (reached : ℕ × Held). AreRead key piece first reached) is
         (record {
-          told = noted n steps i.told;
-          keys = noted_keys n steps i.told ∙ i.keys;
-          reads = reads_more n key piece first_r first before.0 stop granted steps i.told before.1 new (line_found key piece before.0 stop asked before.1 mid (sym e)).onward is refl (line_denied key piece before.0 stop granted before.1 new is) i.reads;
+          grants = a.grants ++ given_of granted new ∷ [];
+          given = λ d. all_given a.grants (given_of granted new) (a.given (line_denied key piece before.0 stop granted before.1 new is d)) (given_gives granted new d);
+          is = λ n first_r named.
+              let i = a.is n first_r named in
+              record {
+                told = noted n steps i.told;
+                keys = noted_keys n steps i.told ∙ i.keys;
+                reads = reads_with_more a.grants n key piece first_r first before.0 stop granted steps i.told before.1 new (line_found key piece before.0 stop asked before.1 mid (sym e)).onward is refl i.reads;
+              };
         })
 
-lines_read : (n key : ℕ) (piece : List ℕ) (first_r : Recording) (first : Held) (grants : List Bool) (before : ℕ × Held) → IsRead n key piece first_r first before → IsRead n key piece first_r first (fold (line_on key piece) before grants)
-lines_read n key piece first_r first [] before i = i
-lines_read n key piece first_r first (granted ∷ grants) before i = lines_read n key piece first_r first grants (line_on key piece before granted) (line_read n key piece first_r first before granted i)
+lines_read : (key : ℕ) (piece : List ℕ) (first : Held) (grants : List Bool) (before : ℕ × Held) → AreRead key piece first before → AreRead key piece first (fold (line_on key piece) before grants)
+lines_read key piece first [] before a = a
+lines_read key piece first (granted ∷ grants) before a = lines_read key piece first grants (line_on key piece before granted) (line_read key piece first before granted a)
 
 -- ---- memory that was refused to a line stays refused
 
@@ -67,23 +80,34 @@ received_denied key piece old new (Err cause) same received d = ap (λ (x : Held
 
 -- ---- the whole piece
 
-taken_leads : (key : ℕ) (piece : List ℕ) (old new : Held) → bytes_fault key piece old ≡ None → IsReceived key piece old new → LeadsAt key (λ n. Bytes n piece) old new
-taken_leads key piece old new free received buses events keys n layout d named s =
-    let first_r = telling keys (course buses events) in
+taken_leads : (key : ℕ) (piece : List ℕ) (old new : Held) → bytes_fault key piece old ≡ None → IsReceived key piece old new → LeadsOn key piece old new
+taken_leads key piece old new free received =
     let reached = lines_taken key piece received.grants old in
-    let i = lines_read n key piece first_r old received.grants (0, old) (record { told = first_r; keys = refl; reads = reads_first n key piece first_r old named free }) in
-    let h = bytes_happens n key piece first_r old reached.0 i.told reached.1 new received.rest i.reads buses events layout d (runs_telling buses keys old (course buses events) s) in
-    subst (λ (ks : List (Option ℕ)). StandsFor buses ks new (course buses (events ++ Bytes n piece ∷ []))) i.keys
-    (runs_on buses events (Bytes n piece) None (length events + 1) i.told new refl h).stands
+    let a = lines_read key piece old received.grants (0, old) (record { grants = []; given = λ d. tt; is = λ n first_r named. record { told = first_r; keys = refl; reads = reads_with_none n key piece first_r old named free } }) in
+    record {
+      grants = a.grants;
+      given = λ d. a.given (sym (ap (λ (x : Option (ℕ × Asked) × Held). x.1.denied) received.rest ∙ heard_denied key piece reached.0 reached.1 (at reached.1 key)) ∙ d);
+      leads = λ buses events keys n layout named s.
+          let first_r = telling keys (course buses events) in
+          let i = a.is n first_r named in
+          let p : Piece = record { bytes = piece; grants = a.grants } in
+          let h = bytes_with a.grants n key piece first_r old reached.0 i.told reached.1 new received.rest i.reads buses events layout (runs_telling buses keys old (course buses events) s) in
+          subst (λ (ks : List (Option ℕ)). StandsFor buses ks new (course buses (events ++ Bytes n p ∷ []))) i.keys
+          (runs_on buses events (Bytes n p) None (length events + 1) i.told new refl h).stands;
+    }
 
-refused_leads : (key : ℕ) (piece : List ℕ) (old new : Held) (cause : CoreFault) → bytes_fault key piece old ≡ Some cause → new ≡ old → LeadsAt key (λ n. Bytes n piece) old new
-refused_leads key piece old new cause e same buses events keys n layout d named s =
-    let first_r = telling keys (course buses events) in
-    let h = bytes_refused n key piece first_r old cause named e buses events layout (ap (λ (x : Held). x.denied) (sym same) ∙ d) (runs_telling buses keys old (course buses events) s) in
-    subst (λ (x : Held). StandsFor buses keys x (course buses (events ++ Bytes n piece ∷ []))) (sym same)
-    (runs_on buses events (Bytes n piece) (Some cause) (length events + 1) first_r old refl h).stands
+refused_leads : (key : ℕ) (piece : List ℕ) (old new : Held) (cause : CoreFault) → bytes_fault key piece old ≡ Some cause → new ≡ old → LeadsOn key piece old new
+refused_leads key piece old new cause e same = record {
+  grants = [];
+  given = λ d. tt;
+  leads = λ buses events keys n layout named s.
+      let first_r = telling keys (course buses events) in
+      let h = (bytes_refused n key piece first_r old cause named e).happens buses events layout (runs_telling buses keys old (course buses events) s) in
+      subst (λ (x : Held). StandsFor buses keys x (course buses (events ++ Bytes n (giving piece) ∷ []))) (sym same)
+      (runs_on buses events (Bytes n (giving piece)) (Some cause) (length events + 1) first_r old refl h).stands;
+}
 
 pub received_leads : (key : ℕ) (piece : List ℕ) (old new : Held) (result : Result Unit CoreFault) → MatchResult result (λ _. bytes_fault key piece old ≡ None) (λ cause. bytes_fault key piece old ≡ Some cause)
-    → OnErr result (new ≡ old) → OnOk result (IsReceived key piece old new) → LeadsAt key (λ n. Bytes n piece) old new
+    → OnErr result (new ≡ old) → OnOk result (IsReceived key piece old new) → LeadsOn key piece old new
 received_leads key piece old new (Ok x) free same received = taken_leads key piece old new free received
 received_leads key piece old new (Err cause) e same received = refused_leads key piece old new cause e same

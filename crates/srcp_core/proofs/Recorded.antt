@@ -1,36 +1,34 @@
 -- The record of a run is that of the course of its events.
-use Rattle.std.proofs.Common.{◌≡◌, ℕ, zero, suc, ◌+◌, ◌<◌, ◌≤◌, Bool, true, false, List, [], ◌∷◌, ◌++◌, map, take, length, refl, ap, sym, ◌∙◌, subst, arith, add-one}
+use Rattle.std.proofs.Common.{◌≡◌, ℕ, zero, suc, ◌+◌, ◌<◌, ◌≤◌, Bool, true, false, List, [], ◌∷◌, ◌++◌, map, take, length, refl, ap, sym, ◌∙◌, subst, arith, add-one, length-append}
 use Rattle.std.proofs.lemmas.List.{take_all}
 use Rattle.std.proofs.lemmas.List.Sums.{fold-append}
-use Rattle.std.specs.List.{fold}
-use Rattle.std.specs.Prelude.{Option, Some, None, ◌&&◌, ◌||◌, ◌==◌, nat_lt, slice_get, slice_index_or, Result, Ok, Err, if◌then◌else◌}
+use Rattle.std.specs.List.{fold, AllByRecursion}
+use Rattle.std.specs.Prelude.{Option, Some, None, IsTrue, ◌&&◌, ◌||◌, ◌==◌, nat_lt, slice_get, slice_index_or, Result, Ok, Err, if◌then◌else◌}
 use Rattle.srcp_info.specs.declared.change.Code.{Code}
 use Rattle.srcp_info.specs.declared.change.Code.TheVariants.{C500}
 use Rattle.srcp_info.specs.declared.change.Reply.TheVariants.{Go, Refused}
 use Rattle.srcp_info.specs.declared.value.Mode.{Mode}
-use Rattle.srcp_text.specs.Marks.{Mark}
 use Rattle.srcp_rules.specs.declared.layout.Bus.{Bus}
 use Rattle.srcp_rules.specs.Layout.{IsLayout}
 use Rattle.srcp_rules.specs.State.{opening, shown_rows}
-use Rattle.srcp_rules.specs.declared.command.Command.{Command}
-use Rattle.srcp_rules.specs.Effect.{Effect, effect}
+use Rattle.srcp_rules.specs.Effect.{Effect}
+use Rattle.srcp_core.specs.Under.{Event, Open, Bytes, Room, At, Shut, Obeyed, Began, Ended, Heard, Order, effect, greets, Piece, under, all_under}
+use Rattle.srcp_core.specs.declared.event.Event.{Event as PlainEvent}
 use Rattle.srcp_core.specs.Connection.{Connection, History, is_open, is_nil, overran, unsent, recorded}
-use Rattle.srcp_core.specs.Course.{World, start, numbered, at_connection, did, state, history, counted, fault, open_connection, command_of, replied, entered, goes, greeted, ended, obeyed, commanded, answered_as, answered, new_marks, fed_to, shut_as, accepted, or_refused, happens, course}
-use Rattle.srcp_core.specs.Handshake.{Greeting, Speaks, Chooses, Goes, Refuses, greets}
+use Rattle.srcp_core.specs.Course.{World, start, numbered, at_connection, did, state, history, counted, fault, open_connection, order_of, replied, entered, goes, greeted, ended, obeyed, commanded, answered_as, answered, new_lines, fed_to, shut_as, accepted, or_refused, happens, course}
+use Rattle.srcp_core.specs.Handshake.{Greeting, Speaks, Chooses, Goes, Refuses}
 use Rattle.srcp_core.specs.Held.{Place, Held, at}
 use Rattle.srcp_core.specs.Laws.{IsRecordOf}
 use Rattle.srcp_core.specs.Machine.{finish_at, finish_from}
 use Rattle.srcp_core.specs.Recording.{Recording, key_of, told_of, changed_record, changed_in, finished, finished_by, with_refusal, nothing_told}
-use Rattle.srcp_core.specs.Run.{Runs, Happened, HappensAs, FollowsAs}
+use Rattle.srcp_core.specs.Run.{Runs, Happened, HappensAs, FollowsAs, RunsUnder}
+use Rattle.srcp_core.proofs.Given.{under_push, under_length}
 use Rattle.srcp_core.specs.Stands.{StandsFor, place_of}
-use Rattle.srcp_core.specs.declared.event.Event.{Event}
-use Rattle.srcp_core.specs.declared.event.Event.TheVariants.{Open, Bytes, Room, At, Shut}
 use Rattle.srcp_core.specs.declared.record.ConnRecord.{ConnRecord}
 use Rattle.srcp_core.specs.declared.record.CoreFault.{CoreFault}
 use Rattle.srcp_core.specs.declared.record.Finish.{Finish}
 use Rattle.srcp_core.specs.declared.record.Finish.TheVariants.{Live, Closing, Overrun, Shut as ShutFinish}
 use Rattle.srcp_core.specs.declared.record.Record.{Record}
-use Rattle.srcp_core.specs.declared.record.Step.TheVariants.{Obeyed, Began, Ended}
 use Rattle.srcp_core.proofs.Calling.{over_is}
 use Rattle.srcp_core.proofs.Placing.{place_ended, place_overran, place_unsent}
 use Rattle.srcp_core.proofs.SessionLaws.{anything, at_number, opening_in_order, open_shut}
@@ -153,31 +151,31 @@ module _ (buses : List Bus) (n : ℕ) where
   events_greeted mode Goes w = events_goes mode w
   events_greeted mode (Refuses code) w = refl
 
-  events_commanded : (session : ℕ) (command : Result Command Code) (w : World) → (commanded buses n session command w).events ≡ w.events
+  events_commanded : (session : ℕ) (command : Result Order Code) (w : World) → (commanded buses n session command w).events ≡ w.events
   events_commanded session (Err code) w = refl
   events_commanded session (Ok command) w = by (effect (state buses w) session w.moment command)
     where
       by : (result : Effect) → (obeyed buses n session command result w).events ≡ w.events
       by result = elim result.ends as (λ t. (if t then ended buses n session (replied n result.reply (did (Obeyed session w.moment command) w)) else replied n result.reply (did (Obeyed session w.moment command) w)).events ≡ w.events) [ true ↦ refl | false ↦ refl ]
 
-  events_answered_as : (o : Option Connection) (mark : Mark) (w : World) → (answered_as buses n o mark w).events ≡ w.events
+  events_answered_as : (o : Option Connection) (mark : Heard) (w : World) → (answered_as buses n o mark w).events ≡ w.events
   events_answered_as None mark w = refl
   events_answered_as (Some conn) mark w =
-      elim (conn.info || conn.ended) as (λ t. (if t then w else (if conn.session == 0 then greeted buses n conn.mode (greets mark) w else commanded buses n conn.session (command_of buses mark) w)).events ≡ w.events) [
+      elim (conn.info || conn.ended) as (λ t. (if t then w else (if conn.session == 0 then greeted buses n conn.mode (greets mark) w else commanded buses n conn.session (order_of buses mark) w)).events ≡ w.events) [
         | true ↦ refl
-        | false ↦ elim (conn.session == 0) as (λ t. (if t then greeted buses n conn.mode (greets mark) w else commanded buses n conn.session (command_of buses mark) w).events ≡ w.events) [
+        | false ↦ elim (conn.session == 0) as (λ t. (if t then greeted buses n conn.mode (greets mark) w else commanded buses n conn.session (order_of buses mark) w).events ≡ w.events) [
           | true ↦ events_greeted conn.mode (greets mark) w
-          | false ↦ events_commanded conn.session (command_of buses mark) w
+          | false ↦ events_commanded conn.session (order_of buses mark) w
         ]
       ]
 
-  events_marks : (marks : List Mark) (w : World) → (fold (answered buses n) w marks).events ≡ w.events
+  events_marks : (marks : List Heard) (w : World) → (fold (answered buses n) w marks).events ≡ w.events
   events_marks [] w = refl
   events_marks (mark ∷ marks) w = events_marks marks (answered buses n w mark) ∙ events_answered_as (open_connection w n) mark w
 
-  events_fed : (piece : List ℕ) (o : Option Connection) (w : World) → (fed_to buses n piece o w).events ≡ w.events
+  events_fed : (piece : Piece) (o : Option Connection) (w : World) → (fed_to buses n piece o w).events ≡ w.events
   events_fed piece None w = refl
-  events_fed piece (Some conn) w = events_marks (new_marks buses conn.fed piece) (at_connection n (λ c. record c { fed = c.fed ++ piece }) w)
+  events_fed piece (Some conn) w = events_marks (new_lines buses conn.fed piece) (at_connection n (λ c. record c { fed = c.fed ++ piece.bytes }) w)
 
   events_shut : (o : Option Connection) (w : World) → (shut_as buses n o w).events ≡ w.events
   events_shut None w = refl
@@ -185,7 +183,7 @@ module _ (buses : List Bus) (n : ℕ) where
       elim ((conn.session == 0) || conn.ended) as (λ t. (if t then at_connection n (λ c. record c { shut = Some (length w.steps) }) w else did (Ended conn.session w.moment) (at_connection n (λ c. record c { shut = Some (length w.steps) }) w)).events ≡ w.events) [ true ↦ refl | false ↦ refl ]
 
 events_accepted : (buses : List Bus) (event : Event) (w : World) → (accepted buses event w).events ≡ w.events
-events_accepted buses Open w = refl
+events_accepted buses (Open granted) w = refl
 events_accepted buses (Bytes n piece) w = events_fed buses n piece (open_connection w n) w
 events_accepted buses (Room n bytes) w = refl
 events_accepted buses (At moment) w = refl
@@ -234,24 +232,39 @@ runs_on buses events event (Some cause) number r held e h =
     })
 
 -- an event that was carried out or refused, with what was noted of that
-pub follows : (number : ℕ) (event : Event) (refusal : Option CoreFault) (r mid later_r : Recording) (held later : Held) → HappensAs event refusal r held mid later → later_r ≡ with_fault number refusal mid → FollowsAs number event r held later_r later
-follows number event refusal r mid later_r held later h e buses events layout n d s =
-    subst (λ (x : Recording). Runs buses x later (course buses (events ++ event ∷ []))) (sym e) (runs_on buses events event refusal number mid later n (h buses events layout d s))
+pub follows : (number : ℕ) (event : PlainEvent) (refusal : Option CoreFault) (r mid later_r : Recording) (held later : Held) → HappensAs event refusal r held mid later → later_r ≡ with_fault number refusal mid → FollowsAs number event r held later_r later
+follows number event refusal r mid later_r held later h e = record {
+  grants = h.grants;
+  given = h.given;
+  follows = λ buses events layout n s.
+      subst (λ (x : Recording). Runs buses x later (course buses (events ++ under h.grants event ∷ []))) (sym e) (runs_on buses events (under h.grants event) refusal number mid later n (h.happens buses events layout s));
+}
+
+take_one : (events : List PlainEvent) (index : ℕ) (event : PlainEvent) → slice_get events index ≡ Some event → (take (index + 1) events ≡ take index events ++ event ∷ []) × (length (take index events) ≡ index)
+take_one [] index event e = cc
+take_one (x ∷ events) zero event e = let same : x ≡ event = cc in (ap (λ y. y ∷ []) same, refl)
+take_one (x ∷ events) (suc index) event e =
+    let ih = take_one events index event e in
+    let one : suc index + 1 ≡ suc (index + 1) = omega arith in
+    (ap (λ k. take k (x ∷ events)) one ∙ ap (λ es. x ∷ es) ih.0, ap (λ k. suc k) ih.1)
+
+all_push : (grants : List (List Bool)) (more : List Bool) → AllByRecursion (AllByRecursion IsTrue) grants → AllByRecursion IsTrue more → AllByRecursion (AllByRecursion IsTrue) (grants ++ more ∷ [])
+all_push [] more a h = (h, tt)
+all_push (g ∷ grants) more a h = (a.0, all_push grants more a.1 h)
 
 -- one event more of a list
-pub follows_more : (buses : List Bus) (events : List Event) (index : ℕ) (event : Event) (r later_r : Recording) (held later : Held) → IsLayout buses → slice_get events index ≡ Some event → FollowsAs (index + 1) event r held later_r later
-    → (later.denied ≡ 0 → held.denied ≡ 0) → (held.denied ≡ 0 → Runs buses r held (course buses (take index events))) → later.denied ≡ 0 → Runs buses later_r later (course buses (take (index + 1) events))
-follows_more buses events index event r later_r held later layout at f before runs d =
+pub follows_more : (buses : List Bus) (events : List PlainEvent) (index : ℕ) (event : PlainEvent) (r later_r : Recording) (held later : Held) → IsLayout buses → slice_get events index ≡ Some event → FollowsAs (index + 1) event r held later_r later
+    → (later.denied ≡ 0 → held.denied ≡ 0) → RunsUnder buses (take index events) r held → RunsUnder buses (take (index + 1) events) later_r later
+follows_more buses events index event r later_r held later layout at f before u =
     let t = take_one events index event at in
-    subst (λ (es : List Event). Runs buses later_r later (course buses es)) (sym t.0) (f buses (take index events) layout (ap (λ k. k + 1) (sym t.1)) d (runs (before d)))
-  where
-    take_one : (events : List Event) (index : ℕ) (event : Event) → slice_get events index ≡ Some event → (take (index + 1) events ≡ take index events ++ event ∷ []) × (length (take index events) ≡ index)
-    take_one [] index event e = cc
-    take_one (x ∷ events) zero event e = let same : x ≡ event = cc in (ap (λ y. y ∷ []) same, refl)
-    take_one (x ∷ events) (suc index) event e =
-        let ih = take_one events index event e in
-        let one : suc index + 1 ≡ suc (index + 1) = omega arith in
-        (ap (λ k. take k (x ∷ events)) one ∙ ap (λ es. x ∷ es) ih.0, ap (λ k. suc k) ih.1)
+    let all = all_under u.grants (take index events) in
+    let long : index ≡ length all = sym (under_length u.grants (take index events) ∙ t.1) in
+    subst (λ (es : List PlainEvent). RunsUnder buses es later_r later) (sym t.0) (record {
+      grants = u.grants ++ f.grants ∷ [];
+      count = length-append u.grants (f.grants ∷ []) ∙ ap (λ k. k + 1) u.count ∙ sym (length-append (take index events) (event ∷ []));
+      given = λ d. all_push u.grants f.grants (u.given (before d)) (f.given d);
+      runs = subst (λ (es : List Event). Runs buses later_r later (course buses es)) (sym (under_push u.grants (take index events) f.grants event u.count)) (f.follows buses all layout (ap (λ k. k + 1) long) u.runs);
+    })
 
 -- before all events
 pub runs_start : (buses : List Bus) (r : Recording) (held : Held) → r ≡ nothing_told → held ≡ record { buses = buses; rows = opening buses 0; moment = 0; last_id = 0; places = []; denied = 0 } → Runs buses r held (course buses [])
@@ -273,9 +286,12 @@ runs_start buses r held e h =
       tells = record { steps = refl; refused = refl; connections = refl };
     }))
 
+pub runs_none : (buses : List Bus) (events : List PlainEvent) (r : Recording) (held : Held) → r ≡ nothing_told → held ≡ record { buses = buses; rows = opening buses 0; moment = 0; last_id = 0; places = []; denied = 0 } → RunsUnder buses (take 0 events) r held
+runs_none buses events r held e h = record { grants = []; count = refl; given = λ d. tt; runs = runs_start buses r held e h }
+
 -- once all events happened
-pub runs_all : (buses : List Bus) (events : List Event) (index : ℕ) (r : Recording) (held : Held) → length events ≤ index → Runs buses r held (course buses (take index events)) → Runs buses r held (course buses events)
-runs_all buses events index r held h runs = subst (λ (es : List Event). Runs buses r held (course buses es)) (take_all index events h) runs
+pub runs_all : (buses : List Bus) (events : List PlainEvent) (index : ℕ) (r : Recording) (held : Held) → length events ≤ index → RunsUnder buses (take index events) r held → RunsUnder buses events r held
+runs_all buses events index r held h runs = subst (λ (es : List PlainEvent). RunsUnder buses es r held) (take_all index events h) runs
 
 -- the record of a run
 pub record_is : (buses : List Bus) (events : List Event) (r : Recording) (held : Held) (told : Record) → IsLayout buses → Runs buses r held (course buses events)

@@ -7,6 +7,7 @@ use Rattle.srcp_info.specs.declared.change.Change.{Change}
 use Rattle.srcp_text.specs.Reading.{Reading, StandsAt}
 use Rattle.srcp_rules.specs.declared.layout.Bus.{Bus}
 use Rattle.srcp_rules.specs.State.{Update, opening, shown_rows, updated_all}
+use Rattle.srcp_core.specs.Under.{Step}
 use Rattle.srcp_core.specs.Connection.{Connection, History, is_open}
 use Rattle.srcp_core.specs.Course.{World, numbered, at_connection, if_open, open_connection, did, updates_of, stepped, state, history}
 use Rattle.srcp_core.specs.Held.{Place, Held, at, place_at}
@@ -14,7 +15,6 @@ use Rattle.srcp_core.specs.Machine.{told_each, carried, changed_at, changed_in}
 use Rattle.srcp_core.specs.Recording.{key_of}
 use Rattle.srcp_core.specs.Stands.{StandsBy, IsAt, IsOwned, place_of}
 use Rattle.srcp_core.specs.declared.record.Item.{Item}
-use Rattle.srcp_core.specs.declared.record.Step.{Step}
 use Rattle.srcp_core.proofs.Covers.{Where, Here, Away, where_is, place_set, place_set_here, set_count, told_each_count}
 use Rattle.srcp_core.proofs.Numbers.{opens_same, length_with, key_within, numbered_none}
 use Rattle.srcp_core.proofs.Placing.{told_places, told_each_at, told_place_of}

@@ -1,7 +1,7 @@
 -- Room for bytes, as many takings of what is unsent, each after the next line is put in.
 use Rattle.std.proofs.Common.{◌≡◌, ℕ, zero, suc, min, ◌+◌, ◌-◌, ◌<◌, ◌≤◌, Bool, true, false, List, [], ◌∷◌, ◌++◌, take, drop, length, length-append, refl, ap, sym, ◌∙◌, subst, arith, append-nil}
 use Rattle.std.proofs.lemmas.Bool.{le-ltb}
-use Rattle.std.proofs.lemmas.List.{drop-drop}
+use Rattle.std.proofs.lemmas.List.{drop-drop, length-map}
 use Rattle.std.specs.List.{flat_map}
 use Rattle.std.specs.Option.{option_map, option_or}
 use Rattle.std.specs.Prelude.{Option, Some, None, is_none, ◌&&◌, ◌||◌, ◌==◌, nat_lt, if◌then◌else◌}
@@ -14,6 +14,7 @@ use Rattle.srcp_feed.specs.declared.next.Next.{Next}
 use Rattle.srcp_feed.specs.declared.next.Next.TheVariants.{Told, Listed, Settled}
 use Rattle.srcp_info.proofs.ClientLaws.{key_at}
 use Rattle.srcp_info.specs.Client.{IsRisingBy}
+use Rattle.srcp_core.specs.Under.{step_told}
 use Rattle.srcp_core.specs.Connection.{Connection, History, cursor_at, untold, unsent, sent, given, line_of, is_nil, is_open, owed, front, available, items_of, took as took_room, given_room, overran}
 use Rattle.srcp_core.specs.Course.{World, numbered, with_numbered, at_connection, history, rows}
 use Rattle.srcp_core.specs.Held.{Place, Held}
@@ -142,7 +143,7 @@ module _ (buses : List Bus) (layout : IsLayout buses) (order : IsRisingBy key_at
       ap (λ rs. told_of (given_room 0 (history buses w) rs h.conn)) (sym same_rows) ∙ (fill h.reader).told
       ∙ ap (λ rs. with_given (length (history buses w)) (item_from rs (place_of h.reader (history buses w) h.conn).unsent (place_of h.reader (history buses w) h.conn).feed) (told_of h.conn)) (same_rows ∙ sym held_rows)
       ∙ ap (λ (o : Option Place). with_given (length (history buses w)) (item_of (shown_rows held.rows) o) (told_of h.conn)) (sym h.place) in
-      let steps : length (history buses w) ≡ length r.steps = length_history (opening buses 0) w.steps ∙ ap length (sym k.tells.steps) in
+      let steps : length (history buses w) ≡ length r.steps = length_history (opening buses 0) w.steps ∙ sym (length-map w.steps step_told) ∙ ap length (sym k.tells.steps) in
       record {
         fine = fine_roomed 0 w h.conn k.fine h.there h.shut;
         stands = stands_of buses order (λ n fed. fed) keys n key named held w h.conn (given_room 0 (history buses w) (rows buses w)) (filled (shown_rows held.rows)) s h.there

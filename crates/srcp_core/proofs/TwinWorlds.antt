@@ -9,18 +9,13 @@ use Rattle.srcp_info.specs.declared.change.Reply.{Reply}
 use Rattle.srcp_info.specs.declared.change.Reply.TheVariants.{Protocol, Mode as ModeReply, Go, Refused}
 use Rattle.srcp_info.specs.declared.value.Mode.{Mode}
 use Rattle.srcp_rules.specs.declared.layout.Bus.{Bus}
-use Rattle.srcp_rules.specs.declared.command.Command.{Command}
-use Rattle.srcp_rules.specs.Effect.{Effect, effect}
-use Rattle.srcp_text.specs.Marks.{Mark}
+use Rattle.srcp_rules.specs.Effect.{Effect}
+use Rattle.srcp_core.specs.Under.{Event, Bytes, Room, Shut, Step, Obeyed, Began, Ended, Heard, Order, effect, greets, Piece}
 use Rattle.srcp_core.specs.Connection.{Connection, given_room}
-use Rattle.srcp_core.specs.Course.{World, numbered, with_numbered, at_connection, if_open, open_connection, did, replied, counted, is_info, state, rows, history, entered, goes, greeted, ended, obeyed, commanded, answered_as, answered, command_of, fault, bytes_fault, absent_fault, new_marks, fed_to, shut_as, accepted, or_refused, happens}
-use Rattle.srcp_core.specs.Handshake.{Greeting, Speaks, Chooses, Goes, Refuses, greets}
-use Rattle.srcp_core.specs.declared.event.Event.{Event}
-use Rattle.srcp_core.specs.declared.event.Event.TheVariants.{Bytes, Room, Shut}
+use Rattle.srcp_core.specs.Course.{World, numbered, with_numbered, at_connection, if_open, open_connection, did, replied, counted, is_info, state, rows, history, entered, goes, greeted, ended, obeyed, commanded, answered_as, answered, order_of, fault, bytes_fault, absent_fault, new_lines, fed_to, shut_as, accepted, or_refused, happens}
+use Rattle.srcp_core.specs.Handshake.{Greeting, Speaks, Chooses, Goes, Refuses}
 use Rattle.srcp_core.specs.declared.record.CoreFault.{CoreFault}
 use Rattle.srcp_core.specs.declared.record.Refusal.{Refusal}
-use Rattle.srcp_core.specs.declared.record.Step.{Step}
-use Rattle.srcp_core.specs.declared.record.Step.TheVariants.{Obeyed, Began, Ended}
 use Rattle.srcp_core.proofs.Numbers.{numbered_with}
 use Rattle.srcp_core.proofs.Twins.{Alike, alike_change}
 
@@ -89,7 +84,7 @@ module _ (buses : List Bus) (number m : ℕ) where
   twin_greeted mode Goes a conns refs evs l = twin_goes mode a conns refs evs l
   twin_greeted mode (Refuses code) a conns refs evs l = twin_replied (Refused code) a conns refs evs l
 
-  twin_obeyed : (session : ℕ) (command : Command) (result : Effect) (a : World) (conns : List Connection) (refs : List Refusal) (evs : ℕ) → Linked number m a.connections conns → TwinAt number m (obeyed buses m session command result a) (obeyed buses m session command result (twin a conns refs evs))
+  twin_obeyed : (session : ℕ) (command : Order) (result : Effect) (a : World) (conns : List Connection) (refs : List Refusal) (evs : ℕ) → Linked number m a.connections conns → TwinAt number m (obeyed buses m session command result a) (obeyed buses m session command result (twin a conns refs evs))
   twin_obeyed session command result a conns refs evs l =
       elim result.ends as (λ t. TwinAt number m
       (if t then ended buses m session (replied m result.reply (did (Obeyed session a.moment command) a)) else replied m result.reply (did (Obeyed session a.moment command) a))
@@ -99,43 +94,43 @@ module _ (buses : List Bus) (number m : ℕ) where
         | false ↦ twin_replied result.reply (did (Obeyed session a.moment command) a) conns refs evs l
       ]
 
-  twin_commanded : (session : ℕ) (command : Result Command Code) (a : World) (conns : List Connection) (refs : List Refusal) (evs : ℕ) → Linked number m a.connections conns → TwinAt number m (commanded buses m session command a) (commanded buses m session command (twin a conns refs evs))
+  twin_commanded : (session : ℕ) (command : Result Order Code) (a : World) (conns : List Connection) (refs : List Refusal) (evs : ℕ) → Linked number m a.connections conns → TwinAt number m (commanded buses m session command a) (commanded buses m session command (twin a conns refs evs))
   twin_commanded session (Err code) a conns refs evs l = twin_replied (Refused code) a conns refs evs l
   twin_commanded session (Ok command) a conns refs evs l = twin_obeyed session command (effect (state buses a) session a.moment command) a conns refs evs l
 
   twin_itself : (a : World) (conns : List Connection) (refs : List Refusal) (evs : ℕ) → Linked number m a.connections conns → TwinAt number m a (twin a conns refs evs)
   twin_itself a conns refs evs l = record { conns = conns; refs = refs; evs = evs; is = refl; link = l }
 
-  twin_answered_as : (o : Option Connection) (mark : Mark) (a : World) (conns : List Connection) (refs : List Refusal) (evs : ℕ) → Linked number m a.connections conns → TwinAt number m (answered_as buses m o mark a) (answered_as buses m o mark (twin a conns refs evs))
+  twin_answered_as : (o : Option Connection) (mark : Heard) (a : World) (conns : List Connection) (refs : List Refusal) (evs : ℕ) → Linked number m a.connections conns → TwinAt number m (answered_as buses m o mark a) (answered_as buses m o mark (twin a conns refs evs))
   twin_answered_as None mark a conns refs evs l = twin_itself a conns refs evs l
   twin_answered_as (Some conn) mark a conns refs evs l =
       elim (conn.info || conn.ended) as (λ t. TwinAt number m
-      (if t then a else (if conn.session == 0 then greeted buses m conn.mode (greets mark) a else commanded buses m conn.session (command_of buses mark) a))
-      (if t then twin a conns refs evs else (if conn.session == 0 then greeted buses m conn.mode (greets mark) (twin a conns refs evs) else commanded buses m conn.session (command_of buses mark) (twin a conns refs evs)))) [
+      (if t then a else (if conn.session == 0 then greeted buses m conn.mode (greets mark) a else commanded buses m conn.session (order_of buses mark) a))
+      (if t then twin a conns refs evs else (if conn.session == 0 then greeted buses m conn.mode (greets mark) (twin a conns refs evs) else commanded buses m conn.session (order_of buses mark) (twin a conns refs evs)))) [
         | true ↦ twin_itself a conns refs evs l
         | false ↦ elim (conn.session == 0) as (λ t. TwinAt number m
-            (if t then greeted buses m conn.mode (greets mark) a else commanded buses m conn.session (command_of buses mark) a)
-            (if t then greeted buses m conn.mode (greets mark) (twin a conns refs evs) else commanded buses m conn.session (command_of buses mark) (twin a conns refs evs))) [
+            (if t then greeted buses m conn.mode (greets mark) a else commanded buses m conn.session (order_of buses mark) a)
+            (if t then greeted buses m conn.mode (greets mark) (twin a conns refs evs) else commanded buses m conn.session (order_of buses mark) (twin a conns refs evs))) [
               | true ↦ twin_greeted conn.mode (greets mark) a conns refs evs l
-              | false ↦ twin_commanded conn.session (command_of buses mark) a conns refs evs l
+              | false ↦ twin_commanded conn.session (order_of buses mark) a conns refs evs l
             ]
       ]
 
-  twin_answered : (mark : Mark) (a b : World) → TwinAt number m a b → TwinAt number m (answered buses m a mark) (answered buses m b mark)
+  twin_answered : (mark : Heard) (a b : World) → TwinAt number m a b → TwinAt number m (answered buses m a mark) (answered buses m b mark)
   twin_answered mark a b t =
       subst (λ w. TwinAt number m (answered buses m a mark) (answered buses m w mark)) (sym t.is)
       (subst (λ o. TwinAt number m (answered buses m a mark) (answered_as buses m (if_open o) mark (twin a t.conns t.refs t.evs))) (sym t.link.same)
       (twin_answered_as (open_connection a m) mark a t.conns t.refs t.evs t.link))
 
-  twin_marks : (marks : List Mark) (a b : World) → TwinAt number m a b → TwinAt number m (fold (answered buses m) a marks) (fold (answered buses m) b marks)
+  twin_marks : (marks : List Heard) (a b : World) → TwinAt number m a b → TwinAt number m (fold (answered buses m) a marks) (fold (answered buses m) b marks)
   twin_marks [] a b t = t
   twin_marks (mark ∷ marks) a b t = twin_marks marks (answered buses m a mark) (answered buses m b mark) (twin_answered mark a b t)
 
-  twin_fed : (piece : List ℕ) (o : Option Connection) (a : World) (conns : List Connection) (refs : List Refusal) (evs : ℕ) → Linked number m a.connections conns → TwinAt number m (fed_to buses m piece o a) (fed_to buses m piece o (twin a conns refs evs))
+  twin_fed : (piece : Piece) (o : Option Connection) (a : World) (conns : List Connection) (refs : List Refusal) (evs : ℕ) → Linked number m a.connections conns → TwinAt number m (fed_to buses m piece o a) (fed_to buses m piece o (twin a conns refs evs))
   twin_fed piece None a conns refs evs l = twin_itself a conns refs evs l
   twin_fed piece (Some conn) a conns refs evs l =
-      twin_marks (new_marks buses conn.fed piece) (at_connection m (λ c. record c { fed = c.fed ++ piece }) a) (at_connection m (λ c. record c { fed = c.fed ++ piece }) (twin a conns refs evs))
-      (twin_change (λ c. record c { fed = c.fed ++ piece }) a conns refs evs l)
+      twin_marks (new_lines buses conn.fed piece) (at_connection m (λ c. record c { fed = c.fed ++ piece.bytes }) a) (at_connection m (λ c. record c { fed = c.fed ++ piece.bytes }) (twin a conns refs evs))
+      (twin_change (λ c. record c { fed = c.fed ++ piece.bytes }) a conns refs evs l)
 
   twin_shut : (o : Option Connection) (a : World) (conns : List Connection) (refs : List Refusal) (evs : ℕ) → Linked number m a.connections conns → TwinAt number m (shut_as buses m o a) (shut_as buses m o (twin a conns refs evs))
   twin_shut None a conns refs evs l = twin_itself a conns refs evs l
@@ -152,9 +147,9 @@ module _ (buses : List Bus) (number m : ℕ) where
   twin_or_refused None event a conns refs evs l t = t
   twin_or_refused (Some cause) event a conns refs evs l t = record { conns = conns; refs = refs ++ record { event = evs; fault = cause } ∷ []; evs = evs; is = refl; link = l }
 
-  pub twin_bytes : (piece : List ℕ) (a : World) (conns : List Connection) (refs : List Refusal) (evs : ℕ) → Linked number m a.connections conns → TwinAt number m (happens buses a (Bytes m piece)) (happens buses (twin a conns refs evs) (Bytes m piece))
+  pub twin_bytes : (piece : Piece) (a : World) (conns : List Connection) (refs : List Refusal) (evs : ℕ) → Linked number m a.connections conns → TwinAt number m (happens buses a (Bytes m piece)) (happens buses (twin a conns refs evs) (Bytes m piece))
   twin_bytes piece a conns refs evs l =
-      subst (λ o. TwinAt number m (happens buses a (Bytes m piece)) (or_refused buses (bytes_fault buses (counted a) (if_open o) piece) (Bytes m piece) (counted (twin a conns refs evs)))) (sym l.same)
+      subst (λ o. TwinAt number m (happens buses a (Bytes m piece)) (or_refused buses (bytes_fault buses (counted a) (if_open o) piece.bytes) (Bytes m piece) (counted (twin a conns refs evs)))) (sym l.same)
       (twin_or_refused (fault buses (counted a) (Bytes m piece)) (Bytes m piece) (counted a) conns refs (evs + 1) l
       (subst (λ o. TwinAt number m (accepted buses (Bytes m piece) (counted a)) (fed_to buses m piece (if_open o) (counted (twin a conns refs evs)))) (sym l.same)
       (twin_fed piece (open_connection a m) (counted a) conns refs (evs + 1) l)))

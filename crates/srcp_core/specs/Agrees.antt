@@ -1,5 +1,5 @@
 -- What the answers of a core's calls say of the course that it stands for.
-use Rattle.std.specs.Prelude.{⊤, ◌≡◌, ℕ, ◌+◌, ◌≤◌, Bool, true, false, not, ◌&&◌, ◌||◌, nat_le, if◌then◌else◌, List, [], ◌∷◌, ◌++◌, length, Option, Some, None, is_some, count_by}
+use Rattle.std.specs.Prelude.{◌≡◌, ℕ, ◌+◌, ◌≤◌, Bool, true, false, not, ◌&&◌, ◌||◌, nat_le, if◌then◌else◌, List, [], ◌∷◌, ◌++◌, length, Option, Some, None, is_some, count_by}
 use Rattle.std.specs.Option.{option_map_or}
 use Rattle.srcp_rules.specs.declared.layout.Bus.{Bus}
 use Rattle.srcp_rules.specs.Layout.{IsLayout}
@@ -8,10 +8,7 @@ use Rattle.srcp_core.specs.Course.{World, course, fault, history, open_connectio
 use Rattle.srcp_core.specs.Held.{Held, open_count}
 use Rattle.srcp_core.specs.Recording.{key_of}
 use Rattle.srcp_core.specs.Stands.{StandsFor}
-use Rattle.srcp_core.specs.declared.event.Event.{Event}
-use Rattle.srcp_core.specs.declared.event.Event.TheVariants.{Bytes}
-use Rattle.srcp_core.specs.declared.record.CoreFault.{CoreFault}
-use Rattle.srcp_core.specs.declared.record.CoreFault.TheVariants.{Memory as MemoryFault}
+use Rattle.srcp_core.specs.Under.{Event, Bytes, Piece}
 use Rattle.srcp_core.specs.declared.record.Finish.{Finish}
 use Rattle.srcp_core.specs.declared.record.Finish.TheVariants as finish
 
@@ -36,11 +33,6 @@ abbrev pub CountsOpen : Held → Type 0
 CountsOpen held = (buses : List Bus) (events : List Event) (keys : List (Option ℕ))
     → StandsFor buses keys held (course buses events) → count_by is_some keys ≡ open_count held
 
--- why a connection is not opened: the course says so, unless memory was refused
-abbrev pub IsWhyNotOpened : CoreFault → Option CoreFault → Type 0
-IsWhyNotOpened MemoryFault cause = ⊤
-IsWhyNotOpened other cause = cause ≡ Some other
-
 -- a connection that stands so is to be closed
 abbrev pub is_last : Finish → Bool
 is_last finish.Live = false
@@ -55,7 +47,7 @@ module _ (buses : List Bus) where
 
   -- every piece of at most 256 bytes is accepted of the connection
   abbrev pub TakesPieces : World → ℕ → Type 0
-  TakesPieces w n = (piece : List ℕ) → length piece ≤ 256 → fault buses w (Bytes n piece) ≡ None
+  TakesPieces w n = (piece : Piece) → length piece.bytes ≤ 256 → fault buses w (Bytes n piece) ≡ None
 
   -- what a connection lends: what is unsent of it, and nothing where it overran
   abbrev pub lent_of : World → Connection → List ℕ

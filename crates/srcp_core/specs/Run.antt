@@ -1,14 +1,17 @@
 -- What a run keeps beside the course of its events, and what comes of one more event.
-use Rattle.std.specs.Prelude.{◌≡◌, ◌+◌, ◌++◌, ◌∷◌, [], ℕ, List, map, take, length, min, Option, Some, None}
+use Rattle.std.specs.Prelude.{◌≡◌, ◌+◌, ◌++◌, ◌∷◌, [], ℕ, Bool, true, IsTrue, List, map, take, length, min, Option, Some, None}
+use Rattle.std.specs.List.{AllByRecursion}
 use Rattle.srcp_rules.specs.declared.layout.Bus.{Bus}
 use Rattle.srcp_rules.specs.Layout.{IsLayout}
 use Rattle.srcp_core.specs.Course.{World, counted, fault, accepted, course}
 use Rattle.srcp_core.specs.Held.{Held}
 use Rattle.srcp_core.specs.Machine.{let_out, item_at, unsent_at, changed_at, without_sent}
 use Rattle.srcp_core.specs.Recording.{Recording, key_of, without_key, told_of, gave, took}
-use Rattle.srcp_core.specs.declared.event.Event.TheVariants.{Open, Shut}
+use Rattle.srcp_core.specs.Laws.{HasMoment, IsRecordOf}
 use Rattle.srcp_core.specs.Stands.{StandsFor}
-use Rattle.srcp_core.specs.declared.event.Event.{Event}
+use Rattle.srcp_core.specs.declared.record.Record.{Record}
+use Rattle.srcp_core.specs.Under.{Event, Shut, Open, Bytes, step_told, under, all_under}
+use Rattle.srcp_core.specs.declared.event.Event.{Event as PlainEvent}
 use Rattle.srcp_core.specs.declared.record.CoreFault.{CoreFault}
 
 -- how many bytes of a connection are taken at once, at most so many, after the next line was put in
@@ -25,7 +28,7 @@ taking n key most held r = took n (take (count_at key most held) (unsent_at key 
 
 -- the recording tells of that course
 pub record Tells (r : Recording) (w : World) : Type 0 where
-  pub steps : r.steps ≡ w.steps
+  pub steps : r.steps ≡ map step_told w.steps
   pub refused : r.refused ≡ w.refused
   pub connections : r.connections ≡ map told_of w.connections
 
@@ -40,41 +43,75 @@ module _ (buses : List Bus) where
   Happened event None r held w = (fault buses w event ≡ None) × Runs r held (accepted buses event w)
   Happened event (Some cause) r held w = (fault buses w event ≡ Some cause) × Runs r held w
 
--- whatever the events were before, where no memory was refused the event is carried out, or refused, as it is in their course
-abbrev pub HappensAs : Event → Option CoreFault → Recording → Held → Recording → Held → Type 0
-HappensAs event refusal r held later_r later =
-    (buses : List Bus) (events : List Event) → IsLayout buses → later.denied ≡ 0 → Runs buses r held (course buses events)
-    → Happened buses event refusal later_r later (counted (course buses events))
+-- where no memory was refused by then, each answer gave
+abbrev pub GivesAll : List Bool → Held → Type 0
+GivesAll grants held = held.denied ≡ 0 → AllByRecursion IsTrue grants
+
+-- what memory answered, with which, whatever the events were before, the event is carried out or refused as it is in their course
+pub record HappensAs (event : PlainEvent) (refusal : Option CoreFault) (r : Recording) (held : Held) (later_r : Recording) (later : Held) : Type 0 where
+  pub grants : List Bool
+  pub given : GivesAll grants later
+  pub happens : (buses : List Bus) (events : List Event) → IsLayout buses → Runs buses r held (course buses events)
+      → Happened buses (under grants event) refusal later_r later (counted (course buses events))
 
 -- and so with the number of the event, which is noted where it is refused
-abbrev pub FollowsAs : ℕ → Event → Recording → Held → Recording → Held → Type 0
-FollowsAs number event r held later_r later =
-    (buses : List Bus) (events : List Event) → IsLayout buses → number ≡ length events + 1 → later.denied ≡ 0
-    → Runs buses r held (course buses events) → Runs buses later_r later (course buses (events ++ event ∷ []))
+pub record FollowsAs (number : ℕ) (event : PlainEvent) (r : Recording) (held : Held) (later_r : Recording) (later : Held) : Type 0 where
+  pub grants : List Bool
+  pub given : GivesAll grants later
+  pub follows : (buses : List Bus) (events : List Event) → IsLayout buses → number ≡ length events + 1
+      → Runs buses r held (course buses events) → Runs buses later_r later (course buses (events ++ under grants event ∷ []))
 
--- a call that was refused no memory leads from the course of any events to that with its event
+-- a call leads from the course of any events to that with its event
 abbrev pub LeadsTo : Event → Held → Held → Type 0
 LeadsTo event old new =
-    (buses : List Bus) (events : List Event) (keys : List (Option ℕ)) → IsLayout buses → new.denied ≡ 0
+    (buses : List Bus) (events : List Event) (keys : List (Option ℕ)) → IsLayout buses
     → StandsFor buses keys old (course buses events) → StandsFor buses keys new (course buses (events ++ event ∷ []))
 
 -- the same of a call of the connection at a place, which may leave that free
 abbrev pub LeadsAt : ℕ → (ℕ → Event) → Held → Held → Type 0
 LeadsAt key event old new =
-    (buses : List Bus) (events : List Event) (keys : List (Option ℕ)) (n : ℕ) → IsLayout buses → new.denied ≡ 0
+    (buses : List Bus) (events : List Event) (keys : List (Option ℕ)) (n : ℕ) → IsLayout buses
     → key_of n keys ≡ Some key → StandsFor buses keys old (course buses events)
     → StandsFor buses keys new (course buses (events ++ event n ∷ []))
+
+-- the same of a piece, with what memory answered to its lines
+pub record LeadsOn (key : ℕ) (piece : List ℕ) (old new : Held) : Type 0 where
+  pub grants : List Bool
+  pub given : GivesAll grants new
+  pub leads : LeadsAt key (λ n. Bytes n (record { bytes = piece; grants = grants })) old new
 
 -- the same of a hang-up, which leaves the place free
 abbrev pub LeadsToFree : ℕ → Held → Held → Type 0
 LeadsToFree key old new =
-    (buses : List Bus) (events : List Event) (keys : List (Option ℕ)) (n : ℕ) → IsLayout buses → new.denied ≡ 0
+    (buses : List Bus) (events : List Event) (keys : List (Option ℕ)) (n : ℕ) → IsLayout buses
     → key_of n keys ≡ Some key → StandsFor buses keys old (course buses events)
     → StandsFor buses (without_key n keys) new (course buses (events ++ Shut n ∷ []))
 
 -- and of one that opens a connection at a place
 abbrev pub LeadsToOpen : ℕ → Held → Held → Type 0
 LeadsToOpen key old new =
-    (buses : List Bus) (events : List Event) (keys : List (Option ℕ)) → IsLayout buses → new.denied ≡ 0
+    (buses : List Bus) (events : List Event) (keys : List (Option ℕ)) → IsLayout buses
     → StandsFor buses keys old (course buses events)
-    → StandsFor buses (keys ++ Some key ∷ []) new (course buses (events ++ Open ∷ []))
+    → StandsFor buses (keys ++ Some key ∷ []) new (course buses (events ++ Open true ∷ []))
+
+-- what memory answered in each event of a run, where the core stands for the course of the events under these answers
+pub record RunsUnder (buses : List Bus) (events : List PlainEvent) (r : Recording) (held : Held) : Type 0 where
+  pub grants : List (List Bool)
+  pub count : length grants ≡ length events
+  pub given : held.denied ≡ 0 → AllByRecursion (AllByRecursion IsTrue) grants
+  pub runs : Runs buses r held (course buses (all_under grants events))
+
+-- what memory answered in each event of a run, where its record is that of the course of the events under these answers
+pub record RunsRecord (buses : List Bus) (events : List PlainEvent) (told : Record) : Type 0 where
+  pub grants : List (List Bool)
+  pub count : length grants ≡ length events
+  pub given : told.denied ≡ 0 → AllByRecursion (AllByRecursion IsTrue) grants
+  pub is : IsRecordOf buses (all_under grants events) told
+
+-- the moment that an event tells has 64 bits
+abbrev pub HasPlainMoment : PlainEvent → Type 0
+HasPlainMoment event = HasMoment (under [] event)
+
+-- and so of each event
+abbrev pub PlainMoments : List PlainEvent → Type 0
+PlainMoments events = AllByRecursion HasPlainMoment events

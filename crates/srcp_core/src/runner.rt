@@ -3,8 +3,8 @@ ghost use Rattle.std.specs.Prelude.{◌≡◌, ◌≤◌, IfOk, OnOk};
 ghost use Rattle.std.specs.List.{AllByRecursion};
 ghost use Rattle.srcp_info.specs.WellFormed.{IsMoment, IsWellFormedShown};
 ghost use Rattle.srcp_rules.specs.Layout.{IsLayout};
-ghost use Rattle.srcp_core.specs.Promised.{ToldSessions, ToldReplies, ToldRooms, IsToldRegistry};
-ghost use Rattle.srcp_core.specs.Laws.{AllMoments, HasMoment, IsRecordOf};
+ghost use Rattle.srcp_core.specs.Promised.{IsPromised};
+ghost use Rattle.srcp_core.specs.Run.{RunsRecord, PlainMoments, HasPlainMoment};
 ghost use Rattle.srcp_core.specs.Run.{HappensAs, FollowsAs, count_at, taken_at, taking};
 
 use crate::event::Event;
@@ -37,11 +37,7 @@ impl From<Memory> for RunFault {
 /// the registry stayed whole (`registry`).
 pub fn run<R: Rows>(alloc: Global, layout: &Layout, events: &[Event]) -> Result<Record, RunFault>
     ensures well_formed { IfOk result (λ told. AllByRecursion (λ row. IsWellFormedShown row.shown) told.rows) }
-    ensures record { IfOk result (λ told. told.denied ≡ 0 → IsRecordOf layout.now events.now told) }
-    ensures sessions { IfOk result (λ told. told.denied ≡ 0 → ToldSessions layout.now events.now told) }
-    ensures replies { IfOk result (λ told. told.denied ≡ 0 → ToldReplies layout.now events.now told) }
-    ensures rooms { IfOk result (λ told. told.denied ≡ 0 → ToldRooms layout.now events.now told) }
-    ensures registry { IfOk result (λ told. told.denied ≡ 0 → IsToldRegistry layout.now events.now told) }
+    ensures promised { IfOk result (λ told. IsPromised layout.now events.now told) }
 {
     carry_out::<R>(alloc, layout, events)
 }
@@ -49,8 +45,8 @@ pub fn run<R: Rows>(alloc: Global, layout: &Layout, events: &[Event]) -> Result<
 /// Carries out all events.
 fn carry_out<R: Rows>(alloc: Global, layout: &Layout, events: &[Event]) -> Result<Record, RunFault>
     ensures well_formed { IfOk result (λ told. AllByRecursion (λ row. IsWellFormedShown row.shown) told.rows) }
-    ensures record { IfOk result (λ told. told.denied ≡ 0 → IsRecordOf layout.now events.now told) }
-    ensures moments { IfOk result (λ _. AllMoments events.now) }
+    ensures record { IfOk result (λ told. RunsRecord layout.now events.now told) }
+    ensures moments { IfOk result (λ _. PlainMoments events.now) }
     ensures laid_out { IfOk result (λ _. IsLayout layout.now) }
 {
     // Called for its contract, which says the layout's limits.
@@ -72,7 +68,7 @@ fn follow<R: Rows>(
 ) -> Result<(), Memory>
     ensures course { OnOk result (FollowsAs number event.now recorder.old core.old recorder.new core.new) }
     ensures denied { core.new.denied ≡ 0 → core.old.denied ≡ 0 }
-    ensures moment { HasMoment event.now }
+    ensures moment { HasPlainMoment event.now }
 {
     if let Some(fault) = happen(core, recorder, event)? {
         recorder.refused(number, fault)?;
@@ -88,7 +84,7 @@ fn happen<R: Rows>(
 ) -> Result<Option<CoreFault>, Memory>
     ensures course { IfOk result (λ refusal. HappensAs event.now refusal recorder.old core.old recorder.new core.new) }
     ensures denied { core.new.denied ≡ 0 → core.old.denied ≡ 0 }
-    ensures moment { HasMoment event.now }
+    ensures moment { HasPlainMoment event.now }
 {
     match event {
         Event::Open => open(core, recorder),

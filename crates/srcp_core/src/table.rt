@@ -1,11 +1,11 @@
 //! The core: the registry, and the connections with their sessions.
-ghost use Rattle.std.specs.Prelude.{◌⊎◌, ◌≡◌, ◌≤◌, ◌↔◌, true, None, IfOk, IsErrOf, MatchResult, IfErr, is_none, []};
+ghost use Rattle.std.specs.Prelude.{◌⊎◌, ◌≡◌, ◌≤◌, ◌<◌, ◌↔◌, true, false, Some, None, IfOk, IsErrOf, MatchResult, IfErr, is_none, []};
 ghost use Rattle.srcp_core.specs.Held.{open_count};
 ghost use Rattle.srcp_core.specs.Machine.{IsAdmitted, refused_connect, is_closing, bytes_fault};
-ghost use Rattle.srcp_core.specs.Agrees.{OfCourse, OfConnection, IsWhyNotOpened, NamesNewest, CountsOpen, TakesPieces, closes};
+ghost use Rattle.srcp_core.specs.Agrees.{OfCourse, OfConnection, NamesNewest, CountsOpen, TakesPieces, closes};
 ghost use Rattle.srcp_core.specs.Course.{course, fault};
 ghost use Rattle.srcp_core.specs.Run.{LeadsTo, LeadsToOpen};
-ghost use Rattle.srcp_core.specs.declared.event.Event.TheVariants.{Open, Bytes};
+ghost use Rattle.srcp_core.specs.Under.{Open, Bytes, giving};
 ghost use Rattle.srcp_core.specs.Stands.{StandsFor};
 ghost use Rattle.srcp_rules.specs.State.{opening};
 
@@ -103,14 +103,15 @@ impl<'a, R: Rows> Core<'a, R> {
     /// is.
     pub fn connect(&mut self) -> Result<usize, CoreFault>
         ensures full { IsErrOf result CoreFault.Full ↔ (open_count self.old ≡ 64) }
+        ensures memory { IsErrOf result CoreFault.Memory → open_count self.old < 64 }
         ensures admitted { IfOk result (λ key. IsAdmitted key self.old self.new) }
         ensures refused { IfErr result (λ fault. self.new ≡ refused_connect fault self.old) }
         ensures causes { IfErr result (λ fault. (fault ≡ CoreFault.Full) ⊎ (fault ≡ CoreFault.Memory)) }
         ensures denied { self.new.denied ≡ 0 → self.old.denied ≡ 0 }
-        ensures course { OfCourse self.old (λ buses events. MatchResult result (λ _. fault buses (course buses events) Open ≡ None) (λ cause. IsWhyNotOpened cause (fault buses (course buses events) Open))) }
+        ensures course { OfCourse self.old (λ buses events. MatchResult result (λ _. fault buses (course buses events) (Open true) ≡ None) (λ cause. fault buses (course buses events) (Open false) ≡ Some cause)) }
         ensures named { IfOk result (λ key. NamesNewest key self.old) }
         ensures counted { CountsOpen self.old }
-        ensures stands { MatchResult result (λ key. LeadsToOpen key self.old self.new) (λ _. LeadsTo Open self.old self.new) }
+        ensures stands { MatchResult result (λ key. LeadsToOpen key self.old self.new) (λ _. LeadsTo (Open false) self.old self.new) }
     {
         self.admit()
     }
@@ -118,6 +119,7 @@ impl<'a, R: Rows> Core<'a, R> {
     /// Opens a connection.
     fn admit(&mut self) -> Result<usize, CoreFault>
         ensures full { IsErrOf result CoreFault.Full ↔ (open_count self.old ≡ 64) }
+        ensures memory { IsErrOf result CoreFault.Memory → open_count self.old < 64 }
         ensures admitted { IfOk result (λ key. IsAdmitted key self.old self.new) }
         ensures refused { IfErr result (λ fault. self.new ≡ refused_connect fault self.old) }
         ensures causes { IfErr result (λ fault. (fault ≡ CoreFault.Full) ⊎ (fault ≡ CoreFault.Memory)) }
@@ -137,7 +139,7 @@ impl<'a, R: Rows> Core<'a, R> {
     /// Whether `receive` would take a piece of at most 256 bytes.
     pub fn ready(&self, conn: usize) -> bool
         ensures fault { result ≡ is_none (bytes_fault conn [] self.now) }
-        ensures course { OfConnection conn self.now (λ buses events n. result ≡ is_none (fault buses (course buses events) (Bytes n []))) }
+        ensures course { OfConnection conn self.now (λ buses events n. result ≡ is_none (fault buses (course buses events) (Bytes n (giving [])))) }
         ensures takes { OfConnection conn self.now (λ buses events n. result ≡ true → TakesPieces buses (course buses events) n) }
     {
         self.is_ready(conn)

@@ -5,7 +5,7 @@ ghost use Rattle.srcp_core.specs.Course.{course, fault};
 ghost use Rattle.srcp_core.specs.Held.{at};
 ghost use Rattle.srcp_core.specs.Machine.{hung_up, advanced};
 ghost use Rattle.srcp_core.specs.Run.{LeadsTo, LeadsToFree};
-ghost use Rattle.srcp_core.specs.declared.event.Event.TheVariants.{At, Shut};
+ghost use Rattle.srcp_core.specs.Under.{At, Shut};
 
 use super::Core;
 use super::walk::{carry_out_due, free_all};

@@ -6,7 +6,7 @@ ghost use Rattle.srcp_core.specs.Course.{course};
 ghost use Rattle.srcp_core.specs.Held.{Held, at};
 ghost use Rattle.srcp_core.specs.Machine.{changed_at, without_sent, unsent_at, let_out, item_at};
 ghost use Rattle.srcp_core.specs.Run.{LeadsAt};
-ghost use Rattle.srcp_core.specs.declared.event.Event.TheVariants.{Room};
+ghost use Rattle.srcp_core.specs.Under.{Room};
 
 use super::{Core, place};
 use crate::record::CoreFault;

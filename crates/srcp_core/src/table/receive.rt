@@ -5,8 +5,8 @@ ghost use Rattle.srcp_rules.specs.State.{is_there, session_device};
 ghost use Rattle.srcp_text.specs.Marks.{Mark};
 ghost use Rattle.srcp_core.specs.Agrees.{OfConnection};
 ghost use Rattle.srcp_core.specs.Course.{course, fault};
-ghost use Rattle.srcp_core.specs.Run.{LeadsAt};
-ghost use Rattle.srcp_core.specs.declared.event.Event.TheVariants.{Bytes};
+ghost use Rattle.srcp_core.specs.Run.{LeadsOn};
+ghost use Rattle.srcp_core.specs.Under.{Bytes, giving};
 ghost use Rattle.srcp_core.specs.Held.{Place, IsSessionAt, IsSound, at};
 ghost use Rattle.srcp_core.specs.Machine.{asked_of, answered, commanded, longest_answer, unsent_at, bytes_fault, heard_at, IsReceived, HasRoom, IsLineTaken, steps_commanded, steps_answered, listed};
 
@@ -28,8 +28,8 @@ impl<'a, R: Rows> Core<'a, R> {
         ensures refused { OnErr result (self.new ≡ self.old) }
         ensures received { OnOk result (IsReceived conn piece.now self.old self.new) }
         ensures denied { self.new.denied ≡ 0 → self.old.denied ≡ 0 }
-        ensures course { OfConnection conn self.old (λ buses events n. MatchResult result (λ _. fault buses (course buses events) (Bytes n piece.now) ≡ None) (λ cause. fault buses (course buses events) (Bytes n piece.now) ≡ Some cause)) }
-        ensures stands { LeadsAt conn (λ n. Bytes n piece.now) self.old self.new }
+        ensures course { OfConnection conn self.old (λ buses events n. MatchResult result (λ _. fault buses (course buses events) (Bytes n (giving piece.now)) ≡ None) (λ cause. fault buses (course buses events) (Bytes n (giving piece.now)) ≡ Some cause)) }
+        ensures stands { LeadsOn conn piece.now self.old self.new }
     {
         self.take_piece(conn, piece)
     }

@@ -6,7 +6,7 @@ pub returns-clause-denied : goal.returns-clause-denied
 returns-clause-denied g c = opens_denied c.args.self.now c.admit.new.self c.admit.result c.admit.ensures.admitted c.admit.ensures.refused c.admit.ensures.causes
 
 pub returns-clause-course : goal.returns-clause-course
-returns-clause-course g c = connect_agrees c.args.self.now c.admit.new.self c.admit.result c.admit.ensures.full c.admit.ensures.admitted c.admit.ensures.causes
+returns-clause-course g c = connect_agrees c.args.self.now c.admit.new.self c.admit.result c.admit.ensures.full c.admit.ensures.memory c.admit.ensures.admitted c.admit.ensures.causes
 
 pub returns-clause-named : goal.returns-clause-named
 returns-clause-named g c = connect_named c.args.self.now c.admit.result
@@ -15,4 +15,4 @@ pub returns-clause-counted : goal.returns-clause-counted
 returns-clause-counted g c = counts_open c.args.self.now
 
 pub returns-clause-stands : goal.returns-clause-stands
-returns-clause-stands g c = opens_or_not c.args.self.now c.admit.new.self c.admit.result c.admit.ensures.full c.admit.ensures.admitted c.admit.ensures.refused c.admit.ensures.causes
+returns-clause-stands g c = opens_or_not c.args.self.now c.admit.new.self c.admit.result c.admit.ensures.full c.admit.ensures.memory c.admit.ensures.admitted c.admit.ensures.refused c.admit.ensures.causes

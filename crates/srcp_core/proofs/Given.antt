@@ -1,0 +1,131 @@
+-- What memory answers: each line and each order has its answer, and what a denied order does is nothing.
+use Rattle.std.proofs.Common.{◌≡◌, ℕ, suc, Bool, true, false, List, [], ◌∷◌, ◌++◌, length, refl, ap, ◌∙◌, arith}
+use Rattle.std.proofs.lemmas.Bool.{eq-eqb}
+use Rattle.std.specs.Prelude.{not, ◌||◌, if◌then◌else◌, ◌==◌, IsTrue, Option, Some, None, Result, Ok, Err, IfOk}
+use Rattle.std.specs.List.{AllByRecursion, fold}
+use Rattle.srcp_info.specs.declared.change.Code.{Code}
+use Rattle.srcp_info.specs.declared.change.Code.TheVariants.{C500}
+use Rattle.srcp_rules.specs.declared.command.Command.{Command}
+use Rattle.srcp_rules.specs.Effect.{Effect, effect as effect_of, adds_rows, refused}
+use Rattle.srcp_rules.specs.State.{State}
+use Rattle.srcp_core.specs.Connection.{Connection}
+use Rattle.srcp_core.specs.Course.{World, start, at_connection, open_connection, counted, ordered, new_marks, fed_to, answered, bytes_fault, or_refused, happens, course, replied, goes, greeted}
+use Rattle.srcp_core.specs.Laws.{HasMoment, AllMoments}
+use Rattle.srcp_core.specs.Run.{HasPlainMoment, PlainMoments}
+use Rattle.srcp_core.specs.declared.event.Event.TheVariants as plain
+use Rattle.srcp_core.specs.declared.record.CoreFault.{CoreFault}
+use Rattle.srcp_text.specs.Marks.{Mark}
+use Rattle.srcp_core.specs.Held.{Held}
+use Rattle.srcp_core.specs.Under.{Order, Heard, greets, effect, Open, lines_under, under, all_under, first_of, giving}
+use Rattle.srcp_core.specs.declared.event.Event.{Event as PlainEvent}
+use Rattle.srcp_rules.specs.declared.layout.Bus.{Bus}
+use Rattle.srcp_info.specs.declared.change.Reply.TheVariants.{Protocol, Mode as ModeReply, Refused}
+use Rattle.srcp_info.specs.declared.value.Mode.{Mode}
+use Rattle.srcp_core.specs.Handshake.{Greeting, Speaks, Chooses, Goes, Refuses}
+
+-- what holds of the command's effect and of a refusal holds of what the order does
+pub effect_law : (P : Effect → Type 0) (state : State) (session moment : ℕ) (order : Order) → P (effect_of state session moment order.command) → P (refused C500) → P (effect state session moment order)
+effect_law P state session moment order e r =
+    elim (order.granted || not (adds_rows state order.command)) as (λ t. P (if t then effect_of state session moment order.command else refused C500)) [ true ↦ e | false ↦ r ]
+
+-- what holds of the command holds of the order
+pub ordered_law : (buses : List Bus) (P : Command → Type 0) (granted : Bool) (command : Result Command Code) → IfOk command P → IfOk (ordered buses granted command) (λ order. P order.command)
+ordered_law buses P granted (Ok command) h = h
+ordered_law buses P granted (Err code) h = tt
+
+-- one line more with its answer
+pub lines_push : (grants : List Bool) (marks : List Mark) (granted : Bool) (mark : Mark) → length grants ≡ length marks
+    → lines_under (grants ++ granted ∷ []) (marks ++ mark ∷ []) ≡ lines_under grants marks ++ record { mark = mark; granted = granted } ∷ []
+lines_push [] [] granted mark e = refl
+lines_push [] (m ∷ marks) granted mark e = absurd (omega (arith, e))
+lines_push (g ∷ grants) [] granted mark e = absurd (omega (arith, e))
+lines_push (g ∷ grants) (m ∷ marks) granted mark e = let less : length grants ≡ length marks = omega (arith, e) in ap (λ lines. record { mark = m; granted = g } ∷ lines) (lines_push grants marks granted mark less)
+
+-- one event more with its answers
+pub under_push : (grants : List (List Bool)) (events : List PlainEvent) (more : List Bool) (event : PlainEvent) → length grants ≡ length events
+    → all_under (grants ++ more ∷ []) (events ++ event ∷ []) ≡ all_under grants events ++ under more event ∷ []
+under_push [] [] more event e = refl
+under_push [] (x ∷ events) more event e = absurd (omega (arith, e))
+under_push (g ∷ grants) [] more event e = absurd (omega (arith, e))
+under_push (g ∷ grants) (x ∷ events) more event e = let less : length grants ≡ length events = omega (arith, e) in ap (λ es. under g x ∷ es) (under_push grants events more event less)
+
+pub under_length : (grants : List (List Bool)) (events : List PlainEvent) → length (all_under grants events) ≡ length events
+under_length grants [] = refl
+under_length [] (x ∷ events) = ap (λ k. suc k) (under_length [] events)
+under_length (g ∷ grants) (x ∷ events) = ap (λ k. suc k) (under_length grants events)
+
+-- what memory answered to a line; it gave where none was refused by then
+abbrev pub given_of : Bool → Held → Bool
+given_of granted new = if new.denied == 0 then true else granted
+
+pub given_gives : (granted : Bool) (new : Held) → new.denied ≡ 0 → IsTrue (given_of granted new)
+given_gives granted new d = ap (λ t. if t then true else granted) (eq-eqb new.denied 0 d)
+
+pub all_given : (grants : List Bool) (granted : Bool) → AllByRecursion IsTrue grants → IsTrue granted → AllByRecursion IsTrue (grants ++ granted ∷ [])
+all_given [] granted a h = (h, tt)
+all_given (g ∷ grants) granted a h = (a.0, all_given grants granted a.1 h)
+
+-- the moments are those of the events whatever memory answers
+one_moment : (grants : List Bool) (event : PlainEvent) → HasPlainMoment event → HasMoment (under grants event)
+one_moment grants plain.Open h = tt
+one_moment grants (plain.Bytes n piece) h = tt
+one_moment grants (plain.Room n bytes) h = tt
+one_moment grants (plain.At moment) h = h
+one_moment grants (plain.Shut n) h = tt
+
+pub all_moments : (grants : List (List Bool)) (events : List PlainEvent) → PlainMoments events → AllMoments (all_under grants events)
+all_moments grants [] h = tt
+all_moments [] (event ∷ events) h = (one_moment [] event h.0, all_moments [] events h.1)
+all_moments (g ∷ grants) (event ∷ events) h = (one_moment g event h.0, all_moments grants events h.1)
+
+-- ---- where memory gives all
+
+all_first : (grants : List Bool) → AllByRecursion IsTrue grants → first_of grants ≡ true
+all_first [] a = refl
+all_first (g ∷ grants) a = a.0
+
+pub lines_all : (grants : List Bool) (marks : List Mark) → AllByRecursion IsTrue grants → lines_under grants marks ≡ lines_under [] marks
+lines_all [] marks a = refl
+lines_all (g ∷ grants) [] a = refl
+lines_all (g ∷ grants) (mark ∷ marks) a =
+    ap (λ t. record { mark = mark; granted = t } ∷ lines_under grants marks) a.0 ∙ ap (λ lines. record { mark = mark; granted = true } ∷ lines) (lines_all grants marks a.1)
+
+fed_all : (buses : List Bus) (n : ℕ) (bytes : List ℕ) (grants : List Bool) (o : Option Connection) (w : World) → AllByRecursion IsTrue grants → fed_to buses n (record { bytes = bytes; grants = grants }) o w ≡ fed_to buses n (giving bytes) o w
+fed_all buses n bytes grants None w a = refl
+fed_all buses n bytes grants (Some conn) w a =
+    ap (λ lines. fold (answered buses n) (at_connection n (λ c. record c { fed = c.fed ++ bytes }) w) lines) (lines_all grants (new_marks buses conn.fed bytes) a)
+
+-- an event happens as where memory gives all
+pub happens_all : (buses : List Bus) (w : World) (grants : List Bool) (event : PlainEvent) → AllByRecursion IsTrue grants → happens buses w (under grants event) ≡ happens buses w (under [] event)
+happens_all buses w grants plain.Open a = ap (λ t. happens buses w (Open t)) (all_first grants a)
+happens_all buses w grants (plain.Bytes n piece) a = by (bytes_fault buses (counted w) (open_connection (counted w) n) piece)
+  where
+    by : (o : Option CoreFault) → or_refused buses o (under grants (plain.Bytes n piece)) (counted w) ≡ or_refused buses o (under [] (plain.Bytes n piece)) (counted w)
+    by None = fed_all buses n piece grants (open_connection (counted w) n) (counted w) a
+    by (Some cause) = refl
+happens_all buses w grants (plain.Room n bytes) a = refl
+happens_all buses w grants (plain.At moment) a = refl
+happens_all buses w grants (plain.Shut n) a = refl
+
+-- with all answers given the course is that of the events where memory gives all
+course_all : (buses : List Bus) (grants : List (List Bool)) (events : List PlainEvent) (w : World) → AllByRecursion (AllByRecursion IsTrue) grants → fold (happens buses) w (all_under grants events) ≡ fold (happens buses) w (all_under [] events)
+course_all buses grants [] w a = refl
+course_all buses [] (event ∷ events) w a = refl
+course_all buses (g ∷ grants) (event ∷ events) w a =
+    ap (λ v. fold (happens buses) v (all_under grants events)) (happens_all buses w g event a.0) ∙ course_all buses grants events (happens buses w (under [] event)) a.1
+
+pub gives_as_if : (buses : List Bus) (grants : List (List Bool)) (events : List PlainEvent) → AllByRecursion (AllByRecursion IsTrue) grants → course buses (all_under grants events) ≡ course buses (all_under [] events)
+gives_as_if buses grants events a = course_all buses grants events start a
+
+-- ---- a line before the session, by what it does
+
+greeting_law : (P : World → Type 0) (buses : List Bus) (n : ℕ) (mode : Mode) (greeting : Greeting) (w : World) → P (replied n Protocol w) → ((chosen : Mode) → P (replied n ModeReply (at_connection n (λ conn. record conn { mode = chosen }) w)))
+    → P (goes buses n mode w) → ((code : Code) → P (replied n (Refused code) w)) → P (greeted buses n mode greeting w)
+greeting_law P buses n mode Speaks w speaks chooses begins refuses = speaks
+greeting_law P buses n mode (Chooses chosen) w speaks chooses begins refuses = chooses chosen
+greeting_law P buses n mode Goes w speaks chooses begins refuses = begins
+greeting_law P buses n mode (Refuses code) w speaks chooses begins refuses = refuses code
+
+pub line_law : (P : World → Type 0) (buses : List Bus) (n : ℕ) (mode : Mode) (line : Heard) (w : World) → P (replied n Protocol w) → ((chosen : Mode) → P (replied n ModeReply (at_connection n (λ conn. record conn { mode = chosen }) w)))
+    → P (goes buses n mode w) → ((code : Code) → P (replied n (Refused code) w)) → P (greeted buses n mode (greets line) w)
+line_law P buses n mode line w speaks chooses begins refuses = greeting_law P buses n mode (greets line) w speaks chooses begins refuses

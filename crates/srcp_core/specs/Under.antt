@@ -1,0 +1,100 @@
+-- What memory answers in each event, and what of that the course of the events takes in.
+use Rattle.std.specs.Prelude.{ℕ, Bool, true, false, not, ◌||◌, if◌then◌else◌, List, [], ◌∷◌}
+use Rattle.srcp_info.specs.declared.change.Code.TheVariants.{C500}
+use Rattle.srcp_info.specs.declared.value.Mode.{Mode}
+use Rattle.srcp_rules.specs.declared.command.Command.{Command}
+use Rattle.srcp_rules.specs.Effect.{Effect, effect as effect_of, adds_rows, refused}
+use Rattle.srcp_rules.specs.State.{State}
+use Rattle.srcp_text.specs.Marks.{Mark}
+use Rattle.srcp_core.specs.Handshake.{Greeting, Goes, Refuses, greets as greets_of}
+use Rattle.srcp_core.specs.declared.event.Event.{Event as PlainEvent}
+use Rattle.srcp_core.specs.declared.event.Event.TheVariants as plain
+use Rattle.srcp_core.specs.declared.record.Step.{Step as PlainStep}
+use Rattle.srcp_core.specs.declared.record.Step.TheVariants as told
+
+-- ---- events
+
+-- bytes that come in at once, and what memory answers to each line that ends in them, in turn; it gives to the lines
+-- beyond the answers
+pub record Piece : Type 0 where
+  pub bytes : List ℕ
+  pub grants : List Bool
+
+-- an event, with what memory answers in it
+pub data Event : Type 0 where
+  Open : (granted : Bool) → Event
+  Bytes : (conn : ℕ) (piece : Piece) → Event
+  Room : (conn bytes : ℕ) → Event
+  At : (moment : ℕ) → Event
+  Shut : (conn : ℕ) → Event
+
+-- bytes to whose lines memory gives
+abbrev pub giving : List ℕ → Piece
+giving bytes = record { bytes = bytes; grants = [] }
+
+-- the first answer, and that it gives where there is none
+abbrev pub first_of : List Bool → Bool
+first_of [] = true
+first_of (granted ∷ grants) = granted
+
+-- the event, with these answers
+abbrev pub under : List Bool → PlainEvent → Event
+under grants plain.Open = Open (first_of grants)
+under grants (plain.Bytes conn piece) = Bytes conn (record { bytes = piece; grants = grants })
+under grants (plain.Room conn bytes) = Room conn bytes
+under grants (plain.At moment) = At moment
+under grants (plain.Shut conn) = Shut conn
+
+-- the events, with the answers in each in turn; beyond them it gives all
+abbrev pub all_under : List (List Bool) → List PlainEvent → List Event
+all_under grants [] = []
+all_under [] (event ∷ events) = under [] event ∷ all_under [] events
+all_under (granted ∷ grants) (event ∷ events) = under granted event ∷ all_under grants events
+
+-- ---- lines
+
+-- a line, and what memory answers to it
+pub record Heard : Type 0 where
+  pub mark : Mark
+  pub granted : Bool
+
+-- each line with its answer
+abbrev pub lines_under : List Bool → List Mark → List Heard
+lines_under grants [] = []
+lines_under [] (mark ∷ marks) = record { mark = mark; granted = true } ∷ lines_under [] marks
+lines_under (granted ∷ grants) (mark ∷ marks) = record { mark = mark; granted = granted } ∷ lines_under grants marks
+
+-- GO is refused where memory is refused to it
+abbrev pub greeting_under : Bool → Greeting → Greeting
+greeting_under false Goes = Refuses C500
+greeting_under granted greeting = greeting
+
+-- what a line before the session is
+abbrev pub greets : Heard → Greeting
+greets line = greeting_under line.granted (greets_of line.mark)
+
+-- ---- commands and steps
+
+-- a command, and what memory answers to it
+pub record Order : Type 0 where
+  pub command : Command
+  pub granted : Bool
+
+-- what the command does: nothing where it adds rows and memory is refused to it
+abbrev pub effect : State → (session moment : ℕ) → Order → Effect
+effect state session moment order =
+    if order.granted || not (adds_rows state order.command) then effect_of state session moment order.command else refused C500
+
+-- what the registry goes through, one thing at a time
+pub data Step : Type 0 where
+  Obeyed : (session moment : ℕ) (order : Order) → Step
+  Began : (session moment : ℕ) (mode : Mode) → Step
+  Moment : (moment : ℕ) → Step
+  Ended : (session moment : ℕ) → Step
+
+-- what is told of it: a command is told whatever came of it
+abbrev pub step_told : Step → PlainStep
+step_told (Obeyed session moment order) = told.Obeyed session moment order.command
+step_told (Began session moment mode) = told.Began session moment mode
+step_told (Moment moment) = told.Moment moment
+step_told (Ended session moment) = told.Ended session moment
