@@ -3,9 +3,9 @@ use Rattle.std.proofs.Common.{◌≡◌, ◌∙◌, ℕ, Bool, true, false, List
 use Rattle.std.specs.Prelude.{filter_map, fold}
 use Rattle.std.specs.List.{cons_option}
 use Rattle.std.proofs.lemmas.Bool.Decides.{nat_tests}
+use Rattle.srcp_core.specs.Under.{Event}
 use Rattle.srcp_rules.specs.declared.layout.Bus.{Bus}
-use Rattle.srcp_core.specs.declared.event.Event.{Event}
-use Rattle.srcp_serve.specs.Calls.{Call, NowCall, AcceptCall, ReadCall, WriteCall, CloseCall}
+use Rattle.srcp_serve.specs.Given.{Guest, Call, NowCall, AcceptCall, ReadCall, WriteCall, CloseCall}
 use Rattle.srcp_serve.specs.Serving.{Question, Moments, Newcomers, Closes, Seat, Stand, question, newcomer_of, with_moment, is_let_in, turns_away}
 use Rattle.srcp_serve.proofs.Partings.{IsNoneOf, IsOfNone, AreOfPeers, asks_of}
 use Rattle.srcp_serve.proofs.Comings.{IsEven, even_moment}
@@ -17,21 +17,21 @@ even_timed buses before stand (moment ∷ moments) h = even_timed buses before (
 
 no_newcomer : (call : Call) → question call ≡ Moments → newcomer_of call ≡ None
 no_newcomer (NowCall answer) e = refl
-no_newcomer (AcceptCall answer) e = cc
-no_newcomer (ReadCall peer answer buffer) e = refl
+no_newcomer (AcceptCall answer granted) e = cc
+no_newcomer (ReadCall peer answer buffer grants) e = refl
 no_newcomer (WriteCall peer bytes answer) e = refl
 no_newcomer (CloseCall peer answer) e = refl
 
 pub no_newcomers : (calls : List Call) → AreOfPeers (map question calls) → filter_map newcomer_of calls ≡ []
 no_newcomers [] h = refl
 no_newcomers (NowCall answer ∷ calls) h = cc
-no_newcomers (AcceptCall answer ∷ calls) h = let no = h.0 in cc
-no_newcomers (ReadCall peer answer buffer ∷ calls) h = no_newcomers calls h.1
+no_newcomers (AcceptCall answer granted ∷ calls) h = let no = h.0 in cc
+no_newcomers (ReadCall peer answer buffer grants ∷ calls) h = no_newcomers calls h.1
 no_newcomers (WriteCall peer bytes answer ∷ calls) h = no_newcomers calls h.1
 no_newcomers (CloseCall peer answer ∷ calls) h = no_newcomers calls h.1
 
 -- a turn has at most one newcomer
-pub one_newcomer : (calls : List Call) (questions : List Question) → map question calls ≡ Moments ∷ Newcomers ∷ questions → AreOfPeers questions → (filter_map newcomer_of calls ≡ []) ⊎ ((peer : ℕ) × (filter_map newcomer_of calls ≡ peer ∷ []))
+pub one_newcomer : (calls : List Call) (questions : List Question) → map question calls ≡ Moments ∷ Newcomers ∷ questions → AreOfPeers questions → (filter_map newcomer_of calls ≡ []) ⊎ ((peer : Guest) × (filter_map newcomer_of calls ≡ peer ∷ []))
 one_newcomer [] questions e h = cc
 one_newcomer (now ∷ []) questions e h = cc
 one_newcomer (now ∷ call ∷ calls) questions e h =
@@ -40,18 +40,18 @@ one_newcomer (now ∷ call ∷ calls) questions e h =
     let none : filter_map newcomer_of calls ≡ [] = no_newcomers calls (subst AreOfPeers (sym rest) h) in
     by (newcomer_of call) (ap (λ o. cons_option o (cons_option (newcomer_of call) (filter_map newcomer_of calls))) (no_newcomer now first) ∙ ap (cons_option (newcomer_of call)) none)
   where
-    by : (o : Option ℕ) → filter_map newcomer_of (now ∷ call ∷ calls) ≡ cons_option o [] → (filter_map newcomer_of (now ∷ call ∷ calls) ≡ []) ⊎ ((peer : ℕ) × (filter_map newcomer_of (now ∷ call ∷ calls) ≡ peer ∷ []))
+    by : (o : Option Guest) → filter_map newcomer_of (now ∷ call ∷ calls) ≡ cons_option o [] → (filter_map newcomer_of (now ∷ call ∷ calls) ≡ []) ⊎ ((peer : Guest) × (filter_map newcomer_of (now ∷ call ∷ calls) ≡ peer ∷ []))
     by None e = inl e
     by (Some peer) e = inr (peer, e)
 
 -- who is turned away has no place
-pub away_of_none : (buses : List Bus) (events : List Event) (peer : ℕ) (all : List Seat) → IsNoneOf peer all → IsOfNone buses (Moments ∷ Newcomers ∷ (turns_away buses events peer ++ [])) all
+pub away_of_none : (buses : List Bus) (events : List Event) (peer : Guest) (all : List Seat) → IsNoneOf peer.peer all → IsOfNone buses (Moments ∷ Newcomers ∷ (turns_away buses events peer ++ [])) all
 away_of_none buses events peer [] h = tt
-away_of_none buses events peer (seat ∷ all) h = (by (is_let_in buses events), away_of_none buses events peer all h.1)
+away_of_none buses events peer (seat ∷ all) h = (by (is_let_in buses events peer.granted), away_of_none buses events peer all h.1)
   where
-    other : (peer == seat.peer) ≡ false
+    other : (peer.peer == seat.peer) ≡ false
     other = let e = h.0 in grind (arith, nat_tests)
 
-    by : (b : Bool) → filter (asks_of seat.peer) ((if b then [] else Closes peer ∷ []) ++ []) ≡ []
+    by : (b : Bool) → filter (asks_of seat.peer) ((if b then [] else Closes peer.peer ∷ []) ++ []) ≡ []
     by true = refl
-    by false = ap (λ b. cond b (Closes peer ∷ []) []) other
+    by false = ap (λ b. cond b (Closes peer.peer ∷ []) []) other

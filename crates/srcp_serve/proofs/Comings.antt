@@ -5,10 +5,10 @@ use Rattle.std.specs.Prelude.{is_none}
 use Rattle.std.proofs.lemmas.List.{map-append}
 use Rattle.std.proofs.lemmas.List.Sums.{fold-append}
 use Rattle.srcp_rules.specs.declared.layout.Bus.{Bus}
+use Rattle.srcp_core.specs.Under.{Open, At}
 use Rattle.srcp_core.specs.Course.{World, start, happens, course, fault}
-use Rattle.srcp_core.specs.declared.event.Event.TheVariants.{Open, At}
 use Rattle.srcp_core.specs.declared.record.CoreFault.{CoreFault}
-use Rattle.srcp_serve.specs.Calls.{Call}
+use Rattle.srcp_serve.specs.Given.{Guest, Call}
 use Rattle.srcp_serve.specs.Serving.{Seat, Stand, seats, seated, kept, visit, is_close, with_moment, welcomed, let_in}
 use Rattle.srcp_serve.proofs.Sendings.{IsSending, sending_moment, sending_opened, sending_refused}
 use Rattle.srcp_serve.proofs.Partings.{IsNoneOf, PeersApart}
@@ -99,26 +99,26 @@ module _ (buses : List Bus) (before : ℕ → List ℕ) where
     apart = h.apart;
   }
 
-  pub even_welcomed : (stand : Stand) (peer : ℕ) → IsNew peer stand.guests → before peer ≡ [] → IsEven stand → IsEven (welcomed buses stand peer)
-  even_welcomed stand peer new none h = by (fault buses (course buses stand.events) Open) refl
+  pub even_welcomed : (stand : Stand) (guest : Guest) → IsNew guest.peer stand.guests → before guest.peer ≡ [] → IsEven stand → IsEven (welcomed buses stand guest)
+  even_welcomed stand guest new none h = by (fault buses (course buses stand.events) (Open guest.granted)) refl
     where
-      next : course buses (stand.events ++ Open ∷ []) ≡ happens buses (course buses stand.events) Open
-      next = fold-append (happens buses) start stand.events (Open ∷ [])
+      next : course buses (stand.events ++ Open guest.granted ∷ []) ≡ happens buses (course buses stand.events) (Open guest.granted)
+      next = fold-append (happens buses) start stand.events (Open guest.granted ∷ [])
 
-      by : (o : Option CoreFault) → fault buses (course buses stand.events) Open ≡ o → IsEven (welcomed buses stand peer)
+      by : (o : Option CoreFault) → fault buses (course buses stand.events) (Open guest.granted) ≡ o → IsEven (welcomed buses stand guest)
       by None e =
-          let yes : welcomed buses stand peer ≡ let_in buses stand peer = ap (λ o. if is_none o then let_in buses stand peer else record stand { events = stand.events ++ Open ∷ [] }) e in
-          let texts : map before stand.guests ++ [] ∷ [] ≡ map before (stand.guests ++ peer ∷ []) = ap (λ t. map before stand.guests ++ t ∷ []) (sym none) ∙ sym (map-append before stand.guests (peer ∷ [])) in
+          let yes : welcomed buses stand guest ≡ let_in buses stand guest = ap (λ o. if is_none o then let_in buses stand guest else record stand { events = stand.events ++ Open guest.granted ∷ [] }) e in
+          let texts : map before stand.guests ++ [] ∷ [] ≡ map before (stand.guests ++ guest.peer ∷ []) = ap (λ t. map before stand.guests ++ t ∷ []) (sym none) ∙ sym (map-append before stand.guests (guest.peer ∷ [])) in
           subst IsEven (sym yes) (record {
-            sending = subst (λ (ts : List (List ℕ)). IsSending ts (course buses (stand.events ++ Open ∷ [])).connections) texts
-                (subst (λ (v : World). IsSending (map before stand.guests ++ [] ∷ []) v.connections) (sym next) (sending_opened buses (map before stand.guests) (course buses stand.events) h.sending e));
-            known = seated_all (λ seat. IsGuest seat.conn seat.peer (stand.guests ++ peer ∷ [])) (record { peer = peer; conn = length stand.guests + 1 }) stand.places (guest_last peer stand.guests new) (guests_before peer stand.guests (seats stand.places) new h.known);
-            apart = seated_apart (record { peer = peer; conn = length stand.guests + 1 }) stand.places (new_unseated peer stand.guests (seats stand.places) new h.known) h.apart;
+            sending = subst (λ (ts : List (List ℕ)). IsSending ts (course buses (stand.events ++ Open guest.granted ∷ [])).connections) texts
+                (subst (λ (v : World). IsSending (map before stand.guests ++ [] ∷ []) v.connections) (sym next) (sending_opened buses (map before stand.guests) guest.granted (course buses stand.events) h.sending e));
+            known = seated_all (λ seat. IsGuest seat.conn seat.peer (stand.guests ++ guest.peer ∷ [])) (record { peer = guest.peer; conn = length stand.guests + 1 }) stand.places (guest_last guest.peer stand.guests new) (guests_before guest.peer stand.guests (seats stand.places) new h.known);
+            apart = seated_apart (record { peer = guest.peer; conn = length stand.guests + 1 }) stand.places (new_unseated guest.peer stand.guests (seats stand.places) new h.known) h.apart;
           })
       by (Some cause) e =
-          let no : welcomed buses stand peer ≡ record stand { events = stand.events ++ Open ∷ [] } = ap (λ o. if is_none o then let_in buses stand peer else record stand { events = stand.events ++ Open ∷ [] }) e in
+          let no : welcomed buses stand guest ≡ record stand { events = stand.events ++ Open guest.granted ∷ [] } = ap (λ o. if is_none o then let_in buses stand guest else record stand { events = stand.events ++ Open guest.granted ∷ [] }) e in
           subst IsEven (sym no) (record {
-            sending = subst (λ (v : World). IsSending (map before stand.guests) v.connections) (sym next) (sending_refused buses (map before stand.guests) (course buses stand.events) cause h.sending e);
+            sending = subst (λ (v : World). IsSending (map before stand.guests) v.connections) (sym next) (sending_refused buses (map before stand.guests) guest.granted (course buses stand.events) cause h.sending e);
             known = h.known;
             apart = h.apart;
           })

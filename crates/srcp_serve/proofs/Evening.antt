@@ -5,7 +5,7 @@ use Rattle.std.specs.List.{list_any, AllByRecursion}
 use Rattle.std.proofs.lemmas.List.Elements.{filter-append}
 use Rattle.srcp_rules.specs.declared.layout.Bus.{Bus}
 use Rattle.srcp_core.specs.Course.{course}
-use Rattle.srcp_serve.specs.Calls.{Call}
+use Rattle.srcp_serve.specs.Given.{Call}
 use Rattle.srcp_serve.specs.Serving.{Question, Seat, Stand, IsFair, is_about, question, seats, taken, visited, visits_ask}
 use Rattle.srcp_serve.proofs.Sendings.{IsSending}
 use Rattle.srcp_serve.proofs.Takings.{asks_write, no_writes, none_taken}

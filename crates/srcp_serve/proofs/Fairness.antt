@@ -4,8 +4,7 @@ use Rattle.std.specs.Prelude.{IfOk}
 use Rattle.srcp_serve.specs.declared.door.DoorFault.{DoorFault}
 use Rattle.srcp_serve.specs.declared.door.Got.{Got}
 use Rattle.srcp_serve.specs.declared.door.Got.TheVariants as got
-use Rattle.srcp_serve.specs.Calls.{ReadCall, WriteCall}
-use Rattle.srcp_serve.specs.Serving.{IsFair}
+use Rattle.srcp_serve.specs.Calls.{ReadCall, WriteCall, IsFair}
 
 pub fair_read : (peer : ℕ) (answer : Result Got DoorFault) (most : ℕ) (buffer : List ℕ) → ((n : ℕ) → answer ≡ Ok (got.Bytes n) → (0 < n) × (n ≤ most)) → length buffer ≡ most → IsFair (ReadCall peer answer buffer)
 fair_read peer (Ok (got.Bytes n)) most buffer count same = let within = count n refl in (within.0, subst (λ (m : ℕ). n ≤ m) (sym same) within.1)

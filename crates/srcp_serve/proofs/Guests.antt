@@ -3,10 +3,10 @@ use Rattle.std.proofs.Common.{◌≡◌, ◌∙◌, ℕ, zero, suc, Bool, true, 
 use Rattle.std.specs.Prelude.{◌||◌, flat_map}
 use Rattle.std.specs.List.{list_any, AllByRecursion}
 use Rattle.std.proofs.lemmas.Bool.Decides.{nat_tests}
+use Rattle.srcp_core.specs.Under.{Event}
 use Rattle.srcp_rules.specs.declared.layout.Bus.{Bus}
 use Rattle.srcp_core.specs.Course.{course}
-use Rattle.srcp_core.specs.declared.event.Event.{Event}
-use Rattle.srcp_serve.specs.Calls.{Call, NowCall, AcceptCall, ReadCall, WriteCall, CloseCall}
+use Rattle.srcp_serve.specs.Given.{Call, NowCall, AcceptCall, ReadCall, WriteCall, CloseCall}
 use Rattle.srcp_serve.specs.Serving.{Seat, IsFair, is_about, visit, visit_events, taken, taken_in}
 use Rattle.srcp_serve.specs.declared.door.DoorFault.{DoorFault}
 use Rattle.srcp_serve.proofs.Sendings.{IsSending}
@@ -41,10 +41,10 @@ none_of peer who bytes (Err failed) e = refl
 pub taken_visit : (peer : ℕ) (calls : List Call) → taken peer (filter (is_about peer) calls) ≡ taken peer calls
 taken_visit peer [] = refl
 taken_visit peer (NowCall answer ∷ calls) = taken_visit peer calls
-taken_visit peer (AcceptCall answer ∷ calls) = taken_visit peer calls
-taken_visit peer (ReadCall who answer buffer ∷ calls) = by (who == peer) ∙ taken_visit peer calls
+taken_visit peer (AcceptCall answer granted ∷ calls) = taken_visit peer calls
+taken_visit peer (ReadCall who answer buffer grants ∷ calls) = by (who == peer) ∙ taken_visit peer calls
   where
-    by : (b : Bool) → taken peer (if b then ReadCall who answer buffer ∷ filter (is_about peer) calls else filter (is_about peer) calls) ≡ taken peer (filter (is_about peer) calls)
+    by : (b : Bool) → taken peer (if b then ReadCall who answer buffer grants ∷ filter (is_about peer) calls else filter (is_about peer) calls) ≡ taken peer (filter (is_about peer) calls)
     by true = refl
     by false = refl
 taken_visit peer (CloseCall who answer ∷ calls) = by (who == peer) ∙ taken_visit peer calls

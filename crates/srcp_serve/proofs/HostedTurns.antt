@@ -6,45 +6,59 @@ use Rattle.std.proofs.lemmas.List.Elements.{filter_map-append}
 use Rattle.std.proofs.lemmas.List.Folds.{list_any-append}
 use Rattle.std.proofs.lemmas.Option.{same_Some}
 use Rattle.std.specs.List.{list_all, list_any, filter_map, AllByRecursion, IsDistinct}
-use Rattle.std.specs.Prelude.{◌||◌, flat_map}
+use Rattle.std.specs.Prelude.{◌||◌, not, flat_map}
 use Rattle.srcp_rules.specs.declared.layout.Bus.{Bus}
 use Rattle.srcp_core.specs.Course.{course}
 use Rattle.srcp_core.specs.Held.{Held}
 use Rattle.srcp_core.specs.Stands.{StandsFor}
-use Rattle.srcp_core.specs.declared.event.Event.TheVariants.{Open}
+use Rattle.srcp_core.specs.Under.{Open}
+use Rattle.srcp_info.proofs.ClientLaws.{all_append}
 use Rattle.srcp_core.proofs.Told.{all_front}
-use Rattle.srcp_serve.specs.Calls.{Call, Tells, NowCall, AcceptCall, ReadCall, WriteCall, CloseCall}
-use Rattle.srcp_serve.specs.Serving.{Seat, Stand, Moments, Newcomers, IsServed, PeersDiffer, question, moment_of, newcomer_of, seats, visits_ask, visit_events, kept, is_let_in, let_in, welcomed, with_moment, timed, begun, visited, turned, turn_asks, turns_away, stand_after}
-use Rattle.srcp_serve.specs.Places.{IsHosting, IsServing, IsLeftOut, IsNotOf, IsOneOf, one_if, LetsIn, MakesTurn, SeatsPeer, SeatsDiffer, ServesCourse, ServesSoFar, Sit, TakesMoment, Visit, VisitsPlaces, AreOwn, asked_by, calls_of, left_by, made_by, seat_of, visits_of}
-use Rattle.srcp_serve.specs.Turns.{AsksPeers, AsksTurn, AsksTurns, IsTurn, is_of_peer}
-use Rattle.srcp_serve.specs.Visits.{Adds, Keeps}
+use Rattle.srcp_serve.specs.Calls.{Call as DoorCall, Tells, Adds, PeersDiffer, peer_of}
+use Rattle.srcp_serve.specs.Calls as door
+use Rattle.srcp_serve.specs.Given.{Guest, Call, NowCall, AcceptCall, ReadCall, WriteCall, CloseCall, IsGiven, told_call}
+use Rattle.srcp_serve.specs.Serving.{Seat, Stand, Moments, Newcomers, IsFair, IsServed, question, is_now, moment_of, newcomer_of, seats, visits_ask, visit_events, kept, is_let_in, let_in, welcomed, with_moment, timed, begun, visited, turned, turn_asks, turns_away, stand_after}
+use Rattle.srcp_serve.specs.Places.{IsHosting, IsServing, IsLeftOut, IsNotOf, IsOneOf, IsTurnGiven, one_if, LetsIn, MakesTurn, SeatsPeer, SeatsDiffer, ServesCourse, ServesSoFar, Sit, TakesMoment, Visit, VisitsPlaces, AreOwn, asked_by, calls_of, left_by, made_by, seat_of, visits_of}
+use Rattle.srcp_serve.specs.Turns.{AsksNewcomer, AsksPeers, AsksTurn, AsksTurns, IsTurn, is_of_peer}
+use Rattle.srcp_serve.specs.Visits.{AddsGiven}
 use Rattle.srcp_serve.specs.declared.door.DoorFault.{DoorFault}
 use Rattle.srcp_serve.specs.declared.serving.visit.Seat.{Seat as Own}
 use Rattle.srcp_serve.proofs.Hosting.{none_left_out}
 use Rattle.srcp_serve.proofs.PlaceLaws.{all_here, all_seated, kept_by, known_left, round_seats, visits_apart}
 use Rattle.srcp_serve.proofs.ServingLaws.{served-more}
-use Rattle.srcp_serve.proofs.Telling.{adds_one, adds_more}
-use Rattle.srcp_serve.proofs.Turning.{not_now}
-use Rattle.srcp_serve.proofs.TurnsTaken.{sent_taken}
+use Rattle.srcp_serve.proofs.Telling.{adds_one, adds_then, given_then, same_calls}
+use Rattle.srcp_serve.proofs.TurnsTaken.{peers_told, sent_taken}
 use Rattle.srcp_serve.proofs.VisitLaws.{AreApart, visits_asked, visits_make}
 
 -- ---- peers that came in
 
-no_newcomers : (calls : List Call) → list_all is_of_peer calls ≡ true → filter_map newcomer_of calls ≡ []
+no_newcomers : (calls : List Call) → list_all is_of_peer (map told_call calls) ≡ true → filter_map newcomer_of calls ≡ []
 no_newcomers [] h = refl
 no_newcomers (NowCall answer ∷ calls) h = cc
-no_newcomers (AcceptCall answer ∷ calls) h = cc
-no_newcomers (ReadCall peer answer buffer ∷ calls) h = no_newcomers calls h
+no_newcomers (AcceptCall answer granted ∷ calls) h = cc
+no_newcomers (ReadCall peer answer buffer grants ∷ calls) h = no_newcomers calls h
 no_newcomers (WriteCall peer bytes answer ∷ calls) h = no_newcomers calls h
 no_newcomers (CloseCall peer answer ∷ calls) h = no_newcomers calls h
 
-no_moments : (calls : List Call) → list_all is_of_peer calls ≡ true → filter_map moment_of calls ≡ []
+no_moments : (calls : List Call) → list_all is_of_peer (map told_call calls) ≡ true → filter_map moment_of calls ≡ []
 no_moments [] h = refl
 no_moments (NowCall answer ∷ calls) h = cc
-no_moments (AcceptCall answer ∷ calls) h = cc
-no_moments (ReadCall peer answer buffer ∷ calls) h = no_moments calls h
+no_moments (AcceptCall answer granted ∷ calls) h = cc
+no_moments (ReadCall peer answer buffer grants ∷ calls) h = no_moments calls h
 no_moments (WriteCall peer bytes answer ∷ calls) h = no_moments calls h
 no_moments (CloseCall peer answer ∷ calls) h = no_moments calls h
+
+not_now : (calls : List Call) → list_all is_of_peer (map told_call calls) ≡ true → list_all (λ call. not (is_now call)) calls ≡ true
+not_now [] h = refl
+not_now (NowCall answer ∷ calls) h = cc
+not_now (AcceptCall answer granted ∷ calls) h = cc
+not_now (ReadCall peer answer buffer grants ∷ calls) h = not_now calls h
+not_now (WriteCall peer bytes answer ∷ calls) h = not_now calls h
+not_now (CloseCall peer answer ∷ calls) h = not_now calls h
+
+fair_given : (calls : List Call) → AllByRecursion door.IsFair (map told_call calls) → AllByRecursion IsFair calls
+fair_given [] h = tt
+fair_given (call ∷ calls) h = (h.0, fair_given calls h.1)
 
 differ_front : (xs ys : List ℕ) → IsDistinct (λ a b. a == b) (xs ++ ys) → IsDistinct (λ a b. a == b) xs
 unfolding IsDistinct
@@ -56,8 +70,11 @@ unfolding IsDistinct
 differ_last [] y ys h = tt
 differ_last (x ∷ xs) y ys h = (all_here (λ z. (x == z) ≡ false) xs y ys h.0, differ_last xs y ys h.1)
 
-peers_differ_front : (buses : List Bus) (xs ys : List Call) → PeersDiffer buses (xs ++ ys) → PeersDiffer buses xs
-peers_differ_front buses xs ys h = differ_front (filter_map newcomer_of xs) (filter_map newcomer_of ys) (subst (λ (ps : List ℕ). IsDistinct (λ a b. a == b) ps) (filter_map-append newcomer_of xs ys) h)
+peers_front : (peers : List ℕ) (xs ys : List DoorCall) → PeersDiffer peers (xs ++ ys) → PeersDiffer peers xs
+peers_front peers xs ys h =
+    let first : List ℕ = filter_map peer_of xs in
+    let rest : List ℕ = filter_map peer_of ys in
+    differ_front (peers ++ first) rest (subst (λ (ps : List ℕ). IsDistinct (λ a b. a == b) ps) (ap (λ ps. peers ++ ps) (filter_map-append peer_of xs ys) ∙ sym (append_assoc peers first rest)) h)
 
 no_either : (x p r : ℕ) → (x == p) ≡ false → (x == r) ≡ true → (p == r) ≡ false
 no_either x p r a b = grind (arith, nat_tests)
@@ -90,21 +107,21 @@ known_last (x ∷ peers) p = by (x == p) (known_last peers p)
     by false e = e
 
 module _ (buses : List Bus) where
-  known_welcomed : (peers : List ℕ) (stand : Stand) (p : ℕ) → AllByRecursion (IsOneOf peers) stand.places → AllByRecursion (IsOneOf (peers ++ p ∷ [])) (welcomed buses stand p).places
-  known_welcomed peers stand p h = by (is_let_in buses stand.events)
+  known_welcomed : (peers : List ℕ) (stand : Stand) (guest : Guest) → AllByRecursion (IsOneOf peers) stand.places → AllByRecursion (IsOneOf (peers ++ guest.peer ∷ [])) (welcomed buses stand guest).places
+  known_welcomed peers stand guest h = by (is_let_in buses stand.events guest.granted)
     where
-      more : AllByRecursion (IsOneOf (peers ++ p ∷ [])) stand.places
-      more = known_more peers (p ∷ []) stand.places h
+      more : AllByRecursion (IsOneOf (peers ++ guest.peer ∷ [])) stand.places
+      more = known_more peers (guest.peer ∷ []) stand.places h
 
-      by : (b : Bool) → AllByRecursion (IsOneOf (peers ++ p ∷ [])) (if b then let_in buses stand p else record stand { events = stand.events ++ Open ∷ [] }).places
-      by true = all_seated (IsOneOf (peers ++ p ∷ [])) (record { peer = p; conn = length stand.guests + 1 }) stand.places (known_last peers p) more
+      by : (b : Bool) → AllByRecursion (IsOneOf (peers ++ guest.peer ∷ [])) (if b then let_in buses stand guest else record stand { events = stand.events ++ Open guest.granted ∷ [] }).places
+      by true = all_seated (IsOneOf (peers ++ guest.peer ∷ [])) (record { peer = guest.peer; conn = length stand.guests + 1 }) stand.places (known_last peers guest.peer) more
       by false = more
 
-  known_news : (answer : Result (Option ℕ) DoorFault) (peers : List ℕ) (stand : Stand) → AllByRecursion (IsOneOf peers) stand.places
-      → AllByRecursion (IsOneOf (peers ++ filter_map newcomer_of (AcceptCall answer ∷ []))) (fold (welcomed buses) stand (filter_map newcomer_of (AcceptCall answer ∷ []))).places
-  known_news (Ok None) peers stand h = known_more peers [] stand.places h
-  known_news (Ok (Some p)) peers stand h = known_welcomed peers stand p h
-  known_news (Err failed) peers stand h = known_more peers [] stand.places h
+  known_news : (answer : Result (Option ℕ) DoorFault) (granted : Bool) (peers : List ℕ) (stand : Stand) → AllByRecursion (IsOneOf peers) stand.places
+      → AllByRecursion (IsOneOf (peers ++ filter_map peer_of (door.AcceptCall answer ∷ []))) (fold (welcomed buses) stand (filter_map newcomer_of (AcceptCall answer granted ∷ []))).places
+  known_news (Ok None) granted peers stand h = known_more peers [] stand.places h
+  known_news (Ok (Some p)) granted peers stand h = known_welcomed peers stand (record { peer = p; granted = granted }) h
+  known_news (Err failed) granted peers stand h = known_more peers [] stand.places h
 
   guests_timed : (answer : Result ℕ DoorFault) (stand : Stand) → length (timed buses stand (NowCall answer ∷ [])).guests ≡ length stand.guests
   guests_timed (Ok moment) stand = refl
@@ -123,40 +140,60 @@ module _ (buses : List Bus) where
 no_more : (n : ℕ) → n ≡ n + 0
 no_more n = omega arith
 
-module _ (old : Held) (told_old told_new : Option (List Call)) (owns : List (Option Own)) where
-  pub lets_nobody : Tells told_old (AcceptCall (Ok None)) told_new → LetsIn old told_old owns old told_new owns false
-  lets_nobody h buses stand keys told hosting d is before was differ known =
-      record { answer = Ok None; early = []; keys = keys; adds = adds_one (AcceptCall (Ok None)) told_old told_new told h is; asked = refl; others = none_left_out stand.places; hosting = hosting; opened = no_more (length stand.guests) }
+module _ (old : Held) (told_old told_new : Option (List DoorCall)) (owns : List (Option Own)) where
+  pub lets_nobody : Tells told_old (door.AcceptCall (Ok None)) told_new → LetsIn old told_old owns old told_new owns false
+  lets_nobody h buses stand keys told hosting is peers calls adds differ known = record {
+    answer = Ok None;
+    granted = true;
+    early = [];
+    keys = keys;
+    adds = adds_one (door.AcceptCall (Ok None)) told_old told_new told h is;
+    given = λ d. (refl, tt);
+    asked = refl;
+    others = none_left_out stand.places;
+    hosting = hosting;
+    opened = no_more (length stand.guests);
+  }
 
-  pub lets_none : (failed : DoorFault) → Tells told_old (AcceptCall (Err failed)) told_new → LetsIn old told_old owns old told_new owns false
-  lets_none failed h buses stand keys told hosting d is before was differ known =
-      record { answer = Err failed; early = []; keys = keys; adds = adds_one (AcceptCall (Err failed)) told_old told_new told h is; asked = refl; others = none_left_out stand.places; hosting = hosting; opened = no_more (length stand.guests) }
+  pub lets_none : (failed : DoorFault) → Tells told_old (door.AcceptCall (Err failed)) told_new → LetsIn old told_old owns old told_new owns false
+  lets_none failed h buses stand keys told hosting is peers calls adds differ known = record {
+    answer = Err failed;
+    granted = true;
+    early = [];
+    keys = keys;
+    adds = adds_one (door.AcceptCall (Err failed)) told_old told_new told h is;
+    given = λ d. (refl, tt);
+    asked = refl;
+    others = none_left_out stand.places;
+    hosting = hosting;
+    opened = no_more (length stand.guests);
+  }
 
-pub lets_peer : (peer : ℕ) (opens : Bool) (old new : Held) (told_old told_mid told_new : Option (List Call)) (owns owns_new : List (Option Own)) → Tells told_old (AcceptCall (Ok (Some peer))) told_mid → AsksPeers told_mid told_new → SeatsPeer peer old told_mid owns new told_new owns_new opens → LetsIn old told_old owns new told_new owns_new opens
-lets_peer peer opens old new told_old told_mid told_new owns owns_new h asks sits buses stand keys told hosting d is before was differ known =
-    let call : Call = AcceptCall (Ok (Some peer)) in
+pub lets_peer : (peer : ℕ) (opens : Bool) (old new : Held) (told_old told_mid told_new : Option (List DoorCall)) (owns owns_new : List (Option Own)) → Tells told_old (door.AcceptCall (Ok (Some peer))) told_mid → AsksPeers told_mid told_new → SeatsPeer peer old told_mid owns new told_new owns_new opens → LetsIn old told_old owns new told_new owns_new opens
+lets_peer peer opens old new told_old told_mid told_new owns owns_new h asks sits buses stand keys told hosting is peers calls adds differ known =
+    let call : DoorCall = door.AcceptCall (Ok (Some peer)) in
     let later = asks told is in
     let first = adds_one call told_old told_mid later.adds.before h later.adds.was in
-    let same : first.before ≡ before = same_Some first.before before (sym first.was ∙ was) in
-    let all : told ≡ before ++ call ∷ later.calls = later.adds.is ∙ ap (λ c. c ++ later.calls) first.is ∙ append_assoc first.before (call ∷ []) later.calls ∙ ap (λ b. b ++ call ∷ later.calls) same in
-    let news : filter_map newcomer_of told ≡ filter_map newcomer_of before ++ peer ∷ filter_map newcomer_of later.calls = ap (filter_map newcomer_of) all ∙ filter_map-append newcomer_of before (call ∷ later.calls) in
-    let apart : IsDistinct (λ a b. a == b) (filter_map newcomer_of before ++ peer ∷ filter_map newcomer_of later.calls) = subst (λ (ps : List ℕ). IsDistinct (λ a b. a == b) ps) news differ in
-    let x = sits buses stand keys told hosting d is (fresh (filter_map newcomer_of before) peer stand.places (differ_last (filter_map newcomer_of before) peer (filter_map newcomer_of later.calls) apart) known) in
-    let here : x.adds.before ≡ later.adds.before = same_Some x.adds.before later.adds.before (sym x.adds.was ∙ later.adds.was) in
+    let same : calls ≡ call ∷ later.calls = same_calls told_old told calls (call ∷ later.calls) adds (adds_then told_old told_mid later.adds.before told (call ∷ []) later.calls later.adds.was first later.adds) in
+    let apart : IsDistinct (λ a b. a == b) (peers ++ peer ∷ filter_map peer_of later.calls) = subst (λ (cs : List DoorCall). PeersDiffer peers cs) same differ in
+    let x = sits buses stand keys told hosting is (fresh peers peer stand.places (differ_last peers peer (filter_map peer_of later.calls) apart) known) in
+    let guest : Guest = record { peer = peer; granted = x.granted } in
     record {
       answer = Ok (Some peer);
-      early = x.early;
-      keys = x.keys;
-      adds = adds_more told_old told later.adds.before (call ∷ []) x.early first (x.adds.is ∙ ap (λ b. b ++ x.early) here);
-      asked = x.asked ∙ sym (append-nil (turns_away buses stand.events peer));
-      others = x.others;
-      hosting = x.hosting;
-      opened = x.opened;
+      granted = x.granted;
+      early = x.welcomes.early;
+      keys = x.welcomes.keys;
+      adds = given_then told_old told_mid later.adds.before told (AcceptCall (Ok (Some peer)) x.granted ∷ []) x.welcomes.early later.adds.was first x.welcomes.adds;
+      given = x.welcomes.given;
+      asked = x.welcomes.asked ∙ sym (append-nil (turns_away buses stand.events guest));
+      others = x.welcomes.others;
+      hosting = x.welcomes.hosting;
+      opened = x.welcomes.opened;
     }
 
 -- ---- the calls of a turn
 
-module _ (buses : List Bus) (stand : Stand) (now : Result ℕ DoorFault) (answer : Result (Option ℕ) DoorFault) (early : List Call) (round : List (Option Visit)) where
+module _ (buses : List Bus) (stand : Stand) (now : Result ℕ DoorFault) (answer : Result (Option ℕ) DoorFault) (granted : Bool) (early : List Call) (round : List (Option Visit)) where
   abbrev visits : List Visit
   visits = visits_of round
 
@@ -164,10 +201,10 @@ module _ (buses : List Bus) (stand : Stand) (now : Result ℕ DoorFault) (answer
   tail = early ++ calls_of visits
 
   abbrev calls : List Call
-  calls = NowCall now ∷ AcceptCall answer ∷ tail
+  calls = NowCall now ∷ AcceptCall answer granted ∷ tail
 
-  abbrev news : List ℕ
-  news = filter_map newcomer_of (AcceptCall answer ∷ [])
+  abbrev news : List Guest
+  news = filter_map newcomer_of (AcceptCall answer granted ∷ [])
 
   abbrev first : Stand
   first = timed buses stand (NowCall now ∷ [])
@@ -178,21 +215,21 @@ module _ (buses : List Bus) (stand : Stand) (now : Result ℕ DoorFault) (answer
   abbrev third : Stand
   third = record { events = second.events ++ made_by visits; guests = second.guests; places = map left_by round ++ [] }
 
-  module _ (peers : list_all is_of_peer tail ≡ true) where
+  module _ (peers : list_all is_of_peer (map told_call tail) ≡ true) where
     news_are : filter_map newcomer_of calls ≡ news
-    news_are = filter_map-append newcomer_of (AcceptCall answer ∷ []) tail ∙ ap (λ more. news ++ more) (no_newcomers tail peers) ∙ append-nil news
+    news_are = filter_map-append newcomer_of (AcceptCall answer granted ∷ []) tail ∙ ap (λ more. news ++ more) (no_newcomers tail peers) ∙ append-nil news
 
     timed_is : timed buses stand calls ≡ first
-    timed_is = ap (fold (with_moment buses) stand) (filter_map-append moment_of (NowCall now ∷ []) (AcceptCall answer ∷ tail) ∙ ap (λ more. filter_map moment_of (NowCall now ∷ []) ++ more) (no_moments tail peers) ∙ append-nil (filter_map moment_of (NowCall now ∷ [])))
+    timed_is = ap (fold (with_moment buses) stand) (filter_map-append moment_of (NowCall now ∷ []) (AcceptCall answer granted ∷ tail) ∙ ap (λ more. filter_map moment_of (NowCall now ∷ []) ++ more) (no_moments tail peers) ∙ append-nil (filter_map moment_of (NowCall now ∷ [])))
 
     begun_is : begun buses stand calls ≡ second
     begun_is = ap (λ s. fold (welcomed buses) s (filter_map newcomer_of calls)) timed_is ∙ ap (fold (welcomed buses) first) news_are
 
     module _ (own : AreOwn visits) (places : map seat_of round ≡ second.places) (differ : SeatsDiffer second.places) (others : AllByRecursion (IsLeftOut early) second.places) where
-      apart : AreApart (NowCall now ∷ AcceptCall answer ∷ early) visits
-      apart = visits_apart (NowCall now ∷ AcceptCall answer ∷ early) round own (subst (λ (ps : List (Option Seat)). SeatsDiffer ps) (sym places) differ) (left_out (map seat_of round) (subst (λ (ps : List (Option Seat)). AllByRecursion (IsLeftOut early) ps) (sym places) others))
+      apart : AreApart (NowCall now ∷ AcceptCall answer granted ∷ early) visits
+      apart = visits_apart (NowCall now ∷ AcceptCall answer granted ∷ early) round own (subst (λ (ps : List (Option Seat)). SeatsDiffer ps) (sym places) differ) (left_out (map seat_of round) (subst (λ (ps : List (Option Seat)). AllByRecursion (IsLeftOut early) ps) (sym places) others))
         where
-          left_out : (ps : List (Option Seat)) → AllByRecursion (IsLeftOut early) ps → AllByRecursion (IsLeftOut (NowCall now ∷ AcceptCall answer ∷ early)) ps
+          left_out : (ps : List (Option Seat)) → AllByRecursion (IsLeftOut early) ps → AllByRecursion (IsLeftOut (NowCall now ∷ AcceptCall answer granted ∷ early)) ps
           left_out [] h = tt
           left_out (None ∷ ps) h = (tt, left_out ps h.1)
           left_out (Some seat ∷ ps) h = ((refl, (refl, h.0)), left_out ps h.1)
@@ -204,14 +241,14 @@ module _ (buses : List Bus) (stand : Stand) (now : Result ℕ DoorFault) (answer
       turned_is =
           ap (λ s. visited buses s calls) begun_is
           ∙ ap (λ ss. record second { events = second.events ++ flat_map (visit_events calls) ss; places = map (kept calls) second.places }) seats_are
-          ∙ ap (λ more. record second { events = second.events ++ more; places = map (kept calls) second.places }) (visits_make (NowCall now ∷ AcceptCall answer ∷ early) visits apart calls refl)
+          ∙ ap (λ more. record second { events = second.events ++ more; places = map (kept calls) second.places }) (visits_make (NowCall now ∷ AcceptCall answer granted ∷ early) visits apart calls refl)
           ∙ ap (λ ps. record second { events = second.events ++ made_by visits; places = map (kept calls) ps }) (sym places)
-          ∙ ap (λ ps. record second { events = second.events ++ made_by visits; places = ps }) (kept_by (NowCall now ∷ AcceptCall answer ∷ early) round apart calls refl ∙ sym (append-nil (map left_by round)))
+          ∙ ap (λ ps. record second { events = second.events ++ made_by visits; places = ps }) (kept_by (NowCall now ∷ AcceptCall answer granted ∷ early) round apart calls refl ∙ sym (append-nil (map left_by round)))
 
       pub turn_asked : map question early ≡ flat_map (turns_away buses first.events) news → map question (calls_of visits) ≡ asked_by buses second.events visits → map question calls ≡ turn_asks buses stand calls
       turn_asked away asked =
           let asks_second : visits_ask buses second.events calls (seats second.places) ≡ asked_by buses second.events visits =
-          ap (visits_ask buses second.events calls) seats_are ∙ visits_asked buses (NowCall now ∷ AcceptCall answer ∷ early) visits apart calls refl second.events in
+          ap (visits_ask buses second.events calls) seats_are ∙ visits_asked buses (NowCall now ∷ AcceptCall answer granted ∷ early) visits apart calls refl second.events in
           let asks : turn_asks buses stand calls ≡ Moments ∷ Newcomers ∷ (flat_map (turns_away buses first.events) news ++ asked_by buses second.events visits) =
           ap (λ s. Moments ∷ Newcomers ∷ (flat_map (turns_away buses s.events) (filter_map newcomer_of calls) ++ visits_ask buses (begun buses stand calls).events calls (seats (begun buses stand calls).places))) timed_is
           ∙ ap (λ ps. Moments ∷ Newcomers ∷ (flat_map (turns_away buses first.events) ps ++ visits_ask buses (begun buses stand calls).events calls (seats (begun buses stand calls).places))) news_are
@@ -219,58 +256,55 @@ module _ (buses : List Bus) (stand : Stand) (now : Result ℕ DoorFault) (answer
           ∙ ap (λ qs. Moments ∷ Newcomers ∷ (flat_map (turns_away buses first.events) news ++ qs)) asks_second in
           ap (λ qs. Moments ∷ Newcomers ∷ qs) (map-append question early (calls_of visits) ∙ ap (λ qs. qs ++ map question (calls_of visits)) away ∙ ap (λ qs. flat_map (turns_away buses first.events) news ++ qs) asked) ∙ sym asks
 
-tail_of : (told : List Call) (now : Result ℕ DoorFault) (answer : Result (Option ℕ) DoorFault) (rest : List Call) → IsTurn told → told ≡ NowCall now ∷ AcceptCall answer ∷ rest → list_all is_of_peer rest ≡ true
+tail_of : (told : List DoorCall) (now : Result ℕ DoorFault) (answer : Result (Option ℕ) DoorFault) (rest : List DoorCall) → IsTurn told → told ≡ door.NowCall now ∷ door.AcceptCall answer ∷ rest → list_all is_of_peer rest ≡ true
 tail_of told now answer rest t e = ap (list_all is_of_peer) (sym (ap (drop 2) (sym t.is ∙ e))) ∙ t.peers
 
-pub makes_turn : (opens : Bool) (old mid between new : Held) (told_old told_mid told_between told_new : Option (List Call)) (owns_old owns owns_new : List (Option Own))
-    → TakesMoment old told_old mid told_mid → Keeps mid told_mid between told_between → LetsIn mid told_mid owns_old between told_between owns opens → Keeps between told_between new told_new
+pub makes_turn : (opens : Bool) (old mid between new : Held) (told_old told_mid told_between told_new : Option (List DoorCall)) (owns_old owns owns_new : List (Option Own))
+    → TakesMoment old told_old mid told_mid → AsksNewcomer told_mid told_between → LetsIn mid told_mid owns_old between told_between owns opens → (new.denied ≡ 0 → between.denied ≡ 0)
     → AsksPeers told_between told_new → VisitsPlaces between told_between owns new told_new owns_new → AsksTurn told_old told_new → MakesTurn old told_old owns_old new told_new owns_new opens
-makes_turn opens old mid between new told_old told_mid told_between told_new owns_old owns owns_new moment keeps_in lets keeps_visits asks_visits visits asks_turn buses stand keys told hosting d is before was differ known =
-    let w = keeps_visits told d is in
-    let v = keeps_in w.told w.denied w.is in
-    let t = moment owns_old buses stand keys v.told hosting v.denied v.is in
+makes_turn opens old mid between new told_old told_mid told_between told_new owns_old owns owns_new moment asks_in lets low asks_visits visits asks_turn buses stand keys told hosting is peers calls adds differ known =
+    let later = asks_visits told is in
+    let w = later.adds in
+    let one = asks_in w.before w.was in
+    let v = one.adds in
+    let t = moment owns_old buses stand keys v.before hosting v.was in
     let first_stand : Stand = timed buses stand (NowCall t.answer ∷ []) in
     let hosted = hosting_timed buses t.answer stand keys old mid owns_old hosting t.stands in
-    let v_is : v.told ≡ before ++ NowCall t.answer ∷ [] = t.adds.is ∙ ap (λ b. b ++ NowCall t.answer ∷ []) (same_Some t.adds.before before (sym t.adds.was ∙ was)) in
-    let v_news : filter_map newcomer_of v.told ≡ filter_map newcomer_of before = ap (filter_map newcomer_of) v_is ∙ filter_map-append newcomer_of before (NowCall t.answer ∷ []) ∙ append-nil (filter_map newcomer_of before) in
-    let later = asks_visits told is in
-    let told_is : told ≡ w.told ++ later.calls = later.adds.is ∙ ap (λ b. b ++ later.calls) (same_Some later.adds.before w.told (sym later.adds.was ∙ w.is)) in
-    let differ_then : PeersDiffer buses w.told = peers_differ_front buses w.told later.calls (subst (λ (c : List Call). PeersDiffer buses c) told_is differ) in
-    let known_first : AllByRecursion (IsOneOf (filter_map newcomer_of v.told)) first_stand.places = subst (λ (ps : List ℕ). AllByRecursion (IsOneOf ps) first_stand.places) (sym v_news) (known_timed buses t.answer (filter_map newcomer_of before) stand known) in
-    let b = lets buses first_stand keys w.told hosted w.denied w.is v.told v.is differ_then known_first in
-    let news_then : List ℕ = filter_map newcomer_of (AcceptCall b.answer ∷ []) in
+    let in_calls : List DoorCall = door.AcceptCall one.answer ∷ one.rest in
+    let front : List DoorCall = door.NowCall t.answer ∷ in_calls in
+    let adds_in : Adds told_old w.before front = adds_then told_old told_mid v.before w.before (door.NowCall t.answer ∷ []) in_calls v.was t.adds v in
+    let whole : calls ≡ front ++ later.calls = same_calls told_old told calls (front ++ later.calls) adds (adds_then told_old told_between w.before told front later.calls w.was adds_in w) in
+    let differ_in : PeersDiffer peers in_calls = peers_front peers front later.calls (subst (λ (c : List DoorCall). PeersDiffer peers c) whole differ) in
+    let known_first : AllByRecursion (IsOneOf peers) first_stand.places = known_timed buses t.answer peers stand known in
+    let b = lets buses first_stand keys w.before hosted w.was peers in_calls v differ_in known_first in
+    let news_then : List Guest = filter_map newcomer_of (AcceptCall b.answer b.granted ∷ []) in
     let second_stand : Stand = fold (welcomed buses) first_stand news_then in
-    let x = visits buses second_stand b.keys told b.hosting d is in
+    let x = visits buses second_stand b.keys told b.hosting is in
     let seen : List Call = calls_of (visits_of x.round) in
-    let all : List Call = NowCall t.answer ∷ AcceptCall b.answer ∷ (b.early ++ seen) in
-    let adds_begun : Adds told_old w.told (NowCall t.answer ∷ AcceptCall b.answer ∷ b.early) =
-    adds_more told_old w.told v.told (NowCall t.answer ∷ []) (AcceptCall b.answer ∷ b.early) t.adds (b.adds.is ∙ ap (λ c. c ++ AcceptCall b.answer ∷ b.early) (same_Some b.adds.before v.told (sym b.adds.was ∙ v.is))) in
-    let adds_all : Adds told_old told all =
-    adds_more told_old told w.told (NowCall t.answer ∷ AcceptCall b.answer ∷ b.early) seen adds_begun (x.adds.is ∙ ap (λ c. c ++ seen) (same_Some x.adds.before w.told (sym x.adds.was ∙ w.is))) in
+    let begins : List Call = NowCall t.answer ∷ AcceptCall b.answer b.granted ∷ b.early in
+    let all : List Call = NowCall t.answer ∷ AcceptCall b.answer b.granted ∷ (b.early ++ seen) in
+    let adds_begun : AddsGiven told_old w.before begins = given_then told_old told_mid v.before w.before (NowCall t.answer ∷ []) (AcceptCall b.answer b.granted ∷ b.early) v.was t.adds b.adds in
+    let adds_all : AddsGiven told_old told all = given_then told_old told_between w.before told begins seen w.was adds_begun x.adds in
     let turned_then = asks_turn told is in
-    let same_before : turned_then.adds.before ≡ adds_all.before = same_Some turned_then.adds.before adds_all.before (sym turned_then.adds.was ∙ adds_all.was) in
-    let same_calls : turned_then.calls ≡ all = append_cancel_left adds_all.before turned_then.calls all (ap (λ c. c ++ turned_then.calls) (sym same_before) ∙ sym turned_then.adds.is ∙ adds_all.is) in
-    let peers : list_all is_of_peer (b.early ++ seen) ≡ true = tail_of turned_then.calls t.answer b.answer (b.early ++ seen) turned_then.turn same_calls in
-    let ends : turned buses stand all ≡ third buses stand t.answer b.answer b.early x.round = turned_is buses stand t.answer b.answer b.early x.round peers x.own x.seats_are b.hosting.differ b.others in
-    let whole : told ≡ w.told ++ seen = x.adds.is ∙ ap (λ c. c ++ seen) (same_Some x.adds.before w.told (sym x.adds.was ∙ w.is)) in
-    let w_news : filter_map newcomer_of w.told ≡ filter_map newcomer_of v.told ++ filter_map newcomer_of (AcceptCall b.answer ∷ b.early) =
-    ap (filter_map newcomer_of) (b.adds.is ∙ ap (λ c. c ++ AcceptCall b.answer ∷ b.early) (same_Some b.adds.before v.told (sym b.adds.was ∙ v.is))) ∙ filter_map-append newcomer_of v.told (AcceptCall b.answer ∷ b.early) in
-    let more_news : filter_map newcomer_of told ≡ filter_map newcomer_of v.told ++ news_then =
-    ap (filter_map newcomer_of) (whole ∙ ap (λ c. c ++ seen) (b.adds.is ∙ ap (λ c. c ++ AcceptCall b.answer ∷ b.early) (same_Some b.adds.before v.told (sym b.adds.was ∙ v.is))) ∙ append_assoc v.told (AcceptCall b.answer ∷ b.early) seen)
-    ∙ filter_map-append newcomer_of v.told (AcceptCall b.answer ∷ (b.early ++ seen))
-    ∙ ap (λ ps. filter_map newcomer_of v.told ++ ps) (news_are buses stand t.answer b.answer b.early x.round peers) in
-    let known_second : AllByRecursion (IsOneOf (filter_map newcomer_of told)) second_stand.places =
-    subst (λ (ps : List ℕ). AllByRecursion (IsOneOf ps) second_stand.places) (sym more_news) (known_news buses b.answer (filter_map newcomer_of v.told) first_stand known_first) in
-    let known_round : AllByRecursion (IsOneOf (filter_map newcomer_of told)) (map seat_of x.round) = subst (λ (ps : List (Option Seat)). AllByRecursion (IsOneOf (filter_map newcomer_of told)) ps) (sym x.seats_are) known_second in
-    let known_last : AllByRecursion (IsOneOf (filter_map newcomer_of told)) (map left_by x.round ++ []) =
-    subst (λ (ps : List (Option Seat)). AllByRecursion (IsOneOf (filter_map newcomer_of told)) ps) (sym (append-nil (map left_by x.round))) (known_left (filter_map newcomer_of told) x.round known_round) in
+    let same : turned_then.calls ≡ map told_call all = same_calls told_old told turned_then.calls (map told_call all) turned_then.adds adds_all in
+    let of_peers : list_all is_of_peer (map told_call (b.early ++ seen)) ≡ true = tail_of turned_then.calls t.answer b.answer (map told_call (b.early ++ seen)) turned_then.turn same in
+    let ends : turned buses stand all ≡ third buses stand t.answer b.answer b.granted b.early x.round = turned_is buses stand t.answer b.answer b.granted b.early x.round of_peers x.own x.seats_are b.hosting.differ b.others in
+    let came : filter_map peer_of (map told_call all) ≡ filter_map peer_of (door.AcceptCall b.answer ∷ []) =
+    peers_told all ∙ ap (λ guests. map (λ guest. guest.peer) guests) (news_are buses stand t.answer b.answer b.granted b.early x.round of_peers) ∙ sym (peers_told (AcceptCall b.answer b.granted ∷ [])) in
+    let peers_then : List ℕ = peers ++ filter_map peer_of (map told_call all) in
+    let known_second : AllByRecursion (IsOneOf peers_then) second_stand.places =
+    subst (λ (ps : List ℕ). AllByRecursion (IsOneOf (peers ++ ps)) second_stand.places) (sym came) (known_news buses b.answer b.granted peers first_stand known_first) in
+    let known_round : AllByRecursion (IsOneOf peers_then) (map seat_of x.round) = subst (λ (ps : List (Option Seat)). AllByRecursion (IsOneOf peers_then) ps) (sym x.seats_are) known_second in
+    let known_last : AllByRecursion (IsOneOf peers_then) (map left_by x.round ++ []) =
+    subst (λ (ps : List (Option Seat)). AllByRecursion (IsOneOf peers_then) ps) (sym (append-nil (map left_by x.round))) (known_left peers_then x.round known_round) in
     record {
       calls = all;
       keys = x.keys;
       adds = adds_all;
-      turn = subst (λ (c : List Call). IsTurn c) same_calls turned_then.turn;
-      asked = turn_asked buses stand t.answer b.answer b.early x.round peers x.own x.seats_are b.hosting.differ b.others b.asked x.asked;
-      known = subst (λ (s : Stand). AllByRecursion (IsOneOf (filter_map newcomer_of told)) s.places) (sym ends) known_last;
+      given = λ d. all_append IsGiven begins seen (tt, b.given (low d)) (x.given d);
+      turn = record { now = t.answer; newcomer = b.answer; granted = b.granted; rest = b.early ++ seen; is = refl; peers = of_peers };
+      asked = turn_asked buses stand t.answer b.answer b.granted b.early x.round of_peers x.own x.seats_are b.hosting.differ b.others b.asked x.asked;
+      known = subst (λ (s : Stand). AllByRecursion (IsOneOf peers_then) s.places) (sym ends) known_last;
       hosting = subst (λ (s : Stand). IsHosting buses s x.keys new owns_new) (sym ends) x.hosting;
       opened = ap (λ (s : Stand). length s.guests) ends ∙ b.opened ∙ ap (λ n. n + one_if opens) (guests_timed buses t.answer stand);
     }
@@ -289,55 +323,77 @@ differ_none : (n : ℕ) → SeatsDiffer (replicate n None)
 differ_none zero = tt
 differ_none (suc n) = differ_none n
 
-pub serves_first : (old : Held) (told_old : Option (List Call)) → ServesSoFar 0 0 old told_old old told_old (replicate 64 None)
-serves_first old told_old buses told layout stands d was is differ =
-    subst (λ (c : List Call). IsServing buses 0 0 c old (replicate 64 None)) (same_Some [] told (sym was ∙ is)) (record {
+pub serves_first : (old : Held) (told_old : Option (List DoorCall)) → ServesSoFar 0 0 old told_old old told_old (replicate 64 None)
+serves_first old told_old buses before calls layout stands was is differ =
+    let none : [] ≡ calls = append_cancel_left before [] calls (append-nil before ∙ same_Some before (before ++ calls) (sym was ∙ is)) in
+    subst (λ (c : List DoorCall). IsServing buses 0 0 c old (replicate 64 None)) none (record {
+      calls = [];
       keys = [];
+      are = refl;
+      given = λ d. tt;
       served = record { turns_are = refl; asked = refl };
       known = known_none 64;
       hosting = record { layout = layout; sit = sit_none 64; few = omega arith; differ = differ_none 64; long = refl; stands = stands };
       opened = refl;
     })
 
-serves_then : (buses : List Bus) (count opened : ℕ) (opens : Bool) (told calls : List Call) (new : Held) (owns : List (Option Own)) (keys : List (Option ℕ)) → IsServed buses count told → (t : IsTurn calls) → map question calls ≡ turn_asks buses (stand_after buses told) calls
-    → AllByRecursion (IsOneOf (filter_map newcomer_of (told ++ calls))) (turned buses (stand_after buses told) calls).places → IsHosting buses (turned buses (stand_after buses told) calls) keys new owns → length (stand_after buses told).guests ≡ opened → length (turned buses (stand_after buses told) calls).guests ≡ length (stand_after buses told).guests + one_if opens → IsServing buses (count + 1) (opened + one_if opens) (told ++ calls) new owns
-serves_then buses count opened opens told calls new owns keys so t asked known hosting was opens_more =
-    let rest : List Call = AcceptCall t.newcomer ∷ t.rest in
+-- one turn more of what is served
+served_then : (buses : List Bus) (count : ℕ) (told later : List Call) → IsServed buses count told → IsTurnGiven later → map question later ≡ turn_asks buses (stand_after buses told) later
+    → IsServed buses (count + 1) (told ++ later) × (stand_after buses (told ++ later) ≡ turned buses (stand_after buses told) later)
+served_then buses count told later so t asked =
+    let rest : List Call = AcceptCall t.newcomer t.granted ∷ t.rest in
     let asked_now : map question (NowCall t.now ∷ rest) ≡ turn_asks buses (stand_after buses told) (NowCall t.now ∷ rest) = subst (λ (c : List Call). map question c ≡ turn_asks buses (stand_after buses told) c) t.is asked in
-    let more = served-more buses count told t.now rest so (not_now t.rest t.peers) asked_now in
-    let ends : stand_after buses (told ++ calls) ≡ turned buses (stand_after buses told) calls = subst (λ (c : List Call). stand_after buses (told ++ c) ≡ turned buses (stand_after buses told) c) (sym t.is) more.1 in
+    subst (λ (c : List Call). IsServed buses (count + 1) (told ++ c) × (stand_after buses (told ++ c) ≡ turned buses (stand_after buses told) c)) (sym t.is)
+    (served-more buses count told t.now rest so (not_now t.rest t.peers) asked_now)
+
+pub serves_on : (count opened : ℕ) (opens : Bool) (old mid new : Held) (told_old told_mid told_new : Option (List DoorCall)) (owns owns_new : List (Option Own)) → ServesSoFar count opened old told_old mid told_mid owns → (new.denied ≡ 0 → mid.denied ≡ 0) → AsksTurns count told_old told_mid → AsksTurn told_mid told_new
+    → MakesTurn mid told_mid owns new told_new owns_new opens → ServesSoFar (count + 1) (opened + one_if opens) old told_old new told_new owns_new
+serves_on count opened opens old mid new told_old told_mid told_new owns owns_new so low asks_before asks turn buses before calls layout stands was is differ =
+    let told : List DoorCall = before ++ calls in
+    let later = asks told is in
+    let w = later.adds in
+    let earlier = asks_before w.before w.was in
+    let first : List DoorCall = earlier.calls in
+    let mid_is : w.before ≡ before ++ first = earlier.adds.is ∙ ap (λ b. b ++ first) (same_Some earlier.adds.before before (sym earlier.adds.was ∙ was)) in
+    let whole : calls ≡ first ++ later.calls = same_calls told_old told calls (first ++ later.calls) (record { before = before; was = was; is = refl }) (adds_then told_old told_mid w.before told first later.calls w.was earlier.adds w) in
+    let differ_all : PeersDiffer [] (first ++ later.calls) = subst (λ (c : List DoorCall). PeersDiffer [] c) whole differ in
+    let s = so buses before first layout stands was (w.was ∙ ap (λ b. Some b) mid_is) (peers_front [] first later.calls differ_all) in
+    let peers : List ℕ = filter_map peer_of first in
+    let stood : Stand = stand_after buses s.calls in
+    let x = turn buses stood s.keys told s.hosting is peers later.calls w (subst (λ (ps : List ℕ). IsDistinct (λ a b. a == b) ps) (filter_map-append peer_of first later.calls) differ_all) s.known in
+    let same : later.calls ≡ map told_call x.calls = same_calls told_mid told later.calls (map told_call x.calls) w x.adds in
+    let more = served_then buses count s.calls x.calls s.served x.turn x.asked in
+    let known : AllByRecursion (IsOneOf (filter_map peer_of calls)) (turned buses stood x.calls).places =
+    subst (λ (ps : List ℕ). AllByRecursion (IsOneOf ps) (turned buses stood x.calls).places) (ap (λ c. peers ++ filter_map peer_of c) (sym same) ∙ sym (filter_map-append peer_of first later.calls) ∙ ap (filter_map peer_of) (sym whole)) x.known in
     record {
-      keys = keys;
-      served = subst (λ (c : List Call). IsServed buses (count + 1) (told ++ c)) (sym t.is) more.0;
-      known = subst (λ (s : Stand). AllByRecursion (IsOneOf (filter_map newcomer_of (told ++ calls))) s.places) (sym ends) known;
-      hosting = subst (λ (s : Stand). IsHosting buses s keys new owns) (sym ends) hosting;
-      opened = ap (λ (s : Stand). length s.guests) ends ∙ opens_more ∙ ap (λ n. n + one_if opens) was;
+      calls = s.calls ++ x.calls;
+      keys = x.keys;
+      are = map-append told_call s.calls x.calls ∙ ap (λ c. c ++ map told_call x.calls) s.are ∙ ap (λ c. first ++ c) (sym same) ∙ sym whole;
+      given = λ d. all_append IsGiven s.calls x.calls (s.given (low d)) (x.given d);
+      served = more.0;
+      known = subst (λ (v : Stand). AllByRecursion (IsOneOf (filter_map peer_of calls)) v.places) (sym more.1) known;
+      hosting = subst (λ (v : Stand). IsHosting buses v x.keys new owns_new) (sym more.1) x.hosting;
+      opened = ap (λ (v : Stand). length v.guests) more.1 ∙ x.opened ∙ ap (λ n. n + one_if opens) s.opened;
     }
 
-pub serves_on : (count opened : ℕ) (opens : Bool) (old mid new : Held) (told_old told_mid told_new : Option (List Call)) (owns owns_new : List (Option Own)) → ServesSoFar count opened old told_old mid told_mid owns → Keeps mid told_mid new told_new → AsksTurn told_mid told_new
-    → MakesTurn mid told_mid owns new told_new owns_new opens → ServesSoFar (count + 1) (opened + one_if opens) old told_old new told_new owns_new
-serves_on count opened opens old mid new told_old told_mid told_new owns owns_new so keeps asks turn buses told layout stands d was is differ =
-    let w = keeps told d is in
-    let later = asks told is in
-    let told_is : told ≡ w.told ++ later.calls = later.adds.is ∙ ap (λ b. b ++ later.calls) (same_Some later.adds.before w.told (sym later.adds.was ∙ w.is)) in
-    let differ_then : PeersDiffer buses w.told = peers_differ_front buses w.told later.calls (subst (λ (c : List Call). PeersDiffer buses c) told_is differ) in
-    let s = so buses w.told layout stands w.denied was w.is differ_then in
-    let x = turn buses (stand_after buses w.told) s.keys told s.hosting d is w.told w.is differ s.known in
-    let whole : told ≡ w.told ++ x.calls = x.adds.is ∙ ap (λ b. b ++ x.calls) (same_Some x.adds.before w.told (sym x.adds.was ∙ w.is)) in
-    let known : AllByRecursion (IsOneOf (filter_map newcomer_of (w.told ++ x.calls))) (turned buses (stand_after buses w.told) x.calls).places =
-    subst (λ (c : List Call). AllByRecursion (IsOneOf (filter_map newcomer_of c)) (turned buses (stand_after buses w.told) x.calls).places) whole x.known in
-    subst (λ (c : List Call). IsServing buses (count + 1) (opened + one_if opens) c new owns_new) (sym whole) (serves_then buses count opened opens w.told x.calls new owns_new x.keys s.served x.turn x.asked known x.hosting s.opened x.opened)
-
-pub serves_all : (count turns opened : ℕ) (old now : Held) (told_old told_now : Option (List Call)) (owns : List (Option Own)) → count ≡ turns → AsksTurns turns told_old told_now → ServesSoFar count opened old told_old now told_now owns → ServesCourse turns opened old told_old now told_now
-serves_all count turns opened old now told_old told_now owns e asks so buses told layout stands d was is differ =
-    let s = so buses told layout stands d was is differ in
-    let served : IsServed buses turns told = subst (λ (n : ℕ). IsServed buses n told) e s.served in
+pub serves_all : (count turns opened : ℕ) (old now : Held) (told_old told_now : Option (List DoorCall)) (owns : List (Option Own)) → count ≡ turns → AsksTurns turns told_old told_now → ServesSoFar count opened old told_old now told_now owns → ServesCourse turns opened old told_old now told_now
+serves_all count turns opened old now told_old told_now owns e asks so buses before calls layout stands was is differ =
+    let s = so buses before calls layout stands was is differ in
+    let a = asks (before ++ calls) is in
+    let same : a.calls ≡ map told_call s.calls = same_calls told_old (before ++ calls) a.calls calls a.adds (record { before = before; was = was; is = refl }) ∙ sym s.are in
+    let fair : AllByRecursion IsFair s.calls = fair_given s.calls (subst (λ (c : List DoorCall). AllByRecursion door.IsFair c) same a.turns_are.fair) in
+    let served : IsServed buses turns s.calls = subst (λ (n : ℕ). IsServed buses n s.calls) e s.served in
     record {
-      keys = s.keys;
-      served = served;
-      stands = s.hosting.stands;
-      opened = sym s.opened ∙ sym s.hosting.long ∙ s.hosting.stands.long;
-      taken = sent_taken buses turns told served differ (asks told was is).fair;
+      calls = s.calls;
+      are = s.are;
+      given = s.given;
+      course = record {
+        keys = s.keys;
+        served = served;
+        stands = s.hosting.stands;
+        opened = sym s.opened ∙ sym s.hosting.long ∙ s.hosting.stands.long;
+        taken = sent_taken buses turns s.calls served (subst (λ (c : List DoorCall). PeersDiffer [] c) (sym s.are) differ) fair;
+      };
     }
 
 -- no more were let in than there were turns

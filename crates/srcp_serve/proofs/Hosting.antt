@@ -3,45 +3,49 @@ use Rattle.std.proofs.Common.{◌≡◌, ◌∙◌, ℕ, suc, ◌+◌, ◌<◌, 
 use Rattle.std.proofs.lemmas.Bool.Decides.{nat_tests}
 use Rattle.std.proofs.lemmas.Grind.{flat_map-append}
 use Rattle.std.proofs.lemmas.List.{map-append, length-map}
-use Rattle.std.proofs.lemmas.Option.{same_Some}
 use Rattle.std.specs.List.{filter, slice_index_or, slice_set, AllByRecursion}
-use Rattle.std.specs.Prelude.{is_none, position, nat_lt}
+use Rattle.std.specs.Prelude.{is_none, position, nat_lt, IsTrue}
+use Rattle.std.proofs.lemmas.List.Sums.{fold-append}
+use Rattle.srcp_info.proofs.ClientLaws.{all_append}
 use Rattle.srcp_rules.specs.declared.layout.Bus.{Bus}
-use Rattle.srcp_core.specs.Agrees.{CountsOpen, IsWhyNotOpened, OfCourse}
+use Rattle.srcp_core.specs.Agrees.{CountsOpen, OfCourse}
 use Rattle.srcp_core.specs.Connection.{is_open}
-use Rattle.srcp_core.specs.Course.{World, course, fault}
+use Rattle.srcp_core.specs.Course.{World, start, counted, course, fault, happens, or_refused}
 use Rattle.srcp_core.specs.Held.{Held}
 use Rattle.srcp_core.specs.Machine.{refused_connect}
 use Rattle.srcp_core.specs.Recording.{key_of, without_key}
 use Rattle.srcp_core.specs.Run.{LeadsTo, LeadsToOpen}
-use Rattle.srcp_core.specs.declared.event.Event.{Event}
-use Rattle.srcp_core.specs.declared.event.Event.TheVariants.{Open, At}
+use Rattle.srcp_core.specs.Under.{Event, Open, At}
+use Rattle.srcp_core.specs.Stands.{StandsFor}
 use Rattle.srcp_core.specs.declared.record.CoreFault.{CoreFault}
 use Rattle.srcp_core.specs.declared.record.CoreFault.TheVariants.{Full, Memory as MemoryFault}
 use Rattle.srcp_core.proofs.Numbers.{key_push_last, length_without}
-use Rattle.srcp_serve.specs.Calls.{Call, Tells, NowCall, CloseCall}
+use Rattle.srcp_serve.specs.Calls.{Call as DoorCall, Tells}
+use Rattle.srcp_serve.specs.Calls as door
+use Rattle.srcp_serve.specs.Given.{Guest, Call, CloseCall, AllGiven, IsGiven}
 use Rattle.srcp_serve.specs.Serving.{Seat, Stand, Closes as ClosesQuestion, question, is_let_in, let_in, welcomed, visit_events}
-use Rattle.srcp_serve.specs.Places.{AreOwn, Visit, calls_of, made_by, asked_by, visits_of, seat_of, left_by, Sit, SitsAt, IsNotOf, IsLeftOut, IsHosting, IsWelcomed, AreVisited, AreVisitedSoFar, SeatsPeer, TakesMoment, VisitsPlace, VisitsPlaces, VisitsSoFar}
-use Rattle.srcp_serve.specs.Visits.{Adds, Closes, Keeps, Visits}
+use Rattle.srcp_serve.specs.Places.{AreOwn, Visit, calls_of, made_by, asked_by, visits_of, seat_of, left_by, Sit, SitsAt, IsNotOf, IsLeftOut, IsHosting, WelcomesPeer, AreVisited, AreVisitedSoFar, SeatsPeer, TakesMoment, VisitsPlace, VisitsPlaces, VisitsSoFar}
+use Rattle.srcp_serve.specs.Turns.{AsksPeers}
+use Rattle.srcp_serve.specs.Visits.{AddsGiven, Closes, Visits}
 use Rattle.srcp_serve.specs.declared.door.DoorFault.{DoorFault}
 use Rattle.srcp_serve.specs.declared.serving.visit.Seat.{Seat as Own}
 use Rattle.srcp_serve.proofs.PlaceLaws.{count_append, count_cleared, count_cons, count_seated, count_without, differ_cleared, differ_seated, free_in, free_is, length-sit, new_apart, none_free, own_append, sit_pushed, sit_seated, sit_without, sits_here, visits-append}
-use Rattle.srcp_serve.proofs.Telling.{adds_none, adds_one, adds_more}
+use Rattle.srcp_serve.proofs.Telling.{adds_none, adds_one, given_then}
 use Rattle.srcp_serve.proofs.VisitLaws.{asked_by-append}
 
 -- ---- the moment
 
-pub takes_moment : (moment : ℕ) (old new : Held) (told_old told_new : Option (List Call)) → Tells told_old (NowCall (Ok moment)) told_new → LeadsTo (At moment) old new → TakesMoment old told_old new told_new
-takes_moment moment old new told_old told_new h leads owns buses stand keys told hosting d is = record {
+pub takes_moment : (moment : ℕ) (old new : Held) (told_old told_new : Option (List DoorCall)) → Tells told_old (door.NowCall (Ok moment)) told_new → LeadsTo (At moment) old new → TakesMoment old told_old new told_new
+takes_moment moment old new told_old told_new h leads owns buses stand keys told hosting is = record {
   answer = Ok moment;
-  adds = adds_one (NowCall (Ok moment)) told_old told_new told h is;
-  stands = leads buses stand.events keys hosting.layout d hosting.stands;
+  adds = adds_one (door.NowCall (Ok moment)) told_old told_new told h is;
+  stands = leads buses stand.events keys hosting.layout hosting.stands;
 }
 
-pub keeps_moment : (failed : DoorFault) (old : Held) (told_old told_new : Option (List Call)) → Tells told_old (NowCall (Err failed)) told_new → TakesMoment old told_old old told_new
-keeps_moment failed old told_old told_new h owns buses stand keys told hosting d is = record {
+pub keeps_moment : (failed : DoorFault) (old : Held) (told_old told_new : Option (List DoorCall)) → Tells told_old (door.NowCall (Err failed)) told_new → TakesMoment old told_old old told_new
+keeps_moment failed old told_old told_new h owns buses stand keys told hosting is = record {
   answer = Err failed;
-  adds = adds_one (NowCall (Err failed)) told_old told_new told h is;
+  adds = adds_one (door.NowCall (Err failed)) told_old told_new told h is;
   stands = hosting.stands;
 }
 
@@ -57,82 +61,123 @@ close_left_out peer answer [] h = tt
 close_left_out peer answer (None ∷ places) h = (tt, close_left_out peer answer places h.1)
 close_left_out peer answer (Some seat ∷ places) h = ((h.0, tt), close_left_out peer answer places h.1)
 
-pub seats_full : (peer : ℕ) (old mid : Held) (cause : CoreFault) (told_old told_new : Option (List Call)) (owns : List (Option Own)) → Closes peer told_old told_new → LeadsTo Open old mid
-    → OfCourse old (λ buses events. IsWhyNotOpened cause (fault buses (course buses events) Open)) → mid ≡ refused_connect cause old → (cause ≡ Full) ⊎ (cause ≡ MemoryFault) → SeatsPeer peer old told_old owns mid told_new owns false
-seats_full peer old mid cause told_old told_new owns closes leads why refused causes buses stand keys told hosting d is new =
-    ⊎_elim full (λ e. absurd (denied e)) causes
+module _ (buses : List Bus) where
+  -- a connection that is refused since there are too many is refused whatever memory answers
+  full_open : (w : World) → fault buses w (Open false) ≡ Some Full → fault buses w (Open true) ≡ Some Full
+  full_open w e = by (nat_lt (length (filter is_open w.connections)) 64) e
+    where
+      by : (b : Bool) → (if b then Some MemoryFault else Some Full) ≡ Some Full → (if b then None else Some Full) ≡ Some Full
+      by true e = cc
+      by false e = refl
+
+  full_course : (events : List Event) → fault buses (course buses events) (Open false) ≡ Some Full → course buses (events ++ Open false ∷ []) ≡ course buses (events ++ Open true ∷ [])
+  full_course events e =
+      let w : World = course buses events in
+      fold-append (happens buses) start events (Open false ∷ [])
+      ∙ ap (λ o. or_refused buses o (Open false) (counted w)) e
+      ∙ sym (ap (λ o. or_refused buses o (Open true) (counted w)) (full_open w e))
+      ∙ sym (fold-append (happens buses) start events (Open true ∷ []))
+
+pub seats_full : (peer : ℕ) (old mid : Held) (cause : CoreFault) (told_old told_new : Option (List DoorCall)) (owns : List (Option Own)) → Closes peer told_old told_new → LeadsTo (Open false) old mid
+    → OfCourse old (λ buses events. fault buses (course buses events) (Open false) ≡ Some cause) → mid ≡ refused_connect cause old → (cause ≡ Full) ⊎ (cause ≡ MemoryFault) → SeatsPeer peer old told_old owns mid told_new owns false
+seats_full peer old mid cause told_old told_new owns closes leads why refused causes buses stand keys told hosting is new =
+    ⊎_elim full memory causes
   where
     no_more : (n : ℕ) → n ≡ n + 0
     no_more n = omega arith
 
-    denied : cause ≡ MemoryFault → ⊥
-    denied e =
-        let more : mid.denied ≡ (refused_connect MemoryFault old).denied = ap (λ (h : Held). h.denied) refused ∙ ap (λ c. (refused_connect c old).denied) e in
-        omega (arith, more, d)
+    out : fault buses (course buses stand.events) (Open false) ≡ Some cause
+    out = why buses stand.events keys hosting.layout hosting.stands
 
-    full : cause ≡ Full → IsWelcomed buses stand told_old told mid owns peer false
-    full e =
-        let is_full : fault buses (course buses stand.events) Open ≡ Some Full = subst (λ c. IsWhyNotOpened c (fault buses (course buses stand.events) Open)) e (why buses stand.events keys hosting.layout hosting.stands) in
-        let out : is_let_in buses stand.events ≡ false = ap is_none is_full in
-        let after : Stand = record { events = stand.events ++ Open ∷ []; guests = stand.guests; places = stand.places } in
-        let w : welcomed buses stand peer ≡ after = ap (λ b. if b then let_in buses stand peer else after) out in
+    stands : StandsFor buses keys mid (course buses (stand.events ++ Open false ∷ []))
+    stands = leads buses stand.events keys hosting.layout hosting.stands
+
+    away : (granted : Bool) → fault buses (course buses stand.events) (Open granted) ≡ Some cause → StandsFor buses keys mid (course buses (stand.events ++ Open granted ∷ [])) → (mid.denied ≡ 0 → IsTrue granted)
+        → WelcomesPeer buses stand told_old told mid owns peer false
+    away granted denies after_open gave =
+        let guest : Guest = record { peer = peer; granted = granted } in
+        let shut : is_let_in buses stand.events granted ≡ false = ap is_none denies in
+        let after : Stand = record { events = stand.events ++ Open granted ∷ []; guests = stand.guests; places = stand.places } in
+        let w : welcomed buses stand guest ≡ after = ap (λ b. if b then let_in buses stand guest else after) shut in
         let c = closes told is in
         record {
-          early = CloseCall peer c.answer ∷ [];
-          keys = keys;
-          adds = c.adds;
-          asked = sym (ap (λ b. if b then [] else ClosesQuestion peer ∷ []) out);
-          others = subst (λ (s : Stand). AllByRecursion (IsLeftOut (CloseCall peer c.answer ∷ [])) s.places) (sym w) (close_left_out peer c.answer stand.places new);
-          hosting = subst (λ (s : Stand). IsHosting buses s keys mid owns) (sym w) (record {
-            layout = hosting.layout;
-            sit = hosting.sit;
-            few = hosting.few;
-            differ = hosting.differ;
-            long = hosting.long;
-            stands = leads buses stand.events keys hosting.layout d hosting.stands;
-          });
-          opened = ap (λ (s : Stand). length s.guests) w ∙ no_more (length stand.guests);
+          granted = granted;
+          welcomes = record {
+            early = CloseCall peer c.answer ∷ [];
+            keys = keys;
+            adds = c.adds;
+            given = λ d. (gave d, (tt, tt));
+            asked = sym (ap (λ b. if b then [] else ClosesQuestion peer ∷ []) shut);
+            others = subst (λ (s : Stand). AllByRecursion (IsLeftOut (CloseCall peer c.answer ∷ [])) s.places) (sym w) (close_left_out peer c.answer stand.places new);
+            hosting = subst (λ (s : Stand). IsHosting buses s keys mid owns) (sym w) (record {
+              layout = hosting.layout;
+              sit = hosting.sit;
+              few = hosting.few;
+              differ = hosting.differ;
+              long = hosting.long;
+              stands = after_open;
+            });
+            opened = ap (λ (s : Stand). length s.guests) w ∙ no_more (length stand.guests);
+          };
         }
 
-pub seats_in : (peer key free : ℕ) (old mid : Held) (told_old : Option (List Call)) (owns : List (Option Own)) → LeadsToOpen key old mid → OfCourse old (λ buses events. fault buses (course buses events) Open ≡ None)
+    full : cause ≡ Full → WelcomesPeer buses stand told_old told mid owns peer false
+    full e =
+        let is_full : fault buses (course buses stand.events) (Open false) ≡ Some Full = subst (λ c. fault buses (course buses stand.events) (Open false) ≡ Some c) e out in
+        away true (full_open buses (course buses stand.events) is_full ∙ ap (λ c. Some c) (sym e)) (subst (λ (w : World). StandsFor buses keys mid w) (full_course buses stand.events is_full) stands) (λ d. refl)
+
+    memory : cause ≡ MemoryFault → WelcomesPeer buses stand told_old told mid owns peer false
+    memory e = away false out stands (λ d. absurd (denied d))
+      where
+        denied : mid.denied ≡ 0 → ⊥
+        denied d =
+            let more : mid.denied ≡ (refused_connect MemoryFault old).denied = ap (λ (h : Held). h.denied) refused ∙ ap (λ c. (refused_connect c old).denied) e in
+            omega (arith, more, d)
+
+pub seats_in : (peer key free : ℕ) (old mid : Held) (told_old : Option (List DoorCall)) (owns : List (Option Own)) → LeadsToOpen key old mid → OfCourse old (λ buses events. fault buses (course buses events) (Open true) ≡ None)
     → position is_none owns ≡ Some free → SeatsPeer peer old told_old owns mid told_old (slice_set owns free (Some (record { peer = peer; key = key }))) true
-seats_in peer key free old mid told_old owns leads accepts place buses stand keys told hosting d is new =
+seats_in peer key free old mid told_old owns leads accepts place buses stand keys told hosting is new =
     let own : Own = record { peer = peer; key = key } in
+    let guest : Guest = record { peer = peer; granted = true } in
     let seat : Seat = record { peer = peer; conn = length stand.guests + 1 } in
     let pushed : List (Option ℕ) = keys ++ Some key ∷ [] in
-    let let_in_is : is_let_in buses stand.events ≡ true = ap is_none (accepts buses stand.events keys hosting.layout hosting.stands) in
-    let after : Stand = record { events = stand.events ++ Open ∷ []; guests = stand.guests; places = stand.places } in
-    let w : welcomed buses stand peer ≡ let_in buses stand peer = ap (λ b. if b then let_in buses stand peer else after) let_in_is in
+    let let_in_is : is_let_in buses stand.events true ≡ true = ap is_none (accepts buses stand.events keys hosting.layout hosting.stands) in
+    let after : Stand = record { events = stand.events ++ Open true ∷ []; guests = stand.guests; places = stand.places } in
+    let w : welcomed buses stand guest ≡ let_in buses stand guest = ap (λ b. if b then let_in buses stand guest else after) let_in_is in
     let conn : seat.conn ≡ length keys + 1 = ap (λ n. n + 1) (sym hosting.long) in
     let number : seat.conn ≡ suc (length keys) = omega (arith, conn) in
     let named : key_of seat.conn pushed ≡ Some key = ap (λ n. key_of n pushed) number ∙ key_push_last keys (Some key) in
-    let sitting : Sit pushed (slice_set owns (free_in owns) (Some own)) (let_in buses stand peer).places = sit_seated pushed own seat owns stand.places (refl, named) (sit_pushed keys key owns stand.places hosting.sit) in
+    let sitting : Sit pushed (slice_set owns (free_in owns) (Some own)) (let_in buses stand guest).places = sit_seated pushed own seat owns stand.places (refl, named) (sit_pushed keys key owns stand.places hosting.sit) in
     let c = count_append keys (Some key ∷ []) in
     let none : List (Option ℕ) = [] in
     let one = count_cons (Some key) none in
     let more = count_seated seat stand.places in
     let before = hosting.few in
     record {
-      early = [];
-      keys = pushed;
-      adds = adds_none told_old told is;
-      asked = sym (ap (λ b. if b then [] else ClosesQuestion peer ∷ []) let_in_is);
-      others = none_left_out (welcomed buses stand peer).places;
-      hosting = subst (λ (s : Stand). IsHosting buses s pushed mid (slice_set owns free (Some own))) (sym w) (record {
-        layout = hosting.layout;
-        sit = subst (λ (i : ℕ). Sit pushed (slice_set owns i (Some own)) (let_in buses stand peer).places) (sym (free_is owns free place)) sitting;
-        few = omega (arith, c, one, more, before);
-        differ = differ_seated seat stand.places (new_apart keys seat owns stand.places hosting.sit conn new) hosting.differ;
-        long = length-append keys (Some key ∷ []) ∙ ap (λ n. n + 1) hosting.long ∙ sym (length-append stand.guests (peer ∷ []));
-        stands = leads buses stand.events keys hosting.layout d hosting.stands;
-      });
-      opened = ap (λ (s : Stand). length s.guests) w ∙ length-append stand.guests (peer ∷ []);
+      granted = true;
+      welcomes = record {
+        early = [];
+        keys = pushed;
+        adds = adds_none told_old told is;
+        given = λ d. (refl, tt);
+        asked = sym (ap (λ b. if b then [] else ClosesQuestion peer ∷ []) let_in_is);
+        others = none_left_out (welcomed buses stand guest).places;
+        hosting = subst (λ (s : Stand). IsHosting buses s pushed mid (slice_set owns free (Some own))) (sym w) (record {
+          layout = hosting.layout;
+          sit = subst (λ (i : ℕ). Sit pushed (slice_set owns i (Some own)) (let_in buses stand guest).places) (sym (free_is owns free place)) sitting;
+          few = omega (arith, c, one, more, before);
+          differ = differ_seated seat stand.places (new_apart keys seat owns stand.places hosting.sit conn new) hosting.differ;
+          long = length-append keys (Some key ∷ []) ∙ ap (λ n. n + 1) hosting.long ∙ sym (length-append stand.guests (peer ∷ []));
+          stands = leads buses stand.events keys hosting.layout hosting.stands;
+        });
+        opened = ap (λ (s : Stand). length s.guests) w ∙ length-append stand.guests (peer ∷ []);
+      };
     }
 
 -- a place is free where one is let in
-pub seats_none : (peer : ℕ) (opens : Bool) (old new : Held) (told_old told_new : Option (List Call)) (owns : List (Option Own)) → OfCourse old (λ buses events. fault buses (course buses events) Open ≡ None) → CountsOpen old → length owns ≡ 64
+pub seats_none : (peer : ℕ) (opens : Bool) (old new : Held) (told_old told_new : Option (List DoorCall)) (owns : List (Option Own)) → OfCourse old (λ buses events. fault buses (course buses events) (Open true) ≡ None) → CountsOpen old → length owns ≡ 64
     → position is_none owns ≡ None → SeatsPeer peer old told_old owns new told_new owns opens
-seats_none peer opens old new told_old told_new owns accepts counted long none buses stand keys told hosting d is fresh =
+seats_none peer opens old new told_old told_new owns accepts counted long none buses stand keys told hosting is fresh =
     let taken = none_free keys owns stand.places hosting.sit none in
     let few = hosting.few in
     let count = hosting.stands.count in
@@ -156,36 +201,38 @@ pub no_one : (o : Option Own) → ((own : Own) → o ≡ Some own → ⊥) → o
 no_one None h = refl
 no_one (Some own) h = absurd (h own refl)
 
-pub place_free : (place : ℕ) (d : Option Own) (old : Held) (told_old : Option (List Call)) (owns : List (Option Own)) → slice_index_or owns place d ≡ None → VisitsPlace place old told_old owns old told_old owns
-place_free place d old told_old owns here buses stand keys told hosting denied is front None ahead e at = record {
+pub place_free : (place : ℕ) (d : Option Own) (old : Held) (told_old : Option (List DoorCall)) (owns : List (Option Own)) → slice_index_or owns place d ≡ None → VisitsPlace place old told_old owns old told_old owns
+place_free place d old told_old owns here buses stand keys told hosting is front None ahead e at = record {
   round = None ∷ [];
   keys = keys;
   adds = adds_none told_old told is;
+  given = λ d. tt;
   seats_are = refl;
   own = tt;
   asked = refl;
   hosting = subst (λ (all : List Event). IsHosting buses (record { events = all; guests = stand.guests; places = front ++ None ∷ ahead }) keys old owns) (sym (append-nil stand.events))
       (subst (λ (all : List (Option Seat)). IsHosting buses (record { events = stand.events; guests = stand.guests; places = all }) keys old owns) at hosting);
 }
-place_free place d old told_old owns here buses stand keys told hosting denied is front (Some seat) ahead e at =
+place_free place d old told_old owns here buses stand keys told hosting is front (Some seat) ahead e at =
     absurd (subst (λ (o : Option Own). SitsAt keys o (Some seat)) here (sits_here keys owns front (Some seat) ahead place d e (subst (λ (all : List (Option Seat)). Sit keys owns all) at hosting.sit)))
 
-module _ (place : ℕ) (d : Option Own) (own : Own) (old new : Held) (told_old told_new : Option (List Call)) (owns : List (Option Own)) (here : slice_index_or owns place d ≡ Some own) where
+module _ (place : ℕ) (d : Option Own) (own : Own) (old new : Held) (told_old told_new : Option (List DoorCall)) (owns : List (Option Own)) (here : slice_index_or owns place d ≡ Some own) where
   pub place_stays : Visits own.peer own.key old told_old new told_new true → VisitsPlace place old told_old owns new told_new owns
-  place_stays visits buses stand keys told hosting denied is front None ahead e at =
+  place_stays visits buses stand keys told hosting is front None ahead e at =
       absurd (subst (λ (o : Option Own). SitsAt keys o None) here (sits_here keys owns front None ahead place d e (subst (λ (all : List (Option Seat)). Sit keys owns all) at hosting.sit)))
-  place_stays visits buses stand keys told hosting denied is front (Some seat) ahead e at =
+  place_stays visits buses stand keys told hosting is front (Some seat) ahead e at =
       let h : IsHosting buses (record { events = stand.events; guests = stand.guests; places = front ++ Some seat ∷ ahead }) keys old owns = subst (λ (all : List (Option Seat)). IsHosting buses (record { events = stand.events; guests = stand.guests; places = all }) keys old owns) at hosting in
       let sits : SitsAt keys (Some own) (Some seat) = subst (λ (o : Option Own). SitsAt keys o (Some seat)) here (sits_here keys owns front (Some seat) ahead place d e h.sit) in
       let visit : Visits seat.peer own.key old told_old new told_new true = subst (λ (p : ℕ). Visits p own.key old told_old new told_new true) sits.0 visits in
-      let x = visit buses stand.events keys seat.conn told (record { layout = h.layout; named = sits.1; stands = h.stands }) denied is in
+      let x = visit buses stand.events keys seat.conn told (record { layout = h.layout; named = sits.1; stands = h.stands }) is in
       let left : left_by (Some (seat, x.calls)) ≡ Some seat = ap (λ b. if b then None else Some seat) x.closes in
       let after : IsHosting buses (record { events = stand.events ++ visit_events x.calls seat; guests = stand.guests; places = front ++ Some seat ∷ ahead }) keys new owns =
       record { layout = h.layout; sit = h.sit; few = h.few; differ = h.differ; long = h.long; stands = x.stands } in
       record {
         round = Some (seat, x.calls) ∷ [];
         keys = keys;
-        adds = subst (λ (c : List Call). Adds told_old told c) (sym (append-nil x.calls)) x.adds;
+        adds = subst (λ (c : List Call). AddsGiven told_old told c) (sym (append-nil x.calls)) x.adds;
+        given = subst (λ (c : List Call). AllGiven c new) (sym (append-nil x.calls)) x.given;
         seats_are = refl;
         own = (x.own, tt);
         asked = ap (map question) (append-nil x.calls) ∙ x.asked ∙ sym (append-nil _);
@@ -194,14 +241,14 @@ module _ (place : ℕ) (d : Option Own) (own : Own) (old new : Held) (told_old t
       }
 
   pub place_goes : Visits own.peer own.key old told_old new told_new false → VisitsPlace place old told_old owns new told_new (slice_set owns place None)
-  place_goes visits buses stand keys told hosting denied is front None ahead e at =
+  place_goes visits buses stand keys told hosting is front None ahead e at =
       absurd (subst (λ (o : Option Own). SitsAt keys o None) here (sits_here keys owns front None ahead place d e (subst (λ (all : List (Option Seat)). Sit keys owns all) at hosting.sit)))
-  place_goes visits buses stand keys told hosting denied is front (Some seat) ahead e at =
+  place_goes visits buses stand keys told hosting is front (Some seat) ahead e at =
       let owns_after : List (Option Own) = slice_set owns place None in
       let h : IsHosting buses (record { events = stand.events; guests = stand.guests; places = front ++ Some seat ∷ ahead }) keys old owns = subst (λ (all : List (Option Seat)). IsHosting buses (record { events = stand.events; guests = stand.guests; places = all }) keys old owns) at hosting in
       let sits : SitsAt keys (Some own) (Some seat) = subst (λ (o : Option Own). SitsAt keys o (Some seat)) here (sits_here keys owns front (Some seat) ahead place d e h.sit) in
       let visit : Visits seat.peer own.key old told_old new told_new false = subst (λ (p : ℕ). Visits p own.key old told_old new told_new false) sits.0 visits in
-      let x = visit buses stand.events keys seat.conn told (record { layout = h.layout; named = sits.1; stands = h.stands }) denied is in
+      let x = visit buses stand.events keys seat.conn told (record { layout = h.layout; named = sits.1; stands = h.stands }) is in
       let fewer : List (Option ℕ) = without_key seat.conn keys in
       let left : left_by (Some (seat, x.calls)) ≡ None = ap (λ b. if b then None else Some seat) x.closes in
       let a = count_cleared seat front ahead in
@@ -219,7 +266,8 @@ module _ (place : ℕ) (d : Option Own) (own : Own) (old new : Held) (told_old t
       record {
         round = Some (seat, x.calls) ∷ [];
         keys = fewer;
-        adds = subst (λ (c : List Call). Adds told_old told c) (sym (append-nil x.calls)) x.adds;
+        adds = subst (λ (c : List Call). AddsGiven told_old told c) (sym (append-nil x.calls)) x.adds;
+        given = subst (λ (c : List Call). AllGiven c new) (sym (append-nil x.calls)) x.given;
         seats_are = refl;
         own = (x.own, tt);
         asked = ap (map question) (append-nil x.calls) ∙ x.asked ∙ sym (append-nil _);
@@ -229,8 +277,8 @@ module _ (place : ℕ) (d : Option Own) (own : Own) (old new : Held) (told_old t
 
 -- ---- the places, one after another
 
-pub places_first : (old : Held) (told_old : Option (List Call)) (owns : List (Option Own)) → VisitsSoFar 0 old told_old owns old told_old owns
-places_first old told_old owns buses stand keys told hosting d is = record {
+pub places_first : (old : Held) (told_old : Option (List DoorCall)) (owns : List (Option Own)) → VisitsSoFar 0 old told_old owns old told_old owns
+places_first old told_old owns buses stand keys told hosting is = record {
   seats = [];
   ahead = stand.places;
   are = refl;
@@ -239,6 +287,7 @@ places_first old told_old owns buses stand keys told hosting d is = record {
     round = [];
     keys = keys;
     adds = adds_none told_old told is;
+    given = λ d. tt;
     seats_are = refl;
     own = tt;
     asked = refl;
@@ -246,26 +295,26 @@ places_first old told_old owns buses stand keys told hosting d is = record {
   };
 }
 
-module _ (buses : List Bus) (stand : Stand) (old : Option (List Call)) (seats : List (Option Seat)) where
+module _ (buses : List Bus) (stand : Stand) (old : Option (List DoorCall)) (seats : List (Option Seat)) where
   -- one place more was visited
-  visited_then : (mid : List Call) (told_mid : Option (List Call)) (between new : Held) (owns owns_after : List (Option Own)) (told : List Call) (place : Option Seat) (ahead : List (Option Seat)) → told_mid ≡ Some mid
+  visited_then : (mid : List DoorCall) (told_mid : Option (List DoorCall)) (between new : Held) (owns owns_after : List (Option Own)) (told : List DoorCall) (place : Option Seat) (ahead : List (Option Seat)) → told_mid ≡ Some mid → (new.denied ≡ 0 → between.denied ≡ 0)
       → (x : AreVisited buses stand old mid between owns [] seats (place ∷ ahead))
       → AreVisited buses (record { events = stand.events ++ made_by (visits_of x.round); guests = stand.guests; places = map left_by x.round ++ place ∷ ahead }) told_mid told new owns_after (map left_by x.round) (place ∷ []) ahead
       → AreVisited buses stand old told new owns_after [] (seats ++ place ∷ []) ahead
-  visited_then mid told_mid between new owns owns_after told place ahead is x y =
+  visited_then mid told_mid between new owns owns_after told place ahead is low x y =
       let both : List (Option Visit) = x.round ++ y.round in
       let xs : List Visit = visits_of x.round in
       let ys : List Visit = visits_of y.round in
       let all : visits_of both ≡ xs ++ ys = visits-append x.round y.round in
       let calls : calls_of (visits_of both) ≡ calls_of xs ++ calls_of ys = ap calls_of all ∙ flat_map-append (λ v. v.1) xs ys in
       let made : made_by (visits_of both) ≡ made_by xs ++ made_by ys = ap made_by all ∙ flat_map-append (λ v. visit_events v.1 v.0) xs ys in
-      let same : y.adds.before ≡ mid = same_Some y.adds.before mid (sym y.adds.was ∙ is) in
       let events : (stand.events ++ made_by xs) ++ made_by ys ≡ stand.events ++ made_by (visits_of both) = append_assoc stand.events (made_by xs) (made_by ys) ∙ ap (λ more. stand.events ++ more) (sym made) in
       let places : map left_by x.round ++ (map left_by y.round ++ ahead) ≡ map left_by both ++ ahead = sym (append_assoc (map left_by x.round) (map left_by y.round) ahead) ∙ ap (λ front. front ++ ahead) (sym (map-append left_by x.round y.round)) in
       record {
         round = both;
         keys = y.keys;
-        adds = subst (λ (c : List Call). Adds old told c) (sym calls) (adds_more old told mid (calls_of xs) (calls_of ys) x.adds (y.adds.is ∙ ap (λ before. before ++ calls_of ys) same));
+        adds = subst (λ (c : List Call). AddsGiven old told c) (sym calls) (given_then old told_mid mid told (calls_of xs) (calls_of ys) is x.adds y.adds);
+        given = λ d. subst (λ (c : List Call). AllByRecursion IsGiven c) (sym calls) (all_append IsGiven (calls_of xs) (calls_of ys) (x.given (low d)) (y.given d));
         seats_are = map-append seat_of x.round y.round ∙ ap (λ front. front ++ map seat_of y.round) x.seats_are ∙ ap (λ more. seats ++ more) y.seats_are;
         own = subst (λ (vs : List Visit). AreOwn vs) (sym all) (own_append xs ys x.own y.own);
         asked = ap (map question) calls ∙ map-append question (calls_of xs) (calls_of ys) ∙ ap (λ qs. qs ++ map question (calls_of ys)) x.asked ∙ ap (λ qs. asked_by buses stand.events xs ++ qs) y.asked
@@ -278,35 +327,35 @@ module _ (buses : List Bus) (stand : Stand) (old : Option (List Call)) (seats : 
 length-left : (round : List (Option Visit)) (seats : List (Option Seat)) → map seat_of round ≡ seats → length (map left_by round) ≡ length seats
 length-left round seats e = length-map round left_by ∙ sym (length-map round seat_of) ∙ ap length e
 
-module _ (place : ℕ) (old mid new : Held) (told_old told_mid told_new : Option (List Call)) (owns_old owns owns_after : List (Option Own)) (long : length owns ≡ 64) (within : place < 64) (visits : VisitsPlace place mid told_mid owns new told_new owns_after) where
-  placed_on : (buses : List Bus) (stand : Stand) (told told_then : List Call) → new.denied ≡ 0 → told_new ≡ Some told → told_mid ≡ Some told_then → (seats ahead : List (Option Seat)) → stand.places ≡ seats ++ ahead → length seats ≡ place
+module _ (place : ℕ) (old mid new : Held) (told_old told_mid told_new : Option (List DoorCall)) (owns_old owns owns_after : List (Option Own)) (long : length owns ≡ 64) (within : place < 64) (visits : VisitsPlace place mid told_mid owns new told_new owns_after) (low : new.denied ≡ 0 → mid.denied ≡ 0) where
+  placed_on : (buses : List Bus) (stand : Stand) (told told_then : List DoorCall) → told_new ≡ Some told → told_mid ≡ Some told_then → (seats ahead : List (Option Seat)) → stand.places ≡ seats ++ ahead → length seats ≡ place
       → AreVisited buses stand told_old told_then mid owns [] seats ahead → AreVisitedSoFar buses stand told_old told new owns_after (place + 1)
-  placed_on buses stand told told_then d is was seats [] are many x =
+  placed_on buses stand told told_then is was seats [] are many x =
       let a = length-sit x.keys owns (map left_by x.round ++ []) x.hosting.sit in
       let none : List (Option Seat) = [] in
       let b = length-append (map left_by x.round) none in
       let c = length-left x.round seats x.seats_are in
       absurd (omega (arith, a, b, c, many, long, within))
-  placed_on buses stand told told_then d is was seats (p ∷ ahead) are many x =
+  placed_on buses stand told told_then is was seats (p ∷ ahead) are many x =
       let now : Stand = record { events = stand.events ++ made_by (visits_of x.round); guests = stand.guests; places = map left_by x.round ++ p ∷ ahead } in
-      let y = visits buses now x.keys told x.hosting d is (map left_by x.round) p ahead (length-left x.round seats x.seats_are ∙ many) refl in
+      let y = visits buses now x.keys told x.hosting is (map left_by x.round) p ahead (length-left x.round seats x.seats_are ∙ many) refl in
       record {
         seats = seats ++ p ∷ [];
         ahead = ahead;
         are = are ∙ sym (append_assoc seats (p ∷ []) ahead);
         many = length-append seats (p ∷ []) ∙ ap (λ n. n + 1) many;
-        visited = visited_then buses stand told_old seats told_then told_mid mid new owns owns_after told p ahead was x y;
+        visited = visited_then buses stand told_old seats told_then told_mid mid new owns owns_after told p ahead was low x y;
       }
 
-  pub places_on : VisitsSoFar place old told_old owns_old mid told_mid owns → Keeps mid told_mid new told_new → VisitsSoFar (place + 1) old told_old owns_old new told_new owns_after
-  places_on so keeps buses stand keys told hosting d is =
-      let w = keeps told d is in
-      let s = so buses stand keys w.told hosting w.denied w.is in
-      placed_on buses stand told w.told d is w.is s.seats s.ahead s.are s.many s.visited
+  pub places_on : VisitsSoFar place old told_old owns_old mid told_mid owns → AsksPeers told_mid told_new → VisitsSoFar (place + 1) old told_old owns_old new told_new owns_after
+  places_on so asks buses stand keys told hosting is =
+      let w = (asks told is).adds in
+      let s = so buses stand keys w.before hosting w.was in
+      placed_on buses stand told w.before is w.was s.seats s.ahead s.are s.many s.visited
 
-pub places_all : (place : ℕ) (old now : Held) (told_old told_now : Option (List Call)) (owns_old owns : List (Option Own)) → length owns ≡ 64 → place ≡ 64 → VisitsSoFar place old told_old owns_old now told_now owns → VisitsPlaces old told_old owns_old now told_now owns
-places_all place old now told_old told_now owns_old owns long most so buses stand keys told hosting d is =
-    let s = so buses stand keys told hosting d is in
+pub places_all : (place : ℕ) (old now : Held) (told_old told_now : Option (List DoorCall)) (owns_old owns : List (Option Own)) → length owns ≡ 64 → place ≡ 64 → VisitsSoFar place old told_old owns_old now told_now owns → VisitsPlaces old told_old owns_old now told_now owns
+places_all place old now told_old told_now owns_old owns long most so buses stand keys told hosting is =
+    let s = so buses stand keys told hosting is in
     all s.seats s.ahead s.are s.many s.visited
   where
     all : (seats ahead : List (Option Seat)) → stand.places ≡ seats ++ ahead → length seats ≡ place → AreVisited buses stand told_old told now owns [] seats ahead → AreVisited buses stand told_old told now owns [] stand.places []

@@ -1,4 +1,5 @@
 mod ServingExamples
+mod Parts
 mod ServingLaws
 pub mod LentLaws
 mod Sendings

@@ -5,11 +5,10 @@ use Rattle.std.specs.List.{list_any, AllByRecursion}
 use Rattle.std.proofs.lemmas.Bool.Decides.{nat_tests}
 use Rattle.std.proofs.lemmas.List.Elements.{filter-append}
 use Rattle.std.proofs.lemmas.List.Sums.{take_while-cons}
+use Rattle.srcp_core.specs.Under.{Event, Bytes}
 use Rattle.srcp_info.proofs.ClientLaws.{all_append}
 use Rattle.srcp_rules.specs.declared.layout.Bus.{Bus}
-use Rattle.srcp_core.specs.declared.event.Event.{Event}
-use Rattle.srcp_core.specs.declared.event.Event.TheVariants.{Bytes}
-use Rattle.srcp_serve.specs.Calls.{Call, NowCall, AcceptCall, ReadCall, WriteCall, CloseCall}
+use Rattle.srcp_serve.specs.Given.{Guest, Call, NowCall, AcceptCall, ReadCall, WriteCall, CloseCall}
 use Rattle.srcp_serve.specs.Serving.{Question, Moments, Newcomers, Reads, Writes, Closes, Seat, Stand, question, is_about, is_now, visit, newcomer_of, piece_of, count_of, loses, loses_reading, turns, exchange, is_let_in, is_ready, is_closing, handed, reads_of, writes_of, closes_of, visit_asks, visits_ask, visit_events, turns_away, turn_asks, turns_ask, turned, timed, begun, seats}
 
 -- ---- questions by whom they are about
@@ -39,8 +38,8 @@ AreOfPeers questions = AllByRecursion (λ q. asks_peer q ≡ true) questions
 pub about_question : (peer : ℕ) (calls : List Call) → map question (filter (is_about peer) calls) ≡ filter (asks_of peer) (map question calls)
 about_question peer [] = refl
 about_question peer (NowCall answer ∷ calls) = about_question peer calls
-about_question peer (AcceptCall answer ∷ calls) = about_question peer calls
-about_question peer (ReadCall who answer buffer ∷ calls) = kept_or (who == peer) (ReadCall who answer buffer) (filter (is_about peer) calls) ∙ ap (λ qs. cond (who == peer) (Reads who (length buffer) ∷ qs) qs) (about_question peer calls)
+about_question peer (AcceptCall answer granted ∷ calls) = about_question peer calls
+about_question peer (ReadCall who answer buffer grants ∷ calls) = kept_or (who == peer) (ReadCall who answer buffer grants) (filter (is_about peer) calls) ∙ ap (λ qs. cond (who == peer) (Reads who (length buffer) ∷ qs) qs) (about_question peer calls)
   where
     kept_or : (b : Bool) (call : Call) (more : List Call) → map question (cond b (call ∷ more) more) ≡ cond b (question call ∷ map question more) (map question more)
     kept_or true call more = refl
@@ -196,11 +195,11 @@ module _ (buses : List Bus) where
   no_moments [] h = tt
   no_moments (q ∷ questions) h = (no_moment q h.0, no_moments questions h.1)
 
-  pub away_peers : (events : List Event) (peers : List ℕ) → AreOfPeers (flat_map (turns_away buses events) peers)
+  pub away_peers : (events : List Event) (peers : List Guest) → AreOfPeers (flat_map (turns_away buses events) peers)
   away_peers events [] = tt
   away_peers events (peer ∷ peers) =
       all_append (λ q. asks_peer q ≡ true) (turns_away buses events peer) (flat_map (turns_away buses events) peers)
-      (elim (is_let_in buses events) as (λ b. AreOfPeers (if b then [] else Closes peer ∷ [])) [ true ↦ tt | false ↦ (refl, tt) ])
+      (elim (is_let_in buses events peer.granted) as (λ b. AreOfPeers (if b then [] else Closes peer.peer ∷ [])) [ true ↦ tt | false ↦ (refl, tt) ])
       (away_peers events peers)
 
   -- what a turn asks after the moment
@@ -215,8 +214,8 @@ module _ (buses : List Bus) where
 
   is_moment : (call : Call) → is_now call ≡ asks_moment (question call)
   is_moment (NowCall answer) = refl
-  is_moment (AcceptCall answer) = refl
-  is_moment (ReadCall peer answer buffer) = refl
+  is_moment (AcceptCall answer granted) = refl
+  is_moment (ReadCall peer answer buffer grants) = refl
   is_moment (WriteCall peer bytes answer) = refl
   is_moment (CloseCall peer answer) = refl
 

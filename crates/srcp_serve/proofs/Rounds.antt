@@ -4,21 +4,21 @@ use Rattle.std.proofs.Math.Seq.{take-append_seam}
 use Rattle.std.proofs.lemmas.Bool.Decides.{nat_tests}
 use Rattle.std.proofs.lemmas.List.{map-append}
 use Rattle.std.proofs.lemmas.List.Sums.{sum_by-cons}
-use Rattle.std.proofs.lemmas.Option.{same_Some}
 use Rattle.std.specs.List.{list_any, filter_map, count_by}
 use Rattle.std.specs.Prelude.{◌||◌, ◌&&◌, nat_lt, if◌then◌else◌}
 use Rattle.srcp_rules.specs.declared.layout.Bus.{Bus}
 use Rattle.srcp_core.specs.Course.{course}
 use Rattle.srcp_core.specs.Held.{Held}
 use Rattle.srcp_core.specs.Stands.{StandsFor}
-use Rattle.srcp_core.specs.declared.event.Event.{Event}
-use Rattle.srcp_core.specs.declared.event.Event.TheVariants.{Room}
-use Rattle.srcp_serve.specs.Calls.{Call, WriteCall}
+use Rattle.srcp_core.specs.Under.{Event, Room}
+use Rattle.srcp_serve.specs.Calls.{Call as DoorCall}
+use Rattle.srcp_serve.specs.Given.{Call, WriteCall}
 use Rattle.srcp_serve.specs.Serving.{Writes, question, count_of, is_write, loses, loses_writing, falls_short, lent, lent_none_last, rooms, handed, unless_nil}
-use Rattle.srcp_serve.specs.Visits.{Adds, AreWritesTo, Follows, IsWrittenTo, Keeps, TookAll, TookLess, TookNone, WasLentNone, WritesOnce, WritesOut}
+use Rattle.srcp_serve.specs.Turns.{AsksPeers}
+use Rattle.srcp_serve.specs.Visits.{AddsGiven, AreWritesTo, Follows, IsWrittenTo, TookAll, TookLess, TookNone, WasLentNone, WritesOnce, WritesOut}
 use Rattle.srcp_serve.specs.declared.serving.visit.Wrote.TheVariants.{All, Less, Failed}
 use Rattle.srcp_serve.proofs.HandedLaws.{AreFull, texts, handed-append, full-more, unless_some}
-use Rattle.srcp_serve.proofs.Telling.{adds_none, adds_more}
+use Rattle.srcp_serve.proofs.Telling.{adds_none, given_then}
 
 -- room for nothing, or no more room
 abbrev last_room : Bool → List ℕ
@@ -109,20 +109,20 @@ module _ (buses : List Bus) (peer conn : ℕ) where
       ∙ ap (λ t. front ++ (if not lost && (not t && nat_lt (count_by is_write all) 300) then 0 ∷ [] else [])) (written-short events counts last full ∙ s)
       ∙ ap (λ k. front ++ (if not lost && (not short && nat_lt k 300) then 0 ∷ [] else [])) (written-count events counts last)
 
-  module _ (keys : List (Option ℕ)) (old : Option (List Call)) where
+  module _ (keys : List (Option ℕ)) (old : Option (List DoorCall)) where
     -- so many writes took all
-    pub record IsTaking (events : List Event) (told : List Call) (now : Held) (times : ℕ) : Type 0 where
+    pub record IsTaking (events : List Event) (told : List DoorCall) (now : Held) (times : ℕ) : Type 0 where
       pub counts : List ℕ
       pub many : length counts ≡ times
       pub full : AreFull buses conn events counts
-      pub adds : Adds old told (written events counts [])
+      pub adds : AddsGiven old told (written events counts [])
       pub stands : StandsFor buses keys now (course buses (after events counts))
 
-    abbrev Writes_out : List Event → List Call → Held → Bool → Type 0
+    abbrev Writes_out : List Event → List DoorCall → Held → Bool → Type 0
     Writes_out events told new stays = IsWrittenTo buses events keys conn peer old told new stays
 
     -- the last write, or none
-    ended_by : (events : List Event) (told : List Call) (new : Held) (counts : List ℕ) (last : List Call) (end : List (List ℕ)) (room : List ℕ) (stays : Bool) → AreFull buses conn events counts → Adds old told (written events counts last)
+    ended_by : (events : List Event) (told : List DoorCall) (new : Held) (counts : List ℕ) (last : List Call) (end : List (List ℕ)) (room : List ℕ) (stays : Bool) → AreFull buses conn events counts → AddsGiven old told (written events counts last)
         → AreWritesTo peer last → handed buses conn (after events counts) (filter_map count_of last) ≡ end → map question last ≡ map (Writes peer) end → length counts + length end ≤ 300
         → list_any loses_writing last ≡ not stays → rooms (written events counts last) ≡ counts ++ room → StandsFor buses keys new (course buses (after events counts ++ map (Room conn) room)) → Writes_out events told new stays
     ended_by events told new counts last end room stays full adds own hands asks few lost are stands = record {
@@ -139,7 +139,7 @@ module _ (buses : List Bus) (peer conn : ℕ) where
     }
 
     -- the peer took less, or the write failed
-    last_write : (events : List Event) (told : List Call) (new : Held) (counts : List ℕ) (call : Call) (count : ℕ) (stays lost short : Bool) → AreFull buses conn events counts → Adds old told (written events counts (call ∷ []))
+    last_write : (events : List Event) (told : List DoorCall) (new : Held) (counts : List ℕ) (call : Call) (count : ℕ) (stays lost short : Bool) → AreFull buses conn events counts → AddsGiven old told (written events counts (call ∷ []))
         → AreWritesTo peer (call ∷ []) → count_of call ≡ Some count → question call ≡ Writes peer (lent buses conn (after events counts)) → count < length (lent buses conn (after events counts)) → length counts < 300
         → list_any loses_writing (call ∷ []) ≡ not stays → list_any loses (call ∷ []) ≡ lost → list_any falls_short (call ∷ []) ≡ short → not lost && not short ≡ false
         → StandsFor buses keys new (course buses (after events counts ++ Room conn count ∷ [])) → Writes_out events told new stays
@@ -165,7 +165,7 @@ module _ (buses : List Bus) (peer conn : ℕ) where
         stops false false few e = cc
 
     -- no write yet
-    takes_none : (events : List Event) (told : List Call) (now : Held) → old ≡ Some told → StandsFor buses keys now (course buses events) → IsTaking events told now 0
+    takes_none : (events : List Event) (told : List DoorCall) (now : Held) → old ≡ Some told → StandsFor buses keys now (course buses events) → IsTaking events told now 0
     takes_none events told now is stands = record {
       counts = [];
       many = refl;
@@ -175,23 +175,22 @@ module _ (buses : List Bus) (peer conn : ℕ) where
     }
 
     -- more calls after these writes
-    adds_last : (events : List Event) (counts : List ℕ) (mid told calls : List Call) (told_mid : Option (List Call)) → told_mid ≡ Some mid → Adds old mid (written events counts []) → Adds told_mid told calls → Adds old told (written events counts calls)
+    adds_last : (events : List Event) (counts : List ℕ) (mid told : List DoorCall) (calls : List Call) (told_mid : Option (List DoorCall)) → told_mid ≡ Some mid → AddsGiven old mid (written events counts []) → AddsGiven told_mid told calls → AddsGiven old told (written events counts calls)
     adds_last events counts mid told calls told_mid is first second =
-        let same : second.before ≡ mid = same_Some second.before mid (sym second.was ∙ is) in
-        subst (λ (all : List Call). Adds old told all) (written-append events counts calls) (adds_more old told mid (written events counts []) calls first (second.is ∙ ap (λ before. before ++ calls) same))
+        subst (λ (all : List Call). AddsGiven old told all) (written-append events counts calls) (given_then old told_mid mid told (written events counts []) calls is first second)
 
-    takes_more : (events : List Event) (mid told : List Call) (before new : Held) (times : ℕ) (told_mid : Option (List Call)) → told_mid ≡ Some mid → (t : IsTaking events mid before times) → TookAll buses (after events t.counts) keys conn peer told_mid told new → IsTaking events told new (times + 1)
+    takes_more : (events : List Event) (mid told : List DoorCall) (before new : Held) (times : ℕ) (told_mid : Option (List DoorCall)) → told_mid ≡ Some mid → (t : IsTaking events mid before times) → TookAll buses (after events t.counts) keys conn peer told_mid told new → IsTaking events told new (times + 1)
     takes_more events mid told before new times told_mid is t took = record {
       counts = t.counts ++ took.count ∷ [];
       many = length-append t.counts (took.count ∷ []) ∙ ap (λ k. k + 1) t.many;
       full = full-more buses conn events t.counts took.count t.full took.all took.some;
-      adds = subst (λ (all : List Call). Adds old told all) (sym (written-more events t.counts took.count)) (adds_last events t.counts mid told (WriteCall peer (lent buses conn (after events t.counts)) (Ok took.count) ∷ []) told_mid is t.adds took.adds);
+      adds = subst (λ (all : List Call). AddsGiven old told all) (sym (written-more events t.counts took.count)) (adds_last events t.counts mid told (WriteCall peer (lent buses conn (after events t.counts)) (Ok took.count) ∷ []) told_mid is t.adds took.adds);
       stands = subst (λ (all : List Event). StandsFor buses keys new (course buses all))
           (append_assoc events (map (Room conn) t.counts) (Room conn took.count ∷ []) ∙ ap (λ more. events ++ more) (sym (map-append (Room conn) t.counts (took.count ∷ [])))) took.stands;
     }
 
     -- the most writes there may be took all
-    out_full : (events : List Event) (told : List Call) (now : Held) → IsTaking events told now 300 → Writes_out events told now true
+    out_full : (events : List Event) (told : List DoorCall) (now : Held) → IsTaking events told now 300 → Writes_out events told now true
     out_full events told now t =
         let counts : List ℕ = t.counts in
         let front : List (List ℕ) = texts buses conn events counts in
@@ -219,7 +218,7 @@ module _ (buses : List Bus) (peer conn : ℕ) where
         over k e = grind (arith, nat_tests)
 
     -- nothing was lent
-    out_none : (events : List Event) (mid told : List Call) (before new : Held) (times : ℕ) (told_mid : Option (List Call)) → told_mid ≡ Some mid → times < 300 → (t : IsTaking events mid before times) → WasLentNone buses (after events t.counts) keys conn peer told_mid told new → Writes_out events told new true
+    out_none : (events : List Event) (mid told : List DoorCall) (before new : Held) (times : ℕ) (told_mid : Option (List DoorCall)) → told_mid ≡ Some mid → times < 300 → (t : IsTaking events mid before times) → WasLentNone buses (after events t.counts) keys conn peer told_mid told new → Writes_out events told new true
     out_none events mid told before new times told_mid is few t was =
         let counts : List ℕ = t.counts in
         let many : length counts ≡ times = t.many in
@@ -232,7 +231,7 @@ module _ (buses : List Bus) (peer conn : ℕ) where
         below : (k : ℕ) → k < 300 → nat_lt (k + 0) 300 ≡ true
         below k h = grind (arith, nat_tests)
 
-    out_less : (events : List Event) (mid told : List Call) (before new : Held) (times : ℕ) (told_mid : Option (List Call)) → told_mid ≡ Some mid → times < 300 → (t : IsTaking events mid before times) → TookLess buses (after events t.counts) keys conn peer told_mid told new → Writes_out events told new true
+    out_less : (events : List Event) (mid told : List DoorCall) (before new : Held) (times : ℕ) (told_mid : Option (List DoorCall)) → told_mid ≡ Some mid → times < 300 → (t : IsTaking events mid before times) → TookLess buses (after events t.counts) keys conn peer told_mid told new → Writes_out events told new true
     out_less events mid told before new times told_mid is few t took =
         let bytes : List ℕ = lent buses conn (after events t.counts) in
         let many : length t.counts ≡ times = t.many in
@@ -242,7 +241,7 @@ module _ (buses : List Bus) (peer conn : ℕ) where
         last_write events told new t.counts call took.count true false true t.full (adds_last events t.counts mid told (call ∷ []) told_mid is t.adds took.adds)
         (record { bytes = bytes; answer = Ok took.count; is = refl }, tt) refl refl took.short size refl refl (ap (λ b. b || false) short) refl took.stands
 
-    out_failed : (events : List Event) (mid told : List Call) (before new : Held) (times : ℕ) (told_mid : Option (List Call)) → told_mid ≡ Some mid → times < 300 → (t : IsTaking events mid before times) → TookNone buses (after events t.counts) keys conn peer told_mid told new → Writes_out events told new false
+    out_failed : (events : List Event) (mid told : List DoorCall) (before new : Held) (times : ℕ) (told_mid : Option (List DoorCall)) → told_mid ≡ Some mid → times < 300 → (t : IsTaking events mid before times) → TookNone buses (after events t.counts) keys conn peer told_mid told new → Writes_out events told new false
     out_failed events mid told before new times told_mid is few t took =
         let bytes : List ℕ = lent buses conn (after events t.counts) in
         let many : length t.counts ≡ times = t.many in
@@ -254,34 +253,34 @@ module _ (buses : List Bus) (peer conn : ℕ) where
 -- ---- the loop of the writes
 
 -- so many writes took all
-abbrev pub TakesSoFar : (peer key : ℕ) (old : Held) (told_old : Option (List Call)) (now : Held) (told_now : Option (List Call)) (times : ℕ) → Type 0
-TakesSoFar peer key old told_old now told_now times = Follows (λ buses events keys n told. IsTaking buses peer n keys told_old events told now times) key old now told_now
+abbrev pub TakesSoFar : (peer key : ℕ) (old : Held) (told_old : Option (List DoorCall)) (now : Held) (told_now : Option (List DoorCall)) (times : ℕ) → Type 0
+TakesSoFar peer key old told_old now told_now times = Follows (λ buses events keys n told. IsTaking buses peer n keys told_old events told now times) key old told_now
 
-pub takes_first : (peer key : ℕ) (old : Held) (told_old : Option (List Call)) → TakesSoFar peer key old told_old old told_old 0
-takes_first peer key old told_old buses events keys n told s d is = takes_none buses peer n keys told_old events told old is s.stands
+pub takes_first : (peer key : ℕ) (old : Held) (told_old : Option (List DoorCall)) → TakesSoFar peer key old told_old old told_old 0
+takes_first peer key old told_old buses events keys n told s is = takes_none buses peer n keys told_old events told old is s.stands
 
-module _ (peer key : ℕ) (old mid new : Held) (told_old told_mid told_new : Option (List Call)) (times : ℕ) (so : TakesSoFar peer key old told_old mid told_mid times) (keeps : Keeps mid told_mid new told_new) where
+module _ (peer key : ℕ) (old mid new : Held) (told_old told_mid told_new : Option (List DoorCall)) (times : ℕ) (so : TakesSoFar peer key old told_old mid told_mid times) (asks : AsksPeers told_mid told_new) where
   pub takes_on : WritesOnce peer key mid told_mid new told_new All → TakesSoFar peer key old told_old new told_new (times + 1)
-  takes_on once buses events keys n told s d is =
-      let w = keeps told d is in
-      let t = so buses events keys n w.told s w.denied w.is in
-      takes_more buses peer n keys told_old events w.told told mid new times told_mid w.is t (once buses (after buses peer n events t.counts) keys n told (record { layout = s.layout; named = s.named; stands = t.stands }) d is)
+  takes_on once buses events keys n told s is =
+      let w = (asks told is).adds in
+      let t = so buses events keys n w.before s w.was in
+      takes_more buses peer n keys told_old events w.before told mid new times told_mid w.was t (once buses (after buses peer n events t.counts) keys n told (record { layout = s.layout; named = s.named; stands = t.stands }) is)
 
   pub ends_less : times < 300 → WritesOnce peer key mid told_mid new told_new Less → WritesOut peer key old told_old new told_new true
-  ends_less few once buses events keys n told s d is =
-      let w = keeps told d is in
-      let t = so buses events keys n w.told s w.denied w.is in
+  ends_less few once buses events keys n told s is =
+      let w = (asks told is).adds in
+      let t = so buses events keys n w.before s w.was in
       ⊎_elim
-      (λ was. out_none buses peer n keys told_old events w.told told mid new times told_mid w.is few t was)
-      (λ took. out_less buses peer n keys told_old events w.told told mid new times told_mid w.is few t took)
-      (once buses (after buses peer n events t.counts) keys n told (record { layout = s.layout; named = s.named; stands = t.stands }) d is)
+      (λ was. out_none buses peer n keys told_old events w.before told mid new times told_mid w.was few t was)
+      (λ took. out_less buses peer n keys told_old events w.before told mid new times told_mid w.was few t took)
+      (once buses (after buses peer n events t.counts) keys n told (record { layout = s.layout; named = s.named; stands = t.stands }) is)
 
   pub ends_failed : times < 300 → WritesOnce peer key mid told_mid new told_new Failed → WritesOut peer key old told_old new told_new false
-  ends_failed few once buses events keys n told s d is =
-      let w = keeps told d is in
-      let t = so buses events keys n w.told s w.denied w.is in
-      out_failed buses peer n keys told_old events w.told told mid new times told_mid w.is few t (once buses (after buses peer n events t.counts) keys n told (record { layout = s.layout; named = s.named; stands = t.stands }) d is)
+  ends_failed few once buses events keys n told s is =
+      let w = (asks told is).adds in
+      let t = so buses events keys n w.before s w.was in
+      out_failed buses peer n keys told_old events w.before told mid new times told_mid w.was few t (once buses (after buses peer n events t.counts) keys n told (record { layout = s.layout; named = s.named; stands = t.stands }) is)
 
-pub ends_full : (peer key : ℕ) (old now : Held) (told_old told_now : Option (List Call)) (times : ℕ) → times ≡ 300 → TakesSoFar peer key old told_old now told_now times → WritesOut peer key old told_old now told_now true
-ends_full peer key old now told_old told_now times e so buses events keys n told s d is =
-    out_full buses peer n keys told_old events told now (subst (λ (k : ℕ). IsTaking buses peer n keys told_old events told now k) e (so buses events keys n told s d is))
+pub ends_full : (peer key : ℕ) (old now : Held) (told_old told_now : Option (List DoorCall)) (times : ℕ) → times ≡ 300 → TakesSoFar peer key old told_old now told_now times → WritesOut peer key old told_old now told_now true
+ends_full peer key old now told_old told_now times e so buses events keys n told s is =
+    out_full buses peer n keys told_old events told now (subst (λ (k : ℕ). IsTaking buses peer n keys told_old events told now k) e (so buses events keys n told s is))

@@ -1,27 +1,23 @@
 -- What the events but room leave of what the connections were sent.
 use Rattle.std.proofs.Common.{◌≡◌, ◌∙◌, ℕ, zero, suc, ◌≤◌, Bool, true, false, List, [], ◌∷◌, ◌++◌, map, take, length, if◌then◌else◌, Option, Some, None, option_map, Result, Ok, Err, refl, ap, sym, subst, arith, append-nil, length-append}
-use Rattle.std.specs.Prelude.{◌+◌, ◌||◌, ◌==◌, fold, nat_lt, codes, ◌&&◌}
+use Rattle.std.specs.Prelude.{◌+◌, ◌||◌, ◌==◌, fold, nat_lt}
 use Rattle.std.specs.List.{AllByRecursion}
 use Rattle.std.proofs.lemmas.List.{take-append-le}
 use Rattle.std.proofs.lemmas.Option.{same_Some}
+use Rattle.srcp_core.specs.Under.{Piece, Order, effect, Heard, greets}
 use Rattle.srcp_info.specs.Line.{reply_line}
 use Rattle.srcp_info.specs.declared.change.Code.{Code}
-use Rattle.srcp_info.specs.declared.change.Code.TheVariants.{C400, C401, C402, C410, C418, C500}
+use Rattle.srcp_info.specs.declared.change.Code.TheVariants.{C500}
 use Rattle.srcp_info.specs.declared.change.Reply.{Reply}
 use Rattle.srcp_info.specs.declared.change.Reply.TheVariants.{Protocol, Mode as ModeReply, Go, Refused}
 use Rattle.srcp_info.specs.declared.value.Mode.{Mode}
-use Rattle.srcp_info.specs.declared.value.Mode.TheVariants.{Command as CommandMode, Info}
 use Rattle.srcp_rules.specs.declared.layout.Bus.{Bus}
-use Rattle.srcp_rules.specs.declared.command.Command.{Command}
-use Rattle.srcp_rules.specs.Effect.{Effect, effect}
-use Rattle.srcp_text.specs.Marks.{Mark, Line, TooLong}
-use Rattle.srcp_text.specs.Words.{words_of, is_keyword}
+use Rattle.srcp_rules.specs.Effect.{Effect}
+use Rattle.srcp_core.specs.Under.{Open, Bytes, At, Shut, Obeyed, Began, Ended, Piece, Order, effect, Heard, greets}
 use Rattle.srcp_core.specs.Connection.{Connection, given, sent, text}
-use Rattle.srcp_core.specs.Course.{World, fresh, numbered, with_numbered, open_connection, at_connection, did, replied, counted, is_info, state, entered, goes, greeted, ended, obeyed, commanded, answered_as, answered, command_of, fault, new_marks, fed_to, shut_as, or_refused, happens}
-use Rattle.srcp_core.specs.Handshake.{is_version, greets_protocol, greets_mode, greets_words, greets}
-use Rattle.srcp_core.specs.declared.event.Event.TheVariants.{Open, Bytes, At, Shut}
+use Rattle.srcp_core.specs.Course.{World, fresh, numbered, with_numbered, open_connection, at_connection, did, replied, counted, is_info, state, entered, goes, greeted, ended, obeyed, commanded, answered_as, answered, order_of, fault, new_lines, fed_to, shut_as, or_refused, happens}
+use Rattle.srcp_core.proofs.Given.{line_law}
 use Rattle.srcp_core.specs.declared.record.CoreFault.{CoreFault}
-use Rattle.srcp_core.specs.declared.record.Step.TheVariants.{Obeyed, Began, Ended}
 use Rattle.srcp_core.proofs.Numbers.{numbered_with}
 use Rattle.srcp_core.proofs.Worlds.{all_numbered, all_push, opened}
 
@@ -122,48 +118,10 @@ module _ (buses : List Bus) (n : ℕ) (texts : List (List ℕ)) where
     refuses : (code : Code) → Quiet (replied n (Refused code) w)
     refuses code = quiet_replied (Refused code) w q
 
-    quiet_protocol : (words : List (List ℕ)) → Quiet (greeted buses n mode (greets_protocol words) w)
-    quiet_protocol [] = refuses C402
-    quiet_protocol (name ∷ []) = refuses C402
-    quiet_protocol (name ∷ version ∷ []) = by (is_keyword (codes "SRCP") name && is_version version) refl
-      where
-        by : (b : Bool) → is_keyword (codes "SRCP") name && is_version version ≡ b → Quiet (greeted buses n mode (greets_protocol (name ∷ version ∷ [])) w)
-        by true e = rw e (quiet_replied Protocol w q)
-        by false e = rw e (refuses C400)
-    quiet_protocol (name ∷ version ∷ more ∷ words) = refuses C410
+    quiet_greeted : (line : Heard) → Quiet (greeted buses n mode (greets line) w)
+    quiet_greeted line = line_law Quiet buses n mode line w (quiet_replied Protocol w q) (λ chosen. quiet_chosen chosen w q) (quiet_goes mode w q) refuses
 
-    quiet_mode : (words : List (List ℕ)) → Quiet (greeted buses n mode (greets_mode words) w)
-    quiet_mode [] = refuses C402
-    quiet_mode (name ∷ []) = refuses C402
-    quiet_mode (name ∷ word ∷ []) = by (is_keyword (codes "SRCP") name) (is_keyword (codes "COMMAND") word) (is_keyword (codes "INFO") word) refl refl refl
-      where
-        by : (a b c : Bool) → is_keyword (codes "SRCP") name ≡ a → is_keyword (codes "COMMAND") word ≡ b → is_keyword (codes "INFO") word ≡ c → Quiet (greeted buses n mode (greets_mode (name ∷ word ∷ [])) w)
-        by false b c d e f = rw d (refuses C401)
-        by true true c d e f = rw (d, e) (quiet_chosen CommandMode w q)
-        by true false true d e f = rw (d, e, f) (quiet_chosen Info w q)
-        by true false false d e f = rw (d, e, f) (refuses C401)
-    quiet_mode (name ∷ word ∷ more ∷ words) = refuses C410
-
-    quiet_words : (words : List (List ℕ)) → Quiet (greeted buses n mode (greets_words words) w)
-    quiet_words [] = refuses C410
-    quiet_words (word ∷ []) = by (is_keyword (codes "GO") word) refl
-      where
-        by : (b : Bool) → is_keyword (codes "GO") word ≡ b → Quiet (greeted buses n mode (greets_words (word ∷ [])) w)
-        by true e = rw e (quiet_goes mode w q)
-        by false e = rw e (refuses C410)
-    quiet_words (word ∷ what ∷ words) = by (is_keyword (codes "SET") word) (is_keyword (codes "PROTOCOL") what) (is_keyword (codes "CONNECTIONMODE") what) refl refl refl
-      where
-        by : (a b c : Bool) → is_keyword (codes "SET") word ≡ a → is_keyword (codes "PROTOCOL") what ≡ b → is_keyword (codes "CONNECTIONMODE") what ≡ c → Quiet (greeted buses n mode (greets_words (word ∷ what ∷ words)) w)
-        by false b c d e f = rw d (refuses C410)
-        by true true c d e f = rw (d, e) (quiet_protocol words)
-        by true false true d e f = rw (d, e, f) (quiet_mode words)
-        by true false false d e f = rw (d, e, f) (refuses C410)
-
-    quiet_greeted : (mark : Mark) → Quiet (greeted buses n mode (greets mark) w)
-    quiet_greeted TooLong = refuses C418
-    quiet_greeted (Line text) = quiet_words (words_of text)
-
-  quiet_obeyed : (session : ℕ) (command : Command) (result : Effect) (w : World) → Quiet w → Quiet (obeyed buses n session command result w)
+  quiet_obeyed : (session : ℕ) (command : Order) (result : Effect) (w : World) → Quiet w → Quiet (obeyed buses n session command result w)
   quiet_obeyed session command result w q =
       let once : World = replied n result.reply (did (Obeyed session w.moment command) w) in
       let still : Quiet once = quiet_replied result.reply (did (Obeyed session w.moment command) w) q in
@@ -172,11 +130,11 @@ module _ (buses : List Bus) (n : ℕ) (texts : List (List ℕ)) where
         | false ↦ still
       ]
 
-  quiet_commanded : (session : ℕ) (command : Result Command Code) (w : World) → Quiet w → Quiet (commanded buses n session command w)
+  quiet_commanded : (session : ℕ) (command : Result Order Code) (w : World) → Quiet w → Quiet (commanded buses n session command w)
   quiet_commanded session (Err code) w q = quiet_replied (Refused code) w q
   quiet_commanded session (Ok command) w q = quiet_obeyed session command (effect (state buses w) session w.moment command) w q
 
-  sending_answered_as : (o : Option Connection) (mark : Mark) (w : World) → ((conn : Connection) → o ≡ Some conn → numbered n w.connections ≡ Some conn) → Sending w → Sending (answered_as buses n o mark w)
+  sending_answered_as : (o : Option Connection) (mark : Heard) (w : World) → ((conn : Connection) → o ≡ Some conn → numbered n w.connections ≡ Some conn) → Sending w → Sending (answered_as buses n o mark w)
   sending_answered_as None mark w f a = a
   sending_answered_as (Some conn) mark w f a = by conn.info refl
     where
@@ -186,25 +144,25 @@ module _ (buses : List Bus) (n : ℕ) (texts : List (List ℕ)) where
         none = λ c t. ap (λ (x : Connection). x.items) (same_Some c conn (sym t ∙ f conn refl)) ∙ (steady_at n w.connections conn (f conn refl) a.steady).plain e;
       }
 
-      by : (t : Bool) → conn.info ≡ t → Sending (if t || conn.ended then w else (if conn.session == 0 then greeted buses n conn.mode (greets mark) w else commanded buses n conn.session (command_of buses mark) w))
+      by : (t : Bool) → conn.info ≡ t → Sending (if t || conn.ended then w else (if conn.session == 0 then greeted buses n conn.mode (greets mark) w else commanded buses n conn.session (order_of buses mark) w))
       by true e = a
-      by false e = elim conn.ended as (λ t. Sending (if t then w else (if conn.session == 0 then greeted buses n conn.mode (greets mark) w else commanded buses n conn.session (command_of buses mark) w))) [
+      by false e = elim conn.ended as (λ t. Sending (if t then w else (if conn.session == 0 then greeted buses n conn.mode (greets mark) w else commanded buses n conn.session (order_of buses mark) w))) [
         | true ↦ a
-        | false ↦ elim (conn.session == 0) as (λ t. Sending (if t then greeted buses n conn.mode (greets mark) w else commanded buses n conn.session (command_of buses mark) w)) [
+        | false ↦ elim (conn.session == 0) as (λ t. Sending (if t then greeted buses n conn.mode (greets mark) w else commanded buses n conn.session (order_of buses mark) w)) [
           | true ↦ (quiet_greeted conn.mode w (quiet e) mark).sending
-          | false ↦ (quiet_commanded conn.session (command_of buses mark) w (quiet e)).sending
+          | false ↦ (quiet_commanded conn.session (order_of buses mark) w (quiet e)).sending
         ]
       ]
 
-  sending_marks : (marks : List Mark) (w : World) → Sending w → Sending (fold (answered buses n) w marks)
+  sending_marks : (marks : List Heard) (w : World) → Sending w → Sending (fold (answered buses n) w marks)
   sending_marks [] w a = a
   sending_marks (mark ∷ marks) w a = sending_marks marks (answered buses n w mark) (sending_answered_as (open_connection w n) mark w (λ conn e. (opened (numbered n w.connections) conn e).0) a)
 
-  sending_fed : (piece : List ℕ) (o : Option Connection) (w : World) → Sending w → Sending (fed_to buses n piece o w)
+  sending_fed : (piece : Piece) (o : Option Connection) (w : World) → Sending w → Sending (fed_to buses n piece o w)
   sending_fed piece None w a = a
   sending_fed piece (Some conn) w a =
-      sending_marks (new_marks buses conn.fed piece) (at_connection n (λ c. record c { fed = c.fed ++ piece }) w)
-      (sending_with n (λ c. record c { fed = c.fed ++ piece }) texts w.connections (λ c e s. (record { plain = s.plain; within = s.within }, refl)) a)
+      sending_marks (new_lines buses conn.fed piece) (at_connection n (λ c. record c { fed = c.fed ++ piece.bytes }) w)
+      (sending_with n (λ c. record c { fed = c.fed ++ piece.bytes }) texts w.connections (λ c e s. (record { plain = s.plain; within = s.within }, refl)) a)
 
   sending_shut_as : (o : Option Connection) (w : World) → Sending w → Sending (shut_as buses n o w)
   sending_shut_as None w a = a
@@ -213,7 +171,7 @@ module _ (buses : List Bus) (n : ℕ) (texts : List (List ℕ)) where
       let once : Sending (at_connection n f w) = sending_with n f texts w.connections (λ c e s. (record { plain = s.plain; within = s.within }, refl)) a in
       elim ((conn.session == 0) || conn.ended) as (λ t. Sending (if t then at_connection n f w else did (Ended conn.session w.moment) (at_connection n f w))) [ true ↦ once | false ↦ once ]
 
-  pub sending_bytes : (piece : List ℕ) (w : World) → Sending w → Sending (happens buses w (Bytes n piece))
+  pub sending_bytes : (piece : Piece) (w : World) → Sending w → Sending (happens buses w (Bytes n piece))
   sending_bytes piece w a =
       elim (fault buses (counted w) (Bytes n piece)) as (λ o. Sending (or_refused buses o (Bytes n piece) (counted w))) [
         | None ↦ sending_fed piece (open_connection (counted w) n) (counted w) a
@@ -236,12 +194,12 @@ module _ (buses : List Bus) (texts : List (List ℕ)) where
   sending_moment moment w a = a
 
   -- a connection more was sent nothing
-  pub sending_opened : (w : World) → IsSending texts w.connections → fault buses w Open ≡ None → IsSending (texts ++ [] ∷ []) (happens buses w Open).connections
-  sending_opened w a e =
+  pub sending_opened : (granted : Bool) (w : World) → IsSending texts w.connections → fault buses w (Open granted) ≡ None → IsSending (texts ++ [] ∷ []) (happens buses w (Open granted)).connections
+  sending_opened granted w a e =
       let more : AllByRecursion IsSteady (w.connections ++ fresh ∷ []) = all_push IsSteady w.connections fresh a.steady (record { plain = λ h. refl; within = omega arith }) in
       let one : IsSending (texts ++ [] ∷ []) (w.connections ++ fresh ∷ []) = record { steady = more; sends = sent_push w.connections fresh ∙ ap (λ ts. ts ++ [] ∷ []) a.sends } in
-      subst (λ (o : Option CoreFault). IsSending (texts ++ [] ∷ []) (or_refused buses o Open (counted w)).connections) (sym e) one
+      subst (λ (o : Option CoreFault). IsSending (texts ++ [] ∷ []) (or_refused buses o (Open granted) (counted w)).connections) (sym e) one
 
   -- one that is not accepted changes nothing
-  pub sending_refused : (w : World) (cause : CoreFault) → IsSending texts w.connections → fault buses w Open ≡ Some cause → IsSending texts (happens buses w Open).connections
-  sending_refused w cause a e = subst (λ (o : Option CoreFault). IsSending texts (or_refused buses o Open (counted w)).connections) (sym e) a
+  pub sending_refused : (granted : Bool) (w : World) (cause : CoreFault) → IsSending texts w.connections → fault buses w (Open granted) ≡ Some cause → IsSending texts (happens buses w (Open granted)).connections
+  sending_refused granted w cause a e = subst (λ (o : Option CoreFault). IsSending texts (or_refused buses o (Open granted) (counted w)).connections) (sym e) a

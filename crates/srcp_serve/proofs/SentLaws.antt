@@ -4,13 +4,12 @@ use Rattle.std.proofs.Math.Seq.{take-nil}
 use Rattle.std.specs.Option.{option_map_or}
 use Rattle.std.proofs.lemmas.List.Sums.{fold-append}
 use Rattle.std.proofs.lemmas.Option.{same_Some}
+use Rattle.srcp_core.specs.Under.{Event, Room}
 use Rattle.srcp_info.specs.declared.change.Shown.{Shown}
 use Rattle.srcp_rules.specs.declared.layout.Bus.{Bus}
 use Rattle.srcp_core.specs.Agrees.{lent_of}
 use Rattle.srcp_core.specs.Connection.{Connection, History, is_open, fitting, items_of, sent, unsent, overran, owed, took, given_room}
 use Rattle.srcp_core.specs.Course.{World, start, numbered, with_numbered, if_open, open_connection, at_connection, counted, or_refused, absent_fault, happens, course, history, rows}
-use Rattle.srcp_core.specs.declared.event.Event.{Event}
-use Rattle.srcp_core.specs.declared.event.Event.TheVariants.{Room}
 use Rattle.srcp_core.specs.declared.record.CoreFault.TheVariants.{NoSuch}
 use Rattle.srcp_core.proofs.Adding.{owed_plain}
 use Rattle.srcp_core.proofs.Numbers.{numbered_with}

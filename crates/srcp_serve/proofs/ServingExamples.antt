@@ -4,8 +4,8 @@ use Rattle.std.specs.Fmt.{digits}
 use Rattle.srcp_rules.specs.declared.layout.Bus.{Bus}
 use Rattle.srcp_core.specs.Connection.{sent}
 use Rattle.srcp_core.specs.Course.{course, welcome}
-use Rattle.srcp_core.specs.declared.event.Event.TheVariants.{Open, Bytes, Room, At, Shut}
-use Rattle.srcp_serve.specs.Calls.{Call, NowCall, AcceptCall, ReadCall, WriteCall, CloseCall}
+use Rattle.srcp_core.specs.Under.{Open, Bytes, Room, At, Shut, giving}
+use Rattle.srcp_serve.specs.Given.{Call, NowCall, AcceptCall, ReadCall, WriteCall, CloseCall}
 use Rattle.srcp_serve.specs.Serving.{IsServed, SendsWhatIsTaken, events_of}
 use Rattle.srcp_serve.specs.declared.door.DoorFault.TheVariants as fault
 use Rattle.srcp_serve.specs.declared.door.Got.TheVariants as got
@@ -22,21 +22,21 @@ abbrev go_line : List ℕ
 go_line = codes "0.000 200 OK GO 1\n"
 
 abbrev nobody : List Call
-nobody = NowCall (Ok 0) ∷ AcceptCall (Ok None) ∷ []
+nobody = NowCall (Ok 0) ∷ AcceptCall (Ok None) true ∷ []
 
 -- one peer that sends GO in the second turn, and ends in the third
 abbrev one_peer : List Call
 one_peer =
-    (NowCall (Ok 0) ∷ AcceptCall (Ok (Some 1)) ∷ WriteCall 1 welcome (Ok 45) ∷ [])
-    ++ nobody ++ (ReadCall 1 (Ok (got.Bytes 3)) (buffer (codes "GO\n")) ∷ WriteCall 1 go_line (Ok 18) ∷ [])
-    ++ nobody ++ (ReadCall 1 (Ok got.Ended) (buffer (codes "GO\n")) ∷ CloseCall 1 (Ok tt) ∷ [])
+    (NowCall (Ok 0) ∷ AcceptCall (Ok (Some 1)) true ∷ WriteCall 1 welcome (Ok 45) ∷ [])
+    ++ nobody ++ (ReadCall 1 (Ok (got.Bytes 3)) (buffer (codes "GO\n")) [] ∷ WriteCall 1 go_line (Ok 18) ∷ [])
+    ++ nobody ++ (ReadCall 1 (Ok got.Ended) (buffer (codes "GO\n")) [] ∷ CloseCall 1 (Ok tt) ∷ [])
 
 one_peer_is_served : IsServed buses 3 one_peer
 unfolding digits
 one_peer_is_served = record { turns_are = refl; asked = refl }
 
 one_peer_makes : events_of buses one_peer
-    ≡ At 0 ∷ Open ∷ Room 1 45 ∷ Room 1 0 ∷ At 0 ∷ Bytes 1 (codes "GO\n") ∷ Room 1 18 ∷ Room 1 0 ∷ At 0 ∷ Shut 1 ∷ []
+    ≡ At 0 ∷ Open true ∷ Room 1 45 ∷ Room 1 0 ∷ At 0 ∷ Bytes 1 (giving (codes "GO\n")) ∷ Room 1 18 ∷ Room 1 0 ∷ At 0 ∷ Shut 1 ∷ []
 one_peer_makes = refl
 
 one_peer_is_sent : map sent (course buses (events_of buses one_peer)).connections ≡ (welcome ++ go_line) ∷ []
@@ -50,15 +50,15 @@ one_peer_takes = refl
 -- the same where the second write fails
 abbrev failing : List Call
 failing =
-    (NowCall (Ok 0) ∷ AcceptCall (Ok (Some 1)) ∷ WriteCall 1 welcome (Ok 45) ∷ [])
-    ++ nobody ++ (ReadCall 1 (Ok (got.Bytes 3)) (buffer (codes "GO\n")) ∷ WriteCall 1 go_line (Err fault.Write) ∷ CloseCall 1 (Ok tt) ∷ [])
+    (NowCall (Ok 0) ∷ AcceptCall (Ok (Some 1)) true ∷ WriteCall 1 welcome (Ok 45) ∷ [])
+    ++ nobody ++ (ReadCall 1 (Ok (got.Bytes 3)) (buffer (codes "GO\n")) [] ∷ WriteCall 1 go_line (Err fault.Write) ∷ CloseCall 1 (Ok tt) ∷ [])
     ++ nobody
 
 failing_is_served : IsServed buses 3 failing
 unfolding digits
 failing_is_served = record { turns_are = refl; asked = refl }
 
-failing_makes : events_of buses failing ≡ At 0 ∷ Open ∷ Room 1 45 ∷ Room 1 0 ∷ At 0 ∷ Bytes 1 (codes "GO\n") ∷ Room 1 0 ∷ Shut 1 ∷ At 0 ∷ []
+failing_makes : events_of buses failing ≡ At 0 ∷ Open true ∷ Room 1 45 ∷ Room 1 0 ∷ At 0 ∷ Bytes 1 (giving (codes "GO\n")) ∷ Room 1 0 ∷ Shut 1 ∷ At 0 ∷ []
 failing_makes = refl
 
 failing_is_sent : map sent (course buses (events_of buses failing)).connections ≡ welcome ∷ []
@@ -68,17 +68,17 @@ failing_is_sent = refl
 -- ---- a peer that gives GO when it is first read
 
 abbrev asked_in : List Call → List Call
-asked_in calls = NowCall (Ok 0) ∷ AcceptCall (Ok (Some 1)) ∷ calls
+asked_in calls = NowCall (Ok 0) ∷ AcceptCall (Ok (Some 1)) true ∷ calls
 
 abbrev greeting : Call
 greeting = WriteCall 1 welcome (Ok 45)
 
 abbrev going : List Call
-going = ReadCall 1 (Ok (got.Bytes 3)) (buffer (codes "GO\n")) ∷ WriteCall 1 go_line (Ok 18) ∷ []
+going = ReadCall 1 (Ok (got.Bytes 3)) (buffer (codes "GO\n")) [] ∷ WriteCall 1 go_line (Ok 18) ∷ []
 
 -- the first try to let it in fails
 abbrev late : List Call
-late = NowCall (Ok 0) ∷ AcceptCall (Err fault.Accept) ∷ (asked_in (greeting ∷ []) ++ nobody ++ going)
+late = NowCall (Ok 0) ∷ AcceptCall (Err fault.Accept) true ∷ (asked_in (greeting ∷ []) ++ nobody ++ going)
 
 late_is_served : IsServed buses 3 late
 unfolding digits
@@ -90,17 +90,17 @@ late_takes = refl
 
 -- the first read fails
 abbrev unread : List Call
-unread = asked_in (greeting ∷ []) ++ nobody ++ (ReadCall 1 (Err fault.Read) (replicate 256 0) ∷ CloseCall 1 (Ok tt) ∷ []) ++ nobody
+unread = asked_in (greeting ∷ []) ++ nobody ++ (ReadCall 1 (Err fault.Read) (replicate 256 0) [] ∷ CloseCall 1 (Ok tt) ∷ []) ++ nobody
 
 unread_is_served : IsServed buses 3 unread
 unread_is_served = record { turns_are = refl; asked = refl }
 
-unread_makes : events_of buses unread ≡ At 0 ∷ Open ∷ Room 1 45 ∷ Room 1 0 ∷ At 0 ∷ Shut 1 ∷ At 0 ∷ []
+unread_makes : events_of buses unread ≡ At 0 ∷ Open true ∷ Room 1 45 ∷ Room 1 0 ∷ At 0 ∷ Shut 1 ∷ At 0 ∷ []
 unread_makes = refl
 
 -- its end comes and it can't be closed, which is not tried again
 abbrev unclosed : List Call
-unclosed = asked_in (greeting ∷ []) ++ nobody ++ going ++ nobody ++ (ReadCall 1 (Ok got.Ended) (replicate 256 0) ∷ CloseCall 1 (Err fault.Close) ∷ []) ++ nobody
+unclosed = asked_in (greeting ∷ []) ++ nobody ++ going ++ nobody ++ (ReadCall 1 (Ok got.Ended) (replicate 256 0) [] ∷ CloseCall 1 (Err fault.Close) ∷ []) ++ nobody
 
 unclosed_is_served : IsServed buses 4 unclosed
 unfolding digits
@@ -109,8 +109,8 @@ unclosed_is_served = record { turns_are = refl; asked = refl }
 -- the second moment is not told, and the first one counts
 abbrev timeless : List Call
 timeless =
-    (NowCall (Ok 1000) ∷ AcceptCall (Ok (Some 1)) ∷ greeting ∷ [])
-    ++ NowCall (Err fault.Now) ∷ AcceptCall (Ok None) ∷ ReadCall 1 (Ok (got.Bytes 3)) (buffer (codes "GO\n")) ∷ WriteCall 1 (codes "1.000 200 OK GO 1\n") (Ok 18) ∷ []
+    (NowCall (Ok 1000) ∷ AcceptCall (Ok (Some 1)) true ∷ greeting ∷ [])
+    ++ NowCall (Err fault.Now) ∷ AcceptCall (Ok None) true ∷ ReadCall 1 (Ok (got.Bytes 3)) (buffer (codes "GO\n")) [] ∷ WriteCall 1 (codes "1.000 200 OK GO 1\n") (Ok 18) ∷ []
 
 timeless_is_served : IsServed buses 2 timeless
 unfolding digits
@@ -123,19 +123,19 @@ abbrev padded : List ℕ → List ℕ
 padded bytes = bytes ++ replicate (256 - length bytes) 0
 
 abbrev quiet : ℕ → Call
-quiet peer = ReadCall peer (Ok got.Nothing) (replicate 256 0)
+quiet peer = ReadCall peer (Ok got.Nothing) (replicate 256 0) []
 
 abbrev wrote : ℕ → List ℕ → Call
 wrote peer bytes = WriteCall peer bytes (Ok (length bytes))
 
 abbrev read_of : ℕ → List ℕ → Call
-read_of peer bytes = ReadCall peer (Ok (got.Bytes (length bytes))) (padded bytes)
+read_of peer bytes = ReadCall peer (Ok (got.Bytes (length bytes))) (padded bytes) []
 
 -- a panel is told, in its own visit, what the other peer sets; the welcome line is taken in two parts
 abbrev two_peers : List Call
 two_peers =
     asked_in (greeting ∷ [])
-    ++ NowCall (Ok 0) ∷ AcceptCall (Ok (Some 2)) ∷ read_of 1 (codes "SET CONNECTIONMODE SRCP INFO\nGO\n") ∷ wrote 1 (codes "0.000 202 OK CONNECTIONMODE\n0.000 200 OK GO 1\n")
+    ++ NowCall (Ok 0) ∷ AcceptCall (Ok (Some 2)) true ∷ read_of 1 (codes "SET CONNECTIONMODE SRCP INFO\nGO\n") ∷ wrote 1 (codes "0.000 202 OK CONNECTIONMODE\n0.000 200 OK GO 1\n")
     ∷ wrote 1 (codes "0.000 101 INFO 0 SESSION 1 INFO\n") ∷ wrote 1 (codes "0.000 100 INFO 1 POWER OFF\n") ∷ WriteCall 2 welcome (Ok 5)
     ∷ (nobody ++ quiet 1 ∷ wrote 2 (drop 5 welcome) ∷ [])
     ++ nobody ++ quiet 1 ∷ read_of 2 (codes "GO\nSET 1 POWER ON\n") ∷ wrote 2 (codes "0.000 200 OK GO 2\n0.000 200 OK\n")

@@ -8,10 +8,9 @@ use Rattle.std.proofs.lemmas.List.{map-append}
 use Rattle.std.proofs.lemmas.List.Elements.{filter_map-append}
 use Rattle.std.proofs.lemmas.List.Sums.{fold-append}
 use Rattle.srcp_rules.specs.declared.layout.Bus.{Bus}
+use Rattle.srcp_core.specs.Under.{Piece, Event, Bytes, Room, Shut}
 use Rattle.srcp_core.specs.Course.{World, start, happens, course}
-use Rattle.srcp_core.specs.declared.event.Event.{Event}
-use Rattle.srcp_core.specs.declared.event.Event.TheVariants.{Bytes, Room, Shut}
-use Rattle.srcp_serve.specs.Calls.{Call, NowCall, AcceptCall, ReadCall, WriteCall, CloseCall}
+use Rattle.srcp_serve.specs.Given.{Call, NowCall, AcceptCall, ReadCall, WriteCall, CloseCall}
 use Rattle.srcp_serve.specs.Serving.{Question, Moments, Newcomers, Reads, Writes, Closes, Seat, question, IsFair, taken, taken_in, piece_of, count_of, is_close, loses, loses_reading, lent_none_last, exchange, is_ready, is_closing, lent, handed, unless_nil, reads_of, writes_of, closes_of, visit_asks}
 use Rattle.srcp_serve.proofs.Sendings.{IsSending, sending_bytes, sending_shut}
 use Rattle.srcp_serve.proofs.SentLaws.{put, put_none, put_put, sending_room}
@@ -32,8 +31,8 @@ no_writes questions = list_all (λ q. not (asks_write q)) questions
 pub none_taken : (peer : ℕ) (calls : List Call) → no_writes (map question calls) ≡ true → (filter_map count_of calls ≡ []) × (taken peer calls ≡ [])
 none_taken peer [] h = (refl, refl)
 none_taken peer (NowCall answer ∷ calls) h = none_taken peer calls h
-none_taken peer (AcceptCall answer ∷ calls) h = none_taken peer calls h
-none_taken peer (ReadCall who answer buffer ∷ calls) h = none_taken peer calls h
+none_taken peer (AcceptCall answer granted ∷ calls) h = none_taken peer calls h
+none_taken peer (ReadCall who answer buffer grants ∷ calls) h = none_taken peer calls h
 none_taken peer (WriteCall who bytes answer ∷ calls) h = cc
 none_taken peer (CloseCall who answer ∷ calls) h = none_taken peer calls h
 
@@ -78,7 +77,7 @@ module _ (buses : List Bus) (peer conn : ℕ) where
   abbrev Sends : List (List ℕ) → List Event → Type 0
   Sends texts events = IsSending texts (course buses events).connections
 
-  sends_bytes : (texts : List (List ℕ)) (events : List Event) (pieces : List (List ℕ)) → Sends texts events → Sends texts (events ++ map (Bytes conn) pieces)
+  sends_bytes : (texts : List (List ℕ)) (events : List Event) (pieces : List Piece) → Sends texts events → Sends texts (events ++ map (Bytes conn) pieces)
   sends_bytes texts events [] a = subst (λ (all : List Event). Sends texts all) (sym (append-nil events)) a
   sends_bytes texts events (piece ∷ pieces) a =
       let one : Sends texts (events ++ Bytes conn piece ∷ []) =
@@ -120,8 +119,8 @@ module _ (buses : List Bus) (peer conn : ℕ) where
   sending_writes [] fair most events texts e a =
       subst (λ (ts : List (List ℕ)). Sends ts (events ++ [])) (sym (put_none conn texts)) (subst (λ (all : List Event). Sends texts all) (sym (append-nil events)) a)
   sending_writes (NowCall answer ∷ calls) fair most events texts e a = absurd (no_write peer Moments (map question calls) _ refl e)
-  sending_writes (AcceptCall answer ∷ calls) fair most events texts e a = absurd (no_write peer Newcomers (map question calls) _ refl e)
-  sending_writes (ReadCall who answer buffer ∷ calls) fair most events texts e a = absurd (no_write peer (Reads who (length buffer)) (map question calls) _ refl e)
+  sending_writes (AcceptCall answer granted ∷ calls) fair most events texts e a = absurd (no_write peer Newcomers (map question calls) _ refl e)
+  sending_writes (ReadCall who answer buffer grants ∷ calls) fair most events texts e a = absurd (no_write peer (Reads who (length buffer)) (map question calls) _ refl e)
   sending_writes (CloseCall who answer ∷ calls) fair most events texts e a = absurd (no_write peer (Closes who) (map question calls) _ refl e)
   sending_writes (WriteCall who bytes (Ok count) ∷ calls) fair most events texts e a =
       let now : List ℕ = lent buses conn events in

@@ -2,17 +2,15 @@
 use Rattle.std.proofs.Common.{◌≡◌, ◌∙◌, ℕ, ◌+◌, true, not, List, [], ◌∷◌, ◌++◌, length, Option, Result, refl, ap, sym, subst, append-nil, length-append}
 use Rattle.std.proofs.lemmas.Grind.{flat_map-append}
 use Rattle.std.proofs.lemmas.List.Folds.{list_all-append}
-use Rattle.std.proofs.lemmas.Option.{same_Some}
 use Rattle.srcp_info.proofs.ClientLaws.{all_append}
 use Rattle.std.specs.List.{list_all, AllByRecursion}
 use Rattle.std.specs.Prelude.{◌&&◌, flat_map}
-use Rattle.srcp_serve.specs.Calls.{Call, Tells, NowCall, AcceptCall, ReadCall, WriteCall, CloseCall}
-use Rattle.srcp_serve.specs.Serving.{IsFair, is_now, turns}
+use Rattle.srcp_serve.specs.Calls.{Call, Tells, NowCall, AcceptCall, ReadCall, WriteCall, CloseCall, IsFair, is_now, turns}
 use Rattle.srcp_serve.specs.Turns.{AreTurns, AsksMoment, AsksNewcomer, AsksPeers, AsksTurn, AsksTurns, IsTurn, is_of_peer}
 use Rattle.srcp_serve.specs.Visits.{Closes}
 use Rattle.srcp_serve.specs.declared.door.DoorFault.{DoorFault}
-use Rattle.srcp_serve.proofs.ServingLaws.{one_turn, turns-append}
-use Rattle.srcp_serve.proofs.Telling.{adds_none, adds_one, adds_more}
+use Rattle.srcp_serve.proofs.Parts.{one_part, parts-append}
+use Rattle.srcp_serve.proofs.Telling.{adds_none, adds_one, adds_then}
 
 both_of_peers : (xs ys : List Call) → list_all is_of_peer xs ≡ true → list_all is_of_peer ys ≡ true → list_all is_of_peer (xs ++ ys) ≡ true
 both_of_peers xs ys h k = list_all-append is_of_peer xs ys ∙ ap (λ t. t && list_all is_of_peer ys) h ∙ k
@@ -30,7 +28,7 @@ pub asks_then : (a b c : Option (List Call)) → AsksPeers a b → AsksPeers b c
 asks_then a b c first second told is =
     let y = second told is in
     let x = first y.adds.before y.adds.was in
-    record { calls = x.calls ++ y.calls; adds = adds_more a told y.adds.before x.calls y.calls x.adds y.adds.is; peers = both_of_peers x.calls y.calls x.peers y.peers; fair = all_append IsFair x.calls y.calls x.fair y.fair }
+    record { calls = x.calls ++ y.calls; adds = adds_then a b y.adds.before told x.calls y.calls y.adds.was x.adds y.adds; peers = both_of_peers x.calls y.calls x.peers y.peers; fair = all_append IsFair x.calls y.calls x.fair y.fair }
 
 pub asks_moment : (answer : Result ℕ DoorFault) (old new : Option (List Call)) → Tells old (NowCall answer) new → AsksMoment old new
 asks_moment answer old new h told is = record { answer = answer; adds = adds_one (NowCall answer) old new told h is }
@@ -39,7 +37,7 @@ pub asks_newcomer : (answer : Result (Option ℕ) DoorFault) (old mid new : Opti
 asks_newcomer answer old mid new h later told is =
     let y = later told is in
     let first = adds_one (AcceptCall answer) old mid y.adds.before h y.adds.was in
-    record { answer = answer; rest = y.calls; adds = adds_more old told y.adds.before (AcceptCall answer ∷ []) y.calls first y.adds.is; peers = y.peers; fair = y.fair }
+    record { answer = answer; rest = y.calls; adds = adds_then old mid y.adds.before told (AcceptCall answer ∷ []) y.calls y.adds.was first y.adds; peers = y.peers; fair = y.fair }
 
 pub turn_begins : (old mid new : Option (List Call)) → AsksMoment old mid → AsksNewcomer mid new → AsksTurn old new
 turn_begins old mid new first second told is =
@@ -47,7 +45,7 @@ turn_begins old mid new first second told is =
     let x = first y.adds.before y.adds.was in
     record {
       calls = NowCall x.answer ∷ AcceptCall y.answer ∷ y.rest;
-      adds = adds_more old told y.adds.before (NowCall x.answer ∷ []) (AcceptCall y.answer ∷ y.rest) x.adds y.adds.is;
+      adds = adds_then old mid y.adds.before told (NowCall x.answer ∷ []) (AcceptCall y.answer ∷ y.rest) y.adds.was x.adds y.adds;
       turn = record { now = x.answer; newcomer = y.answer; rest = y.rest; is = refl; peers = y.peers; fair = y.fair };
     }
 
@@ -58,7 +56,7 @@ turn_goes_on old mid new first second told is =
     let t = x.turn in
     record {
       calls = x.calls ++ y.calls;
-      adds = adds_more old told y.adds.before x.calls y.calls x.adds y.adds.is;
+      adds = adds_then old mid y.adds.before told x.calls y.calls y.adds.was x.adds y.adds;
       turn = record { now = t.now; newcomer = t.newcomer; rest = t.rest ++ y.calls; is = ap (λ calls. calls ++ y.calls) t.is; peers = both_of_peers t.rest y.calls t.peers y.peers; fair = all_append IsFair t.rest y.calls t.fair y.fair };
     }
 
@@ -80,9 +78,9 @@ one_more_turn : (count : ℕ) (told calls : List Call) → AreTurns count told �
 one_more_turn count told calls so t =
     let rest : List Call = AcceptCall t.newcomer ∷ t.rest in
     let whole : List Call = NowCall t.now ∷ rest in
-    let alone = one_turn rest (not_now t.rest t.peers) in
+    let alone = one_part is_now rest (not_now t.rest t.peers) in
     let last : turns whole ≡ whole ∷ [] = rw (alone.0, alone.1) refl in
-    let all : turns (told ++ whole) ≡ turns told ++ whole ∷ [] = turns-append told t.now rest ∙ ap (λ more. turns told ++ more) last in
+    let all : turns (told ++ whole) ≡ turns told ++ whole ∷ [] = parts-append is_now told (NowCall t.now) rest refl ∙ ap (λ more. turns told ++ more) last in
     let is_turn : IsTurn whole = record { now = t.now; newcomer = t.newcomer; rest = t.rest; is = refl; peers = t.peers; fair = t.fair } in
     let done : AreTurns (count + 1) (told ++ whole) = record {
       many = ap length all ∙ length-append (turns told) (whole ∷ []) ∙ ap (λ k. k + 1) so.many;
@@ -93,11 +91,14 @@ one_more_turn count told calls so t =
     subst (λ (c : List Call). AreTurns (count + 1) (told ++ c)) (sym t.is) done
 
 pub turns_none : (old : Option (List Call)) → AsksTurns 0 old old
-turns_none old told first is =
-    let none : [] ≡ told = same_Some [] told (sym first ∙ is) in
-    subst (λ (calls : List Call). AreTurns 0 calls) none (record { many = refl; each = tt; all = refl; fair = tt })
+turns_none old told is = record { calls = []; adds = adds_none old told is; turns_are = record { many = refl; each = tt; all = refl; fair = tt } }
 
 pub turns_on : (count : ℕ) (old mid new : Option (List Call)) → AsksTurns count old mid → AsksTurn mid new → AsksTurns (count + 1) old new
-turns_on count old mid new so turn told first is =
+turns_on count old mid new so turn told is =
     let t = turn told is in
-    subst (λ (calls : List Call). AreTurns (count + 1) calls) (sym t.adds.is) (one_more_turn count t.adds.before t.calls (so t.adds.before first t.adds.was) t.turn)
+    let s = so t.adds.before t.adds.was in
+    record {
+      calls = s.calls ++ t.calls;
+      adds = adds_then old mid t.adds.before told s.calls t.calls t.adds.was s.adds t.adds;
+      turns_are = one_more_turn count s.calls t.calls s.turns_are t.turn;
+    }

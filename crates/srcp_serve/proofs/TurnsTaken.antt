@@ -1,17 +1,17 @@
 -- Turn after turn: each guest's connection was sent what was taken of the guest in all the turns so far.
-use Rattle.std.proofs.Common.{◌≡◌, ◌∙◌, ℕ, Bool, true, false, not, cond, List, [], ◌∷◌, ◌++◌, map, if◌then◌else◌, refl, ap, sym, subst, append-nil, append_assoc, ◌==◌}
+use Rattle.std.proofs.Common.{◌≡◌, ◌∙◌, ℕ, Bool, true, false, not, cond, List, [], ◌∷◌, ◌++◌, map, if◌then◌else◌, Some, None, Ok, Err, refl, ap, sym, subst, append-nil, append_assoc, ◌==◌}
 use Rattle.std.specs.Prelude.{filter_map, flat_map, fold}
 use Rattle.std.specs.List.{AllByRecursion, IsDistinct}
 use Rattle.std.proofs.lemmas.Grind.{flat_map-append}
 use Rattle.std.proofs.lemmas.List.Elements.{filter_map-append}
 use Rattle.std.proofs.lemmas.List.Sums.{take_while-cons}
 use Rattle.std.proofs.lemmas.Map.Keys.{IsDistinct-head, IsDistinct-tail}
+use Rattle.srcp_core.specs.Under.{Event, Open}
 use Rattle.srcp_rules.specs.declared.layout.Bus.{Bus}
 use Rattle.srcp_core.specs.Connection.{sent}
 use Rattle.srcp_core.specs.Course.{course}
-use Rattle.srcp_core.specs.declared.event.Event.{Event}
-use Rattle.srcp_core.specs.declared.event.Event.TheVariants.{Open}
-use Rattle.srcp_serve.specs.Calls.{Call}
+use Rattle.srcp_serve.specs.Calls.{peer_of}
+use Rattle.srcp_serve.specs.Given.{Guest, Call, NowCall, AcceptCall, ReadCall, WriteCall, CloseCall, told_call}
 use Rattle.srcp_serve.specs.Serving.{Question, Moments, Newcomers, Closes, Stand, IsFair, question, is_now, moment_of, newcomer_of, taken, taken_in, seats, empty_stand, is_let_in, let_in, welcomed, timed, begun, turned, turns, turns_away, turn_asks, stand_after, SentIsTaken}
 use Rattle.srcp_serve.proofs.Takings.{all_parts, no_writes}
 use Rattle.srcp_serve.proofs.Partings.{AreTurnsAsked, IsNoneOf, in_turn, turns_parted}
@@ -23,15 +23,15 @@ use Rattle.srcp_serve.proofs.Evened.{even_turned}
 -- ---- newcomers
 
 -- none of these peers is a guest, and no two of them are one
-record AreNew (guests peers : List ℕ) : Type 0 where
-  new : AllByRecursion (λ peer. IsNew peer guests) peers
-  differ : IsDistinct (λ a b. a == b) peers
+record AreNew (guests : List ℕ) (peers : List Guest) : Type 0 where
+  new : AllByRecursion (λ peer. IsNew peer.peer guests) peers
+  differ : IsDistinct (λ a b. a.peer == b.peer) peers
 
-all_new_push : (other : ℕ) (guests peers : List ℕ) → AllByRecursion (λ peer. IsNew peer guests) peers → AllByRecursion (λ peer. (other == peer) ≡ false) peers → AllByRecursion (λ peer. IsNew peer (guests ++ other ∷ [])) peers
+all_new_push : (other : ℕ) (guests : List ℕ) (peers : List Guest) → AllByRecursion (λ peer. IsNew peer.peer guests) peers → AllByRecursion (λ peer. (other == peer.peer) ≡ false) peers → AllByRecursion (λ peer. IsNew peer.peer (guests ++ other ∷ [])) peers
 all_new_push other guests [] h k = tt
-all_new_push other guests (peer ∷ peers) h k = (new_push peer other guests h.0 k.0, all_new_push other guests peers h.1 k.1)
+all_new_push other guests (peer ∷ peers) h k = (new_push peer.peer other guests h.0 k.0, all_new_push other guests peers h.1 k.1)
 
-all_new_first : (peers : List ℕ) → AllByRecursion (λ peer. IsNew peer []) peers
+all_new_first : (peers : List Guest) → AllByRecursion (λ peer. IsNew peer.peer []) peers
 all_new_first [] = tt
 all_new_first (peer ∷ peers) = (tt, all_new_first peers)
 
@@ -41,51 +41,51 @@ IsFresh before guests = (peer : ℕ) → IsNew peer guests → before peer ≡ [
 
 module _ (buses : List Bus) where
   -- those that are still to come stay new
-  new_welcomed : (stand : Stand) (peer : ℕ) (more : List ℕ) → AreNew stand.guests (peer ∷ more) → AreNew (welcomed buses stand peer).guests more
-  new_welcomed stand peer more h = by (is_let_in buses stand.events)
+  new_welcomed : (stand : Stand) (peer : Guest) (more : List Guest) → AreNew stand.guests (peer ∷ more) → AreNew (welcomed buses stand peer).guests more
+  new_welcomed stand peer more h = by (is_let_in buses stand.events peer.granted)
     where
-      differ : IsDistinct (λ a b. a == b) more
-      differ = IsDistinct-tail (λ a b. a == b) peer more h.differ
+      differ : IsDistinct (λ a b. a.peer == b.peer) more
+      differ = IsDistinct-tail (λ a b. a.peer == b.peer) peer more h.differ
 
-      by : (b : Bool) → AreNew (if b then let_in buses stand peer else record stand { events = stand.events ++ Open ∷ [] }).guests more
-      by true = record { new = all_new_push peer stand.guests more h.new.1 (IsDistinct-head (λ a b. a == b) peer more h.differ); differ = differ }
+      by : (b : Bool) → AreNew (if b then let_in buses stand peer else record stand { events = stand.events ++ Open peer.granted ∷ [] }).guests more
+      by true = record { new = all_new_push peer.peer stand.guests more h.new.1 (IsDistinct-head (λ a b. a.peer == b.peer) peer more h.differ); differ = differ }
       by false = record { new = h.new.1; differ = differ }
 
-  new_begun : (peers more : List ℕ) (stand : Stand) → AreNew stand.guests (peers ++ more) → AreNew (fold (welcomed buses) stand peers).guests more
+  new_begun : (peers more : List Guest) (stand : Stand) → AreNew stand.guests (peers ++ more) → AreNew (fold (welcomed buses) stand peers).guests more
   new_begun [] more stand h = h
   new_begun (peer ∷ peers) more stand h = new_begun peers more (welcomed buses stand peer) (new_welcomed stand peer (peers ++ more) h)
 
   -- the guests only grow
-  was_new_welcomed : (peer other : ℕ) (stand : Stand) → IsNew peer (welcomed buses stand other).guests → IsNew peer stand.guests
-  was_new_welcomed peer other stand = by (is_let_in buses stand.events)
+  was_new_welcomed : (peer : ℕ) (other : Guest) (stand : Stand) → IsNew peer (welcomed buses stand other).guests → IsNew peer stand.guests
+  was_new_welcomed peer other stand = by (is_let_in buses stand.events other.granted)
     where
-      by : (b : Bool) → IsNew peer (if b then let_in buses stand other else record stand { events = stand.events ++ Open ∷ [] }).guests → IsNew peer stand.guests
-      by true h = (all_parts (λ guest. (guest == peer) ≡ false) stand.guests (other ∷ []) h).0
+      by : (b : Bool) → IsNew peer (if b then let_in buses stand other else record stand { events = stand.events ++ Open other.granted ∷ [] }).guests → IsNew peer stand.guests
+      by true h = (all_parts (λ guest. (guest == peer) ≡ false) stand.guests (other.peer ∷ []) h).0
       by false h = h
 
-  was_new : (peer : ℕ) (peers : List ℕ) (stand : Stand) → IsNew peer (fold (welcomed buses) stand peers).guests → IsNew peer stand.guests
+  was_new : (peer : ℕ) (peers : List Guest) (stand : Stand) → IsNew peer (fold (welcomed buses) stand peers).guests → IsNew peer stand.guests
   was_new peer [] stand h = h
   was_new peer (other ∷ peers) stand h = was_new_welcomed peer other stand (was_new peer peers (welcomed buses stand other) h)
 
-  even_begun : (before : ℕ → List ℕ) (peers more : List ℕ) (stand : Stand) → AreNew stand.guests (peers ++ more) → IsFresh before stand.guests → IsEven buses before stand → IsEven buses before (fold (welcomed buses) stand peers)
+  even_begun : (before : ℕ → List ℕ) (peers more : List Guest) (stand : Stand) → AreNew stand.guests (peers ++ more) → IsFresh before stand.guests → IsEven buses before stand → IsEven buses before (fold (welcomed buses) stand peers)
   even_begun before [] more stand new fresh even = even
   even_begun before (peer ∷ peers) more stand new fresh even =
       even_begun before peers more (welcomed buses stand peer) (new_welcomed stand peer (peers ++ more) new) (λ other h. fresh other (was_new_welcomed other peer stand h))
-      (even_welcomed buses before stand peer new.new.0 (fresh peer new.new.0) even)
+      (even_welcomed buses before stand peer new.new.0 (fresh peer.peer new.new.0) even)
 
   -- those that are turned away are written nothing
-  away_no_writes : (events : List Event) (peers : List ℕ) → no_writes (flat_map (turns_away buses events) peers) ≡ true
+  away_no_writes : (events : List Event) (peers : List Guest) → no_writes (flat_map (turns_away buses events) peers) ≡ true
   away_no_writes events [] = refl
-  away_no_writes events (peer ∷ peers) = by (is_let_in buses events) (away_no_writes events peers)
+  away_no_writes events (peer ∷ peers) = by (is_let_in buses events peer.granted) (away_no_writes events peers)
     where
-      by : (b : Bool) → no_writes (flat_map (turns_away buses events) peers) ≡ true → no_writes ((if b then [] else Closes peer ∷ []) ++ flat_map (turns_away buses events) peers) ≡ true
+      by : (b : Bool) → no_writes (flat_map (turns_away buses events) peers) ≡ true → no_writes ((if b then [] else Closes peer.peer ∷ []) ++ flat_map (turns_away buses events) peers) ≡ true
       by true h = h
       by false h = h
 
 -- ---- after a turn
 
-module _ (buses : List Bus) (before : ℕ → List ℕ) (stand : Stand) (calls : List Call) (more : List ℕ) (new : AreNew stand.guests (filter_map newcomer_of calls ++ more)) (fresh : IsFresh before stand.guests) (even : IsEven buses before stand) where
-  abbrev peers : List ℕ
+module _ (buses : List Bus) (before : ℕ → List ℕ) (stand : Stand) (calls : List Call) (more : List Guest) (new : AreNew stand.guests (filter_map newcomer_of calls ++ more)) (fresh : IsFresh before stand.guests) (even : IsEven buses before stand) where
+  abbrev peers : List Guest
   peers = filter_map newcomer_of calls
 
   abbrev now : Stand
@@ -111,6 +111,28 @@ module _ (buses : List Bus) (before : ℕ → List ℕ) (stand : Stand) (calls :
       let unseated : IsNoneOf peer (seats after.places) = new_unseated peer after.guests (seats after.places) none even_after.known in
       ap (λ t. t ++ taken peer calls) (fresh peer none_before) ∙ nothing_taken buses before after calls first (away_no_writes buses now.events peers) asked peer unseated
 
+-- ---- who came in
+
+-- as the door tells it
+pub peers_told : (calls : List Call) → filter_map peer_of (map told_call calls) ≡ map (λ guest. guest.peer) (filter_map newcomer_of calls)
+peers_told [] = refl
+peers_told (NowCall answer ∷ calls) = peers_told calls
+peers_told (AcceptCall (Ok None) granted ∷ calls) = peers_told calls
+peers_told (AcceptCall (Ok (Some peer)) granted ∷ calls) = ap (λ peers. peer ∷ peers) (peers_told calls)
+peers_told (AcceptCall (Err fault) granted ∷ calls) = peers_told calls
+peers_told (ReadCall peer answer buffer grants ∷ calls) = peers_told calls
+peers_told (WriteCall peer bytes answer ∷ calls) = peers_told calls
+peers_told (CloseCall peer answer ∷ calls) = peers_told calls
+
+apart_guests : (peer : ℕ) (guests : List Guest) → AllByRecursion (λ other. (peer == other) ≡ false) (map (λ guest. guest.peer) guests) → AllByRecursion (λ guest. (peer == guest.peer) ≡ false) guests
+apart_guests peer [] h = tt
+apart_guests peer (guest ∷ guests) h = (h.0, apart_guests peer guests h.1)
+
+differ_guests : (guests : List Guest) → IsDistinct (λ a b. a == b) (map (λ guest. guest.peer) guests) → IsDistinct (λ a b. a.peer == b.peer) guests
+unfolding IsDistinct
+differ_guests [] h = tt
+differ_guests (guest ∷ guests) h = (apart_guests guest.peer guests h.0, differ_guests guests h.1)
+
 -- ---- after all turns
 
 -- the calls of these turns, one after another
@@ -123,10 +145,10 @@ module _ (buses : List Bus) where
   turns_taken [] before stand asked fair new fresh even = even.sending.sends ∙ same_each before (λ peer. before peer ++ []) stand.guests (λ peer. sym (append-nil (before peer)))
   turns_taken (calls ∷ all) before stand asked fair new fresh even =
       let parts = all_parts IsFair calls (joined all) fair in
-      let peers : List ℕ = filter_map newcomer_of calls in
-      let more : List ℕ = filter_map newcomer_of (joined all) in
-      let apart : AreNew stand.guests (peers ++ more) = subst (λ (ps : List ℕ). AreNew stand.guests ps) (filter_map-append newcomer_of calls (joined all)) new in
-      let coming : AllByRecursion (λ peer. IsNew peer stand.guests) peers = (all_parts (λ peer. IsNew peer stand.guests) peers more apart.new).0 in
+      let peers : List Guest = filter_map newcomer_of calls in
+      let more : List Guest = filter_map newcomer_of (joined all) in
+      let apart : AreNew stand.guests (peers ++ more) = subst (λ (ps : List Guest). AreNew stand.guests ps) (filter_map-append newcomer_of calls (joined all)) new in
+      let coming : AllByRecursion (λ peer. IsNew peer.peer stand.guests) peers = (all_parts (λ peer. IsNew peer.peer stand.guests) peers more apart.new).0 in
       turns_taken all (λ peer. before peer ++ taken peer calls) (turned buses stand calls) asked.1 parts.1 (new_turned buses before stand calls more apart fresh even) (fresh_turned buses before stand calls more apart fresh even asked.0)
       (even_turned buses before stand calls parts.0 fresh even asked.0 coming)
       ∙ same_each (λ peer. (before peer ++ taken peer calls) ++ taken peer (joined all)) (λ peer. before peer ++ taken peer (joined (calls ∷ all))) (fold (turned buses) (turned buses stand calls) all).guests (regrouped before calls (joined all))
@@ -154,6 +176,7 @@ module _ (buses : List Bus) where
   sent_taken count told served differ fair =
       let parted = turns_parted buses empty_stand told [] tt served.asked in
       let whole : joined (turns told) ≡ told = ap (λ cs. cs ++ joined (turns told)) (sym (no_calls (in_turn buses told) parted.0)) ∙ turns_joined told in
-      let first : AreNew [] (filter_map newcomer_of told) = record { new = all_new_first (filter_map newcomer_of told); differ = differ } in
+      let guests : List Guest = filter_map newcomer_of told in
+      let first : AreNew [] guests = record { new = all_new_first guests; differ = differ_guests guests (subst (λ (peers : List ℕ). IsDistinct (λ a b. a == b) peers) (peers_told told) differ) } in
       turns_taken (turns told) (λ peer. []) empty_stand parted.1 (subst (λ (cs : List Call). AllByRecursion IsFair cs) (sym whole) fair) (subst (λ (cs : List Call). AreNew [] (filter_map newcomer_of cs)) (sym whole) first) (λ peer h. refl) nobody_even
       ∙ ap (λ cs. map (λ peer. taken peer cs) (stand_after buses told).guests) whole

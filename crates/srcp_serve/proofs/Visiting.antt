@@ -1,13 +1,12 @@
 -- A visit: one read, the writes, and how it ends.
-use Rattle.std.proofs.Common.{◌≡◌, ◌∙◌, ℕ, ◌+◌, Bool, true, false, cond, ◌==◌, not, List, [], ◌∷◌, ◌++◌, map, take, Option, Some, None, Result, refl, ap, sym, subst, arith, append_assoc, append-nil}
+use Rattle.std.proofs.Common.{◌≡◌, ◌∙◌, ℕ, ◌+◌, Bool, true, false, cond, ◌==◌, not, List, [], ◌∷◌, ◌++◌, map, take, Option, Some, None, refl, ap, sym, subst, arith, append_assoc, append-nil}
 use Rattle.std.proofs.Math.Bool.{or-false}
 use Rattle.std.proofs.lemmas.Bool.Decides.{nat_tests}
 use Rattle.std.proofs.lemmas.List.{map-append}
 use Rattle.std.proofs.lemmas.List.Elements.{filter_map-append}
 use Rattle.std.proofs.lemmas.List.Folds.{list_any-append}
 use Rattle.std.proofs.lemmas.List.Sums.{sum_by-append}
-use Rattle.std.proofs.lemmas.Option.{same_Some}
-use Rattle.std.specs.List.{list_any, filter_map, count_by}
+use Rattle.std.specs.List.{list_any, filter_map, count_by, AllByRecursion}
 use Rattle.std.specs.Prelude.{◌||◌, ◌&&◌, nat_lt, if◌then◌else◌}
 use Rattle.srcp_rules.specs.declared.layout.Bus.{Bus}
 use Rattle.srcp_core.specs.Agrees.{OfConnection, closes as closes_in}
@@ -16,14 +15,14 @@ use Rattle.srcp_core.specs.Held.{Held}
 use Rattle.srcp_core.specs.Recording.{without_key}
 use Rattle.srcp_core.specs.Run.{LeadsToFree}
 use Rattle.srcp_core.specs.Stands.{StandsFor}
-use Rattle.srcp_core.specs.declared.event.Event.{Event}
-use Rattle.srcp_core.specs.declared.event.Event.TheVariants.{Bytes, Room, Shut}
-use Rattle.srcp_serve.specs.Calls.{Call, ReadCall, WriteCall, CloseCall}
+use Rattle.srcp_core.specs.Under.{Event, Piece, Bytes, Room, Shut}
+use Rattle.srcp_info.proofs.ClientLaws.{all_append}
+use Rattle.srcp_serve.specs.Calls.{Call as DoorCall}
+use Rattle.srcp_serve.specs.Given.{Call, ReadCall, WriteCall, CloseCall, IsGiven}
 use Rattle.srcp_serve.specs.Serving.{Seat, Question, Writes, Closes as ClosesQuestion, question, visit, exchange, rooms, lent_none_last, handed, is_closing, reads_of, writes_of, closes_of, visit_events, is_about, is_close, is_write, loses, loses_reading, loses_writing, falls_short, piece_of, count_of}
-use Rattle.srcp_serve.specs.Visits.{AreAbout, AreWritesTo, Closes, Exchanges, IsExchanged, IsLetGo, IsReadFrom, IsVisited, IsWrittenTo, Keeps, LetsGo, ReadsIn, Visits, WritesOut, read_calls}
-use Rattle.srcp_serve.specs.declared.door.DoorFault.{DoorFault}
-use Rattle.srcp_serve.specs.declared.door.Got.{Got}
-use Rattle.srcp_serve.proofs.Telling.{adds_more}
+use Rattle.srcp_serve.specs.Turns.{AsksPeers}
+use Rattle.srcp_serve.specs.Visits.{AreAbout, AreWritesTo, Closes, Exchanges, IsExchanged, IsLetGo, IsReadFrom, IsVisited, IsWrittenTo, LetsGo, Reading, ReadsIn, Visits, WritesOut, read_calls}
+use Rattle.srcp_serve.proofs.Telling.{given_then}
 use Rattle.srcp_serve.proofs.VisitLaws.{own_calls}
 
 same_peer : (peer : ℕ) → (peer == peer) ≡ true
@@ -32,31 +31,31 @@ same_peer peer = grind (arith, nat_tests)
 -- ---- the calls of a read
 
 abbrev AsRead : Type 0
-AsRead = Option (Result Got DoorFault × List ℕ)
+AsRead = Option Reading
 
 reads_count : (peer : ℕ) (read : AsRead) → filter_map count_of (read_calls peer read) ≡ []
 reads_count peer None = refl
-reads_count peer (Some (answer, buffer)) = refl
+reads_count peer (Some read) = refl
 
 reads_short : (peer : ℕ) (read : AsRead) → list_any falls_short (read_calls peer read) ≡ false
 reads_short peer None = refl
-reads_short peer (Some (answer, buffer)) = refl
+reads_short peer (Some read) = refl
 
 reads_writes : (peer : ℕ) (read : AsRead) → count_by is_write (read_calls peer read) ≡ 0
 reads_writes peer None = refl
-reads_writes peer (Some (answer, buffer)) = refl
+reads_writes peer (Some read) = refl
 
 reads_close : (peer : ℕ) (read : AsRead) → list_any is_close (read_calls peer read) ≡ false
 reads_close peer None = refl
-reads_close peer (Some (answer, buffer)) = refl
+reads_close peer (Some read) = refl
 
 reads_loses : (peer : ℕ) (read : AsRead) → list_any loses (read_calls peer read) ≡ list_any loses_reading (read_calls peer read)
 reads_loses peer None = refl
-reads_loses peer (Some (answer, buffer)) = ap (λ t. t || false) (or-false (loses_reading (ReadCall peer answer buffer)))
+reads_loses peer (Some read) = ap (λ t. t || false) (or-false (loses_reading (ReadCall peer read.answer read.buffer read.grants)))
 
 reads_about : (peer : ℕ) (read : AsRead) → AreAbout peer (read_calls peer read)
 reads_about peer None = tt
-reads_about peer (Some (answer, buffer)) = (same_peer peer, tt)
+reads_about peer (Some read) = (same_peer peer, tt)
 
 -- ---- the calls of writes
 
@@ -77,6 +76,10 @@ writes_loses peer [] own = refl
 writes_loses peer (call ∷ calls) own =
     subst (λ (c : Call). list_any loses (c ∷ calls) ≡ list_any loses_writing (c ∷ calls)) (sym own.0.is)
     (ap (λ t. loses_writing (WriteCall peer own.0.bytes own.0.answer) || t) (writes_loses peer calls own.1))
+
+writes_given : (peer : ℕ) (calls : List Call) → AreWritesTo peer calls → AllByRecursion IsGiven calls
+writes_given peer [] own = tt
+writes_given peer (call ∷ calls) own = (subst (λ (c : Call). IsGiven c) (sym own.0.is) tt, writes_given peer calls own.1)
 
 writes_about : (peer : ℕ) (calls : List Call) → AreWritesTo peer calls → AreAbout peer calls
 writes_about peer [] own = tt
@@ -113,7 +116,7 @@ module _ (buses : List Bus) (events : List Event) (keys : List (Option ℕ)) (n 
   seat = record { peer = peer; conn = n }
 
   -- what is written, by whether reading lost the peer, what was read and what was taken
-  abbrev handed_by : Bool → List (List ℕ) → List ℕ → List Question
+  abbrev handed_by : Bool → List Piece → List ℕ → List Question
   handed_by lost pieces counts = if lost then [] else map (Writes peer) (take 300 (handed buses n (events ++ map (Bytes n) pieces) counts))
 
   same_writes : (xs ys : List Call) → list_any loses_reading xs ≡ list_any loses_reading ys → filter_map piece_of xs ≡ filter_map piece_of ys → filter_map count_of xs ≡ filter_map count_of ys → writes_of buses events xs seat ≡ writes_of buses events ys seat
@@ -126,7 +129,7 @@ module _ (buses : List Bus) (events : List Event) (keys : List (Option ℕ)) (n 
   same_exchange xs ys p r = ap (λ pieces. map (Bytes n) pieces ++ map (Room n) (rooms xs)) p ∙ ap (λ counts. map (Bytes n) (filter_map piece_of ys) ++ map (Room n) counts) r
 
   -- the peer was lost in reading
-  pub exchanged_lost : (old : Option (List Call)) (told : List Call) (new : Held) → IsReadFrom buses events keys n peer old told new false → IsExchanged buses events keys n peer old told new false
+  pub exchanged_lost : (old : Option (List DoorCall)) (told : List DoorCall) (new : Held) → IsReadFrom buses events keys n peer old told new false → IsExchanged buses events keys n peer old told new false
   exchanged_lost old told new r =
       let calls : List Call = read_calls peer r.read in
       let lost : list_any loses calls ≡ true = reads_loses peer r.read ∙ r.stays_is in
@@ -135,6 +138,7 @@ module _ (buses : List Bus) (events : List Event) (keys : List (Option ℕ)) (n 
       record {
         calls = calls;
         adds = r.adds;
+        given = r.given;
         own = reads_about peer r.read;
         quiet = reads_close peer r.read;
         asked = r.asked ∙ sym (append-nil (reads_of buses events seat)) ∙ ap (λ t. reads_of buses events seat ++ handed_by t (filter_map piece_of calls) (filter_map count_of calls)) (sym r.stays_is);
@@ -143,9 +147,9 @@ module _ (buses : List Bus) (events : List Event) (keys : List (Option ℕ)) (n 
       }
 
   -- it was written to after the read
-  pub exchanged : (old told_mid : Option (List Call)) (mid told : List Call) (between new : Held) (stays : Bool) → told_mid ≡ Some mid → (r : IsReadFrom buses events keys n peer old mid between true)
+  pub exchanged : (old told_mid : Option (List DoorCall)) (mid told : List DoorCall) (between new : Held) (stays : Bool) → told_mid ≡ Some mid → (new.denied ≡ 0 → between.denied ≡ 0) → (r : IsReadFrom buses events keys n peer old mid between true)
       → IsWrittenTo buses (events ++ map (Bytes n) (filter_map piece_of (read_calls peer r.read))) keys n peer told_mid told new stays → IsExchanged buses events keys n peer old told new stays
-  exchanged old told_mid mid told between new stays is r w =
+  exchanged old told_mid mid told between new stays is low r w =
       let reads : List Call = read_calls peer r.read in
       let calls : List Call = reads ++ w.calls in
       let pieces : filter_map piece_of calls ≡ filter_map piece_of reads = filter_map-append piece_of reads w.calls ∙ ap (λ more. filter_map piece_of reads ++ more) (writes_pieces peer w.calls w.own) ∙ append-nil (filter_map piece_of reads) in
@@ -154,7 +158,6 @@ module _ (buses : List Bus) (events : List Event) (keys : List (Option ℕ)) (n 
       let losing : list_any loses calls ≡ list_any loses w.calls = any_second loses reads w.calls (reads_loses peer r.read ∙ r.stays_is) in
       let short : list_any falls_short calls ≡ list_any falls_short w.calls = any_second falls_short reads w.calls (reads_short peer r.read) in
       let many : count_by is_write calls ≡ count_by is_write w.calls = count_append reads w.calls ∙ ap (λ k. k + count_by is_write w.calls) (reads_writes peer r.read) ∙ none_more (count_by is_write w.calls) in
-      let same : w.adds.before ≡ mid = same_Some w.adds.before mid (sym w.adds.was ∙ is) in
       let rooms_same : rooms calls ≡ rooms w.calls = same_rooms calls w.calls counts losing short many in
       let read : List Event = map (Bytes n) (filter_map piece_of reads) in
       let more : exchange n calls ≡ read ++ map (Room n) (rooms w.calls) = ap (λ ps. map (Bytes n) ps ++ map (Room n) (rooms calls)) pieces ∙ ap (λ counts. read ++ map (Room n) counts) rooms_same in
@@ -162,7 +165,8 @@ module _ (buses : List Bus) (events : List Event) (keys : List (Option ℕ)) (n 
       ap (λ t. handed_by t (filter_map piece_of calls) (filter_map count_of calls)) reading ∙ ap (λ ps. handed_by false ps (filter_map count_of calls)) pieces ∙ ap (λ cs. handed_by false (filter_map piece_of reads) cs) counts in
       record {
         calls = calls;
-        adds = adds_more old told mid reads w.calls r.adds (w.adds.is ∙ ap (λ before. before ++ w.calls) same);
+        adds = given_then old told_mid mid told reads w.calls is r.adds w.adds;
+        given = λ d. all_append IsGiven reads w.calls (r.given (low d)) (writes_given peer w.calls w.own);
         own = about_append peer reads w.calls (reads_about peer r.read) (writes_about peer w.calls w.own);
         quiet = any_second is_close reads w.calls (reads_close peer r.read) ∙ writes_close peer w.calls w.own;
         asked = map-append question reads w.calls ∙ ap (λ qs. qs ++ map question w.calls) r.asked ∙ ap (λ qs. reads_of buses events seat ++ qs) (w.asked ∙ sym asks);
@@ -180,7 +184,7 @@ module _ (buses : List Bus) (events : List Event) (keys : List (Option ℕ)) (n 
   shutting b = if b then Shut n ∷ [] else []
 
   -- it keeps its place
-  pub visited_stays : (old : Option (List Call)) (told : List Call) (new : Held) → (x : IsExchanged buses events keys n peer old told new true) → is_closing buses n (events ++ exchange n x.calls) ≡ false → IsVisited buses events keys n peer old told new true
+  pub visited_stays : (old : Option (List DoorCall)) (told : List DoorCall) (new : Held) → (x : IsExchanged buses events keys n peer old told new true) → is_closing buses n (events ++ exchange n x.calls) ≡ false → IsVisited buses events keys n peer old told new true
   visited_stays old told new x open_still =
       let mine : visit x.calls seat ≡ x.calls = own_calls peer x.calls x.own in
       let more : visit_events x.calls seat ≡ exchange n x.calls =
@@ -189,6 +193,7 @@ module _ (buses : List Bus) (events : List Event) (keys : List (Option ℕ)) (n 
       record {
         calls = x.calls;
         adds = x.adds;
+        given = x.given;
         own = x.own;
         asked = x.asked ∙ sym (append-nil (reads_of buses events seat ++ writes_of buses events x.calls seat)) ∙ ap (λ qs. (reads_of buses events seat ++ writes_of buses events x.calls seat) ++ qs) (sym none);
         closes = x.quiet;
@@ -196,12 +201,11 @@ module _ (buses : List Bus) (events : List Event) (keys : List (Option ℕ)) (n 
       }
 
   -- it is let go
-  pub visited_goes : (old told_mid : Option (List Call)) (mid told : List Call) (between new : Held) (value : Bool) → told_mid ≡ Some mid → (x : IsExchanged buses events keys n peer old mid between value)
+  pub visited_goes : (old told_mid : Option (List DoorCall)) (mid told : List DoorCall) (between new : Held) (value : Bool) → told_mid ≡ Some mid → (new.denied ≡ 0 → between.denied ≡ 0) → (x : IsExchanged buses events keys n peer old mid between value)
       → list_any loses x.calls || is_closing buses n (events ++ exchange n x.calls) ≡ true → IsLetGo buses (events ++ exchange n x.calls) keys n peer told_mid told new → IsVisited buses events keys n peer old told new false
-  visited_goes old told_mid mid told between new value is x ends g =
+  visited_goes old told_mid mid told between new value is low x ends g =
       let last : Call = CloseCall peer g.closed.answer in
       let calls : List Call = x.calls ++ last ∷ [] in
-      let same : g.closed.adds.before ≡ mid = same_Some g.closed.adds.before mid (sym g.closed.adds.was ∙ is) in
       let pieces : filter_map piece_of calls ≡ filter_map piece_of x.calls = filter_map-append piece_of x.calls (last ∷ []) ∙ append-nil (filter_map piece_of x.calls) in
       let counts : filter_map count_of calls ≡ filter_map count_of x.calls = filter_map-append count_of x.calls (last ∷ []) ∙ append-nil (filter_map count_of x.calls) in
       let reading : list_any loses_reading calls ≡ list_any loses_reading x.calls = any_first loses_reading x.calls (last ∷ []) refl in
@@ -219,7 +223,8 @@ module _ (buses : List Bus) (events : List Event) (keys : List (Option ℕ)) (n 
       ap (λ t. ending (t || is_closing buses n (events ++ exchange n calls))) losing ∙ ap (λ all. ending (list_any loses x.calls || is_closing buses n (events ++ all))) swap ∙ ap ending ends in
       record {
         calls = calls;
-        adds = adds_more old told mid x.calls (last ∷ []) x.adds (g.closed.adds.is ∙ ap (λ before. before ++ last ∷ []) same);
+        adds = given_then old told_mid mid told x.calls (last ∷ []) is x.adds g.closed.adds;
+        given = λ d. all_append IsGiven x.calls (last ∷ []) (x.given (low d)) (tt, tt);
         own = own;
         asked = map-append question x.calls (last ∷ []) ∙ ap (λ qs. qs ++ ClosesQuestion peer ∷ []) (x.asked ∙ ap (λ qs. reads_of buses events seat ++ qs) (sym writes)) ∙ ap (λ qs. (reads_of buses events seat ++ writes_of buses events calls seat) ++ qs) (sym asks);
         closes = closing;
@@ -231,43 +236,39 @@ module _ (buses : List Bus) (events : List Event) (keys : List (Option ℕ)) (n 
 
 -- ---- the functions
 
-module _ (peer key : ℕ) (old mid : Held) (told_old told_mid : Option (List Call)) where
+module _ (peer key : ℕ) (old mid : Held) (told_old told_mid : Option (List DoorCall)) where
   pub exchanges_lost : ReadsIn peer key old told_old mid told_mid false → Exchanges peer key old told_old mid told_mid false
-  exchanges_lost reads buses events keys n told s d is = exchanged_lost buses events keys n peer told_old told mid (reads buses events keys n told s d is)
-
-  pub exchanges_on : (new : Held) (told_new : Option (List Call)) (stays : Bool) → ReadsIn peer key old told_old mid told_mid true → Keeps mid told_mid new told_new → WritesOut peer key mid told_mid new told_new stays → Exchanges peer key old told_old new told_new stays
-  exchanges_on new told_new stays reads keeps writes buses events keys n told s d is =
-      let w = keeps told d is in
-      let r = reads buses events keys n w.told s w.denied w.is in
-      exchanged buses events keys n peer told_old told_mid w.told told mid new stays w.is r
-      (writes buses (events ++ map (Bytes n) (filter_map piece_of (read_calls peer r.read))) keys n told (record { layout = s.layout; named = s.named; stands = r.stands }) d is)
+  exchanges_lost reads buses events keys n told s is = exchanged_lost buses events keys n peer told_old told mid (reads buses events keys n told s is)
 
   pub visit_stays : (closing : Bool) → Exchanges peer key old told_old mid told_mid true → OfConnection key mid (λ buses events n. closing ≡ closes_in buses (course buses events) n) → closing ≡ false → Visits peer key old told_old mid told_mid true
-  visit_stays closing exchanges says open_still buses events keys n told s d is =
-      let x = exchanges buses events keys n told s d is in
+  visit_stays closing exchanges says open_still buses events keys n told s is =
+      let x = exchanges buses events keys n told s is in
       visited_stays buses events keys n peer told_old told mid x (sym (says buses (events ++ exchange n x.calls) keys n s.layout s.named x.stands) ∙ open_still)
 
-  module _ (new : Held) (told_new : Option (List Call)) (keeps : Keeps mid told_mid new told_new) (goes : LetsGo peer key mid told_mid new told_new) where
-    pub visit_lost : Exchanges peer key old told_old mid told_mid false → Visits peer key old told_old new told_new false
-    visit_lost exchanges buses events keys n told s d is =
-        let w = keeps told d is in
-        let x = exchanges buses events keys n w.told s w.denied w.is in
-        visited_goes buses events keys n peer told_old told_mid w.told told mid new false w.is x (ap (λ t. t || is_closing buses n (events ++ exchange n x.calls)) x.loses_is)
-        (goes buses (events ++ exchange n x.calls) keys n told (record { layout = s.layout; named = s.named; stands = x.stands }) d is)
+  module _ (new : Held) (told_new : Option (List DoorCall)) (low : new.denied ≡ 0 → mid.denied ≡ 0) (asks : AsksPeers told_mid told_new) where
+    pub exchanges_on : (stays : Bool) → ReadsIn peer key old told_old mid told_mid true → WritesOut peer key mid told_mid new told_new stays → Exchanges peer key old told_old new told_new stays
+    exchanges_on stays reads writes buses events keys n told s is =
+        let w = (asks told is).adds in
+        let r = reads buses events keys n w.before s w.was in
+        exchanged buses events keys n peer told_old told_mid w.before told mid new stays w.was low r
+        (writes buses (events ++ map (Bytes n) (filter_map piece_of (read_calls peer r.read))) keys n told (record { layout = s.layout; named = s.named; stands = r.stands }) is)
 
-    pub visit_closed : (closing : Bool) → Exchanges peer key old told_old mid told_mid true → OfConnection key mid (λ buses events n. closing ≡ closes_in buses (course buses events) n) → closing ≡ true → Visits peer key old told_old new told_new false
-    visit_closed closing exchanges says ends buses events keys n told s d is =
-        let w = keeps told d is in
-        let x = exchanges buses events keys n w.told s w.denied w.is in
-        visited_goes buses events keys n peer told_old told_mid w.told told mid new true w.is x
-        (ap (λ t. t || is_closing buses n (events ++ exchange n x.calls)) x.loses_is ∙ sym (says buses (events ++ exchange n x.calls) keys n s.layout s.named x.stands) ∙ ends)
-        (goes buses (events ++ exchange n x.calls) keys n told (record { layout = s.layout; named = s.named; stands = x.stands }) d is)
+    module _ (goes : LetsGo peer key mid told_mid new told_new) where
+      pub visit_lost : Exchanges peer key old told_old mid told_mid false → Visits peer key old told_old new told_new false
+      visit_lost exchanges buses events keys n told s is =
+          let w = (asks told is).adds in
+          let x = exchanges buses events keys n w.before s w.was in
+          visited_goes buses events keys n peer told_old told_mid w.before told mid new false w.was low x (ap (λ t. t || is_closing buses n (events ++ exchange n x.calls)) x.loses_is)
+          (goes buses (events ++ exchange n x.calls) keys n told (record { layout = s.layout; named = s.named; stands = x.stands }) is)
+
+      pub visit_closed : (closing : Bool) → Exchanges peer key old told_old mid told_mid true → OfConnection key mid (λ buses events n. closing ≡ closes_in buses (course buses events) n) → closing ≡ true → Visits peer key old told_old new told_new false
+      visit_closed closing exchanges says ends buses events keys n told s is =
+          let w = (asks told is).adds in
+          let x = exchanges buses events keys n w.before s w.was in
+          visited_goes buses events keys n peer told_old told_mid w.before told mid new true w.was low x
+          (ap (λ t. t || is_closing buses n (events ++ exchange n x.calls)) x.loses_is ∙ sym (says buses (events ++ exchange n x.calls) keys n s.layout s.named x.stands) ∙ ends)
+          (goes buses (events ++ exchange n x.calls) keys n told (record { layout = s.layout; named = s.named; stands = x.stands }) is)
 
 -- the connection is shut and the peer let go
-pub lets_go : (peer key : ℕ) (old new : Held) (told_old told_new : Option (List Call)) → LeadsToFree key old new → Closes peer told_old told_new → LetsGo peer key old told_old new told_new
-lets_go peer key old new told_old told_new leads closes buses events keys n told s d is = record { closed = closes told is; stands = leads buses events keys n s.layout d s.named s.stands }
-
-pub lets_go_keeps : (peer : ℕ) (old new : Held) (told_old told_new : Option (List Call)) → (new.denied ≡ 0 → old.denied ≡ 0) → Closes peer told_old told_new → Keeps old told_old new told_new
-lets_go_keeps peer old new told_old told_new low closes told d is =
-    let c = closes told is in
-    record { denied = low d; told = c.adds.before; is = c.adds.was }
+pub lets_go : (peer key : ℕ) (old new : Held) (told_old told_new : Option (List DoorCall)) → LeadsToFree key old new → Closes peer told_old told_new → LetsGo peer key old told_old new told_new
+lets_go peer key old new told_old told_new leads closes buses events keys n told s is = record { closed = closes told is; stands = leads buses events keys n s.layout s.named s.stands }

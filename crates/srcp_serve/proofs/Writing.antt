@@ -5,10 +5,10 @@ use Rattle.srcp_core.specs.Agrees.{OfConnection}
 use Rattle.srcp_core.specs.Held.{Held}
 use Rattle.srcp_core.specs.Machine.{let_out}
 use Rattle.srcp_core.specs.Run.{LeadsAt}
-use Rattle.srcp_core.specs.declared.event.Event.TheVariants.{Room}
-use Rattle.srcp_serve.specs.Calls.{Call, Tells, WriteCall}
+use Rattle.srcp_core.specs.Under.{Room}
+use Rattle.srcp_serve.specs.Calls.{Call, Tells, WriteCall, Adds}
 use Rattle.srcp_serve.specs.Serving.{lent}
-use Rattle.srcp_serve.specs.Visits.{Adds, WritesOnce}
+use Rattle.srcp_serve.specs.Visits.{WritesOnce}
 use Rattle.srcp_serve.specs.declared.door.DoorFault.{DoorFault}
 use Rattle.srcp_serve.specs.declared.serving.visit.Wrote.{Wrote}
 use Rattle.srcp_serve.specs.declared.serving.visit.Wrote.TheVariants.{All, Less, Failed}
@@ -35,48 +35,48 @@ module _ (peer key : ℕ) (old : Held) (told_old : Option (List Call)) where
 
   -- there is no connection at the key
   pub wrote_absent : (new : Held) (told_new : Option (List Call)) (wrote : Wrote) → OfConnection key old (λ buses events n. ⊥) → WritesOnce peer key old told_old new told_new wrote
-  wrote_absent new told_new wrote never buses events keys n told s d is = absurd (never buses events keys n s.layout s.named s.stands)
+  wrote_absent new told_new wrote never buses events keys n told s is = absurd (never buses events keys n s.layout s.named s.stands)
 
   module _ (mid : Held) (out : mid ≡ let_out key old) (asks : LeadsAt key (λ n. Room n 0) old (let_out key old)) where
     asked : LeadsAt key (λ n. Room n 0) old mid
     asked = subst (λ (held : Held). LeadsAt key (λ n. Room n 0) old held) (sym out) asks
 
     pub wrote_none : (bytes : List ℕ) → Lends bytes → (length bytes == 0) ≡ true → WritesOnce peer key old told_old mid told_old Less
-    wrote_none bytes lends none buses events keys n told s d is =
+    wrote_none bytes lends none buses events keys n told s is =
         inl (record {
           none = sym (lends buses events keys n s.layout s.named s.stands) ∙ nil_of bytes none;
           adds = adds_none told_old told is;
-          stands = asked buses events keys n s.layout d s.named s.stands;
+          stands = asked buses events keys n s.layout s.named s.stands;
         })
 
     pub wrote_failed : (bytes : List ℕ) (fault : DoorFault) (told_new : Option (List Call)) → Lends bytes → Tells told_old (WriteCall peer bytes (Err fault)) told_new → (length bytes == 0) ≡ false → WritesOnce peer key old told_old mid told_new Failed
-    wrote_failed bytes fault told_new lends tells some buses events keys n told s d named =
+    wrote_failed bytes fault told_new lends tells some buses events keys n told s named =
         let lent_bytes = lends buses events keys n s.layout s.named s.stands in
         record {
           fault = fault;
           adds = subst (λ (xs : List ℕ). Adds told_old told (WriteCall peer xs (Err fault) ∷ [])) lent_bytes (adds_one (WriteCall peer bytes (Err fault)) told_old told_new told tells named);
           some = subst (λ (xs : List ℕ). 0 < length xs) lent_bytes (some_of bytes some);
-          stands = asked buses events keys n s.layout d s.named s.stands;
+          stands = asked buses events keys n s.layout s.named s.stands;
         }
 
   module _ (bytes : List ℕ) (count : ℕ) (new : Held) (told_new : Option (List Call)) (lends : Lends bytes) (sends : LeadsAt key (λ n. Room n count) old new) (tells : Tells told_old (WriteCall peer bytes (Ok count)) told_new) where
     pub wrote_less : count < length bytes → WritesOnce peer key old told_old new told_new Less
-    wrote_less few buses events keys n told s d named =
+    wrote_less few buses events keys n told s named =
         let lent_bytes = lends buses events keys n s.layout s.named s.stands in
         inr (record {
           count = count;
           adds = subst (λ (xs : List ℕ). Adds told_old told (WriteCall peer xs (Ok count) ∷ [])) lent_bytes (adds_one (WriteCall peer bytes (Ok count)) told_old told_new told tells named);
           short = subst (λ (xs : List ℕ). count < length xs) lent_bytes few;
-          stands = sends buses events keys n s.layout d s.named s.stands;
+          stands = sends buses events keys n s.layout s.named s.stands;
         })
 
     pub wrote_all : count ≡ length bytes → (length bytes == 0) ≡ false → WritesOnce peer key old told_old new told_new All
-    wrote_all full some buses events keys n told s d named =
+    wrote_all full some buses events keys n told s named =
         let lent_bytes = lends buses events keys n s.layout s.named s.stands in
         record {
           count = count;
           adds = subst (λ (xs : List ℕ). Adds told_old told (WriteCall peer xs (Ok count) ∷ [])) lent_bytes (adds_one (WriteCall peer bytes (Ok count)) told_old told_new told tells named);
           all = subst (λ (xs : List ℕ). count ≡ length xs) lent_bytes full;
           some = subst (λ (k : ℕ). 0 < k) (sym full) (some_of bytes some);
-          stands = sends buses events keys n s.layout d s.named s.stands;
+          stands = sends buses events keys n s.layout s.named s.stands;
         }

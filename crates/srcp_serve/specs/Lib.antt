@@ -1,4 +1,5 @@
 pub mod Calls
+pub mod Given
 pub mod Listening
 pub mod Places
 pub mod Serving

@@ -1,17 +1,18 @@
 -- How the places of a server stand for the course, and what a turn does to them, function by function.
-use Rattle.std.specs.Prelude.{Bool, ⊤, ◌≡◌, ℕ, ◌+◌, ◌≤◌, true, false, ◌==◌, if◌then◌else◌, List, [], ◌∷◌, ◌++◌, map, length, filter_map, flat_map, fold, count_by, is_some, Option, Some, None, Result}
-use Rattle.std.specs.List.{list_any, AllByRecursion}
+use Rattle.std.specs.Prelude.{Bool, ⊤, ◌≡◌, ℕ, ◌+◌, ◌≤◌, true, false, ◌==◌, if◌then◌else◌, List, [], ◌∷◌, ◌++◌, map, length, filter_map, flat_map, fold, count_by, is_some, Option, Some, None, Result, Ok}
+use Rattle.std.specs.List.{list_all, list_any, AllByRecursion}
 use Rattle.srcp_rules.specs.Layout.{IsLayout}
 use Rattle.srcp_rules.specs.declared.layout.Bus.{Bus}
 use Rattle.srcp_core.specs.Course.{course}
 use Rattle.srcp_core.specs.Held.{Held}
 use Rattle.srcp_core.specs.Recording.{key_of}
 use Rattle.srcp_core.specs.Stands.{StandsFor}
-use Rattle.srcp_core.specs.declared.event.Event.{Event}
-use Rattle.srcp_serve.specs.Calls.{Call, NowCall, AcceptCall}
-use Rattle.srcp_serve.specs.Serving.{Seat, Stand, Question, IsServed, PeersDiffer, question, newcomer_of, is_about, is_close, visit_events, visit_asks, timed, turned, turn_asks, turns_away, welcomed, stand_after, events_of, SendsWhatIsTaken}
-use Rattle.srcp_serve.specs.Turns.{IsTurn}
-use Rattle.srcp_serve.specs.Visits.{Adds, AreAbout}
+use Rattle.srcp_core.specs.Under.{Event}
+use Rattle.srcp_serve.specs.Calls.{Call as DoorCall, Adds, PeersDiffer, peer_of}
+use Rattle.srcp_serve.specs.Given.{Guest, Call, NowCall, AcceptCall, AllGiven, told_call}
+use Rattle.srcp_serve.specs.Serving.{Seat, Stand, Question, IsServed, question, newcomer_of, is_about, is_close, visit_events, visit_asks, timed, turned, turn_asks, turns_away, welcomed, stand_after, events_of, SendsWhatIsTaken}
+use Rattle.srcp_serve.specs.Turns.{is_of_peer}
+use Rattle.srcp_serve.specs.Visits.{AddsGiven, AreAbout}
 use Rattle.srcp_serve.specs.declared.door.DoorFault.{DoorFault}
 use Rattle.srcp_serve.specs.declared.serving.visit.Seat.{Seat as Own}
 
@@ -114,44 +115,62 @@ one_if b = if b then 1 else 0
 
 -- ---- what the functions of a turn do
 
-module _ (buses : List Bus) (stand : Stand) (old : Option (List Call)) (told : List Call) (held : Held) where
+-- the calls of a turn: for the moment, for one newcomer, and then about peers
+pub record IsTurnGiven (calls : List Call) : Type 0 where
+  pub now : Result ℕ DoorFault
+  pub newcomer : Result (Option ℕ) DoorFault
+  pub granted : Bool
+  pub rest : List Call
+  pub is : calls ≡ NowCall now ∷ AcceptCall newcomer granted ∷ rest
+  pub peers : list_all is_of_peer (map told_call rest) ≡ true
+
+module _ (buses : List Bus) (stand : Stand) (old : Option (List DoorCall)) (told : List DoorCall) (held : Held) where
   -- the moment was asked for, and taken where it was told
   pub record IsTimed (keys : List (Option ℕ)) : Type 0 where
     pub answer : Result ℕ DoorFault
-    pub adds : Adds old told (NowCall answer ∷ [])
+    pub adds : AddsGiven old told (NowCall answer ∷ [])
     pub stands : StandsFor buses keys held (course buses (timed buses stand (NowCall answer ∷ [])).events)
 
   module _ (owns : List (Option Own)) where
     -- the newcomer has its place, or was turned away
-    pub record IsWelcomed (peer : ℕ) (opens : Bool) : Type 0 where
+    pub record IsWelcomed (guest : Guest) (opens : Bool) : Type 0 where
       pub early : List Call
       pub keys : List (Option ℕ)
-      pub adds : Adds old told early
-      pub asked : map question early ≡ turns_away buses stand.events peer
-      pub others : AllByRecursion (IsLeftOut early) (welcomed buses stand peer).places
-      pub hosting : IsHosting buses (welcomed buses stand peer) keys held owns
-      pub opened : length (welcomed buses stand peer).guests ≡ length stand.guests + one_if opens
+      pub adds : AddsGiven old told early
+      pub given : AllGiven (AcceptCall (Ok (Some guest.peer)) guest.granted ∷ early) held
+      pub asked : map question early ≡ turns_away buses stand.events guest
+      pub others : AllByRecursion (IsLeftOut early) (welcomed buses stand guest).places
+      pub hosting : IsHosting buses (welcomed buses stand guest) keys held owns
+      pub opened : length (welcomed buses stand guest).guests ≡ length stand.guests + one_if opens
+
+    -- so it is of that peer, with what memory answered
+    pub record WelcomesPeer (peer : ℕ) (opens : Bool) : Type 0 where
+      pub granted : Bool
+      pub welcomes : IsWelcomed (record { peer = peer; granted = granted }) opens
 
     -- so it is of the newcomer, if there was one
     pub record IsBegun (opens : Bool) : Type 0 where
       pub answer : Result (Option ℕ) DoorFault
+      pub granted : Bool
       pub early : List Call
       pub keys : List (Option ℕ)
-      pub adds : Adds old told (AcceptCall answer ∷ early)
+      pub adds : AddsGiven old told (AcceptCall answer granted ∷ early)
+      pub given : AllGiven (AcceptCall answer granted ∷ early) held
       pub asked : map question early
-          ≡ flat_map (turns_away buses stand.events) (filter_map newcomer_of (AcceptCall answer ∷ []))
+          ≡ flat_map (turns_away buses stand.events) (filter_map newcomer_of (AcceptCall answer granted ∷ []))
       pub others : AllByRecursion (IsLeftOut early)
-          (fold (welcomed buses) stand (filter_map newcomer_of (AcceptCall answer ∷ []))).places
+          (fold (welcomed buses) stand (filter_map newcomer_of (AcceptCall answer granted ∷ []))).places
       pub hosting : IsHosting buses
-          (fold (welcomed buses) stand (filter_map newcomer_of (AcceptCall answer ∷ []))) keys held owns
-      pub opened : length (fold (welcomed buses) stand (filter_map newcomer_of (AcceptCall answer ∷ []))).guests
+          (fold (welcomed buses) stand (filter_map newcomer_of (AcceptCall answer granted ∷ []))) keys held owns
+      pub opened : length (fold (welcomed buses) stand (filter_map newcomer_of (AcceptCall answer granted ∷ []))).guests
           ≡ length stand.guests + one_if opens
 
     -- those that have these places, between the others, were visited in their order
     pub record AreVisited (front seats ahead : List (Option Seat)) : Type 0 where
       pub round : List (Option Visit)
       pub keys : List (Option ℕ)
-      pub adds : Adds old told (calls_of (visits_of round))
+      pub adds : AddsGiven old told (calls_of (visits_of round))
+      pub given : AllGiven (calls_of (visits_of round)) held
       pub seats_are : map seat_of round ≡ seats
       pub own : AreOwn (visits_of round)
       pub asked : map question (calls_of (visits_of round)) ≡ asked_by buses stand.events (visits_of round)
@@ -163,56 +182,57 @@ module _ (buses : List Bus) (stand : Stand) (old : Option (List Call)) (told : L
           })
           keys held owns
 
-    -- a turn was made
-    pub record IsTurnMade (opens : Bool) : Type 0 where
+    -- a turn was made, and all that have a place are of these peers and of those that came in
+    pub record IsTurnMade (peers : List ℕ) (opens : Bool) : Type 0 where
       pub calls : List Call
       pub keys : List (Option ℕ)
-      pub adds : Adds old told calls
-      pub turn : IsTurn calls
+      pub adds : AddsGiven old told calls
+      pub given : AllGiven calls held
+      pub turn : IsTurnGiven calls
       pub asked : map question calls ≡ turn_asks buses stand calls
-      pub known : AllByRecursion (IsOneOf (filter_map newcomer_of told)) (turned buses stand calls).places
+      pub known : AllByRecursion (IsOneOf (peers ++ filter_map peer_of (map told_call calls))) (turned buses stand calls).places
       pub hosting : IsHosting buses (turned buses stand calls) keys held owns
       pub opened : length (turned buses stand calls).guests ≡ length stand.guests + one_if opens
 
--- whatever the stand was, so it is afterwards, where no memory was refused and the door tells its calls
-abbrev pub HostsOn : (List Bus → Stand → List (Option ℕ) → List Call → Type 0)
-    → (old : Held) (owns : List (Option Own)) (new : Held) (told_new : Option (List Call)) → Type 0
-HostsOn So old owns new told_new = (buses : List Bus) (stand : Stand) (keys : List (Option ℕ)) (told : List Call)
-    → IsHosting buses stand keys old owns → new.denied ≡ 0 → told_new ≡ Some told → So buses stand keys told
+-- whatever the stand was, so it is afterwards, where the door tells its calls
+abbrev pub HostsOn : (List Bus → Stand → List (Option ℕ) → List DoorCall → Type 0)
+    → (old : Held) (owns : List (Option Own)) (told_new : Option (List DoorCall)) → Type 0
+HostsOn So old owns told_new = (buses : List Bus) (stand : Stand) (keys : List (Option ℕ)) (told : List DoorCall)
+    → IsHosting buses stand keys old owns → told_new ≡ Some told → So buses stand keys told
 
 -- the moment is asked for
-abbrev pub TakesMoment : (old : Held) (told_old : Option (List Call)) (new : Held) (told_new : Option (List Call)) → Type 0
+abbrev pub TakesMoment : (old : Held) (told_old : Option (List DoorCall))
+    (new : Held) (told_new : Option (List DoorCall)) → Type 0
 TakesMoment old told_old new told_new = (owns : List (Option Own))
-    → HostsOn (λ buses stand keys told. IsTimed buses stand told_old told new keys) old owns new told_new
+    → HostsOn (λ buses stand keys told. IsTimed buses stand told_old told new keys) old owns told_new
 
 -- a newcomer that has no place yet is seated, or turned away
-abbrev pub SeatsPeer : (peer : ℕ) (old : Held) (told_old : Option (List Call)) (owns_old : List (Option Own))
-    (new : Held) (told_new : Option (List Call)) (owns_new : List (Option Own)) (opens : Bool) → Type 0
+abbrev pub SeatsPeer : (peer : ℕ) (old : Held) (told_old : Option (List DoorCall)) (owns_old : List (Option Own))
+    (new : Held) (told_new : Option (List DoorCall)) (owns_new : List (Option Own)) (opens : Bool) → Type 0
 SeatsPeer peer old told_old owns_old new told_new owns_new opens = HostsOn
     (λ buses stand keys told. AllByRecursion (IsNotOf peer) stand.places
-    → IsWelcomed buses stand told_old told new owns_new peer opens)
-    old owns_old new told_new
+    → WelcomesPeer buses stand told_old told new owns_new peer opens)
+    old owns_old told_new
 
--- one newcomer is asked for, where all that have a place are of the newcomers, and no peer came in twice
-abbrev pub LetsIn : (old : Held) (told_old : Option (List Call)) (owns_old : List (Option Own))
-    (new : Held) (told_new : Option (List Call)) (owns_new : List (Option Own)) (opens : Bool) → Type 0
+-- one newcomer is asked for, where all that have a place are of some peers, and it is none of them
+abbrev pub LetsIn : (old : Held) (told_old : Option (List DoorCall)) (owns_old : List (Option Own))
+    (new : Held) (told_new : Option (List DoorCall)) (owns_new : List (Option Own)) (opens : Bool) → Type 0
 LetsIn old told_old owns_old new told_new owns_new opens = HostsOn
-    (λ buses stand keys told. (before : List Call) → told_old ≡ Some before → PeersDiffer buses told
-    → AllByRecursion (IsOneOf (filter_map newcomer_of before)) stand.places
-    → IsBegun buses stand told_old told new owns_new opens)
-    old owns_old new told_new
+    (λ buses stand keys told. (peers : List ℕ) (calls : List DoorCall) → Adds told_old told calls → PeersDiffer peers calls
+    → AllByRecursion (IsOneOf peers) stand.places → IsBegun buses stand told_old told new owns_new opens)
+    old owns_old told_new
 
 -- who has that place is visited
-abbrev pub VisitsPlace : (place : ℕ) (old : Held) (told_old : Option (List Call)) (owns_old : List (Option Own))
-    (new : Held) (told_new : Option (List Call)) (owns_new : List (Option Own)) → Type 0
+abbrev pub VisitsPlace : (place : ℕ) (old : Held) (told_old : Option (List DoorCall)) (owns_old : List (Option Own))
+    (new : Held) (told_new : Option (List DoorCall)) (owns_new : List (Option Own)) → Type 0
 VisitsPlace place old told_old owns_old new told_new owns_new = HostsOn
     (λ buses stand keys told. (front : List (Option Seat)) (seat : Option Seat) (ahead : List (Option Seat))
     → length front ≡ place → stand.places ≡ front ++ seat ∷ ahead
     → AreVisited buses stand told_old told new owns_new front (seat ∷ []) ahead)
-    old owns_old new told_new
+    old owns_old told_new
 
 -- so many places were visited
-pub record AreVisitedSoFar (buses : List Bus) (stand : Stand) (old : Option (List Call)) (told : List Call) (held : Held)
+pub record AreVisitedSoFar (buses : List Bus) (stand : Stand) (old : Option (List DoorCall)) (told : List DoorCall) (held : Held)
     (owns : List (Option Own)) (count : ℕ) : Type 0 where
   pub seats : List (Option Seat)
   pub ahead : List (Option Seat)
@@ -221,50 +241,52 @@ pub record AreVisitedSoFar (buses : List Bus) (stand : Stand) (old : Option (Lis
   pub visited : AreVisited buses stand old told held owns [] seats ahead
 
 -- so many places are visited, in their order
-abbrev pub VisitsSoFar : (count : ℕ) (old : Held) (told_old : Option (List Call)) (owns_old : List (Option Own))
-    (now : Held) (told_now : Option (List Call)) (owns_now : List (Option Own)) → Type 0
+abbrev pub VisitsSoFar : (count : ℕ) (old : Held) (told_old : Option (List DoorCall)) (owns_old : List (Option Own))
+    (now : Held) (told_now : Option (List DoorCall)) (owns_now : List (Option Own)) → Type 0
 VisitsSoFar count old told_old owns_old now told_now owns_now = HostsOn
-    (λ buses stand keys told. AreVisitedSoFar buses stand told_old told now owns_now count) old owns_old now told_now
+    (λ buses stand keys told. AreVisitedSoFar buses stand told_old told now owns_now count) old owns_old told_now
 
 -- all places are visited, in their order
-abbrev pub VisitsPlaces : (old : Held) (told_old : Option (List Call)) (owns_old : List (Option Own))
-    (new : Held) (told_new : Option (List Call)) (owns_new : List (Option Own)) → Type 0
+abbrev pub VisitsPlaces : (old : Held) (told_old : Option (List DoorCall)) (owns_old : List (Option Own))
+    (new : Held) (told_new : Option (List DoorCall)) (owns_new : List (Option Own)) → Type 0
 VisitsPlaces old told_old owns_old new told_new owns_new = HostsOn
     (λ buses stand keys told. AreVisited buses stand told_old told new owns_new [] stand.places [])
-    old owns_old new told_new
+    old owns_old told_new
 
--- a turn is made, where all that have a place are of the newcomers, and no peer came in twice
-abbrev pub MakesTurn : (old : Held) (told_old : Option (List Call)) (owns_old : List (Option Own))
-    (new : Held) (told_new : Option (List Call)) (owns_new : List (Option Own)) (opens : Bool) → Type 0
+-- a turn is made, where all that have a place are of some peers, and no newcomer is one of them
+abbrev pub MakesTurn : (old : Held) (told_old : Option (List DoorCall)) (owns_old : List (Option Own))
+    (new : Held) (told_new : Option (List DoorCall)) (owns_new : List (Option Own)) (opens : Bool) → Type 0
 MakesTurn old told_old owns_old new told_new owns_new opens = HostsOn
-    (λ buses stand keys told. (before : List Call) → told_old ≡ Some before → PeersDiffer buses told
-    → AllByRecursion (IsOneOf (filter_map newcomer_of before)) stand.places
-    → IsTurnMade buses stand told_old told new owns_new opens)
-    old owns_old new told_new
+    (λ buses stand keys told. (peers : List ℕ) (calls : List DoorCall) → Adds told_old told calls → PeersDiffer peers calls
+    → AllByRecursion (IsOneOf peers) stand.places → IsTurnMade buses stand told_old told new owns_new peers opens)
+    old owns_old told_new
 
 -- ---- serving
 
 -- the calls are those of so many turns, and the core and the places stand as their answers say
-pub record IsServing (buses : List Bus) (count opens : ℕ) (told : List Call) (held : Held)
+pub record IsServing (buses : List Bus) (count opens : ℕ) (told : List DoorCall) (held : Held)
     (owns : List (Option Own)) : Type 0 where
+  pub calls : List Call
   pub keys : List (Option ℕ)
-  pub served : IsServed buses count told
-  pub known : AllByRecursion (IsOneOf (filter_map newcomer_of told)) (stand_after buses told).places
-  pub hosting : IsHosting buses (stand_after buses told) keys held owns
-  pub opened : length (stand_after buses told).guests ≡ opens
+  pub are : map told_call calls ≡ told
+  pub given : AllGiven calls held
+  pub served : IsServed buses count calls
+  pub known : AllByRecursion (IsOneOf (filter_map peer_of told)) (stand_after buses calls).places
+  pub hosting : IsHosting buses (stand_after buses calls) keys held owns
+  pub opened : length (stand_after buses calls).guests ≡ opens
 
--- a core that stands for no events, over a door that had told nothing, where no memory was refused and no peer came in twice
-abbrev pub Begins : (List Bus → List Call → Type 0)
-    → (old : Held) (told_old : Option (List Call)) (new : Held) (told_new : Option (List Call)) → Type 0
-Begins So old told_old new told_new = (buses : List Bus) (told : List Call) → IsLayout buses
-    → StandsFor buses [] old (course buses []) → new.denied ≡ 0 → told_old ≡ Some [] → told_new ≡ Some told
-    → PeersDiffer buses told → So buses told
+-- a core that stands for no events, over a door that told these calls after others, where no two of them let one peer in
+abbrev pub Begins : (List Bus → List DoorCall → Type 0)
+    → (old : Held) (told_old told_new : Option (List DoorCall)) → Type 0
+Begins So old told_old told_new = (buses : List Bus) (before calls : List DoorCall) → IsLayout buses
+    → StandsFor buses [] old (course buses []) → told_old ≡ Some before → told_new ≡ Some (before ++ calls)
+    → PeersDiffer [] calls → So buses calls
 
 -- so many turns are made, and so many peers were let in
-abbrev pub ServesSoFar : (count opens : ℕ) (old : Held) (told_old : Option (List Call)) (new : Held)
-    (told_new : Option (List Call)) (owns : List (Option Own)) → Type 0
+abbrev pub ServesSoFar : (count opens : ℕ) (old : Held) (told_old : Option (List DoorCall)) (new : Held)
+    (told_new : Option (List DoorCall)) (owns : List (Option Own)) → Type 0
 ServesSoFar count opens old told_old new told_new owns =
-    Begins (λ buses told. IsServing buses count opens told new owns) old told_old new told_new
+    Begins (λ buses calls. IsServing buses count opens calls new owns) old told_old told_new
 
 -- the calls are those of exactly so many turns, each write handed what the course leaves unsent; the core stands for the
 -- events that the answers make; and what each connection was sent by them is to the byte what the door took of its peer
@@ -275,8 +297,16 @@ pub record IsOfCourse (buses : List Bus) (count opens : ℕ) (told : List Call) 
   pub opened : opens ≡ length (course buses (events_of buses told)).connections  -- one for each Open that is accepted
   pub taken : SendsWhatIsTaken buses told
 
+-- memory answered something in the calls that the door told, by which they are of the course; it gave in all of them
+-- where the core counts no refusal
+pub record IsOfGiven (buses : List Bus) (count opens : ℕ) (told : List DoorCall) (held : Held) : Type 0 where
+  pub calls : List Call
+  pub are : map told_call calls ≡ told
+  pub given : AllGiven calls held
+  pub course : IsOfCourse buses count opens calls held
+
 -- what serving so many turns is, where so many peers were let in
-abbrev pub ServesCourse : (count opens : ℕ) (old : Held) (told_old : Option (List Call)) (new : Held)
-    (told_new : Option (List Call)) → Type 0
+abbrev pub ServesCourse : (count opens : ℕ) (old : Held) (told_old : Option (List DoorCall)) (new : Held)
+    (told_new : Option (List DoorCall)) → Type 0
 ServesCourse count opens old told_old new told_new =
-    Begins (λ buses told. IsOfCourse buses count opens told new) old told_old new told_new
+    Begins (λ buses calls. IsOfGiven buses count opens calls new) old told_old told_new

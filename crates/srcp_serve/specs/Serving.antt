@@ -2,15 +2,15 @@
 -- A turn asks for the moment, lets in one peer, and visits each peer that has a place, in the order of the places.
 -- What a reader gets: a peer is handed exactly what the course of these events leaves unsent of its connection. So
 -- what the door took of each peer is what that course says was sent: SentIsTaken, which `laws::sent_is_taken` ensures.
-use Rattle.std.specs.Prelude.{⊤, ◌≡◌, ℕ, ◌+◌, ◌<◌, ◌≤◌, Bool, true, false, not, ◌&&◌, ◌||◌, ◌==◌, nat_lt, if◌then◌else◌, List, [], ◌∷◌, ◌++◌, map, take, length, filter, filter_map, flat_map, fold, count_by, replicate, Option, Some, None, is_none, Ok, Err}
-use Rattle.std.specs.List.{list_any, take_while, IsDistinct, AllByRecursion}
+use Rattle.std.specs.Prelude.{◌≡◌, ℕ, ◌+◌, Bool, true, false, not, ◌&&◌, ◌||◌, ◌==◌, nat_lt, if◌then◌else◌, List, [], ◌∷◌, ◌++◌, map, take, length, filter, filter_map, flat_map, fold, count_by, replicate, Option, Some, None, is_none, option_map, Ok, Err}
+use Rattle.std.specs.List.{list_any, AllByRecursion}
 use Rattle.srcp_rules.specs.declared.layout.Bus.{Bus}
 use Rattle.srcp_core.specs.Agrees.{closes, lent as lent_in}
 use Rattle.srcp_core.specs.Connection.{sent}
 use Rattle.srcp_core.specs.Course.{course, fault}
-use Rattle.srcp_core.specs.declared.event.Event.{Event}
-use Rattle.srcp_core.specs.declared.event.Event.TheVariants.{Open, Bytes, Room, At, Shut}
-use Rattle.srcp_serve.specs.Calls.{Call, NowCall, AcceptCall, ReadCall, WriteCall, CloseCall}
+use Rattle.srcp_core.specs.Under.{Event, Piece, Open, Bytes, Room, At, Shut, giving}
+use Rattle.srcp_serve.specs.Calls as door
+use Rattle.srcp_serve.specs.Given.{Guest, Call, told_call, NowCall, AcceptCall, ReadCall, WriteCall, CloseCall}
 use Rattle.srcp_serve.specs.declared.door.Got.TheVariants as got
 
 -- ---- calls and their answers
@@ -21,13 +21,13 @@ moment_of (NowCall (Ok moment)) = Some moment
 moment_of other = None
 
 -- the peer that came in
-abbrev pub newcomer_of : Call → Option ℕ
-newcomer_of (AcceptCall (Ok peer)) = peer
+abbrev pub newcomer_of : Call → Option Guest
+newcomer_of (AcceptCall (Ok peer) granted) = option_map (λ peer. record { peer = peer; granted = granted }) peer
 newcomer_of other = None
 
 -- the bytes that were read
-abbrev pub piece_of : Call → Option (List ℕ)
-piece_of (ReadCall peer (Ok (got.Bytes count)) buffer) = Some (take count buffer)
+abbrev pub piece_of : Call → Option Piece
+piece_of (ReadCall peer (Ok (got.Bytes count)) buffer grants) = Some (record { bytes = take count buffer; grants = grants })
 piece_of other = None
 
 -- how many bytes a write took, none where it failed
@@ -53,8 +53,8 @@ is_close other = false
 
 -- the peer is at its end, or could not be read
 abbrev pub loses_reading : Call → Bool
-loses_reading (ReadCall peer (Ok got.Ended) buffer) = true
-loses_reading (ReadCall peer (Err failed) buffer) = true
+loses_reading (ReadCall peer (Ok got.Ended) buffer grants) = true
+loses_reading (ReadCall peer (Err failed) buffer grants) = true
 loses_reading other = false
 
 -- the peer could not be written to
@@ -74,8 +74,8 @@ falls_short other = false
 -- the call is about that peer
 abbrev pub is_about : ℕ → Call → Bool
 is_about peer (NowCall answer) = false
-is_about peer (AcceptCall answer) = false
-is_about peer (ReadCall who answer buffer) = who == peer
+is_about peer (AcceptCall answer granted) = false
+is_about peer (ReadCall who answer buffer grants) = who == peer
 is_about peer (WriteCall who bytes answer) = who == peer
 is_about peer (CloseCall who answer) = who == peer
 
@@ -90,16 +90,14 @@ pub data Question : Type 0 where
 -- a call without its answer
 abbrev pub question : Call → Question
 question (NowCall answer) = Moments
-question (AcceptCall answer) = Newcomers
-question (ReadCall peer answer buffer) = Reads peer (length buffer)
+question (AcceptCall answer granted) = Newcomers
+question (ReadCall peer answer buffer grants) = Reads peer (length buffer)
 question (WriteCall peer bytes answer) = Writes peer bytes
 question (CloseCall peer answer) = Closes peer
 
--- the answer is within what was asked: no more bytes than the buffer holds, or than were handed over
+-- the answer is within what was asked
 abbrev pub IsFair : Call → Type 0
-IsFair (ReadCall peer (Ok (got.Bytes count)) buffer) = (0 < count) × (count ≤ length buffer)
-IsFair (WriteCall peer bytes (Ok count)) = count ≤ length bytes
-IsFair other = ⊤
+IsFair call = door.IsFair (told_call call)
 
 -- the bytes that a peer took in a call
 abbrev pub taken_in : ℕ → Call → List ℕ
@@ -169,8 +167,7 @@ visit_events calls seat = exchange seat.conn (visit calls seat)
 
 -- the calls of each turn, which begins where the moment is asked for
 abbrev pub turns : List Call → List (List Call)
-turns [] = []
-turns (call ∷ calls) = if is_now call then (call ∷ take_while (λ next. not (is_now next)) calls) ∷ turns calls else turns calls
+turns calls = door.parts is_now calls
 
 -- these bytes and then the rest, or nothing where there are none
 abbrev pub unless_nil : List ℕ → List (List ℕ) → List (List ℕ)
@@ -181,20 +178,20 @@ module _ (buses : List Bus) where
   -- ---- what the turns make happen
 
   -- a newcomer is let in where the core accepts it
-  abbrev pub is_let_in : List Event → Bool
-  is_let_in events = is_none (fault buses (course buses events) Open)
+  abbrev pub is_let_in : List Event → Bool → Bool
+  is_let_in events granted = is_none (fault buses (course buses events) (Open granted))
 
   -- the next connection is its
-  abbrev pub let_in : Stand → ℕ → Stand
-  let_in stand peer = record {
-    events = stand.events ++ Open ∷ [];
-    guests = stand.guests ++ peer ∷ [];
-    places = seated (record { peer = peer; conn = length stand.guests + 1 }) stand.places;
+  abbrev pub let_in : Stand → Guest → Stand
+  let_in stand guest = record {
+    events = stand.events ++ Open guest.granted ∷ [];
+    guests = stand.guests ++ guest.peer ∷ [];
+    places = seated (record { peer = guest.peer; conn = length stand.guests + 1 }) stand.places;
   }
 
   -- after a peer that wants in
-  abbrev pub welcomed : Stand → ℕ → Stand
-  welcomed stand peer = if is_let_in stand.events then let_in stand peer else record stand { events = stand.events ++ Open ∷ [] }
+  abbrev pub welcomed : Stand → Guest → Stand
+  welcomed stand guest = if is_let_in stand.events guest.granted then let_in stand guest else record stand { events = stand.events ++ Open guest.granted ∷ [] }
 
   -- after a moment
   abbrev pub with_moment : Stand → ℕ → Stand
@@ -235,7 +232,7 @@ module _ (buses : List Bus) where
 
   -- bytes would be accepted of it
   abbrev pub is_ready : ℕ → List Event → Bool
-  is_ready conn events = is_none (fault buses (course buses events) (Bytes conn []))
+  is_ready conn events = is_none (fault buses (course buses events) (Bytes conn (giving [])))
 
   -- it is to be closed: it overran, or it ended and all its replies are taken
   abbrev pub is_closing : ℕ → List Event → Bool
@@ -272,8 +269,8 @@ module _ (buses : List Bus) where
       visit_asks events (visit calls seat) seat ++ visits_ask (events ++ visit_events calls seat) calls more
 
   -- a newcomer that is not let in is let go
-  abbrev pub turns_away : List Event → ℕ → List Question
-  turns_away events peer = if is_let_in events then [] else Closes peer ∷ []
+  abbrev pub turns_away : List Event → Guest → List Question
+  turns_away events guest = if is_let_in events guest.granted then [] else Closes guest.peer ∷ []
 
   -- the whole turn
   abbrev pub turn_asks : Stand → List Call → List Question
@@ -295,7 +292,7 @@ module _ (buses : List Bus) where
 
   -- no peer came in twice
   abbrev pub PeersDiffer : List Call → Type 0
-  PeersDiffer told = IsDistinct (λ a b. a == b) (filter_map newcomer_of told)
+  PeersDiffer told = door.PeersDiffer [] (map told_call told)
 
   -- what each connection was sent is what its peer took, in the order in which they were let in
   abbrev pub SendsWhatIsTaken : List Call → Type 0

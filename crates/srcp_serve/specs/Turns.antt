@@ -2,9 +2,7 @@
 -- peers are asked.
 use Rattle.std.specs.Prelude.{◌≡◌, ℕ, Bool, true, false, List, [], ◌∷◌, length, flat_map, Option, Some, Result}
 use Rattle.std.specs.List.{list_all, AllByRecursion}
-use Rattle.srcp_serve.specs.Calls.{Call, NowCall, AcceptCall, ReadCall, WriteCall, CloseCall}
-use Rattle.srcp_serve.specs.Serving.{IsFair, turns}
-use Rattle.srcp_serve.specs.Visits.{Adds}
+use Rattle.srcp_serve.specs.Calls.{Call, NowCall, AcceptCall, ReadCall, WriteCall, CloseCall, Adds, IsFair, turns}
 use Rattle.srcp_serve.specs.declared.door.DoorFault.{DoorFault}
 
 -- the call is about a peer
@@ -73,6 +71,12 @@ pub record AreTurns (count : ℕ) (told : List Call) : Type 0 where
   pub all : flat_map (λ calls. calls) (turns told) ≡ told
   pub fair : AllByRecursion IsFair told
 
--- a door that had told nothing tells so many turns
+-- so many turns were told after what had been told
+pub record AddsTurns (count : ℕ) (old : Option (List Call)) (told : List Call) : Type 0 where
+  pub calls : List Call
+  pub adds : Adds old told calls
+  pub turns_are : AreTurns count calls
+
+-- so many turns are made, where the door tells its calls
 abbrev pub AsksTurns : (count : ℕ) (old new : Option (List Call)) → Type 0
-AsksTurns count old new = (told : List Call) → old ≡ Some [] → new ≡ Some told → AreTurns count told
+AsksTurns count old new = (told : List Call) → new ≡ Some told → AddsTurns count old told

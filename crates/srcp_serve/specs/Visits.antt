@@ -1,5 +1,5 @@
--- What the calls of a visit tell and do, step by step: over a core that stands for the course of any events, where no
--- memory was refused.
+-- What the calls of a visit tell and do, step by step: over a core that stands for the course of any events, with what
+-- memory answered.
 use Rattle.std.specs.Prelude.{◌≡◌, ℕ, ◌<◌, Bool, false, true, not, if◌then◌else◌, ◌⊎◌, List, [], ◌∷◌, ◌++◌, map, take, length, filter_map, Option, Some, None, Result, Ok, Err}
 use Rattle.std.specs.List.{list_any, AllByRecursion}
 use Rattle.srcp_rules.specs.Layout.{IsLayout}
@@ -8,31 +8,30 @@ use Rattle.srcp_core.specs.Course.{course}
 use Rattle.srcp_core.specs.Held.{Held}
 use Rattle.srcp_core.specs.Recording.{key_of, without_key}
 use Rattle.srcp_core.specs.Stands.{StandsFor}
-use Rattle.srcp_core.specs.declared.event.Event.{Event}
-use Rattle.srcp_core.specs.declared.event.Event.TheVariants.{Bytes, Room, Shut}
-use Rattle.srcp_serve.specs.Calls.{Call, ReadCall, WriteCall, CloseCall}
+use Rattle.srcp_core.specs.Under.{Event, Bytes, Room, Shut}
+use Rattle.srcp_serve.specs.Calls.{Call as DoorCall, Adds}
+use Rattle.srcp_serve.specs.Calls as door
+use Rattle.srcp_serve.specs.Given.{Call, ReadCall, WriteCall, AllGiven, told_call}
 use Rattle.srcp_serve.specs.Serving.{Writes, question, piece_of, count_of, is_about, is_close, loses, loses_reading, loses_writing, rooms, exchange, lent, handed, reads_of, writes_of, visit_asks, visit_events}
 use Rattle.srcp_serve.specs.declared.door.DoorFault.{DoorFault}
 use Rattle.srcp_serve.specs.declared.door.Got.{Got}
 use Rattle.srcp_serve.specs.declared.serving.visit.Wrote.{Wrote}
 use Rattle.srcp_serve.specs.declared.serving.visit.Wrote.TheVariants.{All, Less, Failed}
 
--- the door told these calls after what it had told
-pub record Adds (old : Option (List Call)) (told calls : List Call) : Type 0 where
-  pub before : List Call
-  pub was : old ≡ Some before
-  pub is : told ≡ before ++ calls
+-- the door told these calls after what it had told, as which memory answered
+abbrev pub AddsGiven : (old : Option (List DoorCall)) (told : List DoorCall) (calls : List Call) → Type 0
+AddsGiven old told calls = Adds old told (map told_call calls)
 
 -- ---- a peer is let go
 
 -- it was let go, or that failed
-pub record IsClosed (peer : ℕ) (old : Option (List Call)) (told : List Call) : Type 0 where
+pub record IsClosed (peer : ℕ) (old : Option (List DoorCall)) (told : List DoorCall) : Type 0 where
   pub answer : Result Unit DoorFault
-  pub adds : Adds old told (CloseCall peer answer ∷ [])
+  pub adds : Adds old told (door.CloseCall peer answer ∷ [])
 
 -- so it is where the door tells its calls
-abbrev pub Closes : (peer : ℕ) (old new : Option (List Call)) → Type 0
-Closes peer old new = (told : List Call) → new ≡ Some told → IsClosed peer old told
+abbrev pub Closes : (peer : ℕ) (old new : Option (List DoorCall)) → Type 0
+Closes peer old new = (told : List DoorCall) → new ≡ Some told → IsClosed peer old told
 
 -- ---- a peer that has a place
 
@@ -56,17 +55,24 @@ AreWritesTo peer calls = AllByRecursion (IsWriteTo peer) calls
 abbrev pub AreAbout : ℕ → List Call → Type 0
 AreAbout peer calls = AllByRecursion (λ call. is_about peer call ≡ true) calls
 
--- the calls of the one read of a visit, if there was one: its answer, and what the buffer held after it
-abbrev pub read_calls : (peer : ℕ) → Option (Result Got DoorFault × List ℕ) → List Call
+-- a read: its answer, what the buffer held after it, and what memory answered to the lines that ended in that
+pub record Reading : Type 0 where
+  pub answer : Result Got DoorFault
+  pub buffer : List ℕ
+  pub grants : List Bool
+
+-- the calls of the one read of a visit, if there was one
+abbrev pub read_calls : (peer : ℕ) → Option Reading → List Call
 read_calls peer None = []
-read_calls peer (Some (answer, buffer)) = ReadCall peer answer buffer ∷ []
+read_calls peer (Some read) = ReadCall peer read.answer read.buffer read.grants ∷ []
 
 module _ (buses : List Bus) (events : List Event) (keys : List (Option ℕ)) (n peer : ℕ)
-    (old : Option (List Call)) (told : List Call) (new : Held) where
+    (old : Option (List DoorCall)) (told : List DoorCall) (new : Held) where
   -- it was read from, where bytes would be taken
   pub record IsReadFrom (stays : Bool) : Type 0 where
-    pub read : Option (Result Got DoorFault × List ℕ)
-    pub adds : Adds old told (read_calls peer read)
+    pub read : Option Reading
+    pub adds : AddsGiven old told (read_calls peer read)
+    pub given : AllGiven (read_calls peer read) new
     pub asked : map question (read_calls peer read) ≡ reads_of buses events (record { peer = peer; conn = n })
     pub stays_is : list_any loses_reading (read_calls peer read) ≡ not stays
     pub stands : StandsFor buses keys new (course buses (events ++ map (Bytes n) (filter_map piece_of (read_calls peer read))))
@@ -74,7 +80,7 @@ module _ (buses : List Bus) (events : List Event) (keys : List (Option ℕ)) (n 
   -- all that is lent was taken, and it was something
   pub record TookAll : Type 0 where
     pub count : ℕ
-    pub adds : Adds old told (WriteCall peer (lent buses n events) (Ok count) ∷ [])
+    pub adds : AddsGiven old told (WriteCall peer (lent buses n events) (Ok count) ∷ [])
     pub all : count ≡ length (lent buses n events)
     pub some : 0 < count
     pub stands : StandsFor buses keys new (course buses (events ++ Room n count ∷ []))
@@ -82,20 +88,20 @@ module _ (buses : List Bus) (events : List Event) (keys : List (Option ℕ)) (n 
   -- nothing was lent, and nothing told
   pub record WasLentNone : Type 0 where
     pub none : lent buses n events ≡ []
-    pub adds : Adds old told []
+    pub adds : AddsGiven old told []
     pub stands : StandsFor buses keys new (course buses (events ++ Room n 0 ∷ []))
 
   -- less was taken than is lent
   pub record TookLess : Type 0 where
     pub count : ℕ
-    pub adds : Adds old told (WriteCall peer (lent buses n events) (Ok count) ∷ [])
+    pub adds : AddsGiven old told (WriteCall peer (lent buses n events) (Ok count) ∷ [])
     pub short : count < length (lent buses n events)
     pub stands : StandsFor buses keys new (course buses (events ++ Room n count ∷ []))
 
   -- the write of what is lent failed
   pub record TookNone : Type 0 where
     pub fault : DoorFault
-    pub adds : Adds old told (WriteCall peer (lent buses n events) (Err fault) ∷ [])
+    pub adds : AddsGiven old told (WriteCall peer (lent buses n events) (Err fault) ∷ [])
     pub some : 0 < length (lent buses n events)
     pub stands : StandsFor buses keys new (course buses (events ++ Room n 0 ∷ []))
 
@@ -108,7 +114,7 @@ module _ (buses : List Bus) (events : List Event) (keys : List (Option ℕ)) (n 
   -- it was written to, again and again while it took all
   pub record IsWrittenTo (stays : Bool) : Type 0 where
     pub calls : List Call
-    pub adds : Adds old told calls
+    pub adds : AddsGiven old told calls
     pub own : AreWritesTo peer calls
     pub asked : map question calls ≡ map (Writes peer) (take 300 (handed buses n events (filter_map count_of calls)))
     pub stays_is : list_any loses_writing calls ≡ not stays
@@ -117,7 +123,8 @@ module _ (buses : List Bus) (events : List Event) (keys : List (Option ℕ)) (n 
   -- it was read from and written to
   pub record IsExchanged (stays : Bool) : Type 0 where
     pub calls : List Call
-    pub adds : Adds old told calls
+    pub adds : AddsGiven old told calls
+    pub given : AllGiven calls new
     pub own : AreAbout peer calls
     pub quiet : list_any is_close calls ≡ false
     pub asked : map question calls
@@ -134,7 +141,8 @@ module _ (buses : List Bus) (events : List Event) (keys : List (Option ℕ)) (n 
   -- it was visited, and has its place still or was let go
   pub record IsVisited (stays : Bool) : Type 0 where
     pub calls : List Call
-    pub adds : Adds old told calls
+    pub adds : AddsGiven old told calls
+    pub given : AllGiven calls new
     pub own : AreAbout peer calls
     pub asked : map question calls ≡ visit_asks buses events calls (record { peer = peer; conn = n })
     pub closes : list_any is_close calls ≡ not stays
@@ -143,54 +151,44 @@ module _ (buses : List Bus) (events : List Event) (keys : List (Option ℕ)) (n 
 
 -- ---- the functions of a visit
 
--- whatever the events were, so it is afterwards, where no memory was refused and the door tells its calls
-abbrev pub Follows : (List Bus → List Event → List (Option ℕ) → ℕ → List Call → Type 0)
-    → (key : ℕ) (old new : Held) (told_new : Option (List Call)) → Type 0
-Follows So key old new told_new = (buses : List Bus) (events : List Event) (keys : List (Option ℕ)) (n : ℕ) (told : List Call)
-    → IsSeated buses events keys n key old → new.denied ≡ 0 → told_new ≡ Some told → So buses events keys n told
+-- whatever the events were, so it is afterwards, where the door tells its calls
+abbrev pub Follows : (List Bus → List Event → List (Option ℕ) → ℕ → List DoorCall → Type 0)
+    → (key : ℕ) (old : Held) (told_new : Option (List DoorCall)) → Type 0
+Follows So key old told_new = (buses : List Bus) (events : List Event) (keys : List (Option ℕ)) (n : ℕ) (told : List DoorCall)
+    → IsSeated buses events keys n key old → told_new ≡ Some told → So buses events keys n told
 
 -- it is read from, once at most
-abbrev pub ReadsIn : (peer key : ℕ) (old : Held) (told_old : Option (List Call))
-    (new : Held) (told_new : Option (List Call)) (stays : Bool) → Type 0
+abbrev pub ReadsIn : (peer key : ℕ) (old : Held) (told_old : Option (List DoorCall))
+    (new : Held) (told_new : Option (List DoorCall)) (stays : Bool) → Type 0
 ReadsIn peer key old told_old new told_new stays = Follows
-    (λ buses events keys n told. IsReadFrom buses events keys n peer told_old told new stays) key old new told_new
+    (λ buses events keys n told. IsReadFrom buses events keys n peer told_old told new stays) key old told_new
 
 -- it is written to, once at most
-abbrev pub WritesOnce : (peer key : ℕ) (old : Held) (told_old : Option (List Call))
-    (new : Held) (told_new : Option (List Call)) (wrote : Wrote) → Type 0
+abbrev pub WritesOnce : (peer key : ℕ) (old : Held) (told_old : Option (List DoorCall))
+    (new : Held) (told_new : Option (List DoorCall)) (wrote : Wrote) → Type 0
 WritesOnce peer key old told_old new told_new wrote = Follows
-    (λ buses events keys n told. HasWritten buses events keys n peer told_old told new wrote) key old new told_new
+    (λ buses events keys n told. HasWritten buses events keys n peer told_old told new wrote) key old told_new
 
 -- it is written to, again and again while it takes all
-abbrev pub WritesOut : (peer key : ℕ) (old : Held) (told_old : Option (List Call))
-    (new : Held) (told_new : Option (List Call)) (stays : Bool) → Type 0
+abbrev pub WritesOut : (peer key : ℕ) (old : Held) (told_old : Option (List DoorCall))
+    (new : Held) (told_new : Option (List DoorCall)) (stays : Bool) → Type 0
 WritesOut peer key old told_old new told_new stays = Follows
-    (λ buses events keys n told. IsWrittenTo buses events keys n peer told_old told new stays) key old new told_new
+    (λ buses events keys n told. IsWrittenTo buses events keys n peer told_old told new stays) key old told_new
 
 -- it is read from and written to
-abbrev pub Exchanges : (peer key : ℕ) (old : Held) (told_old : Option (List Call))
-    (new : Held) (told_new : Option (List Call)) (stays : Bool) → Type 0
+abbrev pub Exchanges : (peer key : ℕ) (old : Held) (told_old : Option (List DoorCall))
+    (new : Held) (told_new : Option (List DoorCall)) (stays : Bool) → Type 0
 Exchanges peer key old told_old new told_new stays = Follows
-    (λ buses events keys n told. IsExchanged buses events keys n peer told_old told new stays) key old new told_new
+    (λ buses events keys n told. IsExchanged buses events keys n peer told_old told new stays) key old told_new
 
 -- its connection is shut, and it is let go
-abbrev pub LetsGo : (peer key : ℕ) (old : Held) (told_old : Option (List Call))
-    (new : Held) (told_new : Option (List Call)) → Type 0
+abbrev pub LetsGo : (peer key : ℕ) (old : Held) (told_old : Option (List DoorCall))
+    (new : Held) (told_new : Option (List DoorCall)) → Type 0
 LetsGo peer key old told_old new told_new = Follows
-    (λ buses events keys n told. IsLetGo buses events keys n peer told_old told new) key old new told_new
+    (λ buses events keys n told. IsLetGo buses events keys n peer told_old told new) key old told_new
 
 -- it is visited
-abbrev pub Visits : (peer key : ℕ) (old : Held) (told_old : Option (List Call))
-    (new : Held) (told_new : Option (List Call)) (stays : Bool) → Type 0
+abbrev pub Visits : (peer key : ℕ) (old : Held) (told_old : Option (List DoorCall))
+    (new : Held) (told_new : Option (List DoorCall)) (stays : Bool) → Type 0
 Visits peer key old told_old new told_new stays = Follows
-    (λ buses events keys n told. IsVisited buses events keys n peer told_old told new stays) key old new told_new
-
--- no memory was refused, and the door told its calls
-pub record WasFine (held : Held) (told_old : Option (List Call)) : Type 0 where
-  pub denied : held.denied ≡ 0
-  pub told : List Call
-  pub is : told_old ≡ Some told
-
--- so it was before, where it is so afterwards
-abbrev pub Keeps : (old : Held) (told_old : Option (List Call)) (new : Held) (told_new : Option (List Call)) → Type 0
-Keeps old told_old new told_new = (told : List Call) → new.denied ≡ 0 → told_new ≡ Some told → WasFine old told_old
+    (λ buses events keys n told. IsVisited buses events keys n peer told_old told new stays) key old told_new

@@ -1,10 +1,6 @@
 use Rattle.std.proofs.Common.{false, ◌∙◌, sym}
 use Rattle.srcp_serve.proofs.Hosting.{seats_full, seats_in, seats_none}
-use Rattle.srcp_serve.proofs.Visiting.{lets_go_keeps}
 use Rattle.srcp_serve.proofs.serving.seat.Goals as goal
-
-pub returns-in_default-clause-keeps : goal.returns-in_default-clause-keeps
-returns-in_default-clause-keeps g c = lets_go_keeps c.args.peer c.args.core.now c.connect.new.self (g.D.Door.told c.args.door.now) (g.D.Door.told c.close.new.door) c.connect.ensures.denied c.close.ensures.told
 
 pub returns-in_default-clause-course : goal.returns-in_default-clause-course
 returns-in_default-clause-course g c = seats_full c.args.peer c.args.core.now c.connect.new.self c.in_default.field-0 (g.D.Door.told c.args.door.now) (g.D.Door.told c.close.new.door) c.args.places.now c.close.ensures.told c.in_default.ensures.stands c.in_default.ensures.course c.in_default.ensures.refused c.in_default.ensures.causes

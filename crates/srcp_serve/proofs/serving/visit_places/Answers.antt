@@ -1,7 +1,6 @@
 use Rattle.std.proofs.Common.{◌≡◌, arith}
 use Rattle.srcp_serve.proofs.Hosting.{places_first, places_on, places_all}
 use Rattle.srcp_serve.proofs.Tallies.{counts_then, none_failed}
-use Rattle.srcp_serve.proofs.Telling.{keeps_quiet, keeps_then}
 use Rattle.srcp_serve.proofs.Turning.{asks_none, asks_then}
 use Rattle.srcp_serve.proofs.serving.visit_places.Goals as goal
 
@@ -10,7 +9,7 @@ loop-place-init g c = record {
   long = c.told-places;
   faults = none_failed _ _ c.requires;
   told = asks_none (g.D.Door.told c.args.door.now);
-  keeps = keeps_quiet c.args.core.now c.args.core.now (g.D.Door.told c.args.door.now) (λ d. d);
+  denied = λ d. d;
   course = places_first c.args.core.now (g.D.Door.told c.args.door.now) c.args.places.now;
 }
 
@@ -19,9 +18,9 @@ loop-place-preserved g c = record {
   long = c.visit_place.array_long;
   faults = counts_then _ _ _ _ _ _ c.loop-place.invariant.faults c.visit_place.ensures.faults;
   told = asks_then (g.D.Door.told c.args.door.now) (g.D.Door.told c.loop-place.door) (g.D.Door.told c.visit_place.new.door) c.loop-place.invariant.told c.visit_place.ensures.told;
-  keeps = keeps_then c.args.core.now c.loop-place.core c.visit_place.new.core (g.D.Door.told c.args.door.now) (g.D.Door.told c.loop-place.door) (g.D.Door.told c.visit_place.new.door) c.loop-place.invariant.keeps c.visit_place.ensures.keeps;
+  denied = λ d. c.loop-place.invariant.denied (c.visit_place.ensures.denied d);
   course = places_on c.loop-place.place c.args.core.now c.loop-place.core c.visit_place.new.core (g.D.Door.told c.args.door.now) (g.D.Door.told c.loop-place.door) (g.D.Door.told c.visit_place.new.door) c.args.places.now c.loop-place.places c.visit_place.new.places
-      c.loop-place.invariant.long c.loop-place-test.true c.visit_place.ensures.course c.loop-place.invariant.course c.visit_place.ensures.keeps;
+      c.loop-place.invariant.long c.loop-place-test.true c.visit_place.ensures.course c.visit_place.ensures.denied c.loop-place.invariant.course c.visit_place.ensures.told;
 }
 
 pub visit_place-requires-clause-counted : goal.visit_place-requires-clause-counted
@@ -32,9 +31,6 @@ returns-clause-faults g c = c.loop-place.invariant.faults
 
 pub returns-clause-told : goal.returns-clause-told
 returns-clause-told g c = c.loop-place.invariant.told
-
-pub returns-clause-keeps : goal.returns-clause-keeps
-returns-clause-keeps g c = c.loop-place.invariant.keeps
 
 pub returns-clause-course : goal.returns-clause-course
 returns-clause-course g c =

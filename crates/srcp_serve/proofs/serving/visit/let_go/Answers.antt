@@ -1,9 +1,5 @@
-use Rattle.std.proofs.Common.{sym, ◌∙◌}
-use Rattle.srcp_serve.proofs.Visiting.{lets_go, lets_go_keeps}
+use Rattle.srcp_serve.proofs.Visiting.{lets_go}
 use Rattle.srcp_serve.proofs.serving.visit.let_go.Goals as goal
-
-pub returns-clause-keeps : goal.returns-clause-keeps
-returns-clause-keeps g c = lets_go_keeps c.args.seat.now.peer c.args.core.now c.hangup.new.self (g.D.Door.told c.args.door.now) (g.D.Door.told c.close.new.door) (λ d. sym c.hangup.ensures.denied ∙ d) c.close.ensures.told
 
 pub returns-clause-told : goal.returns-clause-told
 returns-clause-told g c = lets_go c.args.seat.now.peer c.args.seat.now.key c.args.core.now c.hangup.new.self (g.D.Door.told c.args.door.now) (g.D.Door.told c.close.new.door) c.hangup.ensures.stands c.close.ensures.told

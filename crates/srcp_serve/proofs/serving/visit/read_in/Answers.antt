@@ -1,6 +1,8 @@
-use Rattle.std.proofs.Common.{◌≡◌, Ok, Err, ap, subst, arith, length, refl}
+use Rattle.std.proofs.Common.{◌≡◌, Ok, Err, ap, subst, arith, length, refl, []}
 use Rattle.srcp_serve.specs.declared.tally.Tally.{Tally}
-use Rattle.srcp_serve.specs.Calls.{ReadCall, Tells}
+use Rattle.srcp_serve.specs.Calls.{Tells}
+use Rattle.srcp_serve.specs.Calls as door
+use Rattle.srcp_serve.specs.Given.{ReadCall}
 use Rattle.srcp_serve.specs.Serving.{loses_reading, piece_of}
 use Rattle.srcp_serve.specs.declared.door.Got.{Got}
 use Rattle.srcp_serve.proofs.Fairness.{fair_read}
@@ -15,17 +17,17 @@ returns-then-not-ready-clause-told g c = read_not _ _ _ _ _ c.ready.ensures.cour
 pub returns-in-Ok-Bytes-clause-told : goal.returns-in-Ok-Bytes-clause-told
 returns-in-Ok-Bytes-clause-told g c =
     let full : length c.read.new.buf ≡ 256 = omega (arith, c.read.auto.buf) in
-    read_bytes _ _ _ _ _ c.ready.ensures.course c.in-Ok-Bytes.count c.read.new.buf _ _ _ _ c.if-not-ready.false full (subst (λ (x : Got). Tells (g.D.Door.told c.args.door.now) (ReadCall c.args.seat.now.peer (Ok x) c.read.new.buf) (g.D.Door.told c.read.new.self)) c.in-Ok-Bytes.field-0-is c.in-Ok-Bytes.ensures.told) c.receive.ensures.stands c.receive.ensures.course c.is_ok.ensures.value
+    read_bytes _ _ _ _ _ c.ready.ensures.course c.in-Ok-Bytes.count c.read.new.buf _ _ _ _ c.if-not-ready.false full (subst (λ (x : Got). Tells (g.D.Door.told c.args.door.now) (door.ReadCall c.args.seat.now.peer (Ok x) c.read.new.buf) (g.D.Door.told c.read.new.self)) c.in-Ok-Bytes.field-0-is c.in-Ok-Bytes.ensures.told) c.ready.ensures.takes c.receive.ensures.stands c.receive.ensures.course c.is_ok.ensures.value
 
 pub returns-in-Ok-Nothing-clause-told : goal.returns-in-Ok-Nothing-clause-told
 returns-in-Ok-Nothing-clause-told g c =
     let full : length c.read.new.buf ≡ 256 = omega (arith, c.read.auto.buf) in
-    read_other _ _ _ _ _ c.ready.ensures.course (Ok c.in-Ok-Nothing.field-0) c.read.new.buf _ c.if-not-ready.false full c.in-Ok-Nothing.ensures.told _ (ap (λ (x : Got). piece_of (ReadCall c.args.seat.now.peer (Ok x) c.read.new.buf)) c.in-Ok-Nothing.field-0-is) (ap (λ (x : Got). loses_reading (ReadCall c.args.seat.now.peer (Ok x) c.read.new.buf)) c.in-Ok-Nothing.field-0-is)
+    read_other _ _ _ _ _ c.ready.ensures.course (Ok c.in-Ok-Nothing.field-0) c.read.new.buf _ c.if-not-ready.false full c.in-Ok-Nothing.ensures.told _ (ap (λ (x : Got). piece_of (ReadCall c.args.seat.now.peer (Ok x) c.read.new.buf [])) c.in-Ok-Nothing.field-0-is) (ap (λ (x : Got). loses_reading (ReadCall c.args.seat.now.peer (Ok x) c.read.new.buf [])) c.in-Ok-Nothing.field-0-is)
 
 pub returns-in-Ok-Ended-clause-told : goal.returns-in-Ok-Ended-clause-told
 returns-in-Ok-Ended-clause-told g c =
     let full : length c.read.new.buf ≡ 256 = omega (arith, c.read.auto.buf) in
-    read_other _ _ _ _ _ c.ready.ensures.course (Ok c.in-Ok-Ended.field-0) c.read.new.buf _ c.if-not-ready.false full c.in-Ok-Ended.ensures.told _ (ap (λ (x : Got). piece_of (ReadCall c.args.seat.now.peer (Ok x) c.read.new.buf)) c.in-Ok-Ended.field-0-is) (ap (λ (x : Got). loses_reading (ReadCall c.args.seat.now.peer (Ok x) c.read.new.buf)) c.in-Ok-Ended.field-0-is)
+    read_other _ _ _ _ _ c.ready.ensures.course (Ok c.in-Ok-Ended.field-0) c.read.new.buf _ c.if-not-ready.false full c.in-Ok-Ended.ensures.told _ (ap (λ (x : Got). piece_of (ReadCall c.args.seat.now.peer (Ok x) c.read.new.buf [])) c.in-Ok-Ended.field-0-is) (ap (λ (x : Got). loses_reading (ReadCall c.args.seat.now.peer (Ok x) c.read.new.buf [])) c.in-Ok-Ended.field-0-is)
 
 pub returns-in-Err-clause-faults : goal.returns-in-Err-clause-faults
 returns-in-Err-clause-faults g c = one_failed c.args.tally.now.faults (g.D.Door.faults c.args.door.now) _ _ c.requires (ap (λ (t : Tally). t.faults) c.fault.ensures) c.in-Err.ensures.err

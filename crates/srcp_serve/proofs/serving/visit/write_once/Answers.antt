@@ -3,8 +3,7 @@ use Rattle.srcp_serve.specs.declared.tally.Tally.{Tally}
 use Rattle.srcp_serve.specs.declared.serving.visit.Wrote.TheVariants.{Less}
 use Rattle.srcp_serve.proofs.Fairness.{fair_write}
 use Rattle.srcp_serve.proofs.Tallies.{one_failed}
-use Rattle.srcp_serve.proofs.Telling.{keeps_call, keeps_quiet}
-use Rattle.srcp_serve.proofs.Writing.{out_denied, wrote_absent, wrote_none, wrote_less, wrote_all, wrote_failed}
+use Rattle.srcp_serve.proofs.Writing.{wrote_absent, wrote_none, wrote_less, wrote_all, wrote_failed}
 use Rattle.std.proofs.Common.{refl}
 use Rattle.srcp_serve.proofs.Turning.{asks_none, asks_one}
 use Rattle.srcp_serve.proofs.serving.visit.write_once.Goals as goal
@@ -26,23 +25,8 @@ returns-else-count-handed-clause-told g c =
 pub returns-in_default-write-clause-faults : goal.returns-in_default-write-clause-faults
 returns-in_default-write-clause-faults g c = one_failed c.args.tally.now.faults (g.D.Door.faults c.args.door.now) _ _ c.requires (ap (λ (t : Tally). t.faults) c.fault.ensures) c.in_default-write.ensures.err
 
-pub returns-in_default-write-clause-keeps : goal.returns-in_default-write-clause-keeps
-returns-in_default-write-clause-keeps g c = keeps_call c.args.core.now c.outgoing.follows.lender-at-none _ _ _ (out_denied c.args.seat.now.key c.args.core.now c.outgoing.follows.lender-at-none c.outgoing.follows.holds-at-none) c.write.ensures.told
-
 pub returns-in_default-write-clause-told : goal.returns-in_default-write-clause-told
 returns-in_default-write-clause-told g c = wrote_failed _ _ _ _ _ c.outgoing.follows.holds-at-none c.outgoing.ensures.stands c.in-Ok.lent.now _ _ c.in-Ok.ensures.course c.in_default-write.ensures.told (sym c.is_empty.ensures ∙ c.if-is_empty.false)
-
-pub returns-in_default-clause-keeps : goal.returns-in_default-clause-keeps
-returns-in_default-clause-keeps g c = keeps_quiet c.args.core.now c.outgoing.follows.lender-at-none _ (out_denied c.args.seat.now.key c.args.core.now c.outgoing.follows.lender-at-none c.outgoing.follows.holds-at-none)
-
-pub returns-then-is_empty-clause-keeps : goal.returns-then-is_empty-clause-keeps
-returns-then-is_empty-clause-keeps g c = keeps_quiet c.args.core.now c.outgoing.follows.lender-at-none _ (out_denied c.args.seat.now.key c.args.core.now c.outgoing.follows.lender-at-none c.outgoing.follows.holds-at-none)
-
-pub returns-then-count-handed-clause-keeps : goal.returns-then-count-handed-clause-keeps
-returns-then-count-handed-clause-keeps g c = keeps_call c.args.core.now c.sent.new.self _ _ _ (λ d. out_denied c.args.seat.now.key c.args.core.now c.outgoing.follows.lender-at-none c.outgoing.follows.holds-at-none (sym c.sent.ensures.denied ∙ d)) c.write.ensures.told
-
-pub returns-else-count-handed-clause-keeps : goal.returns-else-count-handed-clause-keeps
-returns-else-count-handed-clause-keeps g c = keeps_call c.args.core.now c.sent.new.self _ _ _ (λ d. out_denied c.args.seat.now.key c.args.core.now c.outgoing.follows.lender-at-none c.outgoing.follows.holds-at-none (sym c.sent.ensures.denied ∙ d)) c.write.ensures.told
 
 pub returns-in_default-clause-asks : goal.returns-in_default-clause-asks
 returns-in_default-clause-asks g c = asks_none _

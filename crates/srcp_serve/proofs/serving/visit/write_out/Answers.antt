@@ -1,7 +1,6 @@
 use Rattle.std.proofs.Common.{◌≡◌, arith}
 use Rattle.srcp_serve.proofs.Rounds.{ends_failed, ends_full, ends_less, takes_first, takes_on}
 use Rattle.srcp_serve.proofs.Tallies.{counts_then, none_failed}
-use Rattle.srcp_serve.proofs.Telling.{keeps_quiet, keeps_then}
 use Rattle.srcp_serve.proofs.Turning.{asks_none, asks_then}
 use Rattle.srcp_serve.proofs.serving.visit.write_out.Goals as goal
 
@@ -9,7 +8,7 @@ pub loop-init : goal.loop-init
 loop-init g c = record {
   faults = none_failed _ _ c.requires;
   asks = asks_none _;
-  keeps = keeps_quiet c.args.core.now c.args.core.now (g.D.Door.told c.args.door.now) (λ d. d);
+  denied = λ d. d;
   told = takes_first c.args.seat.now.peer c.args.seat.now.key c.args.core.now (g.D.Door.told c.args.door.now);
 }
 
@@ -17,33 +16,24 @@ pub loop-preserved : goal.loop-preserved
 loop-preserved g c = record {
   faults = counts_then _ _ _ _ _ _ c.loop.invariant.faults c.write_once.ensures.faults;
   asks = asks_then (g.D.Door.told c.args.door.now) (g.D.Door.told c.loop.door) (g.D.Door.told c.write_once.new.door) c.loop.invariant.asks c.write_once.ensures.asks;
-  keeps = keeps_then c.args.core.now c.loop.core c.write_once.new.core (g.D.Door.told c.args.door.now) (g.D.Door.told c.loop.door) (g.D.Door.told c.write_once.new.door) c.loop.invariant.keeps c.write_once.ensures.keeps;
-  told = takes_on c.args.seat.now.peer c.args.seat.now.key c.args.core.now c.loop.core c.write_once.new.core (g.D.Door.told c.args.door.now) (g.D.Door.told c.loop.door) (g.D.Door.told c.write_once.new.door) c.loop.counter c.loop.invariant.told c.write_once.ensures.keeps c.in-All.ensures.told;
+  denied = λ d. c.loop.invariant.denied (c.write_once.ensures.denied d);
+  told = takes_on c.args.seat.now.peer c.args.seat.now.key c.args.core.now c.loop.core c.write_once.new.core (g.D.Door.told c.args.door.now) (g.D.Door.told c.loop.door) (g.D.Door.told c.write_once.new.door) c.loop.counter c.loop.invariant.told c.write_once.ensures.asks c.in-All.ensures.told;
 }
 
 pub returns-in-Less-clause-faults : goal.returns-in-Less-clause-faults
 returns-in-Less-clause-faults g c = counts_then _ _ _ _ _ _ c.loop.invariant.faults c.write_once.ensures.faults
 
-pub returns-in-Less-clause-keeps : goal.returns-in-Less-clause-keeps
-returns-in-Less-clause-keeps g c = keeps_then c.args.core.now c.loop.core c.write_once.new.core (g.D.Door.told c.args.door.now) (g.D.Door.told c.loop.door) (g.D.Door.told c.write_once.new.door) c.loop.invariant.keeps c.write_once.ensures.keeps
-
 pub returns-in-Less-clause-told : goal.returns-in-Less-clause-told
-returns-in-Less-clause-told g c = ends_less c.args.seat.now.peer c.args.seat.now.key c.args.core.now c.loop.core c.write_once.new.core (g.D.Door.told c.args.door.now) (g.D.Door.told c.loop.door) (g.D.Door.told c.write_once.new.door) c.loop.counter c.loop.invariant.told c.write_once.ensures.keeps c.loop-test.true c.in-Less.ensures.told
+returns-in-Less-clause-told g c = ends_less c.args.seat.now.peer c.args.seat.now.key c.args.core.now c.loop.core c.write_once.new.core (g.D.Door.told c.args.door.now) (g.D.Door.told c.loop.door) (g.D.Door.told c.write_once.new.door) c.loop.counter c.loop.invariant.told c.write_once.ensures.asks c.loop-test.true c.in-Less.ensures.told
 
 pub returns-in-Failed-clause-faults : goal.returns-in-Failed-clause-faults
 returns-in-Failed-clause-faults g c = counts_then _ _ _ _ _ _ c.loop.invariant.faults c.write_once.ensures.faults
 
-pub returns-in-Failed-clause-keeps : goal.returns-in-Failed-clause-keeps
-returns-in-Failed-clause-keeps g c = keeps_then c.args.core.now c.loop.core c.write_once.new.core (g.D.Door.told c.args.door.now) (g.D.Door.told c.loop.door) (g.D.Door.told c.write_once.new.door) c.loop.invariant.keeps c.write_once.ensures.keeps
-
 pub returns-in-Failed-clause-told : goal.returns-in-Failed-clause-told
-returns-in-Failed-clause-told g c = ends_failed c.args.seat.now.peer c.args.seat.now.key c.args.core.now c.loop.core c.write_once.new.core (g.D.Door.told c.args.door.now) (g.D.Door.told c.loop.door) (g.D.Door.told c.write_once.new.door) c.loop.counter c.loop.invariant.told c.write_once.ensures.keeps c.loop-test.true c.in-Failed.ensures.told
+returns-in-Failed-clause-told g c = ends_failed c.args.seat.now.peer c.args.seat.now.key c.args.core.now c.loop.core c.write_once.new.core (g.D.Door.told c.args.door.now) (g.D.Door.told c.loop.door) (g.D.Door.told c.write_once.new.door) c.loop.counter c.loop.invariant.told c.write_once.ensures.asks c.loop-test.true c.in-Failed.ensures.told
 
 pub returns-clause-faults : goal.returns-clause-faults
 returns-clause-faults g c = c.loop.invariant.faults
-
-pub returns-clause-keeps : goal.returns-clause-keeps
-returns-clause-keeps g c = c.loop.invariant.keeps
 
 pub returns-clause-told : goal.returns-clause-told
 returns-clause-told g c =

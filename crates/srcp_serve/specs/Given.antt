@@ -1,0 +1,40 @@
+-- The calls of a door, with what memory answered in the event that each makes.
+use Rattle.std.specs.Prelude.{⊤, ◌≡◌, ℕ, Bool, IsTrue, List, Option, Result}
+use Rattle.std.specs.List.{AllByRecursion}
+use Rattle.srcp_core.specs.Held.{Held}
+use Rattle.srcp_serve.specs.Calls.{Call as DoorCall}
+use Rattle.srcp_serve.specs.Calls as door
+use Rattle.srcp_serve.specs.declared.door.DoorFault.{DoorFault}
+use Rattle.srcp_serve.specs.declared.door.Got.{Got}
+
+-- a call of a door with its answer: where a peer came in, whether memory was given to its connection; where bytes were
+-- read, what memory answered to each line that ends in them
+pub data Call : Type 0 where
+  NowCall : (answer : Result ℕ DoorFault) → Call
+  AcceptCall : (answer : Result (Option ℕ) DoorFault) (granted : Bool) → Call
+  ReadCall : (peer : ℕ) (answer : Result Got DoorFault) (buffer : List ℕ) (grants : List Bool) → Call
+  WriteCall : (peer : ℕ) (bytes : List ℕ) (answer : Result ℕ DoorFault) → Call
+  CloseCall : (peer : ℕ) (answer : Result Unit DoorFault) → Call
+
+-- the call as the door tells it
+abbrev pub told_call : Call → DoorCall
+told_call (NowCall answer) = door.NowCall answer
+told_call (AcceptCall answer granted) = door.AcceptCall answer
+told_call (ReadCall peer answer buffer grants) = door.ReadCall peer answer buffer
+told_call (WriteCall peer bytes answer) = door.WriteCall peer bytes answer
+told_call (CloseCall peer answer) = door.CloseCall peer answer
+
+-- memory gave all that it was asked for in the call
+abbrev pub IsGiven : Call → Type 0
+IsGiven (AcceptCall answer granted) = IsTrue granted
+IsGiven (ReadCall peer answer buffer grants) = AllByRecursion IsTrue grants
+IsGiven other = ⊤
+
+-- where no memory was refused by then, it gave in all these calls
+abbrev pub AllGiven : List Call → Held → Type 0
+AllGiven calls held = held.denied ≡ 0 → AllByRecursion IsGiven calls
+
+-- a peer that came in, and whether memory was given to its connection
+pub record Guest : Type 0 where
+  pub peer : ℕ
+  pub granted : Bool
