@@ -7,3 +7,4 @@ pub mod Escapes
 pub mod Mirrorings
 pub mod Prints
 pub mod Scripts
+pub mod Replays

@@ -15,6 +15,7 @@ use Rattle.srcp_rules.specs.State.{shown_rows}
 use Rattle.srcp_rules.specs.declared.layout.Bus.{Bus}
 use Rattle.srcp_core.specs.Connection.{recorded}
 use Rattle.srcp_core.specs.Course.{course, history, state}
+use Rattle.srcp_core.specs.Under.{all_under, step_told}
 use Rattle.srcp_core.specs.declared.event.Event.{Event}
 use Rattle.srcp_core.specs.declared.record.ConnRecord.{ConnRecord}
 use Rattle.srcp_core.specs.declared.record.CoreFault.{CoreFault}
@@ -78,10 +79,10 @@ printed run =
     ++ rows_line run.rows
     ++ listing (shown_rows run.rows)
 
--- what a run of these events gives where no memory is refused
+-- what a run of these events gives where memory gives all
 abbrev pub run_of : List Bus → List Event → Record
-run_of buses events = let w = course buses events in record {
-  steps = w.steps;
+run_of buses events = let w = course buses (all_under [] events) in record {
+  steps = map step_told w.steps;
   connections = map (recorded (history buses w)) w.connections;
   refused = w.refused;
   rows = state buses w;
