@@ -1,5 +1,5 @@
 -- Told calls of three turns, and what they make happen.
-use Rattle.std.proofs.Common.{◌≡◌, ℕ, true, List, [], ◌∷◌, ◌++◌, drop, length, ◌-◌, replicate, map, Some, None, Ok, Err, codes, refl}
+use Rattle.std.proofs.Common.{◌≡◌, ℕ, true, false, List, [], ◌∷◌, ◌++◌, drop, length, ◌-◌, replicate, map, Some, None, Ok, Err, codes, refl}
 use Rattle.std.specs.Fmt.{digits}
 use Rattle.srcp_rules.specs.declared.layout.Bus.{Bus}
 use Rattle.srcp_core.specs.Connection.{sent}
@@ -149,6 +149,23 @@ two_peers_take : SendsWhatIsTaken buses two_peers
 unfolding digits
 two_peers_take = refl
 
+-- ---- where memory is refused
+
+-- to a newcomer, which is turned away, and to the GO of the next one
+abbrev refused : List Call
+refused =
+    (NowCall (Ok 0) ∷ AcceptCall (Ok (Some 1)) false ∷ CloseCall 1 (Ok tt) ∷ [])
+    ++ (NowCall (Ok 0) ∷ AcceptCall (Ok (Some 2)) true ∷ WriteCall 2 welcome (Ok 45) ∷ [])
+    ++ nobody ++ (ReadCall 2 (Ok (got.Bytes 3)) (buffer (codes "GO\n")) (false ∷ []) ∷ wrote 2 (codes "0.000 500 ERROR out of resources\n") ∷ [])
+
+refused_is_served : IsServed buses 3 refused
+unfolding digits
+refused_is_served = record { turns_are = refl; asked = refl }
+
+refused_takes : SendsWhatIsTaken buses refused
+unfolding digits
+refused_takes = refl
+
 -- ---- what is not so served
 
 -- a server that hands over nothing
@@ -171,3 +188,10 @@ eager = asked_in (quiet 1 ∷ greeting ∷ [])
 
 eager_is_not : IsServed buses 1 eager → ⊥
 eager_is_not h = cc
+
+-- one that keeps a newcomer to which memory was refused
+abbrev keeping : List Call
+keeping = NowCall (Ok 0) ∷ AcceptCall (Ok (Some 1)) false ∷ []
+
+keeping_is_not : IsServed buses 1 keeping → ⊥
+keeping_is_not h = cc

@@ -1,4 +1,4 @@
--- What a server asks of its door in so many turns, and what the answers make happen.
+-- What a server asks of its door in so many turns, and what the answers make happen, with what memory answered.
 -- A turn asks for the moment, lets in one peer, and visits each peer that has a place, in the order of the places.
 -- What a reader gets: a peer is handed exactly what the course of these events leaves unsent of its connection. So
 -- what the door took of each peer is what that course says was sent: SentIsTaken, which `laws::sent_is_taken` ensures.

@@ -20,6 +20,7 @@ const PLACES: usize = 64;
 /// the moment and for one peer that wants in, and then every peer that has a place is visited, in the order of the
 /// places: it is read from where the core would take bytes, written to what the core lends, and let go where it is lost
 /// or its connection is to be closed. A call of the door that fails is counted, and serving goes on.
+/// It goes on in the same way where memory is refused: a connection is turned away then, or a line is answered by 500.
 pub fn serve<R: Rows, D: Door>(core: &mut Core<'_, R>, door: &mut D, turns: u64) -> Served
     ensures turns { result.turns ≡ turns }
     ensures faults { D.faults door.new < 18446744073709551615 → D.faults door.old + result.faults ≡ D.faults door.new }
