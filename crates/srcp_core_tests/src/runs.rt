@@ -2,7 +2,7 @@ use crate::events::{
     begin, bytes, is_same_connection, listed, power_row, sensor_row, session_row, told,
 };
 use crate::fixture::one_bus;
-use srcp_core::{ConnRecord, Event, Finish, Item, Record, Step, run};
+use srcp_core::{ConnRecord, CoreFault, Event, Finish, Item, Record, Step, run};
 use srcp_feed::Next;
 use srcp_info::Mode;
 use srcp_rules::{Command, Flat};
@@ -200,6 +200,31 @@ fn no_item_says_that_nothing_is_left(rt: HostRuntime) -> Result<(), Fail> {
     let events = a_listing_with_room_left(rt.alloc())?;
     let record = carried_out(rt.alloc(), &events)?;
     assert_rows_alone(&rt, &record)
+}
+
+/// A connection that is opened, and room for the number 0, which no connection has and no script can write.
+fn room_for_none(alloc: Global) -> Result<Vec<Event>, Fail> {
+    let mut events = Vec::new(alloc);
+    events.push(Event::Open)?;
+    give_room(&mut events, 0, 1)?;
+    Ok(events)
+}
+
+/// The second event is refused, and no growth.
+fn assert_second_refused(rt: &impl Abort, record: &Record) -> Result<(), Fail> {
+    let [refusal] = record.refused.as_slice() else {
+        return Err(Fail::from("not one refused event"));
+    };
+    assert_eq!(rt; (refusal.event, refusal.fault), (2, CoreFault::NoSuch));
+    assert_eq!(rt; record.denied, 0);
+    Ok(())
+}
+
+#[test]
+fn refusals_are_told_by_the_numbers_of_their_events(rt: HostRuntime) -> Result<(), Fail> {
+    let events = room_for_none(rt.alloc())?;
+    let record = carried_out(rt.alloc(), &events)?;
+    assert_second_refused(&rt, &record)
 }
 
 /// Connection 1 sets the first sensor, its reply is taken, and the third connection is given room, as is the second
