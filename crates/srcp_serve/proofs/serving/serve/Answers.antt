@@ -1,4 +1,4 @@
-use Rattle.std.proofs.Common.{◌≡◌, ◌+◌, arith, subst, sym, ℕ}
+use Rattle.std.proofs.Common.{◌≡◌, ◌+◌, arith, refl, subst, sym, ℕ}
 use Rattle.srcp_serve.specs.Places.{ServesSoFar}
 use Rattle.srcp_serve.specs.Tally.{CountsFaults}
 use Rattle.srcp_serve.specs.Turns.{AsksTurns}
@@ -24,6 +24,9 @@ loop-preserved g c = record {
       (serves_on c.loop.counter c.loop.opened c.turn-opens.result c.args.core.now c.loop.core c.turn-opens.new.core (g.D.Door.told c.args.door.now) (g.D.Door.told c.loop.door) (g.D.Door.told c.turn-opens.new.door) c.loop.places c.turn-opens.new.places c.loop.invariant.course c.turn-opens.ensures.denied c.loop.invariant.told c.turn-opens.ensures.told c.turn-opens.ensures.course);
   told = turns_on c.loop.counter (g.D.Door.told c.args.door.now) (g.D.Door.told c.loop.door) (g.D.Door.told c.turn-opens.new.door) c.loop.invariant.told c.turn-opens.ensures.told;
 }
+
+pub returns-clause-turns : goal.returns-clause-turns
+returns-clause-turns g c = refl
 
 pub returns-clause-told : goal.returns-clause-told
 returns-clause-told g c =
