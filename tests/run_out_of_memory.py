@@ -16,7 +16,7 @@ from pathlib import Path
 CRATE = Path(__file__).resolve().parent.parent / "crates" / "out_of_memory_tests"
 # how many growths each trial is tried with, which is more than it has
 TRIALS = {"ring": 3, "feed": 5, "mirror": 4, "layout": 5, "connect": 8, "configuration": 18, "script": 4, "words": 66,
-          "serve": 8, "play-flat": 52, "play-nested": 56}
+          "serve": 9, "play-flat": 52, "play-nested": 56}
 BEFORE = 200
 OUTCOME = re.compile(r"^== (\S+)-(\d+)\n(\w+)\n", re.M)
 
@@ -46,6 +46,8 @@ def faults_of(came):
             yield f"{trial}: broken where growth {outcomes.index('broken') + 1} is refused"
         if outcomes[-1] != "granted":
             yield f"{trial}: {outcomes[-1]} where no growth is left to refuse"
+        if set(outcomes[outcomes.index("granted"):] if "granted" in outcomes else ()) - {"granted"}:
+            yield f"{trial}: granted before its last refusal"
         if "refused" not in outcomes:
             yield f"{trial}: no growth of it was refused"
     if came["feed"].count("refused") != came["ring"].count("refused"):

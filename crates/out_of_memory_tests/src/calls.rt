@@ -50,11 +50,13 @@ pub(crate) fn one_bus(alloc: Global) -> Result<Layout, Refused> {
     Ok(layout)
 }
 
-/// Making a ring of as many changes as may wait.
+/// Making a ring of as many changes as may wait. With memory the same call succeeds, here and below.
 pub(crate) fn ring(alloc: Global) -> Outcome {
-    match HeapCircularBuffer::<Change>::with_capacity(alloc, MOST_WAITING) {
-        Ok(_) => Outcome::Granted,
-        Err(_) => Outcome::Refused,
+    let makes = || HeapCircularBuffer::<Change>::with_capacity(alloc, MOST_WAITING).is_ok();
+    if makes() {
+        Outcome::Granted
+    } else {
+        Outcome::refused_where(makes())
     }
 }
 
@@ -64,7 +66,7 @@ pub(crate) fn feed(alloc: Global) -> Result<Outcome, Refused> {
     let rows = Flat::empty(alloc, &layout)?;
     Ok(match InfoFeed::begin(alloc, &rows) {
         Ok(_) => Outcome::Granted,
-        Err(_) => Outcome::Refused,
+        Err(_) => Outcome::refused_where(InfoFeed::begin(alloc, &rows).is_ok()),
     })
 }
 
@@ -124,7 +126,10 @@ pub(crate) fn connect(alloc: Global) -> Result<Outcome, Refused> {
 pub(crate) fn configuration(alloc: Global) -> Outcome {
     match read_layout(alloc, CONFIGURATION) {
         Ok(config) => Outcome::granted_where(config.layout.buses().len() == 1),
-        Err(fault) => Outcome::refused_where(fault == ConfigFault::Memory),
+        Err(ConfigFault::Memory) => {
+            Outcome::refused_where(read_layout(alloc, CONFIGURATION).is_ok())
+        }
+        Err(_) => Outcome::Broken,
     }
 }
 
@@ -132,7 +137,10 @@ pub(crate) fn configuration(alloc: Global) -> Outcome {
 pub(crate) fn script(alloc: Global) -> Outcome {
     match read_script(alloc, SCRIPT) {
         Ok(events) => Outcome::granted_where(events.len() == 3),
-        Err(fault) => Outcome::refused_where(matches!(fault.cause, Cause::Memory)),
+        Err(fault) => {
+            let told = matches!(fault.cause, Cause::Memory);
+            Outcome::refused_where(told && read_script(alloc, SCRIPT).is_ok())
+        }
     }
 }
 
@@ -145,6 +153,9 @@ pub(crate) fn words(alloc: Global) -> Result<Outcome, Refused> {
     Ok(match read_words(alloc, &words) {
         Ok(Tool::Check { config }) => Outcome::granted_where(config == "f"),
         Ok(_) => Outcome::Broken,
-        Err(fault) => Outcome::refused_where(fault.kind() == ErrorKind::OutOfMemory),
+        Err(fault) => {
+            let told = fault.kind() == ErrorKind::OutOfMemory;
+            Outcome::refused_where(told && read_words(alloc, &words).is_ok())
+        }
     })
 }

@@ -1,4 +1,4 @@
-//! Serving a peer that there is no memory for.
+//! Serving a peer that there is no memory for, and one more.
 ghost use Rattle.srcp_serve.specs.Calls.{one_more};
 
 use crate::calls::one_bus;
@@ -8,14 +8,14 @@ use srcp_rules::Nested;
 use srcp_serve::{Door, DoorFault, Got, Served, serve as serve_turns};
 use std::alloc::Global;
 
-/// A door to one peer, which sends nothing and takes all.
+/// A door to two peers, which come in the first two turns, send nothing and take all.
 #[derive(Drop)]
-struct OnePeer {
-    came: bool,
+struct TwoPeers {
+    came: u32,
     closed: u32,
 }
 
-impl Door for OnePeer {
+impl Door for TwoPeers {
     ghost faults = { λ _. 0 };
 
     fn now(&mut self) -> Result<u64, DoorFault> {
@@ -23,11 +23,11 @@ impl Door for OnePeer {
     }
 
     fn accept(&mut self) -> Result<Option<u32>, DoorFault> {
-        if self.came {
+        if self.came >= 2 {
             return Ok(None);
         }
-        self.came = true;
-        Ok(Some(1))
+        self.came += 1;
+        Ok(Some(self.came))
     }
 
     fn read(&mut self, _peer: u32, _buf: &mut [u8]) -> Result<Got, DoorFault> {
@@ -44,14 +44,11 @@ impl Door for OnePeer {
     }
 }
 
-/// Three turns over that door: where the connection is refused its memory, the peer is closed.
+/// Three turns over that door: where a connection is refused its memory, its peer is closed, and the other is served.
 pub(crate) fn serve(alloc: Global) -> Result<Outcome, Refused> {
     let layout = one_bus(alloc)?;
     let mut core = Core::<Nested>::new(alloc, &layout, 0, 0)?;
-    let mut door = OnePeer {
-        came: false,
-        closed: 0,
-    };
+    let mut door = TwoPeers { came: 0, closed: 0 };
     let served = serve_turns(&mut core, &mut door, 3);
     let opened = served.opened;
     let all_turns = served
@@ -61,7 +58,9 @@ pub(crate) fn serve(alloc: Global) -> Result<Outcome, Refused> {
             faults: 0,
         };
     Ok(match opened {
-        0 => Outcome::refused_where(all_turns && door.closed == 1 && core.denied() == 1),
-        _ => Outcome::granted_where(all_turns && door.closed == 0 && core.denied() == 0),
+        1 => Outcome::refused_where(all_turns && door.closed == 1 && core.denied() == 1),
+        _ => Outcome::granted_where(
+            all_turns && opened == 2 && door.closed == 0 && core.denied() == 0,
+        ),
     })
 }

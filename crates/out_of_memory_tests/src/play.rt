@@ -5,8 +5,10 @@ use srcp_core::{CoreFault, Record, run};
 use srcp_rules::Rows;
 use srcp_tool::read_script;
 use std::alloc::Global;
+use std::vec::Vec;
 
-/// A connection more is opened than is used, so that a refused one is not missed.
+/// A connection more is opened than is used, so that a refused one is not missed. The panel is settled before each piece
+/// of commands and after it.
 const SCRIPT: &[u8] = b"open
 open
 open
@@ -14,11 +16,13 @@ room 1 45
 room 2 45
 bytes 1 GO\\nGO\\n
 room 1 1000
+bytes 2 SET CONNECTIONMODE SRCP INFO\\nGO\\nGO\\n
+room 2 10000
 bytes 1 INIT 1 GL 3 N 1 28 2\\nINIT 1 GL 3 N 1 28 2\\nINIT 1 GA 5 M\\nINIT 1 GA 5 M\\n
 room 1 1000
+room 2 10000
 bytes 1 SET 1 LOCK GL 3 60\\nSET 1 LOCK GL 3 60\\nSET 1 LOCK GA 5 0\\nSET 1 LOCK GA 5 0\\n
 room 1 1000
-bytes 2 SET CONNECTIONMODE SRCP INFO\\nGO\\nGO\\n
 room 2 10000
 bytes 1 SET 1 FB 1 1\\n
 room 1 1000
@@ -28,8 +32,9 @@ room 2 10000
 /// How many rows there are at its end.
 const ROWS: usize = 12;
 
-/// Runs the script. Where a growth is refused there is no record, or one that tells of one refusal, and whose rows are those
-/// of a run that met none: what was refused was done when it was sent again.
+/// Runs the script. Where a growth is refused there is no record, or one that tells of one refusal. Its rows are then those
+/// of a run that met none, and its panel was sent the same lines: what was refused told it nothing, and was done when it was
+/// sent again.
 pub(crate) fn play<R: Rows>(alloc: Global) -> Result<Outcome, Refused> {
     let layout = one_bus(alloc)?;
     let Ok(events) = read_script(alloc, SCRIPT) else {
@@ -45,7 +50,9 @@ pub(crate) fn play<R: Rows>(alloc: Global) -> Result<Outcome, Refused> {
     let Ok(ample) = run::<R>(alloc, &layout, &events) else {
         return Ok(Outcome::Broken);
     };
-    let same = record.rows.as_slice() == ample.rows.as_slice() && ample.denied == 0;
+    let same = record.rows.as_slice() == ample.rows.as_slice()
+        && told_to_panels(alloc, &record)?.as_slice() == told_to_panels(alloc, &ample)?.as_slice()
+        && ample.denied == 0;
     Ok(Outcome::refused_where(same && record.denied == 1 && refusals(&record) == 1))
 }
 
@@ -66,4 +73,19 @@ fn refusals(record: &Record) -> usize {
             .filter(|refusal| refusal.fault == CoreFault::Memory)
             .count(),
     )
+}
+
+/// The information lines that information sessions were sent.
+fn told_to_panels(alloc: Global, record: &Record) -> Result<Vec<u8>, Refused> {
+    let mut told = Vec::new(alloc);
+    for connection in record.connections.as_slice() {
+        if connection.info {
+            for line in connection.sent.as_slice().split(|byte| *byte == b'\n') {
+                if line.starts_with(b"0.000 10") {
+                    told.extend_from_slice(line)?;
+                }
+            }
+        }
+    }
+    Ok(told)
 }

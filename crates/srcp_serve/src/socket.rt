@@ -20,8 +20,9 @@ use std::net::{Ipv4Addr, Net, SocketAddr};
 use std::time::Clock;
 
 /// Peers over TCP on the machine itself, at 127.0.0.1, with the clock that it was handed. What a peer is written is
-/// gathered, and its socket is handed it at the next call of `now` or where 16,384 bytes are gathered. `now` waits a few
-/// milliseconds where nothing happened since it was called last, and ends its wait when a socket is ready.
+/// gathered, and its socket is handed it at the next call of `now` or where 16,384 bytes are gathered. `now` waits 8
+/// milliseconds where nothing happened since it was called last, and ends its wait when a socket is ready. Each peer has a
+/// number above those of all peers before it.
 #[derive(Drop)]
 pub struct SocketDoor<C: Clock + Drop> {
     sockets: Sockets,
@@ -30,7 +31,7 @@ pub struct SocketDoor<C: Clock + Drop> {
 }
 
 impl<C: Clock + Drop> SocketDoor<C> {
-    /// A door at the port. Where that is 0 the system picks a free one; no configuration asks for that, only tests.
+    /// A door at the port.
     ///
     /// # Errors
     /// `Port` where the port is taken or refused, or the system has no descriptors for it. `Memory` where memory was
@@ -53,12 +54,12 @@ impl<C: Clock + Drop> SocketDoor<C> {
         }
     }
 
-    /// The port that it listens at, for tests, which let the system pick one.
-    ///
-    /// # Errors
-    /// Where the system does not tell it.
-    pub fn port(&self) -> io::Result<u16> {
-        self.sockets.port()
+    /// Has `now` wait so many milliseconds at most where nothing happens, 0 for no wait.
+    pub fn wait_at_most(&mut self, milliseconds: u64)
+        ensures wait { self.new.sockets.patience ≡ milliseconds }
+        ensures tally { self.new.tally ≡ self.old.tally }
+    {
+        self.sockets.wait_at_most(milliseconds);
     }
 
     /// Counts a call that failed, and says which it was.

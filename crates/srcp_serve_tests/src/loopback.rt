@@ -5,7 +5,7 @@ use srcp_rules::{Flat, Layout};
 use srcp_serve::{ListenFault, Served, SocketDoor, serve};
 use std::io;
 use std::io::{Read, Write};
-use std::net::{Ipv4Addr, SocketAddr, TcpStream};
+use std::net::{Ipv4Addr, Net, OpenListener, SocketAddr, TcpListener, TcpStream};
 use std::test::Fail;
 use std::time::{Clock, Duration};
 
@@ -25,21 +25,28 @@ impl Clock for Still {
     }
 }
 
+/// A port that nobody listens at.
+fn free_port<N: Net>(net: &N) -> io::Result<u16> {
+    let listener = TcpListener::bind(net, SocketAddr::from((Ipv4Addr::LOCALHOST, 0)))?;
+    Ok(listener.local_addr()?.port())
+}
+
 #[test]
 fn answers_a_client(rt: HostRuntime) -> Result<(), Fail> {
     let layout = Layout::new(rt.alloc());
     let mut core = Core::<Flat>::new(rt.alloc(), &layout, 0, 0)?;
-    let mut door = SocketDoor::listen(&rt, rt.alloc(), 0, Still)?;
-    let address = SocketAddr::from((Ipv4Addr::LOCALHOST, door.port()?));
+    let port = free_port(&rt)?;
+    let mut door = SocketDoor::listen(&rt, rt.alloc(), port, Still)?;
+    door.wait_at_most(0);
+    let address = SocketAddr::from((Ipv4Addr::LOCALHOST, port));
     let mut client = TcpStream::connect(&rt, address)?;
     client.write_all(b"GO\n")?;
-    // A turn without anything to do waits 8 milliseconds.
     let served = Served {
-        turns: 250,
+        turns: 10_000,
         opened: 1,
         faults: 0,
     };
-    assert_eq!(rt; serve(&mut core, &mut door, 250), served);
+    assert_eq!(rt; serve(&mut core, &mut door, 10_000), served);
     let mut heard = [0u8; 63];
     client.read_exact(&mut heard)?;
     assert_eq!(rt; heard.as_slice(), BOTH_LINES);
@@ -48,8 +55,9 @@ fn answers_a_client(rt: HostRuntime) -> Result<(), Fail> {
 
 #[test]
 fn refuses_a_port_that_is_taken(rt: HostRuntime) -> Result<(), Fail> {
-    let door = SocketDoor::listen(&rt, rt.alloc(), 0, Still)?;
-    let taken = SocketDoor::listen(&rt, rt.alloc(), door.port()?, Still);
+    let port = free_port(&rt)?;
+    let _door = SocketDoor::listen(&rt, rt.alloc(), port, Still)?;
+    let taken = SocketDoor::listen(&rt, rt.alloc(), port, Still);
     assert_eq!(rt; taken.err(), Some(ListenFault::Port));
     Ok(())
 }

@@ -1,4 +1,4 @@
-ghost use Rattle.std.specs.Prelude.{◌≡◌, ◌<◌, ◌≤◌, ℕ, Ok, IfOk, IfSome, length};
+ghost use Rattle.std.specs.Prelude.{◌≡◌, ◌<◌, ◌≤◌, ℕ, Ok, None, IfOk, IfSome, OnErr, length};
 ghost use Rattle.srcp_serve.specs.declared.door.Got.{Got};
 
 use super::peer::Peer;
@@ -11,7 +11,7 @@ use std::io::ErrorKind;
 use std::time::Duration;
 use std::vec::Vec;
 
-/// How long nothing may happen before the time is looked at again, in milliseconds.
+/// How long `pause` waits at most where nothing happens, in milliseconds, unless it is told otherwise.
 const PAUSE: u64 = 8;
 
 /// How many sockets may be found ready at once.
@@ -35,6 +35,8 @@ pub(super) struct Sockets {
     last: u32,
     // Whether something happened since the last pause.
     busy: bool,
+    // How long a pause waits at most, in milliseconds.
+    patience: u64,
 }
 
 impl Sockets {
@@ -50,21 +52,27 @@ impl Sockets {
             peers: Vec::new(alloc),
             last: 0,
             busy: true,
+            patience: PAUSE,
         })
     }
 
-    /// The port of the listener.
-    pub(super) fn port(&self) -> io::Result<u16> {
-        Ok(self.listener.local_addr()?.port())
+    /// Has a pause wait so many milliseconds at most.
+    pub(super) fn wait_at_most(&mut self, milliseconds: u64)
+        ensures wait { self.new.patience ≡ milliseconds }
+        ensures last { self.new.last ≡ self.old.last }
+    {
+        self.patience = milliseconds;
     }
 
     /// Hands every socket what was gathered for it. Where nothing happened since the last time, waits until something
-    /// does, a few milliseconds at most.
-    pub(super) fn pause(&mut self) {
+    /// does, for as long as it has patience.
+    pub(super) fn pause(&mut self)
+        ensures { self.new.last ≡ self.old.last }
+    {
         for peer in &mut self.peers {
             peer.hand_over();
         }
-        let patience = if self.busy { 0 } else { PAUSE };
+        let patience = if self.busy { 0 } else { self.patience };
         self.busy = false;
         let waited = self
             .poll
@@ -75,7 +83,9 @@ impl Sockets {
     }
 
     /// Notes which sockets are ready.
-    fn wake(&mut self) {
+    fn wake(&mut self)
+        ensures { self.new.last ≡ self.old.last }
+    {
         for event in &self.events {
             let Token(token) = event.token();
             if token == LISTENER.0 {
@@ -91,8 +101,12 @@ impl Sockets {
         }
     }
 
-    /// Lets in the next peer that wants in, if one does.
-    pub(super) fn accept(&mut self) -> io::Result<Option<u32>> {
+    /// Lets in the next peer that wants in, if one does. Its number is above those of all peers before it.
+    pub(super) fn accept(&mut self) -> io::Result<Option<u32>>
+        ensures new { IfOk result (λ peer. IfSome peer (λ number. (self.old.last < number) × (self.new.last ≡ number))) }
+        ensures none { IfOk result (λ peer. peer ≡ None → self.new.last ≡ self.old.last) }
+        ensures fault { OnErr result (self.new.last ≡ self.old.last) }
+    {
         if !self.wanted {
             return Ok(None);
         }
@@ -106,7 +120,10 @@ impl Sockets {
         }
     }
 
-    fn welcome(&mut self, mut stream: TcpStream) -> io::Result<u32> {
+    fn welcome(&mut self, mut stream: TcpStream) -> io::Result<u32>
+        ensures new { IfOk result (λ number. (self.old.last < number) × (self.new.last ≡ number)) }
+        ensures fault { OnErr result (self.new.last ≡ self.old.last) }
+    {
         let Some(number) = self.last.checked_add(1) else {
             return Err(io::Error::from(ErrorKind::Other));
         };
@@ -126,6 +143,7 @@ impl Sockets {
     pub(super) fn read(&mut self, number: u32, buffer: &mut [u8]) -> io::Result<Got>
         requires { 0 < length buffer.old }
         ensures count { (n : ℕ) → result ≡ Ok (Got.Bytes n) → (0 < n) × (n ≤ length buffer.new) }
+        ensures last { self.new.last ≡ self.old.last }
     {
         let place = self.place(number)?;
         let got = self.peers[place].read(buffer)?;
@@ -136,7 +154,8 @@ impl Sockets {
     }
 
     pub(super) fn write(&mut self, number: u32, bytes: &[u8]) -> io::Result<usize>
-        ensures { IfOk result (λ count. count ≤ length bytes.now) }
+        ensures count { IfOk result (λ count. count ≤ length bytes.now) }
+        ensures last { self.new.last ≡ self.old.last }
     {
         let place = self.place(number)?;
         let count = self.peers[place].take(bytes)?;
@@ -146,7 +165,9 @@ impl Sockets {
         Ok(count)
     }
 
-    pub(super) fn close(&mut self, number: u32) -> io::Result<()> {
+    pub(super) fn close(&mut self, number: u32) -> io::Result<()>
+        ensures { self.new.last ≡ self.old.last }
+    {
         let place = self.place(number)?;
         let mut peer = self.peers.remove(place);
         peer.hand_over();
