@@ -28,13 +28,16 @@ impl From<Memory> for RunFault {
 }
 
 /// Carries out the events over the registry of the layout, from moment 0 on and with session ids from 1 on, and tells
-/// what came of them. An event that is refused changes nothing, and the run goes on. `Memory` where memory was
-/// refused to the core when it was made, or to the record; what was refused after that the record counts. Where it
-/// counts none, the record is that of the course of the events (`record`). Then, of each information session, however
-/// its writes were cut: on a still registry it was sent its listing, each device that was there all the time is listed
-/// exactly once, and a client that applies all lines holds the registry once it is settled (`sessions`); every other
-/// connection was sent its replies alone (`replies`); rooms add up, and nothing is sent after an overrun (`rooms`); and
-/// the registry stayed whole (`registry`).
+/// what came of them. An event that is refused changes nothing, and the run goes on. Of every run there is what memory
+/// answered in each event (`grants`), with which the record is that of the course of the events (`is`). Then, of each
+/// information session, however its writes were cut: on a still registry it was sent its listing, each device that was
+/// there all the time is listed exactly once, and a client that applies all lines holds the registry once it is settled
+/// (`sessions`). Every other connection was sent its replies alone (`replies`). Rooms add up, and nothing is sent after an
+/// overrun (`rooms`). The registry stayed whole (`registry`). Where the record counts no refusal, memory gave in each event
+/// (`given`), and the course is the one with ample memory (`laws::ample_memory`).
+///
+/// # Errors
+/// `Memory` where memory was refused to the core when it was made, or to the record.
 pub fn run<R: Rows>(alloc: Global, layout: &Layout, events: &[Event]) -> Result<Record, RunFault>
     ensures well_formed { IfOk result (λ told. AllByRecursion (λ row. IsWellFormedShown row.shown) told.rows) }
     ensures promised { IfOk result (λ told. IsPromised layout.now events.now told) }

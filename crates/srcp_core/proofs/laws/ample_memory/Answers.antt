@@ -1,0 +1,6 @@
+-- The law is proved of the definitions.
+use Rattle.srcp_core.proofs.Given.{gives_as_if}
+use Rattle.srcp_core.proofs.laws.ample_memory.Goals as goal
+
+pub returns : goal.returns
+returns c = λ buses grants events given. gives_as_if buses grants events given
