@@ -182,9 +182,11 @@ def limit_memory(server, more):
 
 
 def memory_that_runs_out(program):
-    """The locomotive that there is no memory for is refused and changes nothing; with memory it can be made."""
+    """The locomotive that there is no memory for is refused and changes nothing; with memory it can be made. Meanwhile a
+    port falls back in time, and a session that ends itself is let go."""
     with served(program) as (port, server):
-        throttle, panel = Client(port, "COMMAND"), Client(port, "INFO")
+        throttle, leaver, panel = Client(port, "COMMAND"), Client(port, "COMMAND"), Client(port, "INFO")
+        throttle.asks("INIT 1 GA 5 N")
         limit_memory(server, 1 << 20)
         for address in range(1, 10240):
             reply = throttle.asks(f"INIT 1 GL {address} N 1 28 0")
@@ -196,6 +198,15 @@ def memory_that_runs_out(program):
         replies = [throttle.asks(command) for command in (f"GET 1 GL {address}", "SET 1 GL 1 1 7 28", "SET 1 POWER ON")]
         if replies != ["416 ERROR no data", "200 OK", "200 OK"]:
             return f"without memory: {replies}"
+        throttle.asks("SET 1 GA 5 0 1 200")
+        begun = time.monotonic()
+        panel.hears_until(b" 100 INFO 1 GA 5 0 1\n")
+        panel.hears_until(b" 100 INFO 1 GA 5 0 0\n")
+        if not 0.1 < (waited := time.monotonic() - begun) < 2:
+            return f"without memory a port fell back after {waited:.2f} s"
+        leaver.socket.sendall(b"TERM 0 SESSION\n")
+        if not leaver.hears_to_the_end().endswith(b" 200 OK\n"):
+            return "without memory a session that ends itself is not answered and let go"
         resource.prlimit(server.pid, resource.RLIMIT_AS, (resource.RLIM_INFINITY, resource.RLIM_INFINITY))
         if (reply := throttle.asks(f"INIT 1 GL {address} N 1 28 0")) != "200 OK":
             return f"with memory again: {reply}"

@@ -21,10 +21,11 @@ room 2 10000
 bytes 1 INIT 1 GL 3 N 1 28 2\\nINIT 1 GL 3 N 1 28 2\\nINIT 1 GA 5 M\\nINIT 1 GA 5 M\\n
 room 1 1000
 room 2 10000
-bytes 1 SET 1 LOCK GL 3 60\\nSET 1 LOCK GL 3 60\\nSET 1 LOCK GA 5 0\\nSET 1 LOCK GA 5 0\\n
+bytes 1 SET 1 FB 1 1\\n
 room 1 1000
 room 2 10000
-bytes 1 SET 1 FB 1 1\\n
+at 1000
+bytes 1 SET 1 LOCK GL 3 60\\nSET 1 LOCK GL 3 60\\nSET 1 LOCK GA 5 0\\nSET 1 LOCK GA 5 0\\n
 room 1 1000
 room 2 10000
 ";
@@ -33,8 +34,8 @@ room 2 10000
 const ROWS: usize = 12;
 
 /// Runs the script. Where a growth is refused there is no record, or one that tells of one refusal. Its rows are then those
-/// of a run that met none, and its panel was sent the same lines: what was refused told it nothing, and was done when it was
-/// sent again.
+/// of a run that met none, since what was refused was done when it was sent again. Its panel was sent the same lines before
+/// the locks, and then one for each lock that was accepted: it was told nothing of what was refused.
 pub(crate) fn play<R: Rows>(alloc: Global) -> Result<Outcome, Refused> {
     let layout = one_bus(alloc)?;
     let Ok(events) = read_script(alloc, SCRIPT) else {
@@ -52,20 +53,20 @@ pub(crate) fn play<R: Rows>(alloc: Global) -> Result<Outcome, Refused> {
     };
     let same = record.rows.as_slice() == ample.rows.as_slice()
         && told_to_panels(alloc, &record)?.as_slice() == told_to_panels(alloc, &ample)?.as_slice()
+        && lines_like(&record, LOCK_TOLD) == lines_like(&record, LOCK_ACCEPTED)
         && ample.denied == 0;
     Ok(Outcome::refused_where(same && record.denied == 1 && refusals(&record) == 1))
 }
 
+/// How a line begins that tells a panel of a lock.
+const LOCK_TOLD: &[u8] = b"1.000 100 INFO 1 LOCK ";
+
+/// The reply to the SET of a lock.
+const LOCK_ACCEPTED: &[u8] = b"1.000 200 OK";
+
 /// How many lines were answered 500 in a run, and how many connections were refused for want of memory.
 fn refusals(record: &Record) -> usize {
-    let mut count: usize = 0;
-    for connection in record.connections.as_slice() {
-        for line in connection.sent.as_slice().split(|byte| *byte == b'\n') {
-            if line == b"0.000 500 ERROR out of resources".as_slice() {
-                count = count.saturating_add(1);
-            }
-        }
-    }
+    let count = lines_like(record, b"0.000 500 ").saturating_add(lines_like(record, b"1.000 500 "));
     let refused = record.refused.as_slice();
     count.saturating_add(
         refused
@@ -75,7 +76,20 @@ fn refusals(record: &Record) -> usize {
     )
 }
 
-/// The information lines that information sessions were sent.
+/// How many lines all connections were sent that begin so.
+fn lines_like(record: &Record, front: &[u8]) -> usize {
+    let mut count: usize = 0;
+    for connection in record.connections.as_slice() {
+        for line in connection.sent.as_slice().split(|byte| *byte == b'\n') {
+            if line.starts_with(front) {
+                count = count.saturating_add(1);
+            }
+        }
+    }
+    count
+}
+
+/// The information lines that information sessions were sent before the locks.
 fn told_to_panels(alloc: Global, record: &Record) -> Result<Vec<u8>, Refused> {
     let mut told = Vec::new(alloc);
     for connection in record.connections.as_slice() {
