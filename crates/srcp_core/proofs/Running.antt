@@ -19,7 +19,7 @@ use Rattle.srcp_core.specs.declared.record.Step.TheVariants as told
 use Rattle.srcp_core.specs.Connection.{Connection, is_nil}
 use Rattle.srcp_core.specs.Course.{World, numbered, at_connection, open_connection, did, history, fresh, counted, fault, absent_fault, bytes_fault as course_fault, accepted, fed_to, shut_as, answered as course_answered, new_marks, course}
 use Rattle.srcp_core.specs.Held.{Place, Held, at, open_count}
-use Rattle.srcp_core.specs.Machine.{IsAdmitted, refused_connect, one_denied, HasRoom, bytes_fault, bytes_fault_from, heard_in, heard_at, line_taken, steps_of_line, answered, freed_place, freed_of, hung_up, hung_up_from, advanced, live_session, live_session_of, let_out, without_sent, changed_at, changed_in as changed_places_in, filled, unsent_of, unsent_at, item_of, item_at}
+use Rattle.srcp_core.specs.Machine.{IsAdmitted, refused_connect, one_denied, HasRoom, bytes_fault, bytes_fault_from, heard_at, line_taken, steps_of_line, freed_place, freed_of, hung_up, hung_up_from, advanced, live_session, live_session_of, let_out, without_sent, changed_at, changed_in as changed_places_in, filled, unsent_of, unsent_at, item_of, item_at}
 use Rattle.srcp_core.specs.Recording.{Recording, key_of, told_of, opened, shut, stepped, noted, gave, took, without_key, changed_record, changed_in}
 use Rattle.srcp_core.specs.Run.{Tells, Runs, Happened, HappensAs, count_at, taken_at, taking}
 use Rattle.srcp_core.specs.Stands.{StandsFor, place_of}

@@ -1,4 +1,4 @@
-use Rattle.std.proofs.Common.{◌≤◌, length, ◌∙◌, sym, refl, arith}
+use Rattle.std.proofs.Common.{◌≤◌, length, ◌∙◌, refl, arith}
 use Rattle.std.proofs.lemmas.Option.{slice_get_read}
 use Rattle.srcp_core.specs.Under.{all_under}
 use Rattle.srcp_core.proofs.Promises.{moments_all, moments_more}
