@@ -1,7 +1,7 @@
 -- What memory answers: each line and each order has its answer, and what a denied order does is nothing.
-use Rattle.std.proofs.Common.{◌≡◌, ℕ, suc, Bool, true, false, List, [], ◌∷◌, ◌++◌, length, refl, ap, ◌∙◌, arith}
-use Rattle.std.proofs.lemmas.Bool.{eq-eqb}
-use Rattle.std.specs.Prelude.{not, ◌||◌, if◌then◌else◌, ◌==◌, IsTrue, Option, Some, None, Result, Ok, Err, IfOk}
+use Rattle.std.proofs.Common.{◌≡◌, ℕ, suc, ◌+◌, min, Bool, true, false, List, [], ◌∷◌, ◌++◌, length, refl, ap, sym, ◌∙◌, arith}
+use Rattle.std.proofs.lemmas.List.Sums.{fold-append}
+use Rattle.std.specs.Prelude.{not, ◌||◌, if◌then◌else◌, IsTrue, Option, Some, None, Result, Ok, Err, IfOk}
 use Rattle.std.specs.List.{AllByRecursion, fold}
 use Rattle.srcp_info.specs.declared.change.Code.{Code}
 use Rattle.srcp_info.specs.declared.change.Code.TheVariants.{C500}
@@ -15,8 +15,7 @@ use Rattle.srcp_core.specs.Run.{HasPlainMoment, PlainMoments}
 use Rattle.srcp_core.specs.declared.event.Event.TheVariants as plain
 use Rattle.srcp_core.specs.declared.record.CoreFault.{CoreFault}
 use Rattle.srcp_text.specs.Marks.{Mark}
-use Rattle.srcp_core.specs.Held.{Held}
-use Rattle.srcp_core.specs.Under.{Order, Heard, greets, effect, Open, lines_under, under, all_under, first_of, giving}
+use Rattle.srcp_core.specs.Under.{Order, Heard, greets, effect, Open, lines_under, under, all_under, first_of, giving, denied_by}
 use Rattle.srcp_core.specs.declared.event.Event.{Event as PlainEvent}
 use Rattle.srcp_rules.specs.declared.layout.Bus.{Bus}
 use Rattle.srcp_info.specs.declared.change.Reply.TheVariants.{Protocol, Mode as ModeReply, Refused}
@@ -54,16 +53,30 @@ under_length grants [] = refl
 under_length [] (x ∷ events) = ap (λ k. suc k) (under_length [] events)
 under_length (g ∷ grants) (x ∷ events) = ap (λ k. suc k) (under_length grants events)
 
--- what memory answered to a line; it gave where none was refused by then
-abbrev pub given_of : Bool → Held → Bool
-given_of granted new = if new.denied == 0 then true else granted
+-- ---- the count of what memory refused
 
-pub given_gives : (granted : Bool) (new : Held) → new.denied ≡ 0 → IsTrue (given_of granted new)
-given_gives granted new d = ap (λ t. if t then true else granted) (eq-eqb new.denied 0 d)
+-- a count that was raised is not 0
+pub counts : (k : ℕ) → min (k + 1) 18446744073709551615 ≡ 0 → ⊥
+counts k e = omega (arith, e)
 
-pub all_given : (grants : List Bool) (granted : Bool) → AllByRecursion IsTrue grants → IsTrue granted → AllByRecursion IsTrue (grants ++ granted ∷ [])
-all_given [] granted a h = (h, tt)
-all_given (g ∷ grants) granted a h = (a.0, all_given grants granted a.1 h)
+-- a line more, with its answer
+pub counted_more : (first now later : ℕ) (grants : List Bool) (granted : Bool) → now ≡ denied_by first grants → later ≡ denied_by now (granted ∷ []) → later ≡ denied_by first (grants ++ granted ∷ [])
+counted_more first now later grants granted e f =
+    f ∙ ap (λ k. denied_by k (granted ∷ [])) e ∙ sym (fold-append (λ count granted. if granted then count else min (count + 1) 18446744073709551615) first grants (granted ∷ []))
+
+-- where the count is 0, it was 0 before and each answer gave
+pub none_denied : (grants : List Bool) (k : ℕ) → denied_by k grants ≡ 0 → (k ≡ 0) × AllByRecursion IsTrue grants
+none_denied [] k e = (e, tt)
+none_denied (true ∷ grants) k e = let n = none_denied grants k e in (n.0, (refl, n.1))
+none_denied (false ∷ grants) k e = absurd (counts k (none_denied grants (min (k + 1) 18446744073709551615) e).0)
+
+-- and so in each event
+pub none_of_all : (grants : List (List Bool)) (k : ℕ) → fold denied_by k grants ≡ 0 → (k ≡ 0) × AllByRecursion (AllByRecursion IsTrue) grants
+none_of_all [] k e = (e, tt)
+none_of_all (g ∷ grants) k e =
+    let later = none_of_all grants (denied_by k g) e in
+    let now = none_denied g k later.0 in
+    (now.0, (now.1, later.1))
 
 -- the moments are those of the events whatever memory answers
 one_moment : (grants : List Bool) (event : PlainEvent) → HasPlainMoment event → HasMoment (under grants event)

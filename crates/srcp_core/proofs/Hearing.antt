@@ -1,6 +1,6 @@
 -- What a line that was found in a piece asks for, and what it leaves of its connection.
 use Rattle.std.proofs.Common.{◌≡◌, ℕ, zero, suc, ◌+◌, ◌-◌, ◌*◌, ◌<◌, ◌≤◌, Bool, true, false, List, [], ◌∷◌, ◌++◌, drop, take, length, inl, inr, refl, ap, sym, ◌∙◌, subst, arith}
-use Rattle.std.specs.Prelude.{◌||◌, ◌==◌, if◌then◌else◌, Option, Some, None, Ok, Err, position, slice_set}
+use Rattle.std.specs.Prelude.{◌||◌, ◌==◌, if◌then◌else◌, fold, Option, Some, None, Ok, Err, position, slice_set}
 use Rattle.srcp_info.specs.declared.change.Code.{Code}
 use Rattle.srcp_rules.specs.declared.layout.Bus.{Bus}
 use Rattle.srcp_text.specs.Marks.{Mark, Line, TooLong, is_lf, without_cr}
@@ -12,7 +12,8 @@ use Rattle.std.proofs.lemmas.List.{length-drop}
 use Rattle.std.proofs.lemmas.List.Sums.{fold-append}
 use Rattle.srcp_core.specs.Handshake.{greets}
 use Rattle.srcp_core.specs.Held.{Place, Held, IsSound, at}
-use Rattle.srcp_core.specs.Machine.{asked_of, heard_from, heard, heard_in, heard_at, longest_answer, unsent_of, unsent_at, begun_of, begun_at, answered, line_taken, lines_taken, steps_answered, steps_of_line, listed, HasRoom, IsLineTaken, IsReceived}
+use Rattle.srcp_core.specs.Machine.{asked_of, heard_from, heard, heard_in, heard_at, longest_answer, unsent_of, unsent_at, begun_of, begun_at, answered, line_taken, lines_taken, steps_answered, steps_of_line, listed, HasRoom, IsLineTaken, CountsEach, IsReceived}
+use Rattle.srcp_core.specs.Under.{denied_by}
 use Rattle.srcp_core.specs.declared.answered.Answered.{Answered}
 use Rattle.srcp_core.specs.declared.asked.Asked.{Asked}
 use Rattle.srcp_core.specs.declared.asked.Asked.TheVariants.{Dropped, Greets, Commands}
@@ -170,6 +171,11 @@ line_found key piece start stop asked old new e = by (at old key) refl e
           few = λ h. f.few (sym (ap begun_of there) ∙ h);
         }
 
+-- reading refuses nothing
+pub heard_denied : (key : ℕ) (piece : List ℕ) (from : ℕ) (held : Held) (o : Option Place) → (heard_in key piece from held o).1.denied ≡ held.denied
+heard_denied key piece from held None = refl
+heard_denied key piece from held (Some p) = refl
+
 -- whatever connection is at the place, the line asks for something of it
 pub line_asks : (key : ℕ) (piece : List ℕ) (start stop : ℕ) (asked : Asked) (old new : Held) → ◌≡◌ {A = Option (ℕ × Asked) × Held} (Some (stop, asked), new) (heard_at key piece start old)
     → (p : Place) → at new key ≡ Some p → (mark : Mark) × (asked ≡ asked_of new.buses p mark)
@@ -216,28 +222,37 @@ module _ (key : ℕ) (piece : List ℕ) (start stop : ℕ) (asked : Asked) (held
 
   -- and is answered
   pub line_answered : (did : Answered) (new : Held) → new ≡ answered did.granted key asked mid → listed did.steps ≡ steps_answered did.granted key asked mid
-      → IsSound mid → HasRoom key piece start held → IsLineTaken key piece start stop did held new
-  line_answered did new is steps s t = record {
+      → new.denied ≡ denied_by mid.denied (did.granted ∷ []) → IsSound mid → HasRoom key piece start held → IsLineTaken key piece start stop did held new
+  line_answered did new is steps counted s t = record {
     onward = (line_found key piece start stop asked held mid e).onward;
     room = subst (HasRoom key piece stop) (sym is) (room_after did.granted s t);
     is = ap (λ (h : Held). let r : ℕ × Held = (stop, h) in r) is ∙ ap (λ (r : Option (ℕ × Asked) × Held). line_taken key did.granted (start, held) r) e;
     steps = steps ∙ ap (λ (r : Option (ℕ × Asked) × Held). steps_of_line key did.granted r) e;
+    counted = counted ∙ ap (λ k. denied_by k (did.granted ∷ [])) (ap (λ (r : Option (ℕ × Asked) × Held). r.1.denied) e ∙ heard_denied key piece start held (at held key));
   }
 
 -- the lines up to a place of the piece are answered
 pub record IsTaken (key : ℕ) (piece : List ℕ) (first : Held) (start : ℕ) (held : Held) : Type 0 where
   pub room : HasRoom key piece start held
   pub grants : List Bool
+  pub counted : CountsEach key piece (0, first) grants
   pub is : ◌≡◌ {A = ℕ × Held} (start, held) (lines_taken key piece grants first)
 
 pub nothing_taken : (key : ℕ) (piece : List ℕ) (first : Held) → unsent_at key first ≡ [] → IsTaken key piece first 0 first
-nothing_taken key piece first idle = record { room = nothing_begun key piece first idle; grants = []; is = refl }
+nothing_taken key piece first idle = record { room = nothing_begun key piece first idle; grants = []; counted = tt; is = refl }
+
+counts_push : (key : ℕ) (piece : List ℕ) (grants : List Bool) (before : ℕ × Held) (granted : Bool) → CountsEach key piece before grants
+    → CountsEach key piece (fold (λ before granted. line_taken key granted before (heard_at key piece before.0 before.1)) before grants) (granted ∷ []) → CountsEach key piece before (grants ++ granted ∷ [])
+counts_push key piece [] before granted a e = e
+counts_push key piece (g ∷ grants) before granted a e = (a.0, counts_push key piece grants (line_taken key g before (heard_at key piece before.0 before.1)) granted a.1 e)
 
 pub line_added : (key : ℕ) (piece : List ℕ) (first : Held) (start stop : ℕ) (did : Answered) (held new : Held) → IsLineTaken key piece start stop did held new
     → IsTaken key piece first start held → IsTaken key piece first stop new
 line_added key piece first start stop did held new l t = record {
   room = l.room;
   grants = t.grants ++ did.granted ∷ [];
+  counted = counts_push key piece t.grants (0, first) did.granted t.counted
+      (subst (λ (b : ℕ × Held). CountsEach key piece b (did.granted ∷ [])) t.is (sym (ap (λ (r : ℕ × Held). r.1.denied) l.is) ∙ l.counted, tt));
   is =
       l.is
       ∙ ap (λ (b : ℕ × Held). line_taken key did.granted b (heard_at key piece b.0 b.1)) t.is
@@ -245,4 +260,4 @@ line_added key piece first start stop did held new l t = record {
 }
 
 pub lines_end : (key : ℕ) (piece : List ℕ) (first : Held) (start : ℕ) (held new : Held) → ◌≡◌ {A = Option (ℕ × Asked) × Held} (None, new) (heard_at key piece start held) → IsTaken key piece first start held → IsReceived key piece first new
-lines_end key piece first start held new e t = record { grants = t.grants; rest = e ∙ ap (λ (b : ℕ × Held). heard_at key piece b.0 b.1) t.is }
+lines_end key piece first start held new e t = record { grants = t.grants; counted = t.counted; rest = e ∙ ap (λ (b : ℕ × Held). heard_at key piece b.0 b.1) t.is }

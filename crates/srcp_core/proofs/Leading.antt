@@ -21,7 +21,7 @@ use Rattle.srcp_core.proofs.Running.{fine_course, open_with, full_happens, memor
 use Rattle.srcp_core.proofs.SessionLaws.{opening_in_order}
 use Rattle.srcp_core.proofs.Standing.{found_at}
 use Rattle.srcp_core.proofs.Taking.{filled_kept, taken_kept, Kept}
-use Rattle.srcp_core.proofs.Granting.{counts}
+use Rattle.srcp_core.proofs.Given.{counts}
 
 -- what a run would have told of the course
 abbrev pub telling : List (Option ℕ) → World → Recording
@@ -135,7 +135,7 @@ lent_leads key count old new held few is lent buses events keys n layout named s
     let now : min (length (unsent_at key (let_out key held))) count ≡ count = let most = subst (λ (x : Held). count ≤ length (unsent_at key x)) lent few in omega (arith, most) in
     let taken : new ≡ taken_at key count held = is ∙ ap (changed_at key (without_sent count)) lent ∙ ap (λ k. changed_at key (without_sent k) (let_out key held)) (sym now) in
     let all : count - count_at key count held ≡ 0 = omega (arith, now) in
-    let h = (room_happens n key count first_r held count first_r held (inl all) (gives_first n key count first_r held named)).happens buses events layout (runs_telling buses keys held w s) in
+    let h = (room_happens n key count first_r held count first_r held (inl all) refl (gives_first n key count first_r held named)).happens buses events layout (runs_telling buses keys held w s) in
     subst (λ (x : Held). StandsFor buses keys x (course buses (events ++ Room n count ∷ []))) (sym taken)
     (subst (λ (ks : List (Option ℕ)). StandsFor buses ks (taken_at key count held) (course buses (events ++ Room n count ∷ []))) (taking_keys n key count held first_r)
     (runs_on buses events (Room n count) None (length events + 1) (taking n key count held first_r) (taken_at key count held) refl h).stands)

@@ -36,8 +36,7 @@ use Rattle.srcp_core.specs.Stands.{StandsBy, StandsFor, place_of}
 use Rattle.srcp_core.specs.declared.asked.Asked.{Asked}
 use Rattle.srcp_core.proofs.Answering.{IsFine, stands_answered}
 use Rattle.srcp_core.proofs.Covers.{Where, Here, Away, where_is, place_set_here}
-use Rattle.srcp_core.proofs.Given.{lines_push, given_of}
-use Rattle.srcp_core.proofs.Granting.{granted_from}
+use Rattle.srcp_core.proofs.Given.{lines_push}
 use Rattle.srcp_core.proofs.Noting.{Tells, tells_answered}
 use Rattle.srcp_core.proofs.Placing.{place_reader, place_read}
 use Rattle.srcp_core.proofs.SessionLaws.{anything}
@@ -181,12 +180,9 @@ module _ (buses : List Bus) (order : IsRisingBy key_at (shown_rows (opening buse
       )
 
   -- after one more line of the piece
-  pub record IsLinedAs (grants : List Bool) (start stop : ℕ) (granted : Bool) (held new : Held) (r : Recording) : Type 0 where
-    pub upto : IsUpTo grants stop new
-    pub tells : Tells (noted n (steps_of_line key granted (heard_at key piece start held)) r) (world_upto grants stop)
-
-  abbrev pub IsLined : List Bool → ℕ → ℕ → Bool → Held → Held → Recording → Type 0
-  IsLined grants start stop granted held new r = IsLinedAs (grants ++ given_of granted new ∷ []) start stop granted held new r
+  pub record IsLined (grants : List Bool) (start stop : ℕ) (granted : Bool) (held new : Held) (r : Recording) : Type 0 where
+    pub upto : IsUpTo (grants ++ granted ∷ []) stop new
+    pub tells : Tells (noted n (steps_of_line key granted (heard_at key piece start held)) r) (world_upto (grants ++ granted ∷ []) stop)
 
   -- what the reader finds
   abbrev finds : Held → Place → Fed → Reading → Option (ℕ × Asked) × Held
@@ -198,36 +194,16 @@ module _ (buses : List Bus) (order : IsRisingBy key_at (shown_rows (opening buse
       → ◌≡◌ {A = ℕ × Held} (stop, new) (s, answered granted key (asked_of held.buses p mark) (record held { places = slice_set held.places key (Some (record p { reader = reading })) }))
       → ◌≡◌ {A = Option (ℕ × Asked) × Held} (heard_at key piece start held) (Some (s, asked_of held.buses p mark), record held { places = slice_set held.places key (Some (record p { reader = reading })) })
       → IsUpTo grants start held → Tells r (world_upto grants start) → IsLined grants start stop granted held new r
-  lined_at grants start stop granted held new r p mark s reading onward here adds moves is finding u t = by (new.denied == 0) refl
+  lined_at grants start stop granted held new r p mark s reading onward here adds moves is finding u t =
+      let both = line_answered grants granted start s mark held p reading r (subst (λ k. start < k) stop_is onward) here adds moves u t in
+      record {
+        upto = subst (λ k. IsUpTo (grants ++ granted ∷ []) k new) (sym stop_is) (subst (λ (x : Held). IsUpTo (grants ++ granted ∷ []) s x) (sym (ap (λ (x : ℕ × Held). x.1) is)) both.0);
+        tells = subst (λ k. Tells (noted n (steps_of_line key granted (heard_at key piece start held)) r) (world_upto (grants ++ granted ∷ []) k)) (sym stop_is)
+            (subst (λ steps. Tells (noted n steps r) (world_upto (grants ++ granted ∷ []) s)) (sym (ap (steps_of_line key granted) finding)) both.1);
+      }
     where
-      mid : Held
-      mid = record held { places = slice_set held.places key (Some (record p { reader = reading })) }
-
-      asked : Asked
-      asked = asked_of held.buses p mark
-
       stop_is : stop ≡ s
       stop_is = ap (λ (x : ℕ × Held). x.0) is
-
-      new_is : new ≡ answered granted key asked mid
-      new_is = ap (λ (x : ℕ × Held). x.1) is
-
-      onward_s : start < s
-      onward_s = subst (λ k. start < k) stop_is onward
-
-      with : (g : Bool) → given_of granted new ≡ g → answered granted key asked mid ≡ answered g key asked mid → steps_answered granted key asked mid ≡ steps_answered g key asked mid → IsLined grants start stop granted held new r
-      with g is_g core steps =
-          let both = line_answered grants g start s mark held p reading r onward_s here adds moves u t in
-          subst (λ x. IsLinedAs (grants ++ x ∷ []) start stop granted held new r) (sym is_g)
-          (record {
-            upto = subst (λ k. IsUpTo (grants ++ g ∷ []) k new) (sym stop_is) (subst (λ (x : Held). IsUpTo (grants ++ g ∷ []) s x) (sym (new_is ∙ core)) both.0);
-            tells = subst (λ k. Tells (noted n (steps_of_line key granted (heard_at key piece start held)) r) (world_upto (grants ++ g ∷ []) k)) (sym stop_is)
-                (subst (λ steps. Tells (noted n steps r) (world_upto (grants ++ g ∷ []) s)) (sym (ap (steps_of_line key granted) finding ∙ steps)) both.1);
-          })
-
-      by : (t : Bool) → (new.denied == 0) ≡ t → IsLined grants start stop granted held new r
-      by true e = let g = granted_from key mid granted asked (at mid key) (ap (λ (x : Held). x.denied) (sym new_is) ∙ eqb-true new.denied 0 e) in with true (ap (λ t. if t then true else granted) e) g.core g.steps
-      by false e = with granted (ap (λ t. if t then true else granted) e) refl refl
 
   pub lined : (grants : List Bool) (start stop : ℕ) (granted : Bool) (held new : Held) (r : Recording) → start < stop → ◌≡◌ {A = ℕ × Held} (stop, new) (line_taken key granted (start, held) (heard_at key piece start held))
       → IsUpTo grants start held → Tells r (world_upto grants start) → IsLined grants start stop granted held new r

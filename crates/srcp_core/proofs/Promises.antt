@@ -9,7 +9,7 @@ use Rattle.srcp_rules.specs.Layout.{IsLayout}
 use Rattle.srcp_rules.specs.State.{State, IsWhole, opening}
 use Rattle.srcp_core.specs.Under.{Event, all_under}
 use Rattle.srcp_core.specs.Run.{RunsRecord, HasPlainMoment, PlainMoments}
-use Rattle.srcp_core.proofs.Given.{all_moments}
+use Rattle.srcp_core.proofs.Given.{all_moments, none_of_all}
 use Rattle.srcp_core.specs.declared.event.Event.{Event as PlainEvent}
 use Rattle.srcp_core.specs.Connection.{Connection, recorded}
 use Rattle.srcp_core.specs.Course.{World, course, history, numbered, state, state_after}
@@ -113,7 +113,8 @@ promised buses events (Ok told) r plain_moments layout =
     record {
       grants = r.grants;
       count = r.count;
-      given = r.given;
+      counted = r.counted;
+      given = λ d. (none_of_all r.grants 0 (sym r.counted ∙ d)).1;
       is = r.is;
       sessions = told_sessions buses all told layout moments r.is;
       replies = told_replies buses all told layout r.is;

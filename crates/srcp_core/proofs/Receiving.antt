@@ -2,20 +2,20 @@
 use Rattle.std.proofs.Common.{◌≡◌, ℕ, ◌+◌, Bool, List, [], ◌∷◌, ◌++◌, length, refl, ap, sym, ◌∙◌, subst}
 use Rattle.std.specs.List.{fold}
 use Rattle.std.specs.Prelude.{Option, Some, None, Result, Ok, Err, MatchResult, OnOk, OnErr}
-use Rattle.srcp_core.specs.Under.{Bytes, Piece, giving}
+use Rattle.srcp_core.specs.Under.{Bytes, Piece, giving, denied_by}
 use Rattle.srcp_core.specs.Course.{course}
 use Rattle.srcp_core.specs.Held.{Held, at}
-use Rattle.srcp_core.specs.Machine.{IsReceived, bytes_fault, heard_at, line_taken, lines_taken, steps_of_line, answered}
+use Rattle.srcp_core.specs.Machine.{IsReceived, CountsEach, bytes_fault, heard_at, line_taken, lines_taken, steps_of_line, answered}
 use Rattle.srcp_core.specs.Recording.{Recording, key_of, noted}
-use Rattle.srcp_core.specs.Run.{GivesAll, LeadsOn}
+use Rattle.srcp_core.specs.Run.{LeadsOn}
 use Rattle.srcp_core.specs.Stands.{StandsFor}
 use Rattle.srcp_core.specs.declared.asked.Asked.{Asked}
 use Rattle.srcp_core.specs.declared.record.CoreFault.{CoreFault}
-use Rattle.srcp_core.proofs.Hearing.{line_found}
+use Rattle.srcp_core.proofs.Hearing.{line_found, heard_denied}
 use Rattle.srcp_core.proofs.Leading.{telling, runs_telling}
 use Rattle.srcp_core.proofs.Recorded.{runs_on}
-use Rattle.srcp_core.proofs.Given.{given_of, given_gives, all_given}
-use Rattle.srcp_core.proofs.Running.{ReadsWith, reads_with_none, reads_with_more, bytes_with, bytes_refused, line_denied, noted_keys, heard_denied}
+use Rattle.srcp_core.proofs.Given.{counted_more, none_denied}
+use Rattle.srcp_core.proofs.Running.{ReadsWith, reads_with_none, reads_with_more, bytes_with, bytes_refused, noted_keys}
 
 -- a line of a piece, taken at a place of it
 abbrev line_on : ℕ → List ℕ → ℕ × Held → Bool → ℕ × Held
@@ -31,11 +31,11 @@ record IsRead (n key : ℕ) (piece : List ℕ) (grants : List Bool) (first_r : R
 -- what memory answered to them, with which it is, whatever a run has told before
 record AreRead (key : ℕ) (piece : List ℕ) (first : Held) (reached : ℕ × Held) : Type 0 where
   grants : List Bool
-  given : GivesAll grants reached.1
+  counted : reached.1.denied ≡ denied_by first.denied grants
   is : (n : ℕ) (first_r : Recording) → key_of n first_r.keys ≡ Some key → IsRead n key piece grants first_r first reached
 
-line_read : (key : ℕ) (piece : List ℕ) (first : Held) (before : ℕ × Held) (granted : Bool) → AreRead key piece first before → AreRead key piece first (line_on key piece before granted)
-line_read key piece first before granted a = by (heard_at key piece before.0 before.1).0 (heard_at key piece before.0 before.1).1 refl
+line_read : (key : ℕ) (piece : List ℕ) (first : Held) (before : ℕ × Held) (granted : Bool) → (line_on key piece before granted).1.denied ≡ denied_by before.1.denied (granted ∷ []) → AreRead key piece first before → AreRead key piece first (line_on key piece before granted)
+line_read key piece first before granted counted a = by (heard_at key piece before.0 before.1).0 (heard_at key piece before.0 before.1).1 refl
   where
     by : (found : Option (ℕ × Asked)) (mid : Held) → ◌≡◌ {A = Option (ℕ × Asked) × Held} (heard_at key piece before.0 before.1) (found, mid) → AreRead key piece first (line_on key piece before granted)
     by None mid e =
@@ -47,8 +47,8 @@ line_read key piece first before granted a = by (heard_at key piece before.0 bef
         let steps = steps_of_line key granted (heard_at key piece before.0 before.1) in
         subst (λ (reached : ℕ × Held). AreRead key piece first reached) is
         (record {
-          grants = a.grants ++ given_of granted new ∷ [];
-          given = λ d. all_given a.grants (given_of granted new) (a.given (line_denied key piece before.0 stop granted before.1 new is d)) (given_gives granted new d);
+          grants = a.grants ++ granted ∷ [];
+          counted = counted_more first.denied before.1.denied new.denied a.grants granted a.counted (ap (λ (x : ℕ × Held). x.1.denied) is ∙ counted);
           is = λ n first_r named.
               let i = a.is n first_r named in
               record {
@@ -58,35 +58,21 @@ line_read key piece first before granted a = by (heard_at key piece before.0 bef
               };
         })
 
-lines_read : (key : ℕ) (piece : List ℕ) (first : Held) (grants : List Bool) (before : ℕ × Held) → AreRead key piece first before → AreRead key piece first (fold (line_on key piece) before grants)
-lines_read key piece first [] before a = a
-lines_read key piece first (granted ∷ grants) before a = lines_read key piece first grants (line_on key piece before granted) (line_read key piece first before granted a)
-
--- ---- memory that was refused to a line stays refused
-
-line_on_denied : (key : ℕ) (piece : List ℕ) (before : ℕ × Held) (granted : Bool) → (line_on key piece before granted).1.denied ≡ 0 → before.1.denied ≡ 0
-line_on_denied key piece before granted d = line_denied key piece before.0 (line_on key piece before granted).0 granted before.1 (line_on key piece before granted).1 refl d
-
-lines_denied : (key : ℕ) (piece : List ℕ) (grants : List Bool) (before : ℕ × Held) → (fold (line_on key piece) before grants).1.denied ≡ 0 → before.1.denied ≡ 0
-lines_denied key piece [] before d = d
-lines_denied key piece (granted ∷ grants) before d = line_on_denied key piece before granted (lines_denied key piece grants (line_on key piece before granted) d)
-
-pub received_denied : (key : ℕ) (piece : List ℕ) (old new : Held) (result : Result Unit CoreFault) → OnErr result (new ≡ old) → OnOk result (IsReceived key piece old new) → new.denied ≡ 0 → old.denied ≡ 0
-received_denied key piece old new (Ok x) same received d =
-    let reached = lines_taken key piece received.grants old in
-    lines_denied key piece received.grants (0, old)
-    (sym (ap (λ (x : Option (ℕ × Asked) × Held). x.1.denied) received.rest ∙ heard_denied key piece reached.0 reached.1 (at reached.1 key)) ∙ d)
-received_denied key piece old new (Err cause) same received d = ap (λ (x : Held). x.denied) (sym same) ∙ d
+lines_read : (key : ℕ) (piece : List ℕ) (first : Held) (grants : List Bool) (before : ℕ × Held) → CountsEach key piece before grants → AreRead key piece first before → AreRead key piece first (fold (line_on key piece) before grants)
+lines_read key piece first [] before counted a = a
+lines_read key piece first (granted ∷ grants) before counted a = lines_read key piece first grants (line_on key piece before granted) counted.1 (line_read key piece first before granted counted.0 a)
 
 -- ---- the whole piece
 
 taken_leads : (key : ℕ) (piece : List ℕ) (old new : Held) → bytes_fault key piece old ≡ None → IsReceived key piece old new → LeadsOn key piece old new
 taken_leads key piece old new free received =
     let reached = lines_taken key piece received.grants old in
-    let a = lines_read key piece old received.grants (0, old) (record { grants = []; given = λ d. tt; is = λ n first_r named. record { told = first_r; keys = refl; reads = reads_with_none n key piece first_r old named free } }) in
+    let a = lines_read key piece old received.grants (0, old) received.counted (record { grants = []; counted = refl; is = λ n first_r named. record { told = first_r; keys = refl; reads = reads_with_none n key piece first_r old named free } }) in
+    let counted : new.denied ≡ denied_by old.denied a.grants = ap (λ (x : Option (ℕ × Asked) × Held). x.1.denied) received.rest ∙ heard_denied key piece reached.0 reached.1 (at reached.1 key) ∙ a.counted in
     record {
       grants = a.grants;
-      given = λ d. a.given (sym (ap (λ (x : Option (ℕ × Asked) × Held). x.1.denied) received.rest ∙ heard_denied key piece reached.0 reached.1 (at reached.1 key)) ∙ d);
+      counted = counted;
+      given = λ d. (none_denied a.grants old.denied (sym counted ∙ d)).1;
       leads = λ buses events keys n layout named s.
           let first_r = telling keys (course buses events) in
           let i = a.is n first_r named in
@@ -99,6 +85,7 @@ taken_leads key piece old new free received =
 refused_leads : (key : ℕ) (piece : List ℕ) (old new : Held) (cause : CoreFault) → bytes_fault key piece old ≡ Some cause → new ≡ old → LeadsOn key piece old new
 refused_leads key piece old new cause e same = record {
   grants = [];
+  counted = ap (λ (x : Held). x.denied) same;
   given = λ d. tt;
   leads = λ buses events keys n layout named s.
       let first_r = telling keys (course buses events) in
@@ -111,3 +98,7 @@ pub received_leads : (key : ℕ) (piece : List ℕ) (old new : Held) (result : R
     → OnErr result (new ≡ old) → OnOk result (IsReceived key piece old new) → LeadsOn key piece old new
 received_leads key piece old new (Ok x) free same received = taken_leads key piece old new free received
 received_leads key piece old new (Err cause) e same received = refused_leads key piece old new cause e same
+
+-- memory that was refused before stays refused
+pub received_denied : (key : ℕ) (piece : List ℕ) (old new : Held) → LeadsOn key piece old new → new.denied ≡ 0 → old.denied ≡ 0
+received_denied key piece old new l d = (none_denied l.grants old.denied (sym l.counted ∙ d)).0

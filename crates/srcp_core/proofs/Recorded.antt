@@ -2,8 +2,8 @@
 use Rattle.std.proofs.Common.{◌≡◌, ℕ, zero, suc, ◌+◌, ◌<◌, ◌≤◌, Bool, true, false, List, [], ◌∷◌, ◌++◌, map, take, length, refl, ap, sym, ◌∙◌, subst, arith, add-one, length-append}
 use Rattle.std.proofs.lemmas.List.{take_all}
 use Rattle.std.proofs.lemmas.List.Sums.{fold-append}
-use Rattle.std.specs.List.{fold, AllByRecursion}
-use Rattle.std.specs.Prelude.{Option, Some, None, IsTrue, ◌&&◌, ◌||◌, ◌==◌, nat_lt, slice_get, slice_index_or, Result, Ok, Err, if◌then◌else◌}
+use Rattle.std.specs.List.{fold}
+use Rattle.std.specs.Prelude.{Option, Some, None, ◌&&◌, ◌||◌, ◌==◌, nat_lt, slice_get, slice_index_or, Result, Ok, Err, if◌then◌else◌}
 use Rattle.srcp_info.specs.declared.change.Code.{Code}
 use Rattle.srcp_info.specs.declared.change.Code.TheVariants.{C500}
 use Rattle.srcp_info.specs.declared.change.Reply.TheVariants.{Go, Refused}
@@ -12,7 +12,7 @@ use Rattle.srcp_rules.specs.declared.layout.Bus.{Bus}
 use Rattle.srcp_rules.specs.Layout.{IsLayout}
 use Rattle.srcp_rules.specs.State.{opening, shown_rows}
 use Rattle.srcp_rules.specs.Effect.{Effect}
-use Rattle.srcp_core.specs.Under.{Event, Open, Bytes, Room, At, Shut, Obeyed, Began, Ended, Heard, Order, effect, greets, Piece, under, all_under}
+use Rattle.srcp_core.specs.Under.{Event, Open, Bytes, Room, At, Shut, Obeyed, Began, Ended, Heard, Order, effect, greets, Piece, under, all_under, denied_by}
 use Rattle.srcp_core.specs.declared.event.Event.{Event as PlainEvent}
 use Rattle.srcp_core.specs.Connection.{Connection, History, is_open, is_nil, overran, unsent, recorded}
 use Rattle.srcp_core.specs.Course.{World, start, numbered, at_connection, did, state, history, counted, fault, open_connection, order_of, replied, entered, goes, greeted, ended, obeyed, commanded, answered_as, answered, new_lines, fed_to, shut_as, accepted, or_refused, happens, course}
@@ -235,7 +235,7 @@ runs_on buses events event (Some cause) number r held e h =
 pub follows : (number : ℕ) (event : PlainEvent) (refusal : Option CoreFault) (r mid later_r : Recording) (held later : Held) → HappensAs event refusal r held mid later → later_r ≡ with_fault number refusal mid → FollowsAs number event r held later_r later
 follows number event refusal r mid later_r held later h e = record {
   grants = h.grants;
-  given = h.given;
+  counted = h.counted;
   follows = λ buses events layout n s.
       subst (λ (x : Recording). Runs buses x later (course buses (events ++ under h.grants event ∷ []))) (sym e) (runs_on buses events (under h.grants event) refusal number mid later n (h.happens buses events layout s));
 }
@@ -248,21 +248,17 @@ take_one (x ∷ events) (suc index) event e =
     let one : suc index + 1 ≡ suc (index + 1) = omega arith in
     (ap (λ k. take k (x ∷ events)) one ∙ ap (λ es. x ∷ es) ih.0, ap (λ k. suc k) ih.1)
 
-all_push : (grants : List (List Bool)) (more : List Bool) → AllByRecursion (AllByRecursion IsTrue) grants → AllByRecursion IsTrue more → AllByRecursion (AllByRecursion IsTrue) (grants ++ more ∷ [])
-all_push [] more a h = (h, tt)
-all_push (g ∷ grants) more a h = (a.0, all_push grants more a.1 h)
-
 -- one event more of a list
 pub follows_more : (buses : List Bus) (events : List PlainEvent) (index : ℕ) (event : PlainEvent) (r later_r : Recording) (held later : Held) → IsLayout buses → slice_get events index ≡ Some event → FollowsAs (index + 1) event r held later_r later
-    → (later.denied ≡ 0 → held.denied ≡ 0) → RunsUnder buses (take index events) r held → RunsUnder buses (take (index + 1) events) later_r later
-follows_more buses events index event r later_r held later layout at f before u =
+    → RunsUnder buses (take index events) r held → RunsUnder buses (take (index + 1) events) later_r later
+follows_more buses events index event r later_r held later layout at f u =
     let t = take_one events index event at in
     let all = all_under u.grants (take index events) in
     let long : index ≡ length all = sym (under_length u.grants (take index events) ∙ t.1) in
     subst (λ (es : List PlainEvent). RunsUnder buses es later_r later) (sym t.0) (record {
       grants = u.grants ++ f.grants ∷ [];
       count = length-append u.grants (f.grants ∷ []) ∙ ap (λ k. k + 1) u.count ∙ sym (length-append (take index events) (event ∷ []));
-      given = λ d. all_push u.grants f.grants (u.given (before d)) (f.given d);
+      counted = f.counted ∙ ap (λ k. denied_by k f.grants) u.counted ∙ sym (fold-append denied_by 0 u.grants (f.grants ∷ []));
       runs = subst (λ (es : List Event). Runs buses later_r later (course buses es)) (sym (under_push u.grants (take index events) f.grants event u.count)) (f.follows buses all layout (ap (λ k. k + 1) long) u.runs);
     })
 
@@ -287,7 +283,7 @@ runs_start buses r held e h =
     }))
 
 pub runs_none : (buses : List Bus) (events : List PlainEvent) (r : Recording) (held : Held) → r ≡ nothing_told → held ≡ record { buses = buses; rows = opening buses 0; moment = 0; last_id = 0; places = []; denied = 0 } → RunsUnder buses (take 0 events) r held
-runs_none buses events r held e h = record { grants = []; count = refl; given = λ d. tt; runs = runs_start buses r held e h }
+runs_none buses events r held e h = record { grants = []; count = refl; counted = ap (λ (x : Held). x.denied) h; runs = runs_start buses r held e h }
 
 -- once all events happened
 pub runs_all : (buses : List Bus) (events : List PlainEvent) (index : ℕ) (r : Recording) (held : Held) → length events ≤ index → RunsUnder buses (take index events) r held → RunsUnder buses events r held

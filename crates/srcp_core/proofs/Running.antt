@@ -11,7 +11,7 @@ use Rattle.srcp_rules.specs.Layout.{IsLayout}
 use Rattle.srcp_rules.specs.State.{opening, shown_rows}
 use Rattle.srcp_feed.specs.declared.next.Next.{Next}
 use Rattle.srcp_feed.specs.declared.next.Next.TheVariants.{Told, Listed, Settled}
-use Rattle.srcp_core.specs.Under.{Event, Open, Bytes, Room, At, Shut, Piece, Moment, Ended, lines_under, step_told}
+use Rattle.srcp_core.specs.Under.{Event, Open, Bytes, Room, At, Shut, Piece, Moment, Ended, lines_under, step_told, denied_by}
 use Rattle.srcp_core.specs.declared.event.Event.{Event as PlainEvent}
 use Rattle.srcp_core.specs.declared.event.Event.TheVariants as plain
 use Rattle.srcp_core.specs.declared.record.Step.{Step as PlainStep}
@@ -19,9 +19,9 @@ use Rattle.srcp_core.specs.declared.record.Step.TheVariants as told
 use Rattle.srcp_core.specs.Connection.{Connection, is_nil}
 use Rattle.srcp_core.specs.Course.{World, numbered, at_connection, open_connection, did, history, fresh, counted, fault, absent_fault, bytes_fault as course_fault, accepted, fed_to, shut_as, answered as course_answered, new_marks, course}
 use Rattle.srcp_core.specs.Held.{Place, Held, at, open_count}
-use Rattle.srcp_core.specs.Machine.{IsAdmitted, refused_connect, one_denied, HasRoom, bytes_fault, bytes_fault_from, heard_in, heard_at, line_taken, steps_of_line, answered, freed_place, freed_of, hung_up, hung_up_from, advanced, live_session, live_session_of, let_out, without_sent, changed_at, changed_in as changed_places_in, filled, unsent_of, unsent_at, item_of, item_at}
+use Rattle.srcp_core.specs.Machine.{IsAdmitted, refused_connect, one_denied, HasRoom, bytes_fault, bytes_fault_from, heard_at, line_taken, steps_of_line, freed_place, freed_of, hung_up, hung_up_from, advanced, live_session, live_session_of, let_out, without_sent, changed_at, changed_in as changed_places_in, filled, unsent_of, unsent_at, item_of, item_at}
 use Rattle.srcp_core.specs.Recording.{Recording, key_of, told_of, opened, shut, stepped, noted, gave, took, without_key, changed_record, changed_in}
-use Rattle.srcp_core.specs.Run.{Tells, Runs, GivesAll, Happened, HappensAs, count_at, taken_at, taking}
+use Rattle.srcp_core.specs.Run.{Tells, Runs, Happened, HappensAs, count_at, taken_at, taking}
 use Rattle.srcp_core.specs.Stands.{StandsFor, place_of}
 use Rattle.srcp_core.specs.declared.asked.Asked.{Asked}
 use Rattle.srcp_core.specs.declared.record.ConnRecord.{ConnRecord}
@@ -30,9 +30,8 @@ use Rattle.srcp_core.specs.declared.record.CoreFault.TheVariants.{Full, Memory a
 use Rattle.srcp_core.specs.declared.record.Finish.TheVariants.{Shut as ShutFinish}
 use Rattle.srcp_core.proofs.Answering.{IsFine}
 use Rattle.srcp_core.proofs.Calling.{absent_at, fault_same, full_fault, free_fault, stands_counted, stands_advanced, stands_opened, stands_hung_up}
-use Rattle.srcp_core.proofs.Given.{given_of, given_gives, all_given}
-use Rattle.srcp_core.proofs.Granting.{granted_from, counts}
-use Rattle.srcp_core.proofs.Hearing.{nothing_begun}
+use Rattle.srcp_core.proofs.Given.{counted_more}
+use Rattle.srcp_core.proofs.Hearing.{nothing_begun, heard_denied}
 use Rattle.srcp_core.proofs.Noting.{tells_same, tells_did, tells_changed}
 use Rattle.srcp_core.proofs.Pieces.{accepting, IsUpTo, world_upto, lined, lines_ended, piece_begun}
 use Rattle.srcp_core.proofs.Placing.{place_session, place_ended}
@@ -73,12 +72,12 @@ open_with key r old new a buses events layout s =
     )
 
 pub open_happens : (key : ℕ) (r : Recording) (old new : Held) → IsAdmitted key old new → HappensAs plain.Open None r old (opened key r) new
-open_happens key r old new a = record { grants = []; given = λ d. tt; happens = open_with key r old new a }
+open_happens key r old new a = record { grants = []; counted = ap (λ (x : Held). x.denied) a.rest; happens = open_with key r old new a }
 
 pub full_happens : (r : Recording) (old new : Held) → open_count old ≡ 64 → new ≡ old → HappensAs plain.Open (Some Full) r old r new
 full_happens r old new full same = record {
   grants = [];
-  given = λ d. tt;
+  counted = ap (λ (x : Held). x.denied) same;
   happens = λ buses events layout s.
       let w = counted (course buses events) in
       let c = runs_counted buses r old (course buses events) s in
@@ -97,7 +96,7 @@ memory_with r old new room same buses events layout s =
     (free_fault buses r.keys old w c.stands room false, subst (λ (x : Held). Runs buses r x w) (sym same) (runs_denied buses r old w c))
 
 pub memory_happens : (r : Recording) (old new : Held) → open_count old < 64 → new ≡ one_denied old → HappensAs plain.Open (Some MemoryFault) r old r new
-memory_happens r old new room same = record { grants = false ∷ []; given = λ d. absurd (counts old.denied (sym (ap (λ (x : Held). x.denied) same) ∙ d)); happens = memory_with r old new room same }
+memory_happens r old new room same = record { grants = false ∷ []; counted = ap (λ (x : Held). x.denied) same; happens = memory_with r old new room same }
 
 -- no connection was opened
 pub open_refused : (r : Recording) (old new : Held) (cause : CoreFault) → IsErrOf (err_of cause) Full ↔ (open_count old ≡ 64) → (IsErrOf (err_of cause) MemoryFault → open_count old < 64) → new ≡ refused_connect cause old → (cause ≡ Full) ⊎ (cause ≡ MemoryFault)
@@ -112,7 +111,7 @@ open_refused r old new cause full memory refused (inr e) =
 pub at_happens : (moment : ℕ) (r : Recording) (old new : Held) (now : ℕ) → new ≡ advanced moment old → now ≡ new.moment → HappensAs (plain.At moment) None r old (stepped (told.Moment now ∷ []) r) new
 at_happens moment r old new now is now_is = record {
   grants = [];
-  given = λ d. tt;
+  counted = ap (λ (x : Held). x.denied) is;
   happens = λ buses events layout s.
       let w = counted (course buses events) in
       let c = runs_counted buses r old (course buses events) s in
@@ -134,7 +133,7 @@ absent_bytes buses w n piece e = ap (λ o. course_fault buses w o piece) e
 pub no_bytes_happens : (n : ℕ) (piece : List ℕ) (r : Recording) (held : Held) → key_of n r.keys ≡ None → HappensAs (plain.Bytes n piece) (Some NoSuch) r held r held
 no_bytes_happens n piece r held none = record {
   grants = [];
-  given = λ d. tt;
+  counted = refl;
   happens = λ buses events layout s.
       let w = counted (course buses events) in
       let c = runs_counted buses r held (course buses events) s in
@@ -144,7 +143,7 @@ no_bytes_happens n piece r held none = record {
 pub no_room_happens : (n bytes : ℕ) (r : Recording) (held : Held) → key_of n r.keys ≡ None → HappensAs (plain.Room n bytes) (Some NoSuch) r held r held
 no_room_happens n bytes r held none = record {
   grants = [];
-  given = λ d. tt;
+  counted = refl;
   happens = λ buses events layout s.
       let w = counted (course buses events) in
       let c = runs_counted buses r held (course buses events) s in
@@ -154,7 +153,7 @@ no_room_happens n bytes r held none = record {
 pub no_shut_happens : (n : ℕ) (r : Recording) (held : Held) → key_of n r.keys ≡ None → HappensAs (plain.Shut n) (Some NoSuch) r held r held
 no_shut_happens n r held none = record {
   grants = [];
-  given = λ d. tt;
+  counted = refl;
   happens = λ buses events layout s.
       let w = counted (course buses events) in
       let c = runs_counted buses r held (course buses events) s in
@@ -177,10 +176,10 @@ hung_up_denied key held None = refl
 hung_up_denied key held (Some p) = elim ((p.session == 0) || p.ended) as (λ t. (if t then freed_place key held else freed_of p.session (freed_place key held)).denied ≡ held.denied) [ true ↦ refl | false ↦ refl ]
 
 -- a number that has a key has a place there
-pub gone_happens : (event : PlainEvent) (refusal : Option CoreFault) (n key : ℕ) (r : Recording) (held : Held) (later_r : Recording) (later : Held) → key_of n r.keys ≡ Some key → at held key ≡ None → HappensAs event refusal r held later_r later
-gone_happens event refusal n key r held later_r later named gone = record {
+pub gone_happens : (event : PlainEvent) (refusal : Option CoreFault) (n key : ℕ) (r : Recording) (held : Held) (later_r : Recording) (later : Held) → key_of n r.keys ≡ Some key → at held key ≡ None → later.denied ≡ held.denied → HappensAs event refusal r held later_r later
+gone_happens event refusal n key r held later_r later named gone same = record {
   grants = [];
-  given = λ d. tt;
+  counted = same;
   happens = λ buses events layout s.
       let h = found_at buses (λ n fed. fed) r.keys held (course buses events) n key s.stands named in
       absurd (none-some (place_of h.reader (history buses (course buses events)) h.conn) (sym gone ∙ h.place));
@@ -193,7 +192,7 @@ shut_keys n (Some session) m r = refl
 pub shut_happens : (n key : ℕ) (r : Recording) (old new : Held) (now : ℕ) → key_of n r.keys ≡ Some key → new ≡ hung_up key old → now ≡ new.moment → HappensAs (plain.Shut n) None r old (with_end (live_session key old) now (shut n r)) new
 shut_happens n key r old new now named is now_is = record {
   grants = [];
-  given = λ d. tt;
+  counted = ap (λ (x : Held). x.denied) is ∙ hung_up_denied key old (at old key);
   happens = λ buses events layout s.
       let w = counted (course buses events) in
       let c = runs_counted buses r old (course buses events) s in
@@ -235,7 +234,7 @@ shut_happens n key r old new now named is now_is = record {
 pub bytes_refused : (n key : ℕ) (piece : List ℕ) (r : Recording) (held : Held) (cause : CoreFault) → key_of n r.keys ≡ Some key → bytes_fault key piece held ≡ Some cause → HappensAs (plain.Bytes n piece) (Some cause) r held r held
 bytes_refused n key piece r held cause named e = record {
   grants = [];
-  given = λ d. tt;
+  counted = refl;
   happens = λ buses events layout s.
       let w = counted (course buses events) in
       let c = runs_counted buses r held (course buses events) s in
@@ -283,7 +282,7 @@ ReadsWith grants n key piece first_r first start r held =
 -- what memory answered to its lines so far
 pub record ReadsOn (n key : ℕ) (piece : List ℕ) (first_r : Recording) (first : Held) (start : ℕ) (r : Recording) (held : Held) : Type 0 where
   pub grants : List Bool
-  pub given : GivesAll grants held
+  pub counted : held.denied ≡ denied_by first.denied grants
   pub reads : ReadsWith grants n key piece first_r first start r held
 
 pub reads_with_none : (n key : ℕ) (piece : List ℕ) (r : Recording) (held : Held) → key_of n r.keys ≡ Some key → bytes_fault key piece held ≡ None → ReadsWith [] n key piece r held 0 r held
@@ -304,7 +303,7 @@ reads_with_none n key piece r held named free buses events layout s =
     }
 
 pub reads_first : (n key : ℕ) (piece : List ℕ) (r : Recording) (held : Held) → key_of n r.keys ≡ Some key → bytes_fault key piece held ≡ None → ReadsOn n key piece r held 0 r held
-reads_first n key piece r held named free = record { grants = []; given = λ d. tt; reads = reads_with_none n key piece r held named free }
+reads_first n key piece r held named free = record { grants = []; counted = refl; reads = reads_with_none n key piece r held named free }
 
 pub noted_keys : (n : ℕ) (steps : List PlainStep) (r : Recording) → (noted n steps r).keys ≡ r.keys
 noted_keys n [] r = refl
@@ -316,7 +315,7 @@ noted_keys n (step ∷ next ∷ steps) r = refl
 
 pub reads_with_more : (grants : List Bool) (n key : ℕ) (piece : List ℕ) (first_r : Recording) (first : Held) (start stop : ℕ) (granted : Bool) (steps : List PlainStep) (r : Recording) (held new : Held) → start < stop
     → ◌≡◌ {A = ℕ × Held} (stop, new) (line_taken key granted (start, held) (heard_at key piece start held)) → steps ≡ steps_of_line key granted (heard_at key piece start held)
-    → ReadsWith grants n key piece first_r first start r held → ReadsWith (grants ++ given_of granted new ∷ []) n key piece first_r first stop (noted n steps r) new
+    → ReadsWith grants n key piece first_r first start r held → ReadsWith (grants ++ granted ∷ []) n key piece first_r first stop (noted n steps r) new
 reads_with_more grants n key piece first_r first start stop granted steps r held new onward is steps_are reads buses events layout s =
     let i = reads buses events layout s in
     let order = opening_in_order buses layout in
@@ -329,21 +328,17 @@ reads_with_more grants n key piece first_r first start stop granted steps r held
       free = i.free;
       keys = noted_keys n steps r ∙ i.keys;
       upto = l.upto;
-      tells = subst (λ (steps : List PlainStep). Tells (noted n steps r) (world_upto buses order first_r.keys n key i.named i.conn.fed piece (accepting n piece w) (grants ++ given_of granted new ∷ []) stop)) (sym steps_are) l.tells;
+      tells = subst (λ (steps : List PlainStep). Tells (noted n steps r) (world_upto buses order first_r.keys n key i.named i.conn.fed piece (accepting n piece w) (grants ++ granted ∷ []) stop)) (sym steps_are) l.tells;
     }
 
 pub reads_more : (n key : ℕ) (piece : List ℕ) (first_r : Recording) (first : Held) (start stop : ℕ) (granted : Bool) (steps : List PlainStep) (r : Recording) (held new : Held) → start < stop
     → ◌≡◌ {A = ℕ × Held} (stop, new) (line_taken key granted (start, held) (heard_at key piece start held)) → steps ≡ steps_of_line key granted (heard_at key piece start held)
-    → (new.denied ≡ 0 → held.denied ≡ 0) → ReadsOn n key piece first_r first start r held → ReadsOn n key piece first_r first stop (noted n steps r) new
-reads_more n key piece first_r first start stop granted steps r held new onward is steps_are before reads = record {
-  grants = reads.grants ++ given_of granted new ∷ [];
-  given = λ d. all_given reads.grants (given_of granted new) (reads.given (before d)) (given_gives granted new d);
+    → new.denied ≡ denied_by held.denied (granted ∷ []) → ReadsOn n key piece first_r first start r held → ReadsOn n key piece first_r first stop (noted n steps r) new
+reads_more n key piece first_r first start stop granted steps r held new onward is steps_are counted reads = record {
+  grants = reads.grants ++ granted ∷ [];
+  counted = counted_more first.denied held.denied new.denied reads.grants granted reads.counted counted;
   reads = reads_with_more reads.grants n key piece first_r first start stop granted steps r held new onward is steps_are reads.reads;
 }
-
-pub heard_denied : (key : ℕ) (piece : List ℕ) (from : ℕ) (held : Held) (o : Option Place) → (heard_in key piece from held o).1.denied ≡ held.denied
-heard_denied key piece from held None = refl
-heard_denied key piece from held (Some p) = refl
 
 pub bytes_with : (grants : List Bool) (n key : ℕ) (piece : List ℕ) (first_r : Recording) (first : Held) (start : ℕ) (r : Recording) (held new : Held) → ◌≡◌ {A = Option (ℕ × Asked) × Held} (None, new) (heard_at key piece start held) → ReadsWith grants n key piece first_r first start r held
     → (buses : List Bus) (events : List Event) → IsLayout buses → Runs buses first_r first (course buses events) → Happened buses (Bytes n (record { bytes = piece; grants = grants })) None r new (counted (course buses events))
@@ -365,21 +360,9 @@ pub bytes_happens : (n key : ℕ) (piece : List ℕ) (first_r : Recording) (firs
     → HappensAs (plain.Bytes n piece) None first_r first r new
 bytes_happens n key piece first_r first start r held new is reads = record {
   grants = reads.grants;
-  given = λ d. reads.given (sym (ap (λ (x : Option (ℕ × Asked) × Held). x.1.denied) is ∙ heard_denied key piece start held (at held key)) ∙ d);
+  counted = ap (λ (x : Option (ℕ × Asked) × Held). x.1.denied) is ∙ heard_denied key piece start held (at held key) ∙ reads.counted;
   happens = bytes_with reads.grants n key piece first_r first start r held new is reads.reads;
 }
-
--- memory that was refused to a line stays refused
-pub line_denied : (key : ℕ) (piece : List ℕ) (start stop : ℕ) (granted : Bool) (held new : Held) → ◌≡◌ {A = ℕ × Held} (stop, new) (line_taken key granted (start, held) (heard_at key piece start held)) → new.denied ≡ 0 → held.denied ≡ 0
-line_denied key piece start stop granted held new is d =
-    by (heard_at key piece start held).0 (heard_at key piece start held).1 refl
-  where
-    by : (o : Option (ℕ × Asked)) (mid : Held) → ◌≡◌ {A = Option (ℕ × Asked) × Held} (heard_at key piece start held) (o, mid) → held.denied ≡ 0
-    by None mid e = let same : new ≡ held = ap (λ (x : ℕ × Held). x.1) (is ∙ ap (line_taken key granted (start, held)) e) in ap (λ (x : Held). x.denied) (sym same) ∙ d
-    by (Some (s, asked)) mid e =
-        let same : new ≡ answered granted key asked mid = ap (λ (x : ℕ × Held). x.1) (is ∙ ap (line_taken key granted (start, held)) e) in
-        let g = granted_from key mid granted asked (at mid key) (ap (λ (x : Held). x.denied) (sym same) ∙ d) in
-        sym (heard_denied key piece start held (at held key)) ∙ ap (λ (x : Option (ℕ × Asked) × Held). x.1.denied) e ∙ g.before
 
 -- ---- room
 
@@ -438,10 +421,10 @@ gives_as n key bytes first_r first left r held count later_r later e f h more so
     (gives_more n key bytes first_r first left r held (subst (λ k. 0 < k) e a) (subst (λ k. 0 < left - k) e b) gives)))
 
 pub room_happens : (n key bytes : ℕ) (first_r : Recording) (first : Held) (left : ℕ) (r : Recording) (held : Held) → (left - count_at key left held ≡ 0) ⊎ (count_at key left held ≡ 0)
-    → GivesOn n key bytes first_r first left r held → HappensAs (plain.Room n bytes) None first_r first (taking n key left held r) (taken_at key left held)
-room_happens n key bytes first_r first left r held ends gives = record {
+    → held.denied ≡ first.denied → GivesOn n key bytes first_r first left r held → HappensAs (plain.Room n bytes) None first_r first (taking n key left held r) (taken_at key left held)
+room_happens n key bytes first_r first left r held ends same gives = record {
   grants = [];
-  given = λ d. tt;
+  counted = same;
   happens = λ buses events layout s.
       let i = gives buses events layout s in
       let w = counted (course buses events) in

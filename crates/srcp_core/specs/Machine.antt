@@ -30,6 +30,7 @@ use Rattle.srcp_core.specs.Connection.{is_nil, line_of}
 use Rattle.srcp_core.specs.Course.{welcome, is_info, command_of}
 use Rattle.srcp_core.specs.Handshake.{Greeting, Speaks, Chooses, Goes, Refuses, greets}
 use Rattle.srcp_core.specs.Held.{Place, Held, place_at, at, open_count}
+use Rattle.srcp_core.specs.Under.{denied_by}
 use Rattle.srcp_core.specs.declared.answered.Answered.{Answered}
 use Rattle.srcp_core.specs.declared.answered.LineSteps.{LineSteps}
 use Rattle.srcp_core.specs.declared.answered.LineSteps.TheVariants.{Nothing, One, Two}
@@ -340,10 +341,19 @@ pub record IsLineTaken (key : ℕ) (piece : List ℕ) (start stop : ℕ) (did : 
   pub room : HasRoom key piece stop new
   pub is : (stop, new) ≡ line_taken key did.granted (start, old) (heard_at key piece start old)
   pub steps : listed did.steps ≡ steps_of_line key did.granted (heard_at key piece start old)
+  pub counted : new.denied ≡ denied_by old.denied (did.granted ∷ [])
+
+-- each answer to the lines that follow is counted where it refuses
+abbrev pub CountsEach : ℕ → List ℕ → ℕ × Held → List Bool → Type 0
+CountsEach key piece before [] = ⊤
+CountsEach key piece before (granted ∷ grants) =
+    ((line_taken key granted before (heard_at key piece before.0 before.1)).1.denied ≡ denied_by before.1.denied (granted ∷ []))
+    × CountsEach key piece (line_taken key granted before (heard_at key piece before.0 before.1)) grants
 
 -- each line that ends in the piece is answered in turn, by whether memory was given to it, and then the front of a line is left
 pub record IsReceived (key : ℕ) (piece : List ℕ) (old new : Held) : Type 0 where
   pub grants : List Bool
+  pub counted : CountsEach key piece (0, old) grants
   pub rest : (None, new) ≡ heard_at key piece (lines_taken key piece grants old).0 (lines_taken key piece grants old).1
 
 -- it overran, or it ended and all replies are taken

@@ -1,5 +1,5 @@
 -- What a run promises of the connections that it tells of, and of the registry.
-use Rattle.std.specs.Prelude.{◌≡◌, ℕ, zero, suc, ◌+◌, ◌<◌, ◌≤◌, Bool, true, false, IsTrue, List, [], ◌∷◌, ◌++◌, length, slice_get, Option, Some, None}
+use Rattle.std.specs.Prelude.{◌≡◌, ℕ, zero, suc, ◌+◌, ◌<◌, ◌≤◌, Bool, true, false, IsTrue, List, [], ◌∷◌, ◌++◌, length, fold, slice_get, Option, Some, None}
 use Rattle.std.specs.List.{AllByRecursion}
 use Rattle.srcp_info.specs.declared.change.Change.{Change}
 use Rattle.srcp_info.specs.Key.{owns}
@@ -10,7 +10,7 @@ use Rattle.srcp_rules.specs.State.{IsWhole}
 use Rattle.srcp_core.specs.Connection.{Connection, is_open, is_settled, overran, given, sent, unsent, recorded}
 use Rattle.srcp_core.specs.Course.{course, history, numbered, rows}
 use Rattle.srcp_core.specs.Laws.{IsRecordOf, IsSession, ListsStill, ListsNoneTwice, ListsRising, ListsHeld, HoldsPassed, SendsLines, IsThereFrom, HoldsRegistry, IsPrefixOf, GivesOwed, AddsUp, OverrunsWhereFull, IsWholeWorld, KeepsKeys, has_key, is_over, times_listed, without_events}
-use Rattle.srcp_core.specs.Under.{Event, Room, all_under}
+use Rattle.srcp_core.specs.Under.{Event, Room, all_under, denied_by}
 use Rattle.srcp_core.specs.declared.event.Event.{Event as PlainEvent}
 use Rattle.srcp_core.specs.declared.record.ConnRecord.{ConnRecord}
 use Rattle.srcp_core.specs.declared.record.Record.{Record}
@@ -113,10 +113,12 @@ module _ (buses : List Bus) where
 -- ---- a whole run
 
 -- what memory answered in each event, with which the record is that of the course of the events, and tells of it what it promises;
--- where no growth was refused each answer gave, and the course is that of the events where memory gives all
+-- the record counts exactly the answers that refused, up to the greatest u64;
+-- where it counts none each answer gave, and the course is that of the events where memory gives all
 pub record IsPromised (buses : List Bus) (events : List PlainEvent) (told : Record) : Type 0 where
   pub grants : List (List Bool)
   pub count : length grants ≡ length events
+  pub counted : told.denied ≡ fold denied_by 0 grants
   pub given : told.denied ≡ 0 → AllByRecursion (AllByRecursion IsTrue) grants
   pub is : IsRecordOf buses (all_under grants events) told
   pub sessions : ToldSessions buses (all_under grants events) told

@@ -1,5 +1,5 @@
 -- What a run keeps beside the course of its events, and what comes of one more event.
-use Rattle.std.specs.Prelude.{◌≡◌, ◌+◌, ◌++◌, ◌∷◌, [], ℕ, Bool, true, IsTrue, List, map, take, length, min, Option, Some, None}
+use Rattle.std.specs.Prelude.{◌≡◌, ◌+◌, ◌++◌, ◌∷◌, [], ℕ, Bool, true, IsTrue, List, map, take, fold, length, min, Option, Some, None}
 use Rattle.std.specs.List.{AllByRecursion}
 use Rattle.srcp_rules.specs.declared.layout.Bus.{Bus}
 use Rattle.srcp_rules.specs.Layout.{IsLayout}
@@ -10,7 +10,7 @@ use Rattle.srcp_core.specs.Recording.{Recording, key_of, without_key, told_of, g
 use Rattle.srcp_core.specs.Laws.{HasMoment, IsRecordOf}
 use Rattle.srcp_core.specs.Stands.{StandsFor}
 use Rattle.srcp_core.specs.declared.record.Record.{Record}
-use Rattle.srcp_core.specs.Under.{Event, Shut, Open, Bytes, step_told, under, all_under}
+use Rattle.srcp_core.specs.Under.{Event, Shut, Open, Bytes, step_told, under, all_under, denied_by}
 use Rattle.srcp_core.specs.declared.event.Event.{Event as PlainEvent}
 use Rattle.srcp_core.specs.declared.record.CoreFault.{CoreFault}
 
@@ -50,16 +50,16 @@ GivesAll grants held = held.denied ≡ 0 → AllByRecursion IsTrue grants
 -- what memory answered, with which, whatever the events were before, the event is carried out or refused as it is in their course
 pub record HappensAs (event : PlainEvent) (refusal : Option CoreFault) (r : Recording) (held : Held) (later_r : Recording) (later : Held) : Type 0 where
   pub grants : List Bool
-  pub given : GivesAll grants later
   pub happens : (buses : List Bus) (events : List Event) → IsLayout buses → Runs buses r held (course buses events)
       → Happened buses (under grants event) refusal later_r later (counted (course buses events))
+  pub counted : later.denied ≡ denied_by held.denied grants
 
 -- and so with the number of the event, which is noted where it is refused
 pub record FollowsAs (number : ℕ) (event : PlainEvent) (r : Recording) (held : Held) (later_r : Recording) (later : Held) : Type 0 where
   pub grants : List Bool
-  pub given : GivesAll grants later
   pub follows : (buses : List Bus) (events : List Event) → IsLayout buses → number ≡ length events + 1
       → Runs buses r held (course buses events) → Runs buses later_r later (course buses (events ++ under grants event ∷ []))
+  pub counted : later.denied ≡ denied_by held.denied grants
 
 -- a call leads from the course of any events to that with its event
 abbrev pub LeadsTo : Event → Held → Held → Type 0
@@ -77,6 +77,7 @@ LeadsAt key event old new =
 -- the same of a piece, with what memory answered to its lines
 pub record LeadsOn (key : ℕ) (piece : List ℕ) (old new : Held) : Type 0 where
   pub grants : List Bool
+  pub counted : new.denied ≡ denied_by old.denied grants
   pub given : GivesAll grants new
   pub leads : LeadsAt key (λ n. Bytes n (record { bytes = piece; grants = grants })) old new
 
@@ -98,14 +99,14 @@ LeadsToOpen key old new =
 pub record RunsUnder (buses : List Bus) (events : List PlainEvent) (r : Recording) (held : Held) : Type 0 where
   pub grants : List (List Bool)
   pub count : length grants ≡ length events
-  pub given : held.denied ≡ 0 → AllByRecursion (AllByRecursion IsTrue) grants
+  pub counted : held.denied ≡ fold denied_by 0 grants
   pub runs : Runs buses r held (course buses (all_under grants events))
 
 -- what memory answered in each event of a run, where its record is that of the course of the events under these answers
 pub record RunsRecord (buses : List Bus) (events : List PlainEvent) (told : Record) : Type 0 where
   pub grants : List (List Bool)
   pub count : length grants ≡ length events
-  pub given : told.denied ≡ 0 → AllByRecursion (AllByRecursion IsTrue) grants
+  pub counted : told.denied ≡ fold denied_by 0 grants
   pub is : IsRecordOf buses (all_under grants events) told
 
 -- the moment that an event tells has 64 bits

@@ -1,5 +1,5 @@
 -- What memory answers in each event, and what of that the course of the events takes in.
-use Rattle.std.specs.Prelude.{ℕ, Bool, true, false, not, ◌||◌, if◌then◌else◌, List, [], ◌∷◌}
+use Rattle.std.specs.Prelude.{ℕ, ◌+◌, min, fold, Bool, true, false, not, ◌||◌, if◌then◌else◌, List, [], ◌∷◌}
 use Rattle.srcp_info.specs.declared.change.Code.TheVariants.{C500}
 use Rattle.srcp_info.specs.declared.value.Mode.{Mode}
 use Rattle.srcp_rules.specs.declared.command.Command.{Command}
@@ -36,6 +36,10 @@ giving bytes = record { bytes = bytes; grants = [] }
 abbrev pub first_of : List Bool → Bool
 first_of [] = true
 first_of (granted ∷ grants) = granted
+
+-- how many growths were refused, after these answers too; the count stays at the greatest u64
+abbrev pub denied_by : ℕ → List Bool → ℕ
+denied_by denied grants = fold (λ count granted. if granted then count else min (count + 1) 18446744073709551615) denied grants
 
 -- the event, with these answers
 abbrev pub under : List Bool → PlainEvent → Event

@@ -1,5 +1,5 @@
 //! How the lines of a connection are answered.
-ghost use Rattle.std.specs.Prelude.{◌≡◌, ◌≢◌, ◌+◌, ◌≤◌, true, false, length, Ok, OnOk, OnErr, OnSome, IfNone, IfSome, IfOk};
+ghost use Rattle.std.specs.Prelude.{◌≡◌, ◌≢◌, ◌+◌, ◌≤◌, [], ◌∷◌, true, false, length, Ok, OnOk, OnErr, OnSome, IfNone, IfSome, IfOk};
 ghost use Rattle.srcp_info.specs.WellFormed.{IsWellFormedReply};
 ghost use Rattle.srcp_info.specs.declared.change.Code.TheVariants.{C500};
 ghost use Rattle.srcp_info.specs.declared.change.Reply.TheVariants.{Refused};
@@ -7,6 +7,7 @@ ghost use Rattle.srcp_rules.specs.Command.{IsCommandOf};
 ghost use Rattle.srcp_rules.specs.Effect.{adds_rows, effect};
 ghost use Rattle.srcp_rules.specs.State.{session_device, is_there};
 ghost use Rattle.srcp_core.specs.Held.{IsSessionAt};
+ghost use Rattle.srcp_core.specs.Under.{denied_by};
 ghost use Rattle.srcp_core.specs.Machine.{feed_for, changed_at, unsent_at, one_denied, replied, denied_line, begun, goes, greeted, carried, freed_of, commanded, longest, steps_gone, steps_greeted, steps_commanded, listed};
 
 use super::walk::{free_all, tell_all, tell_each};
@@ -86,6 +87,7 @@ impl<'a, R: Rows> Core<'a, R> {
         requires { length (unsent_at conn self.old) + 64 ≤ 16640 }
         ensures core { self.new ≡ goes result.granted conn mode self.old }
         ensures steps { listed result.steps ≡ steps_gone result.granted mode self.old }
+        ensures counted { self.new.denied ≡ denied_by self.old.denied (result.granted ∷ []) }
     {
         if self.last_id >= LAST_ID {
             self.reply(conn, &Reply::Refused(Code::C500));
@@ -114,6 +116,7 @@ impl<'a, R: Rows> Core<'a, R> {
         requires { length (unsent_at conn self.old) + 64 ≤ 16640 }
         ensures core { self.new ≡ greeted result.granted conn mode greeting self.old }
         ensures steps { listed result.steps ≡ steps_greeted result.granted mode greeting self.old }
+        ensures counted { self.new.denied ≡ denied_by self.old.denied (result.granted ∷ []) }
     {
         match greeting {
             Greeting::Speaks => self.reply(conn, &Reply::Protocol),
@@ -164,6 +167,7 @@ impl<'a, R: Rows> Core<'a, R> {
         requires room { length (unsent_at conn self.old) + 126 ≤ 16640 }
         ensures core { self.new ≡ commanded result.granted conn session (Ok command.now) self.old }
         ensures steps { listed result.steps ≡ steps_commanded result.granted session (Ok command.now) self.old }
+        ensures counted { self.new.denied ≡ denied_by self.old.denied (result.granted ∷ []) }
     {
         let moment = self.moment;
         let step = Step::Obeyed {

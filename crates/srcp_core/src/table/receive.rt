@@ -1,12 +1,12 @@
 //! Bytes that come in, and what their lines ask for.
-ghost use Rattle.std.specs.Prelude.{◌≡◌, ◌+◌, ◌≤◌, [], true, length, Some, None, IfOk, IfNone, IfSome, OnOk, OnErr, MatchResult};
+ghost use Rattle.std.specs.Prelude.{◌≡◌, ◌+◌, ◌≤◌, [], ◌∷◌, true, length, Some, None, IfOk, IfNone, IfSome, OnOk, OnErr, MatchResult};
 ghost use Rattle.srcp_rules.specs.Command.{IsCommandOf};
 ghost use Rattle.srcp_rules.specs.State.{is_there, session_device};
 ghost use Rattle.srcp_text.specs.Marks.{Mark};
 ghost use Rattle.srcp_core.specs.Agrees.{OfConnection};
 ghost use Rattle.srcp_core.specs.Course.{course, fault};
 ghost use Rattle.srcp_core.specs.Run.{LeadsOn};
-ghost use Rattle.srcp_core.specs.Under.{Bytes, giving};
+ghost use Rattle.srcp_core.specs.Under.{Bytes, giving, denied_by};
 ghost use Rattle.srcp_core.specs.Held.{Place, IsSessionAt, IsSound, at};
 ghost use Rattle.srcp_core.specs.Machine.{asked_of, answered, commanded, longest_answer, unsent_at, bytes_fault, heard_at, IsReceived, HasRoom, IsLineTaken, steps_commanded, steps_answered, listed};
 
@@ -110,6 +110,7 @@ impl<'a, R: Rows> Core<'a, R> {
         requires room { length (unsent_at conn self.old) + longest_answer asked ≤ 16640 }
         ensures core { self.new ≡ answered result.granted conn asked self.old }
         ensures steps { listed result.steps ≡ steps_answered result.granted conn asked self.old }
+        ensures counted { self.new.denied ≡ denied_by self.old.denied (result.granted ∷ []) }
     {
         let Some(connection) = self.connections.get(conn) else {
             return Answered::nothing();
@@ -131,6 +132,7 @@ impl<'a, R: Rows> Core<'a, R> {
         requires room { length (unsent_at conn self.old) + longest_answer (Asked.Commands command) ≤ 16640 }
         ensures core { self.new ≡ commanded result.granted conn session command self.old }
         ensures steps { listed result.steps ≡ steps_commanded result.granted session command self.old }
+        ensures counted { self.new.denied ≡ denied_by self.old.denied (result.granted ∷ []) }
     {
         match command {
             Ok(command) => self.obey(conn, session, &command),

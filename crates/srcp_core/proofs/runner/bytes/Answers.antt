@@ -1,7 +1,8 @@
-use Rattle.std.proofs.Common.{sym, ◌∙◌, subst}
+use Rattle.std.proofs.Common.{sym, ◌∙◌, subst, [], ◌∷◌}
 use Rattle.srcp_core.specs.Machine.{listed}
 use Rattle.srcp_core.specs.Recording.{Recording}
-use Rattle.srcp_core.proofs.Running.{no_bytes_happens, bytes_refused, bytes_room, reads_first, reads_more, line_denied, bytes_happens, ReadsOn}
+use Rattle.srcp_core.proofs.Given.{none_denied}
+use Rattle.srcp_core.proofs.Running.{no_bytes_happens, bytes_refused, bytes_room, reads_first, reads_more, bytes_happens, ReadsOn}
 use Rattle.srcp_core.proofs.runner.bytes.Goals as goal
 
 pub returns-in_default-clause-course : goal.returns-in_default-clause-course
@@ -19,19 +20,18 @@ loop-stop-init g c =
 
 pub returns-in_err-answered-clause-denied : goal.returns-in_err-answered-clause-denied
 returns-in_err-answered-clause-denied g c = λ d.
-    c.loop-stop.invariant.denied (line_denied c.in-Some.key c.args.piece.now c.loop-stop.start c.in-Some-take_line.stop c.in-Some-take_line.answered.granted c.loop-stop.core c.take_line.new.self c.in-Some-take_line.ensures.line.is d)
+    c.loop-stop.invariant.denied (none_denied (c.in-Some-take_line.answered.granted ∷ []) c.loop-stop.core.denied (sym c.in-Some-take_line.ensures.line.counted ∙ d)).0
 
 pub loop-stop-preserved : goal.loop-stop-preserved
 loop-stop-preserved g c =
     let line = c.in-Some-take_line.ensures.line in
-    let before = line_denied c.in-Some.key c.args.piece.now c.loop-stop.start c.in-Some-take_line.stop c.in-Some-take_line.answered.granted c.loop-stop.core c.take_line.new.self line.is in
     record {
       few = c.loop-stop.invariant.few;
       room = line.room;
       reads = subst (λ (r : Recording). ReadsOn c.args.conn c.in-Some.key c.args.piece.now c.args.recorder.now c.args.core.now c.in-Some-take_line.stop r c.take_line.new.self) (sym c.in_ok-answered.ensures)
           (reads_more c.args.conn c.in-Some.key c.args.piece.now c.args.recorder.now c.args.core.now c.loop-stop.start c.in-Some-take_line.stop c.in-Some-take_line.answered.granted (listed c.in-Some-take_line.answered.steps) c.loop-stop.recorder c.loop-stop.core c.take_line.new.self
-          line.onward line.is line.steps before c.loop-stop.invariant.reads);
-      denied = λ d. c.loop-stop.invariant.denied (before d);
+          line.onward line.is line.steps line.counted c.loop-stop.invariant.reads);
+      denied = λ d. c.loop-stop.invariant.denied (none_denied (c.in-Some-take_line.answered.granted ∷ []) c.loop-stop.core.denied (sym line.counted ∙ d)).0;
     }
 
 pub returns-clause-course : goal.returns-clause-course

@@ -1,4 +1,4 @@
-use Rattle.std.proofs.Common.{◌≤◌, length, ◌∙◌, sym, refl, arith}
+use Rattle.std.proofs.Common.{◌≤◌, length, ◌∙◌, refl, arith}
 use Rattle.std.proofs.lemmas.Option.{slice_get_read}
 use Rattle.srcp_core.specs.Under.{all_under}
 use Rattle.srcp_core.proofs.Promises.{moments_all, moments_more}
@@ -12,7 +12,7 @@ returns-clause-record g c =
     record {
       grants = u.grants;
       count = u.count;
-      given = λ d. u.given (sym c.in_ok-record.ensures.denied ∙ d);
+      counted = c.in_ok-record.ensures.denied ∙ u.counted;
       is = record_is c.args.layout.now (all_under u.grants c.args.events.now) c.loop-index.recorder c.loop-index.core c.in_ok-record.field-0 c.buses.ensures.laid_out u.runs
           c.in_ok-record.ensures.steps c.in_ok-record.ensures.refused c.in_ok-record.ensures.connections c.in_ok-record.ensures.rows;
     }
@@ -32,6 +32,6 @@ pub loop-index-preserved : goal.loop-index-preserved
 loop-index-preserved g c =
     let at = slice_get_read c.args.events.now (length c.args.events.now) c.loop-index.index c.index-events-index.result refl c.loop-index-test.true c.index-events-index.is in record {
       runs = follows_more c.args.layout.now c.args.events.now c.loop-index.index c.index-events-index.result c.loop-index.recorder c.follow.new.recorder c.loop-index.core c.follow.new.core c.buses.ensures.laid_out at
-          c.in_ok-follow.ensures.course c.follow.ensures.denied c.loop-index.invariant.runs;
+          c.in_ok-follow.ensures.course c.loop-index.invariant.runs;
       moments = moments_more c.args.events.now c.loop-index.index c.index-events-index.result at c.follow.ensures.moment c.loop-index.invariant.moments;
     }

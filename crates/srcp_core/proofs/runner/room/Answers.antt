@@ -30,7 +30,7 @@ returns-then-left-eq0-clause-course g c =
       | then-left-eq0-via-then-left-eq0 w ↦ first_ends c.loop-count.left c.in_ok-count.count now c.in_ok-count.ensures.count w.if-left-eq0.true
       | then-left-eq0-via-else-left-eq0+then-count-eq0 w ↦ second_ends c.loop-count.left c.in_ok-count.count now c.in_ok-count.ensures.count w.if-count-eq0.true
     ])
-    c.loop-count.invariant.gives)
+    c.loop-count.invariant.denied c.loop-count.invariant.gives)
 
 pub loop-count-preserved : goal.loop-count-preserved
 loop-count-preserved g c = record {

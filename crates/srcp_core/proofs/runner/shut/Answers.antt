@@ -11,7 +11,7 @@ returns-in_default-clause-course g c = no_shut_happens c.args.conn c.args.record
 
 pub returns-in-Err-clause-course : goal.returns-in-Err-clause-course
 returns-in-Err-clause-course g c =
-    gone_happens (Shut c.args.conn) (Some c.in-Err.fault) c.args.conn c.in-Some.key c.args.recorder.now c.args.core.now c.args.recorder.now c.hangup.new.self (sym c.key.ensures ∙ c.in-Some.is) c.in-Err.ensures.absent.1
+    gone_happens (Shut c.args.conn) (Some c.in-Err.fault) c.args.conn c.in-Some.key c.args.recorder.now c.args.core.now c.args.recorder.now c.hangup.new.self (sym c.key.ensures ∙ c.in-Some.is) c.in-Err.ensures.absent.1 c.hangup.ensures.denied
 
 pub returns-in_ok-step-clause-course : goal.returns-in_ok-step-clause-course
 returns-in_ok-step-clause-course g c =

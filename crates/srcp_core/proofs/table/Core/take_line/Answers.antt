@@ -12,4 +12,4 @@ answer-requires-clause-room g c =
 pub returns-clause-line : goal.returns-clause-line
 returns-clause-line g c =
     line_answered c.args.conn c.args.piece.now c.args.start c.in_ok-stop.stop c.in_ok-stop.asked c.args.self.now c.hear.new.self c.in_ok-stop.ensures.heard
-    c.answer.result c.answer.new.self c.answer.ensures.core c.answer.ensures.steps c.in_ok-stop.ensures.sound c.requires.room
+    c.answer.result c.answer.new.self c.answer.ensures.core c.answer.ensures.steps c.answer.ensures.counted c.in_ok-stop.ensures.sound c.requires.room
