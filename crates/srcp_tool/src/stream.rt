@@ -5,7 +5,7 @@ ghost use Rattle.std.specs.List.{AllByRecursion};
 ghost use Rattle.srcp_info.specs.Client.{listing};
 ghost use Rattle.srcp_info.specs.WellFormed.{IsWellFormedShown};
 ghost use Rattle.srcp_tool.specs.Mirroring.{IsAt};
-ghost use Rattle.srcp_tool.specs.Output.{ClientHolds, Writes, Mirrors, RefusesInput, StopsFor};
+ghost use Rattle.srcp_tool.specs.Output.{input_limit, ClientHolds, Writes, Mirrors, RefusesInput, StopsFor};
 
 mod begun;
 mod lines;
@@ -46,6 +46,7 @@ pub fn mirror<R: Read, W: Write>(
 /// Applies the lines of the input up to its end. The first line that is refused is told at the end
 /// alone, since a read that fails and an input that is too large are told before it.
 fn read_lines<R: Read>(alloc: Global, reader: &mut R) -> Result<Mirror, ToolFault>
+    ensures within { IfOk result (λ rows. IfSome (R.remaining reader.old) (λ input. length input ≤ input_limit)) }
     ensures holds { IfOk result (λ rows. IfSome (R.remaining reader.old) (λ input. ClientHolds input rows)) }
     ensures stops { IfErr result (StopsFor (λ fault.
         IfSome (R.remaining reader.old) (λ input. RefusesInput input fault))) }
