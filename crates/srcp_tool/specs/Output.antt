@@ -201,6 +201,13 @@ StopsFor Refuses Memory = ⊤
 StopsFor Refuses Output = ⊥
 StopsFor Refuses other = Refuses other
 
+-- why no text can be had of bytes that are there: they are refused, or memory is; no device has a part in it
+abbrev pub RefusesFor : (Refuses : ToolFault → Type 0) → ToolFault → Type 0
+RefusesFor Refuses Input = ⊥
+RefusesFor Refuses Output = ⊥
+RefusesFor Refuses Memory = ⊤
+RefusesFor Refuses other = Refuses other
+
 -- known bytes gain a front of the text at their end
 pub record AppendsFront (old new : Option (List ℕ)) (text : List ℕ) : Type 0 where
   pub count : ℕ
