@@ -111,8 +111,9 @@ pub record ClientHolds (input : List ℕ) (rows : List Shown) : Type 0 where
   pub holds : HoldsLines input changes begun
   pub same : rows ≡ client changes
 
--- `mirror` prints the rows of a client of the whole lines
+-- `mirror` prints the rows of a client of the whole lines, where the input is within its limit
 pub record Mirrors (input output : List ℕ) : Type 0 where
+  pub within : length input ≤ input_limit
   pub rows : List Shown
   pub held : ClientHolds input rows
   pub shows : output ≡ listing rows
@@ -128,9 +129,9 @@ pub record RefusesLine (input : List ℕ) (n : ℕ) : Type 0 where
   pub no_change : (change : Change) → IsLineOf text change → ⊥
   pub place : n ≡ length changes + 1
 
--- why `mirror` prints nothing
+-- why `mirror` prints nothing; a line is told only of an input within its limit
 abbrev pub RefusesInput : List ℕ → ToolFault → Type 0
-RefusesInput input (Line n) = RefusesLine input n
+RefusesInput input (Line n) = (length input ≤ input_limit) × RefusesLine input n
 RefusesInput input TooLarge = input_limit < length input
 RefusesInput input other = ⊥
 
@@ -199,6 +200,13 @@ StopsFor Refuses Input = ⊤
 StopsFor Refuses Memory = ⊤
 StopsFor Refuses Output = ⊥
 StopsFor Refuses other = Refuses other
+
+-- why no text can be had of bytes that are there: they are refused, or memory is; no device has a part in it
+abbrev pub RefusesFor : (Refuses : ToolFault → Type 0) → ToolFault → Type 0
+RefusesFor Refuses Input = ⊥
+RefusesFor Refuses Output = ⊥
+RefusesFor Refuses Memory = ⊤
+RefusesFor Refuses other = Refuses other
 
 -- known bytes gain a front of the text at their end
 pub record AppendsFront (old new : Option (List ℕ)) (text : List ℕ) : Type 0 where

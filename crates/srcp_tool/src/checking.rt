@@ -1,9 +1,9 @@
 //! What a configuration says, told to a person.
 
-ghost use Rattle.std.specs.Prelude.{◌≡◌, ◌∷◌, ◌++◌, [], OnOk, IfOk, decimal, string_bytes};
+ghost use Rattle.std.specs.Prelude.{◌≡◌, ◌∷◌, ◌++◌, [], OnOk, IfOk, IfErr, decimal, string_bytes};
 ghost use Rattle.std.specs.List.{flat_map};
 ghost use Rattle.srcp_info.specs.Line.{after_spaces};
-ghost use Rattle.srcp_tool.specs.Output.{bus_line, checked, check_output, group_words, port_line, port_words, power_words, Writes};
+ghost use Rattle.srcp_tool.specs.Output.{bus_line, checked, check_output, group_words, port_line, port_words, power_words, RefusesFor, Writes};
 
 use crate::config::Config;
 use crate::document::read_layout;
@@ -15,9 +15,22 @@ use std::io::Write;
 use std::string::String;
 use std::vec::Vec;
 
-/// Writes what the bytes of a configuration say: the port, and for each bus, by rising number, its
-/// groups with how much there is of each. The ports of an accessory are told where there are more
-/// than two. The form is our own choice.
+/// What the bytes of a configuration say: the port, and for each bus, by rising number, its groups
+/// with how much there is of each. The ports of an accessory are told where there are more than two.
+/// The form is our own choice.
+///
+/// # Errors
+/// `Config` for the configuration's first fault, `Memory` where a growth was refused.
+pub fn check_text(alloc: Global, bytes: &[u8]) -> Result<Vec<u8>, ToolFault>
+    ensures text { IfOk result (λ text. check_output bytes.now ≡ Ok text.items) }
+    ensures stops { IfErr result (RefusesFor (λ fault. check_output bytes.now ≡ Err fault)) }
+{
+    let config = read_layout(alloc, bytes)?;
+    let text = print_config(alloc, &config)?;
+    Ok(text)
+}
+
+/// Writes what the bytes of a configuration say (`check_text`).
 ///
 /// # Errors
 /// `Config` for the configuration's first fault, `Memory` where a growth was refused: nothing is
@@ -27,8 +40,7 @@ pub fn check<W: Write>(alloc: Global, bytes: &[u8], writer: &mut W) -> Result<()
         (λ fault. check_output bytes.now ≡ Err fault)
         result (W.contents writer.old) (W.contents writer.new) }
 {
-    let config = read_layout(alloc, bytes)?;
-    let text = print_config(alloc, &config)?;
+    let text = check_text(alloc, bytes)?;
     write_whole(writer, &text)
 }
 

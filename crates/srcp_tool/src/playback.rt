@@ -4,10 +4,10 @@ ghost use Rattle.std.specs.Prelude.{◌≡◌, List, IfOk, IfErr, IfSome};
 ghost use Rattle.std.specs.List.{AllByRecursion};
 ghost use Rattle.srcp_info.specs.WellFormed.{IsWellFormedShown};
 ghost use Rattle.srcp_rules.specs.declared.layout.Bus.{Bus};
-ghost use Rattle.srcp_tool.specs.Output.{StopsFor, Writes, printed, run_of, replayed};
+ghost use Rattle.srcp_tool.specs.Output.{RefusesFor, Writes, printed, run_of, replayed};
 
 use crate::fault::ToolFault;
-use crate::input::read_input;
+use crate::input::{INPUT_LIMIT, read_input};
 use crate::output::write_whole;
 use crate::print::print;
 use crate::script::read_script;
@@ -17,9 +17,27 @@ use std::alloc::Global;
 use std::io::{Read, Write};
 use std::vec::Vec;
 
-/// Reads a script to the end of the input, carries out its events over the registry of the layout, from moment 0 on and
-/// with session ids from 1 on, and writes what every connection was sent, which events were refused, and the rows
-/// at the end. What is written is the same over every keeper of rows.
+/// What a script prints: it carries out the events over the registry of the layout, from moment 0 on and with session ids
+/// from 1 on, and tells what every connection was sent, which events were refused, and the rows at the end. The text is
+/// the same over every keeper of rows.
+///
+/// # Errors
+/// `TooLarge` where there is more than 16,777,216 bytes, `Script` for the script's first fault, `Memory` where a growth
+/// was refused, in the run too.
+pub fn replay_text<K: Rows>(
+    alloc: Global,
+    layout: &Layout,
+    input: &[u8],
+) -> Result<Vec<u8>, ToolFault>
+    ensures text { IfOk result (λ text. replayed layout.now input.now ≡ Ok text.items) }
+    ensures stops { IfErr result (RefusesFor (λ fault. replayed layout.now input.now ≡ Err fault)) }
+{
+    let events = events_of(alloc, input)?;
+    let told = run::<K>(alloc, layout, &events)?;
+    print_run(alloc, &told)
+}
+
+/// Reads a script to the end of the input, and writes what it prints (`replay_text`).
 ///
 /// # Errors
 /// `Input` where a read fails, `TooLarge` where there is more than 16,777,216 bytes, `Script` for the script's first
@@ -36,40 +54,41 @@ pub fn replay<K: Rows, R: Read, W: Write>(
         (λ fault. IfSome input (λ bytes. replayed layout.now bytes ≡ Err fault))
         result (W.contents writer.old) (W.contents writer.new) }
 {
-    let events = read_events(alloc, reader)?;
-    let told = run::<K>(alloc, layout, &events)?;
-    write_run(alloc, &told, writer)
+    let input = read_input(alloc, reader)?;
+    let text = replay_text::<K>(alloc, layout, &input)?;
+    write_whole(writer, &text)
 }
 
-/// The events of the script that a reader gives.
+/// The events of a script.
 ///
 /// # Errors
-/// `Input` where a read fails, `TooLarge` where there is more than 16,777,216 bytes, `Script` for the
-/// script's first fault, `Memory` where a growth was refused.
-fn read_events<R: Read>(alloc: Global, reader: &mut R) -> Result<Vec<Event>, ToolFault>
-    ensures events { IfOk result (λ events. IfSome (R.remaining reader.old) (λ input.
-        (buses : List Bus) → replayed buses input ≡ Ok (printed (run_of buses events.items)))) }
-    ensures stops { IfErr result (StopsFor (λ fault. IfSome (R.remaining reader.old) (λ input.
-        (buses : List Bus) → replayed buses input ≡ Err fault))) }
+/// `TooLarge` where there is more than 16,777,216 bytes, `Script` for the script's first fault, `Memory`
+/// where a growth was refused.
+fn events_of(alloc: Global, input: &[u8]) -> Result<Vec<Event>, ToolFault>
+    ensures events { IfOk result (λ events.
+        (buses : List Bus) → replayed buses input.now ≡ Ok (printed (run_of buses events.items))) }
+    ensures stops { IfErr result (RefusesFor (λ fault.
+        (buses : List Bus) → replayed buses input.now ≡ Err fault)) }
 {
-    let input = read_input(alloc, reader)?;
-    let events = read_script(alloc, &input)?;
+    if input.len() > INPUT_LIMIT {
+        return Err(ToolFault::TooLarge);
+    }
+    let events = read_script(alloc, input)?;
     Ok(events)
 }
 
-/// Writes what is printed of a run.
+/// What is printed of a run.
 ///
 /// # Errors
-/// `Memory` where a growth was refused, in the run too: nothing is written then. `Output` where a write
-/// fails or takes nothing: a front is written.
-fn write_run<W: Write>(alloc: Global, run: &Record, writer: &mut W) -> Result<(), ToolFault>
+/// `Memory` where a growth was refused, in the run too.
+fn print_run(alloc: Global, run: &Record) -> Result<Vec<u8>, ToolFault>
     requires { run.now.denied ≡ 0 → AllByRecursion (λ row. IsWellFormedShown row.shown) run.now.rows }
-    ensures { Writes (λ text. (run.now.denied ≡ 0) × (text ≡ printed run.now)) (λ fault. ⊥)
-        result (W.contents writer.old) (W.contents writer.new) }
+    ensures text { IfOk result (λ text. (run.now.denied ≡ 0) × (text.items ≡ printed run.now)) }
+    ensures memory { IfErr result (λ fault. fault ≡ ToolFault.Memory) }
 {
     if run.denied > 0 {
         return Err(ToolFault::Memory);
     }
     let text = print(alloc, run)?;
-    write_whole(writer, &text)
+    Ok(text)
 }

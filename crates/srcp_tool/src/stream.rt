@@ -5,7 +5,7 @@ ghost use Rattle.std.specs.List.{AllByRecursion};
 ghost use Rattle.srcp_info.specs.Client.{listing};
 ghost use Rattle.srcp_info.specs.WellFormed.{IsWellFormedShown};
 ghost use Rattle.srcp_tool.specs.Mirroring.{IsAt};
-ghost use Rattle.srcp_tool.specs.Output.{ClientHolds, Writes, Mirrors, RefusesInput, StopsFor};
+ghost use Rattle.srcp_tool.specs.Output.{input_limit, ClientHolds, Writes, Mirrors, RefusesFor, RefusesInput, StopsFor};
 
 mod begun;
 mod lines;
@@ -19,6 +19,37 @@ use srcp_info::{Mirror, MirrorFault, Shown};
 use std::alloc::{AllocError, Global};
 use std::io::{Read, Write};
 use std::vec::Vec;
+
+/// The rows of a client that applies the information lines of the input, as lines in key order. Lines
+/// end in LF alone; what follows the last LF is not applied.
+///
+/// # Errors
+/// `TooLarge` where there is more than 16,777,216 bytes, `Line` for the first line that is no
+/// information line, `Memory` where a growth was refused.
+pub fn mirror_text(alloc: Global, input: &[u8]) -> Result<Vec<u8>, ToolFault>
+    ensures text { IfOk result (λ text. Mirrors input.now text.items) }
+    ensures stops { IfErr result (RefusesFor (RefusesInput input.now)) }
+{
+    let mirror = take_lines(alloc, input)?;
+    let text = print_listing(alloc, mirror.rows())?;
+    Ok(text)
+}
+
+/// Applies the lines of the input.
+fn take_lines(alloc: Global, input: &[u8]) -> Result<Mirror, ToolFault>
+    ensures within { IfOk result (λ rows. length input.now ≤ input_limit) }
+    ensures holds { IfOk result (λ rows. ClientHolds input.now rows) }
+    ensures stops { IfErr result (RefusesFor (RefusesInput input.now)) }
+{
+    if input.len() > INPUT_LIMIT {
+        return Err(ToolFault::TooLarge);
+    }
+    let mut lines = MirroredLines::new(alloc);
+    match take_piece(&mut lines, None, input)? {
+        Some(line) => Err(ToolFault::Line(line)),
+        None => Ok(lines.into_mirror()),
+    }
+}
 
 /// Reads information lines to the end of the input, and writes the rows of a client that applies them,
 /// as lines in key order. Lines end in LF alone; what follows the last LF is not applied. The input is
@@ -46,6 +77,7 @@ pub fn mirror<R: Read, W: Write>(
 /// Applies the lines of the input up to its end. The first line that is refused is told at the end
 /// alone, since a read that fails and an input that is too large are told before it.
 fn read_lines<R: Read>(alloc: Global, reader: &mut R) -> Result<Mirror, ToolFault>
+    ensures within { IfOk result (λ rows. IfSome (R.remaining reader.old) (λ input. length input ≤ input_limit)) }
     ensures holds { IfOk result (λ rows. IfSome (R.remaining reader.old) (λ input. ClientHolds input rows)) }
     ensures stops { IfErr result (StopsFor (λ fault.
         IfSome (R.remaining reader.old) (λ input. RefusesInput input fault))) }
