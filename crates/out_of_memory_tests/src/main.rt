@@ -1,4 +1,4 @@
-//! One trial of what a refused growth leaves, for `tests/run_growths.py`. Standard input names the trial and says how many
+//! One trial of what a refused growth leaves, for `tests/run_out_of_memory.py`. Standard input names the trial and says how many
 //! growths are made before it. `rt try --fail-alloc N` refuses the Nth growth of a program, so this says which growth of the
 //! trial is refused. What came of it is printed; without a name all trials are made, and each has to be granted.
 #![tactic(auto)]
