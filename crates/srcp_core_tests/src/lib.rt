@@ -1,4 +1,4 @@
-//! Tests of the crates below that cross them: they stand here so that those crates are not proved twice.
+//! Tests of `srcp_core` and `srcp_feed`. They stand here so that those are proved once.
 #![tactic(auto)]
 
 #[cfg(test)]

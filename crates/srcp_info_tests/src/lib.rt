@@ -1,4 +1,4 @@
-//! Tests of srcp_info: they stand here so that the crate is not proved twice.
+//! Tests of `srcp_info`. They stand here so that it is proved once.
 #![tactic(auto)]
 
 #[cfg(test)]

@@ -1,4 +1,4 @@
-//! Tests of the rules, beside them so that those are not proved twice.
+//! Tests of `srcp_rules`. They stand here so that it is proved once.
 #![tactic(auto)]
 
 #[cfg(test)]

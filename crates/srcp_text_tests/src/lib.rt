@@ -1,4 +1,4 @@
-//! Tests of srcp_text: they stand here so that the crate is not proved twice.
+//! Tests of `srcp_text`. They stand here so that it is proved once.
 #![tactic(auto)]
 
 #[cfg(test)]

@@ -1,4 +1,4 @@
-//! Tests of `srcp_tool`: they stand here so that it is not proved twice.
+//! Tests of `srcp_tool`. They stand here so that it is proved once.
 #![tactic(auto)]
 
 #[cfg(test)]
