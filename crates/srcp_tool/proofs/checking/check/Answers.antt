@@ -1,0 +1,11 @@
+use Rattle.std.proofs.Common.{rules}
+use Rattle.srcp_tool.proofs.checking.check.Goals as goal
+
+pub returns-in_err-config : goal.returns-in_err-config
+returns-in_err-config g c = search rules
+
+pub returns-in_err-text : goal.returns-in_err-text
+returns-in_err-text g c = search rules
+
+pub returns : goal.returns
+returns g c = search rules
