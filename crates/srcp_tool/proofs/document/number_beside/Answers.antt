@@ -27,3 +27,6 @@ pub returns-else-is_some-clause-new : goal.returns-else-is_some-clause-new
 returns-else-is_some-clause-new c =
     let there : has_number c.args.before.now c.in_ok-number.field-0 ≡ false = is_there c.args.before.now c.in_ok-number.field-0 c.bus.result c.is_some.result c.bus.ensures c.is_some.ensures ∙ c.if-is_some.false in
     (c.in_ok-number.ensures.within.0, c.in_ok-number.ensures.within.1, there)
+
+pub returns-then-is_some-clause-new : goal.returns-then-is_some-clause-new
+returns-then-is_some-clause-new c = tt

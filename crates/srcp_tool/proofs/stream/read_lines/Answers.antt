@@ -1,4 +1,4 @@
-use Rattle.std.proofs.Common.{◌≡◌, ◌++◌, take, length, length-append, length-take-le, arith}
+use Rattle.std.proofs.Common.{rules, ◌≡◌, ◌++◌, take, length, length-append, length-take-le, arith}
 use Rattle.std.proofs.KnownBytes.{Consumes-trans}
 use Rattle.srcp_tool.proofs.stream.read_lines.Goals as goal
 
@@ -16,3 +16,6 @@ loop-preserved g c =
       omega (arith, sofar.5, many, c.in_ok-refused.ensures.count),
       c.in_ok-refused.ensures.taken sofar.0 sofar.6,
     )
+
+pub returns-in-None-clause-holds : goal.returns-in-None-clause-holds
+returns-in-None-clause-holds g c = search rules
