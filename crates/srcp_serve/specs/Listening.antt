@@ -8,7 +8,7 @@ use Rattle.srcp_serve.specs.declared.socket.fault.ListenFault.TheVariants as fau
 -- why, where the system's error is of this kind: want of memory is told as such, and any other error is the port's
 abbrev pub listen_fault : ErrorKind → ListenFault
 listen_fault kind.OutOfMemory = fault.Memory
-listen_fault other = fault.Port
+listen_fault _ = fault.Port
 
 -- what is told of it
 abbrev pub listen_text : ListenFault → List ℕ

@@ -1,0 +1,8 @@
+use Rattle.std.proofs.Common.{rules}
+use Rattle.srcp_tool.proofs.checking.check.Goals as goal
+
+pub returns-in_err-text : goal.returns-in_err-text
+returns-in_err-text g c = search rules
+
+pub returns : goal.returns
+returns g c = search rules
