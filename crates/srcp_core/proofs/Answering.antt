@@ -12,12 +12,12 @@ use Rattle.srcp_text.specs.Marks.{Mark}
 use Rattle.srcp_text.specs.Reading.{Reading}
 use Rattle.srcp_rules.specs.declared.command.Command.{Command}
 use Rattle.srcp_rules.specs.declared.layout.Bus.{Bus}
-use Rattle.srcp_rules.specs.Effect.{Effect, effect as effect_of, adds_rows, refused}
+use Rattle.srcp_rules.specs.Effect.{Effect, effect as effect_of, refused}
 use Rattle.srcp_rules.specs.Due.{began}
 use Rattle.srcp_rules.specs.State.{State, Update, opening, shown_rows}
 use Rattle.srcp_info.proofs.ClientLaws.{key_at}
 use Rattle.srcp_info.specs.Client.{IsRisingBy}
-use Rattle.srcp_core.specs.Under.{Obeyed, Began, Ended, Order, effect, greeting_under}
+use Rattle.srcp_core.specs.Under.{Obeyed, Began, Ended, Order, effect, greeting_under, wants_memory}
 use Rattle.srcp_core.specs.Connection.{Connection, is_open, given, untold}
 use Rattle.srcp_core.specs.Course.{World, numbered, at_connection, did, is_info, state, history, command_of, ordered, replied as course_replied, entered, goes as course_goes, greeted as course_greeted, ended as course_ended, obeyed as course_obeyed, commanded as course_commanded, answered_as, answered as course_answered}
 use Rattle.srcp_core.specs.Handshake.{Greeting, Speaks, Chooses, Goes, Refuses, greets as greets_of}
@@ -184,7 +184,7 @@ module _ (buses : List Bus) (order : IsRisingBy key_at (shown_rows (opening buse
       → StandsBy buses read keys (commanded granted key session command held) (course_commanded buses n session (ordered buses granted command) w)
   stands_commanded granted held w conn session (Err code) a s there plain = stands_plainly held w conn (Refused code) a s there plain
   stands_commanded granted held w conn session (Ok command) a s there plain =
-      by (granted || not (adds_rows held.rows command)) (stands_obeyed held w conn session (record { command = command; granted = granted }) a s there plain)
+      by (granted || not (wants_memory held.rows session held.moment command)) (stands_obeyed held w conn session (record { command = command; granted = granted }) a s there plain)
     where
       by : (t : Bool) → StandsBy buses read keys (obeyed key session (if t then effect_of held.rows session held.moment command else refused C500) held) (course_commanded buses n session (ordered buses granted (Ok command)) w)
           → StandsBy buses read keys (if t then obeyed key session (effect_of held.rows session held.moment command) held else denied_line key held) (course_commanded buses n session (ordered buses granted (Ok command)) w)

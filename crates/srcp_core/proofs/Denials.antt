@@ -1,6 +1,6 @@
 -- What a refusal leaves, and what it says of a command that was obeyed.
 use Rattle.std.proofs.Common.{◌≡◌, ◌≢◌, ℕ, Bool, true, false, cond, List, [], refl, ap, sym, ◌∙◌, inl, inr}
-use Rattle.std.specs.Prelude.{Option, Some, None, Result, Ok, Err, ◌==◌}
+use Rattle.std.specs.Prelude.{Option, Some, None, Result, Ok, Err, ◌==◌, ◌&&◌}
 use Rattle.srcp_info.specs.declared.change.Code.{Code}
 use Rattle.srcp_info.specs.declared.change.Code.TheVariants.{C414, C415, C416, C418, C500}
 use Rattle.srcp_info.specs.declared.change.Reply.TheVariants.{Accepted, Refused}
@@ -8,9 +8,10 @@ use Rattle.srcp_info.specs.declared.change.Row.{Row}
 use Rattle.srcp_rules.specs.declared.command.Command.{Command}
 use Rattle.srcp_rules.specs.declared.command.Command.TheVariants.{GetSession, TermSession, GetPower, SetPower, CheckPower, InitPower, GetGl, SetGl, CheckGl, InitGl, TermGl, GetGa, SetGa, CheckGa, InitGa, TermGa, GetFb, SetFb, CheckFb, InitFb, GetLock, SetLock, CheckLock, TermLock}
 use Rattle.srcp_rules.specs.declared.obeyed.Obeyed.{Obeyed}
-use Rattle.srcp_rules.specs.Effect.{Effect, effect, refused, accepted, showing, done, checked, term_session, adds_rows, set_gl, set_ga, set_lock}
+use Rattle.srcp_rules.specs.Effect.{Effect, effect, refused, accepted, showing, done, checked, term_session, set_gl, set_ga, set_lock}
 use Rattle.srcp_rules.specs.Obeyed.{IsObeyed, Took}
 use Rattle.srcp_rules.specs.State.{State, Update, updated_all}
+use Rattle.srcp_core.specs.Under.{is_accepted, wants_memory}
 
 -- a refusal changes nothing
 abbrev ChangesNothing : (code : Code) → Effect → Type 0
@@ -134,10 +135,10 @@ never_denied state session moment (CheckLock bus group address seconds) = never_
 never_denied state session moment (TermLock bus group address) = never_done _ (refuses _ C416 _ c416 (refuses _ C414 _ c414 (fine _)))
 
 module _ (state after : State) (session moment : ℕ) (command : Command) (obeyed : Obeyed) where
-  -- where 500 was answered, rows were to be added
-  pub denied_adds : IsObeyed state after session moment command obeyed → obeyed.reply ≡ Refused C500 → adds_rows state command ≡ true
-  denied_adds (inl took) e = absurd (never_denied state session moment command (sym took.told.reply ∙ e))
-  denied_adds (inr wants) e = wants.0
+  -- where 500 was answered, the command wanted memory
+  pub denied_wants : IsObeyed state after session moment command obeyed → obeyed.reply ≡ Refused C500 → wants_memory state session moment command ≡ true
+  denied_wants (inl took) e = absurd (never_denied state session moment command (sym took.told.reply ∙ e))
+  denied_wants (inr wants) e = ap (λ t. t && is_accepted (effect state session moment command).reply) wants.0 ∙ ap is_accepted wants.1.accepts
 
 module _ (state after : State) (session moment : ℕ) (command : Command) (obeyed : Obeyed) where
   -- where 500 was answered, the registry is as it was

@@ -6,7 +6,7 @@ use Rattle.std.specs.List.{AllByRecursion, fold}
 use Rattle.srcp_info.specs.declared.change.Code.{Code}
 use Rattle.srcp_info.specs.declared.change.Code.TheVariants.{C500}
 use Rattle.srcp_rules.specs.declared.command.Command.{Command}
-use Rattle.srcp_rules.specs.Effect.{Effect, effect as effect_of, adds_rows, refused}
+use Rattle.srcp_rules.specs.Effect.{Effect, effect as effect_of, refused}
 use Rattle.srcp_rules.specs.State.{State}
 use Rattle.srcp_core.specs.Connection.{Connection}
 use Rattle.srcp_core.specs.Course.{World, start, at_connection, open_connection, counted, ordered, new_marks, fed_to, answered, bytes_fault, or_refused, happens, course, replied, goes, greeted}
@@ -15,7 +15,7 @@ use Rattle.srcp_core.specs.Run.{HasPlainMoment, PlainMoments}
 use Rattle.srcp_core.specs.declared.event.Event.TheVariants as plain
 use Rattle.srcp_core.specs.declared.record.CoreFault.{CoreFault}
 use Rattle.srcp_text.specs.Marks.{Mark}
-use Rattle.srcp_core.specs.Under.{Order, Heard, greets, effect, Open, lines_under, under, all_under, first_of, giving, denied_by}
+use Rattle.srcp_core.specs.Under.{Order, Heard, greets, effect, wants_memory, Open, lines_under, under, all_under, first_of, giving, denied_by}
 use Rattle.srcp_core.specs.declared.event.Event.{Event as PlainEvent}
 use Rattle.srcp_rules.specs.declared.layout.Bus.{Bus}
 use Rattle.srcp_info.specs.declared.change.Reply.TheVariants.{Protocol, Mode as ModeReply, Refused}
@@ -25,7 +25,7 @@ use Rattle.srcp_core.specs.Handshake.{Greeting, Speaks, Chooses, Goes, Refuses}
 -- what holds of the command's effect and of a refusal holds of what the order does
 pub effect_law : (P : Effect → Type 0) (state : State) (session moment : ℕ) (order : Order) → P (effect_of state session moment order.command) → P (refused C500) → P (effect state session moment order)
 effect_law P state session moment order e r =
-    elim (order.granted || not (adds_rows state order.command)) as (λ t. P (if t then effect_of state session moment order.command else refused C500)) [ true ↦ e | false ↦ r ]
+    elim (order.granted || not (wants_memory state session moment order.command)) as (λ t. P (if t then effect_of state session moment order.command else refused C500)) [ true ↦ e | false ↦ r ]
 
 -- what holds of the command holds of the order
 pub ordered_law : (buses : List Bus) (P : Command → Type 0) (granted : Bool) (command : Result Command Code) → IfOk command P → IfOk (ordered buses granted command) (λ order. P order.command)

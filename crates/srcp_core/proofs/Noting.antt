@@ -15,8 +15,8 @@ use Rattle.srcp_info.proofs.ClientLaws.{key_at}
 use Rattle.srcp_info.specs.Client.{IsRisingBy}
 use Rattle.srcp_text.specs.Marks.{Mark}
 use Rattle.srcp_rules.specs.declared.command.Command.{Command}
-use Rattle.srcp_rules.specs.Effect.{effect as effect_of, adds_rows, refused}
-use Rattle.srcp_core.specs.Under.{Step, Obeyed, Began, Ended, Order, greeting_under, step_told}
+use Rattle.srcp_rules.specs.Effect.{effect as effect_of, refused}
+use Rattle.srcp_core.specs.Under.{Step, Obeyed, Began, Ended, Order, greeting_under, step_told, wants_memory}
 use Rattle.srcp_core.specs.declared.record.Step.{Step as PlainStep}
 use Rattle.srcp_core.specs.declared.record.Step.TheVariants as told
 use Rattle.srcp_core.specs.Connection.{Connection, given, sent}
@@ -139,13 +139,13 @@ module _ (buses : List Bus) (n : ℕ) (r : Recording) where
   tells_commanded granted w conn held session (Ok command) m s p t =
       subst (λ (k : State). Tells (noted n (steps_by k held.moment) r) (commanded buses n session (Ok ordering) w)) (sym s)
       (subst (λ k. Tells (noted n (steps_by (state buses w) k) r) (commanded buses n session (Ok ordering) w)) (sym m)
-      (split (granted || not (adds_rows (state buses w) command))))
+      (split (granted || not (wants_memory (state buses w) session w.moment command))))
     where
       ordering : Order
       ordering = record { command = command; granted = granted }
 
       steps_by : State → ℕ → List PlainStep
-      steps_by k moment = told.Obeyed session moment command ∷ (if (granted || not (adds_rows k command)) && (effect_of k session moment command).ends then told.Ended session moment ∷ [] else [])
+      steps_by k moment = told.Obeyed session moment command ∷ (if (granted || not (wants_memory k session moment command)) && (effect_of k session moment command).ends then told.Ended session moment ∷ [] else [])
 
       one : (result : Effect) → Tells (stepped (told.Obeyed session w.moment command ∷ []) r) (replied n result.reply (did (Obeyed session w.moment ordering) w))
       one result = tells_replied (stepped (told.Obeyed session w.moment command ∷ []) r) (did (Obeyed session w.moment ordering) w) result.reply (plain_at (did (Obeyed session w.moment ordering) w) conn p) (tells_did r w (Obeyed session w.moment ordering) t)

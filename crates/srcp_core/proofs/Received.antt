@@ -12,7 +12,7 @@ use Rattle.srcp_info.specs.declared.change.Reply.TheVariants.{Accepted, Protocol
 use Rattle.srcp_info.specs.declared.value.Mode.{Mode}
 use Rattle.srcp_info.proofs.LineLaws.{length-reply_line-le, length-reply_line-most}
 use Rattle.srcp_rules.specs.Due.{began, freed}
-use Rattle.srcp_rules.specs.Effect.{Effect, effect, adds_rows}
+use Rattle.srcp_rules.specs.Effect.{Effect, effect}
 use Rattle.srcp_rules.specs.State.{is_there, session_device}
 use Rattle.srcp_rules.proofs.ToldLaws.{reply_told}
 use Rattle.srcp_text.specs.Marks.{Mark}
@@ -20,6 +20,7 @@ use Rattle.srcp_feed.specs.Cursor.{concerns}
 use Rattle.srcp_feed.specs.Feed.{Feed, is_full, told}
 use Rattle.srcp_core.specs.Handshake.{Greeting, Speaks, Chooses, Goes, Refuses}
 use Rattle.srcp_core.specs.Held.{Place, Held, place_at, at, IsSound}
+use Rattle.srcp_core.specs.Under.{wants_memory}
 use Rattle.srcp_core.specs.Machine.{told_feed, told_place, told_all, told_each, carried, unsent_of, begun_of, changed_in, changed_places, changed_at, with_unsent, replied, longest, longest_answer, entered_place, begun, goes, greeted, denied_line, one_denied, finished, obeyed, answered_from, answered, asked_of}
 use Rattle.srcp_core.specs.declared.asked.Asked.{Asked}
 use Rattle.srcp_core.specs.declared.asked.Asked.TheVariants.{Dropped, Greets, Commands}
@@ -142,7 +143,7 @@ answered_gains granted key asked held p mark there is s = by asked is granted (a
     by Dropped is granted (Some q) e = most 0 64 (at held key) (at held key) (omega arith) (nothing (at held key))
     by (Greets greeting) is granted (Some q) e = greeted_gains granted key q.mode greeting held s.moment
     by (Commands (Err code)) is granted (Some q) e = replied_gains key (Refused code) held s.moment tt
-    by (Commands (Ok command)) is granted (Some q) e = given (granted || not (adds_rows held.rows command))
+    by (Commands (Ok command)) is granted (Some q) e = given (granted || not (wants_memory held.rows q.session held.moment command))
       where
         given : (t : Bool) → Gains 126 (at held key) (at (cond t (obeyed key q.session (effect held.rows q.session held.moment command) held) (denied_line key held)) key)
         given false = most 64 126 (at held key) (at (denied_line key held) key) (omega arith) (denied_gains key held s.moment)

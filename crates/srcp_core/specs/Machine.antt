@@ -15,7 +15,7 @@ use Rattle.srcp_info.specs.declared.value.Mode.TheVariants.{Command as CommandMo
 use Rattle.srcp_rules.specs.declared.layout.Bus.{Bus}
 use Rattle.srcp_rules.specs.declared.command.Command.{Command}
 use Rattle.srcp_rules.specs.Due.{due, freed, began}
-use Rattle.srcp_rules.specs.Effect.{Effect, effect, adds_rows}
+use Rattle.srcp_rules.specs.Effect.{Effect, effect}
 use Rattle.srcp_rules.specs.State.{Update, updated_all, shown_rows}
 use Rattle.srcp_text.specs.Marks.{Mark, Line, TooLong}
 use Rattle.srcp_text.specs.Reading.{Reading, nothing_read}
@@ -30,7 +30,7 @@ use Rattle.srcp_core.specs.Connection.{is_nil, line_of}
 use Rattle.srcp_core.specs.Course.{welcome, is_info, command_of}
 use Rattle.srcp_core.specs.Handshake.{Greeting, Speaks, Chooses, Goes, Refuses, greets}
 use Rattle.srcp_core.specs.Held.{Place, Held, place_at, at, open_count}
-use Rattle.srcp_core.specs.Under.{denied_by}
+use Rattle.srcp_core.specs.Under.{denied_by, wants_memory}
 use Rattle.srcp_core.specs.declared.answered.Answered.{Answered}
 use Rattle.srcp_core.specs.declared.answered.LineSteps.{LineSteps}
 use Rattle.srcp_core.specs.declared.answered.LineSteps.TheVariants.{Nothing, One, Two}
@@ -213,11 +213,11 @@ finished ends key session held = if ends then freed_of session (changed_at key (
 abbrev pub obeyed : ℕ → ℕ → Effect → Held → Held
 obeyed key session result held = finished result.ends key session (replied key result.reply (carried result.updates held))
 
--- a command, by whether memory was given to it, which only one that adds rows asks for
+-- a command, by whether memory was given to it, where it wants memory
 abbrev pub commanded : Bool → ℕ → ℕ → Result Command Code → Held → Held
 commanded granted key session (Err code) held = replied key (Refused code) held
 commanded granted key session (Ok command) held =
-    if granted || not (adds_rows held.rows command) then obeyed key session (effect held.rows session held.moment command) held else denied_line key held
+    if granted || not (wants_memory held.rows session held.moment command) then obeyed key session (effect held.rows session held.moment command) held else denied_line key held
 
 -- a line is answered, by the connection that is there
 abbrev pub answered_from : Bool → ℕ → Asked → Held → Option Place → Held
@@ -253,7 +253,7 @@ steps_greeted granted mode (Refuses code) held = []
 abbrev pub steps_commanded : Bool → ℕ → Result Command Code → Held → List Step
 steps_commanded granted session (Err code) held = []
 steps_commanded granted session (Ok command) held =
-    Obeyed session held.moment command ∷ (if (granted || not (adds_rows held.rows command)) && (effect held.rows session held.moment command).ends then Ended session held.moment ∷ [] else [])
+    Obeyed session held.moment command ∷ (if (granted || not (wants_memory held.rows session held.moment command)) && (effect held.rows session held.moment command).ends then Ended session held.moment ∷ [] else [])
 
 -- the steps of a line, by the connection that is there
 abbrev pub steps_answered_from : Bool → Asked → Held → Option Place → List Step

@@ -1,6 +1,8 @@
 -- What memory answers in each event, and what of that the course of the events takes in.
-use Rattle.std.specs.Prelude.{ℕ, ◌+◌, min, fold, Bool, true, false, not, ◌||◌, if◌then◌else◌, List, [], ◌∷◌}
+use Rattle.std.specs.Prelude.{ℕ, ◌+◌, min, fold, Bool, true, false, not, ◌&&◌, ◌||◌, if◌then◌else◌, List, [], ◌∷◌}
 use Rattle.srcp_info.specs.declared.change.Code.TheVariants.{C500}
+use Rattle.srcp_info.specs.declared.change.Reply.{Reply}
+use Rattle.srcp_info.specs.declared.change.Reply.TheVariants.{Accepted}
 use Rattle.srcp_info.specs.declared.value.Mode.{Mode}
 use Rattle.srcp_rules.specs.declared.command.Command.{Command}
 use Rattle.srcp_rules.specs.Effect.{Effect, effect as effect_of, adds_rows, refused}
@@ -84,10 +86,19 @@ pub record Order : Type 0 where
   pub command : Command
   pub granted : Bool
 
--- what the command does: nothing where it adds rows and memory is refused to it
+-- the reply accepts the command
+abbrev pub is_accepted : Reply → Bool
+is_accepted Accepted = true
+is_accepted _ = false
+
+-- the command wants memory: it adds rows, and nothing else refuses it
+abbrev pub wants_memory : State → (session moment : ℕ) → Command → Bool
+wants_memory state session moment command = adds_rows state command && is_accepted (effect_of state session moment command).reply
+
+-- what the command does: nothing where it wants memory, which is refused to it
 abbrev pub effect : State → (session moment : ℕ) → Order → Effect
 effect state session moment order =
-    if order.granted || not (adds_rows state order.command) then effect_of state session moment order.command else refused C500
+    if order.granted || not (wants_memory state session moment order.command) then effect_of state session moment order.command else refused C500
 
 -- what the registry goes through, one thing at a time
 pub data Step : Type 0 where

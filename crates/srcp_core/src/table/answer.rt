@@ -4,10 +4,10 @@ ghost use Rattle.srcp_info.specs.WellFormed.{IsWellFormedReply};
 ghost use Rattle.srcp_info.specs.declared.change.Code.TheVariants.{C500};
 ghost use Rattle.srcp_info.specs.declared.change.Reply.TheVariants.{Refused};
 ghost use Rattle.srcp_rules.specs.Command.{IsCommandOf};
-ghost use Rattle.srcp_rules.specs.Effect.{adds_rows, effect};
+ghost use Rattle.srcp_rules.specs.Effect.{effect};
 ghost use Rattle.srcp_rules.specs.State.{session_device, is_there};
 ghost use Rattle.srcp_core.specs.Held.{IsSessionAt};
-ghost use Rattle.srcp_core.specs.Under.{denied_by};
+ghost use Rattle.srcp_core.specs.Under.{denied_by, wants_memory};
 ghost use Rattle.srcp_core.specs.Machine.{feed_for, changed_at, unsent_at, one_denied, replied, denied_line, begun, goes, greeted, carried, freed_of, commanded, longest, steps_gone, steps_greeted, steps_commanded, listed};
 
 use super::walk::{free_all, tell_all, tell_each};
@@ -136,7 +136,7 @@ impl<'a, R: Rows> Core<'a, R> {
         requires row { is_there (session_device session) self.old.rows ≡ true }
         requires command { IsCommandOf self.old.buses command.now }
         ensures refused { IfNone result (self.new ≡ self.old) }
-        ensures adds { IfNone result (adds_rows self.old.rows command.now ≡ true) }
+        ensures wants { IfNone result (wants_memory self.old.rows session self.old.moment command.now ≡ true) }
         ensures carried { OnSome result (self.new ≡ carried (effect self.old.rows session self.old.moment command.now).updates self.old) }
         ensures reply { IfSome result (λ obeyed. obeyed.reply ≡ (effect self.old.rows session self.old.moment command.now).reply) }
         ensures ends { IfSome result (λ obeyed. obeyed.ends ≡ (effect self.old.rows session self.old.moment command.now).ends) }
