@@ -85,11 +85,11 @@ module _ (buses : List Bus) where
       many : nat_lt (length (filter is_open w.connections)) 64 ≡ false
       many = let c = s.count in grind (arith, nat_tests)
 
+  pub free_room : (keys : List (Option ℕ)) (held : Held) (w : World) → StandsFor buses keys held w → open_count held < 64 → nat_lt (length (filter is_open w.connections)) 64 ≡ true
+  free_room keys held w s e = let c = s.count in grind (arith, nat_tests)
+
   pub free_fault : (keys : List (Option ℕ)) (held : Held) (w : World) → StandsFor buses keys held w → open_count held < 64 → (granted : Bool) → fault buses w (Open granted) ≡ (if granted then None else Some MemoryFault)
-  free_fault keys held w s e granted = ap (λ t. if t then (if granted then None else Some MemoryFault) else Some Full) few
-    where
-      few : nat_lt (length (filter is_open w.connections)) 64 ≡ true
-      few = let c = s.count in grind (arith, nat_tests)
+  free_fault keys held w s e granted = ap (λ t. if t then (if granted then None else Some MemoryFault) else Some Full) (free_room keys held w s e)
 
   -- ---- one more event, and what is refused
 

@@ -27,7 +27,7 @@ use Rattle.srcp_info.proofs.ClientLaws.{key_at}
 use Rattle.srcp_info.specs.Client.{IsRisingBy}
 use Rattle.srcp_core.specs.Under.{Obeyed, Began, Heard, Order, effect, greets, lines_under}
 use Rattle.srcp_core.specs.Connection.{Connection}
-use Rattle.srcp_core.specs.Course.{World, numbered, at_connection, did, is_info, state, history, order_of, replied, entered, goes, greeted, ended, obeyed, commanded, answered_as, answered as course_answered, open_connection, new_marks}
+use Rattle.srcp_core.specs.Course.{World, numbered, at_connection, did, is_info, state, history, order_of, replied, entered, goes, greeted, ended, obeyed, commanded, answered_as, answered as course_answered, open_connection, new_marks, wants_as, denied_lines}
 use Rattle.srcp_core.specs.Handshake.{Greeting, Speaks, Chooses, Goes, Refuses}
 use Rattle.srcp_core.specs.Held.{Place, Held, at, place_at}
 use Rattle.srcp_core.specs.Machine.{asked_of, heard_from, heard_in, heard_at, line_taken, steps_of_line, answered, steps_answered, steps_answered_from}
@@ -35,6 +35,7 @@ use Rattle.srcp_core.specs.Recording.{Recording, key_of, noted}
 use Rattle.srcp_core.specs.Stands.{StandsBy, StandsFor, place_of}
 use Rattle.srcp_core.specs.declared.asked.Asked.{Asked}
 use Rattle.srcp_core.proofs.Answering.{IsFine, stands_answered}
+use Rattle.srcp_core.proofs.CountedRefusals.{after, denied_answered, denied_push, denied_none}
 use Rattle.srcp_core.proofs.Covers.{Where, Here, Away, where_is, place_set_here}
 use Rattle.srcp_core.proofs.Given.{lines_push}
 use Rattle.srcp_core.proofs.Noting.{Tells, tells_answered}
@@ -129,7 +130,7 @@ module _ (buses : List Bus) (n : ℕ) where
 -- ---- the lines of a piece
 
 -- the piece was read up to a place, and its lines up to there were answered; w is the course with all of it accepted
-module _ (buses : List Bus) (order : IsRisingBy key_at (shown_rows (opening buses 0))) (keys : List (Option ℕ)) (n key : ℕ) (named : key_of n keys ≡ Some key) (fed piece : List ℕ) (w : World) where
+module _ (buses : List Bus) (order : IsRisingBy key_at (shown_rows (opening buses 0))) (keys : List (Option ℕ)) (n key : ℕ) (named : key_of n keys ≡ Some key) (fed piece : List ℕ) (w : World) (before : ℕ) where
   -- the lines up to a place
   abbrev pub marks_upto : ℕ → List Mark
   marks_upto start = drop (length (marks fed)) (marks (fed ++ take start piece))
@@ -142,6 +143,7 @@ module _ (buses : List Bus) (order : IsRisingBy key_at (shown_rows (opening buse
     pub fine : IsFine buses order (world_upto grants start)
     pub fed_is : fed_of n (world_upto grants start) ≡ Some (fed ++ piece)
     pub stands : StandsBy buses (partly n (fed ++ take start piece)) keys held (world_upto grants start)
+    pub counts : held.denied ≡ denied_lines buses n w before (lines_under grants (marks_upto start))
 
   -- one line more
   line_answered : (grants : List Bool) (granted : Bool) (start stop : ℕ) (mark : Mark) (held : Held) (p : Place) (reader : Reading) (r : Recording) → start < stop → at held key ≡ Some p
@@ -159,8 +161,9 @@ module _ (buses : List Bus) (order : IsRisingBy key_at (shown_rows (opening buse
       let both = fed_to_stop fed piece start stop (mark ∷ []) p.reader reader le adds moves stood in
       let more : marks_upto stop ≡ marks_upto start ++ mark ∷ [] = later_marks fed (take start piece) (marks (fed ++ take stop piece)) (mark ∷ []) both.0 in
       let line : Heard = record { mark = mark; granted = granted } in
+      let lines : lines_under (grants ++ granted ∷ []) (marks_upto stop) ≡ lines_under grants (marks_upto start) ++ line ∷ [] = ap (lines_under (grants ++ granted ∷ [])) more ∙ lines_push grants (marks_upto start) granted mark u.count in
       let next : world_upto (grants ++ granted ∷ []) stop ≡ course_answered buses n (world_upto grants start) line =
-      ap (λ ms. fold (course_answered buses n) w (lines_under (grants ++ granted ∷ []) ms)) more ∙ ap (fold (course_answered buses n) w) (lines_push grants (marks_upto start) granted mark u.count) ∙ fold-append (course_answered buses n) w (lines_under grants (marks_upto start)) (line ∷ []) in
+      ap (fold (course_answered buses n) w) lines ∙ fold-append (course_answered buses n) w (lines_under grants (marks_upto start)) (line ∷ []) in
       let mid = record held { places = slice_set held.places key (Some (record p { reader = reader })) } in
       let reads : StandsBy buses (partly n (fed ++ take stop piece)) keys mid (world_upto grants start) =
       stands_read buses keys n key named (partly n (fed ++ take start piece)) (partly n (fed ++ take stop piece)) held (world_upto grants start) p reader u.stands here
@@ -173,6 +176,9 @@ module _ (buses : List Bus) (order : IsRisingBy key_at (shown_rows (opening buse
           fed_is = ap (fed_of n) next ∙ fed_answered_as buses n (open_connection (world_upto grants start) n) line (world_upto grants start) ∙ u.fed_is;
           stands = subst (λ (v : World). StandsBy buses (partly n (fed ++ take stop piece)) keys (answered granted key (asked_of held.buses p mark) mid) v) (sym next)
               (stands_answered buses order (partly n (fed ++ take stop piece)) keys n key named mid (world_upto grants start) granted mark (record p { reader = reader }) u.fine reads here_now);
+          counts = denied_answered buses (partly n (fed ++ take stop piece)) keys n key named mid (world_upto grants start) granted mark (record p { reader = reader }) reads here_now
+              ∙ ap (λ k. after k granted (wants_as buses (world_upto grants start) (open_connection (world_upto grants start) n) mark)) u.counts
+              ∙ sym (ap (denied_lines buses n w before) lines ∙ denied_push buses n w before (lines_under grants (marks_upto start)) line);
         },
         subst (λ (v : World). Tells (noted n (steps_answered granted key (asked_of held.buses p mark) mid) r) v) (sym next)
             (subst (λ (o : Option Place). Tells (noted n (steps_answered_from granted (asked_of held.buses p mark) mid o) r) (course_answered buses n (world_upto grants start) line)) (sym here_now)
@@ -257,6 +263,7 @@ module _ (buses : List Bus) (order : IsRisingBy key_at (shown_rows (opening buse
     pub fine : IsFine buses order (fold (course_answered buses n) w (lines_under grants (new_marks buses fed piece)))
     pub stands : StandsFor buses keys new (fold (course_answered buses n) w (lines_under grants (new_marks buses fed piece)))
     pub world_is : v ≡ fold (course_answered buses n) w (lines_under grants (new_marks buses fed piece))
+    pub counts : new.denied ≡ denied_lines buses n w before (lines_under grants (new_marks buses fed piece))
 
   pub lines_ended : (grants : List Bool) (start : ℕ) (held new : Held) → ◌≡◌ {A = Option (ℕ × Asked) × Held} (None, new) (heard_at key piece start held) → IsUpTo grants start held → IsEnded grants new (world_upto grants start)
   lines_ended grants start held new is u =
@@ -286,6 +293,7 @@ module _ (buses : List Bus) (order : IsRisingBy key_at (shown_rows (opening buse
                 fine = subst (λ (v : World). IsFine buses order v) world u.fine;
                 stands = subst (λ (v : World). StandsFor buses keys new v) world (subst (λ (x : Held). StandsFor buses keys x (world_upto grants start)) (sym new_is) (stands_all (record held { places = slice_set held.places key (Some (record p { reader = reading })) }) (world_upto grants start) (fed ++ piece) u.fed_is reads));
                 world_is = world;
+                counts = ap (λ (x : Held). x.denied) new_is ∙ u.counts ∙ ap (λ ms. denied_lines buses n w before (lines_under grants ms)) (sym last);
               }
 
 -- ---- the beginning of a piece
@@ -301,7 +309,7 @@ accepting n piece w = at_connection n (λ c. record c { fed = c.fed ++ piece }) 
 
 pub piece_begun : (buses : List Bus) (order : IsRisingBy key_at (shown_rows (opening buses 0))) (keys : List (Option ℕ)) (n key : ℕ) (named : key_of n keys ≡ Some key) (piece : List ℕ) (held : Held) (w : World) (conn : Connection)
     → IsFine buses order w → StandsFor buses keys held w → numbered n w.connections ≡ Some conn
-    → IsUpTo buses order keys n key named conn.fed piece (accepting n piece w) [] 0 held × (world_upto buses order keys n key named conn.fed piece (accepting n piece w) [] 0 ≡ accepting n piece w)
+    → IsUpTo buses order keys n key named conn.fed piece (accepting n piece w) held.denied [] 0 held × (world_upto buses order keys n key named conn.fed piece (accepting n piece w) held.denied [] 0 ≡ accepting n piece w)
 piece_begun buses order keys n key named piece held w conn a s there =
     let h = found_at buses (λ n fed. fed) keys held w n key s named in
     let f : Connection → Connection = λ c. record c { fed = c.fed ++ piece } in
@@ -321,6 +329,7 @@ piece_begun buses order keys n key named piece held w conn a s there =
         fine = subst (λ (v : World). IsFine buses order v) (sym world) fine;
         fed_is = ap (fed_of n) world ∙ ap (option_map (λ (c : Connection). c.fed)) (numbered_with n f w.connections ∙ ap (option_map f) there);
         stands = subst (λ (v : World). StandsBy buses (partly n (conn.fed ++ [])) keys held v) (sym world) stands;
+        counts = sym (denied_none buses n (accepting n piece w) held.denied (drop (length (marks conn.fed)) (marks (conn.fed ++ []))));
       },
       world,
     )

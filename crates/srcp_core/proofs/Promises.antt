@@ -114,6 +114,7 @@ promised buses events (Ok told) r plain_moments layout =
       grants = r.grants;
       count = r.count;
       counted = r.counted;
+      asked = r.asked;
       given = λ d. (none_of_all r.grants 0 (sym r.counted ∙ d)).1;
       is = r.is;
       sessions = told_sessions buses all told layout moments r.is;

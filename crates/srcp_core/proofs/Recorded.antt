@@ -15,13 +15,14 @@ use Rattle.srcp_rules.specs.Effect.{Effect}
 use Rattle.srcp_core.specs.Under.{Event, Open, Bytes, Room, At, Shut, Obeyed, Began, Ended, Heard, Order, effect, greets, Piece, under, all_under, denied_by}
 use Rattle.srcp_core.specs.declared.event.Event.{Event as PlainEvent}
 use Rattle.srcp_core.specs.Connection.{Connection, History, is_open, is_nil, overran, unsent, recorded}
-use Rattle.srcp_core.specs.Course.{World, start, numbered, at_connection, did, state, history, counted, fault, open_connection, order_of, replied, entered, goes, greeted, ended, obeyed, commanded, answered_as, answered, new_lines, fed_to, shut_as, accepted, or_refused, happens, course}
+use Rattle.srcp_core.specs.Course.{World, start, numbered, at_connection, did, state, history, counted, fault, open_connection, order_of, replied, entered, goes, greeted, ended, obeyed, commanded, answered_as, answered, new_lines, fed_to, shut_as, accepted, or_refused, happens, course, denied_in, denied_over}
 use Rattle.srcp_core.specs.Handshake.{Greeting, Speaks, Chooses, Goes, Refuses}
 use Rattle.srcp_core.specs.Held.{Place, Held, at}
 use Rattle.srcp_core.specs.Laws.{IsRecordOf}
 use Rattle.srcp_core.specs.Machine.{finish_at, finish_from}
 use Rattle.srcp_core.specs.Recording.{Recording, key_of, told_of, changed_record, changed_in, finished, finished_by, with_refusal, nothing_told}
 use Rattle.srcp_core.specs.Run.{Runs, Happened, HappensAs, FollowsAs, RunsUnder}
+use Rattle.srcp_core.proofs.CountedRefusals.{denied_over_push}
 use Rattle.srcp_core.proofs.Given.{under_push, under_length}
 use Rattle.srcp_core.specs.Stands.{StandsFor, place_of}
 use Rattle.srcp_core.specs.declared.record.ConnRecord.{ConnRecord}
@@ -236,6 +237,7 @@ pub follows : (number : ℕ) (event : PlainEvent) (refusal : Option CoreFault) (
 follows number event refusal r mid later_r held later h e = record {
   grants = h.grants;
   counted = h.counted;
+  asked = h.asked;
   follows = λ buses events layout n s.
       subst (λ (x : Recording). Runs buses x later (course buses (events ++ under h.grants event ∷ []))) (sym e) (runs_on buses events (under h.grants event) refusal number mid later n (h.happens buses events layout s));
 }
@@ -259,6 +261,8 @@ follows_more buses events index event r later_r held later layout at f u =
       grants = u.grants ++ f.grants ∷ [];
       count = length-append u.grants (f.grants ∷ []) ∙ ap (λ k. k + 1) u.count ∙ sym (length-append (take index events) (event ∷ []));
       counted = f.counted ∙ ap (λ k. denied_by k f.grants) u.counted ∙ sym (fold-append denied_by 0 u.grants (f.grants ∷ []));
+      asked = f.asked buses all layout u.runs ∙ ap (λ k. denied_in buses k (counted (course buses all)) (under f.grants event)) u.asked
+          ∙ sym (ap (denied_over buses 0 start) (under_push u.grants (take index events) f.grants event u.count) ∙ denied_over_push buses 0 start all (under f.grants event));
       runs = subst (λ (es : List Event). Runs buses later_r later (course buses es)) (sym (under_push u.grants (take index events) f.grants event u.count)) (f.follows buses all layout (ap (λ k. k + 1) long) u.runs);
     })
 
@@ -283,7 +287,7 @@ runs_start buses r held e h =
     }))
 
 pub runs_none : (buses : List Bus) (events : List PlainEvent) (r : Recording) (held : Held) → r ≡ nothing_told → held ≡ record { buses = buses; rows = opening buses 0; moment = 0; last_id = 0; places = []; denied = 0 } → RunsUnder buses (take 0 events) r held
-runs_none buses events r held e h = record { grants = []; count = refl; counted = ap (λ (x : Held). x.denied) h; runs = runs_start buses r held e h }
+runs_none buses events r held e h = record { grants = []; count = refl; counted = ap (λ (x : Held). x.denied) h; asked = ap (λ (x : Held). x.denied) h; runs = runs_start buses r held e h }
 
 -- once all events happened
 pub runs_all : (buses : List Bus) (events : List PlainEvent) (index : ℕ) (r : Recording) (held : Held) → length events ≤ index → RunsUnder buses (take index events) r held → RunsUnder buses events r held

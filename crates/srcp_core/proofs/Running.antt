@@ -11,17 +11,17 @@ use Rattle.srcp_rules.specs.Layout.{IsLayout}
 use Rattle.srcp_rules.specs.State.{opening, shown_rows}
 use Rattle.srcp_feed.specs.declared.next.Next.{Next}
 use Rattle.srcp_feed.specs.declared.next.Next.TheVariants.{Told, Listed, Settled}
-use Rattle.srcp_core.specs.Under.{Event, Open, Bytes, Room, At, Shut, Piece, Moment, Ended, lines_under, step_told, denied_by}
+use Rattle.srcp_core.specs.Under.{Event, Open, Bytes, Room, At, Shut, Piece, Moment, Ended, lines_under, step_told, under, denied_by}
 use Rattle.srcp_core.specs.declared.event.Event.{Event as PlainEvent}
 use Rattle.srcp_core.specs.declared.event.Event.TheVariants as plain
 use Rattle.srcp_core.specs.declared.record.Step.{Step as PlainStep}
 use Rattle.srcp_core.specs.declared.record.Step.TheVariants as told
 use Rattle.srcp_core.specs.Connection.{Connection, is_nil}
-use Rattle.srcp_core.specs.Course.{World, numbered, at_connection, open_connection, did, history, fresh, counted, fault, absent_fault, bytes_fault as course_fault, accepted, fed_to, shut_as, answered as course_answered, new_marks, course}
+use Rattle.srcp_core.specs.Course.{World, numbered, at_connection, open_connection, did, history, fresh, counted, fault, absent_fault, bytes_fault as course_fault, accepted, fed_to, shut_as, answered as course_answered, new_marks, course, denied_fed}
 use Rattle.srcp_core.specs.Held.{Place, Held, at, open_count}
 use Rattle.srcp_core.specs.Machine.{IsAdmitted, refused_connect, one_denied, HasRoom, bytes_fault, bytes_fault_from, heard_at, line_taken, steps_of_line, freed_place, freed_of, hung_up, hung_up_from, advanced, live_session, live_session_of, let_out, without_sent, changed_at, changed_in as changed_places_in, filled, unsent_of, unsent_at, item_of, item_at}
 use Rattle.srcp_core.specs.Recording.{Recording, key_of, told_of, opened, shut, stepped, noted, gave, took, without_key, changed_record, changed_in}
-use Rattle.srcp_core.specs.Run.{Tells, Runs, Happened, HappensAs, count_at, taken_at, taking}
+use Rattle.srcp_core.specs.Run.{Tells, Runs, Happened, HappensAs, CountsAsked, count_at, taken_at, taking}
 use Rattle.srcp_core.specs.Stands.{StandsFor, place_of}
 use Rattle.srcp_core.specs.declared.asked.Asked.{Asked}
 use Rattle.srcp_core.specs.declared.record.ConnRecord.{ConnRecord}
@@ -29,7 +29,8 @@ use Rattle.srcp_core.specs.declared.record.CoreFault.{CoreFault}
 use Rattle.srcp_core.specs.declared.record.CoreFault.TheVariants.{Full, Memory as MemoryFault, NoSuch, Busy, PieceTooLong, Closing}
 use Rattle.srcp_core.specs.declared.record.Finish.TheVariants.{Shut as ShutFinish}
 use Rattle.srcp_core.proofs.Answering.{IsFine}
-use Rattle.srcp_core.proofs.Calling.{absent_at, fault_same, full_fault, free_fault, stands_counted, stands_advanced, stands_opened, stands_hung_up}
+use Rattle.srcp_core.proofs.Calling.{absent_at, fault_same, full_fault, free_room, free_fault, stands_counted, stands_advanced, stands_opened, stands_hung_up}
+use Rattle.srcp_core.proofs.CountedRefusals.{after, denied_in_none}
 use Rattle.srcp_core.proofs.Given.{counted_more}
 use Rattle.srcp_core.proofs.Hearing.{nothing_begun, heard_denied}
 use Rattle.srcp_core.proofs.Noting.{tells_same, tells_did, tells_changed}
@@ -54,6 +55,10 @@ runs_counted buses r held w s = record { stands = stands_counted buses r.keys he
 pub told_as : (event : PlainEvent) (refusal : Option CoreFault) (r : Recording) (held : Held) (x y : Recording) (later new : Held) → y ≡ x → new ≡ later → HappensAs event refusal r held x later → HappensAs event refusal r held y new
 told_as event refusal r held x y later new e f h = subst (λ (z : Held). HappensAs event refusal r held y z) (sym f) (subst (λ (z : Recording). HappensAs event refusal r held z later) (sym e) h)
 
+-- nothing is asked for where the count stays
+none_asked : (event : PlainEvent) (r : Recording) (held later : Held) → later.denied ≡ held.denied → CountsAsked r held later (under [] event)
+none_asked event r held later same buses events layout s = same ∙ sym (denied_in_none buses (counted (course buses events)) held.denied event)
+
 abbrev pub err_of : CoreFault → Result ℕ CoreFault
 err_of cause = Err cause
 
@@ -72,12 +77,13 @@ open_with key r old new a buses events layout s =
     )
 
 pub open_happens : (key : ℕ) (r : Recording) (old new : Held) → IsAdmitted key old new → HappensAs plain.Open None r old (opened key r) new
-open_happens key r old new a = record { grants = []; counted = ap (λ (x : Held). x.denied) a.rest; happens = open_with key r old new a }
+open_happens key r old new a = record { grants = []; counted = ap (λ (x : Held). x.denied) a.rest; asked = none_asked plain.Open r old new (ap (λ (x : Held). x.denied) a.rest); happens = open_with key r old new a }
 
 pub full_happens : (r : Recording) (old new : Held) → open_count old ≡ 64 → new ≡ old → HappensAs plain.Open (Some Full) r old r new
 full_happens r old new full same = record {
   grants = [];
   counted = ap (λ (x : Held). x.denied) same;
+  asked = none_asked (plain.Open) r old new (ap (λ (x : Held). x.denied) same);
   happens = λ buses events layout s.
       let w = counted (course buses events) in
       let c = runs_counted buses r old (course buses events) s in
@@ -96,7 +102,14 @@ memory_with r old new room same buses events layout s =
     (free_fault buses r.keys old w c.stands room false, subst (λ (x : Held). Runs buses r x w) (sym same) (runs_denied buses r old w c))
 
 pub memory_happens : (r : Recording) (old new : Held) → open_count old < 64 → new ≡ one_denied old → HappensAs plain.Open (Some MemoryFault) r old r new
-memory_happens r old new room same = record { grants = false ∷ []; counted = ap (λ (x : Held). x.denied) same; happens = memory_with r old new room same }
+memory_happens r old new room same = record {
+  grants = false ∷ [];
+  counted = ap (λ (x : Held). x.denied) same;
+  asked = λ buses events layout s.
+      let w = counted (course buses events) in
+      ap (λ (x : Held). x.denied) same ∙ ap (after old.denied false) (sym (free_room buses r.keys old w (runs_counted buses r old (course buses events) s).stands room));
+  happens = memory_with r old new room same;
+}
 
 -- no connection was opened
 pub open_refused : (r : Recording) (old new : Held) (cause : CoreFault) → IsErrOf (err_of cause) Full ↔ (open_count old ≡ 64) → (IsErrOf (err_of cause) MemoryFault → open_count old < 64) → new ≡ refused_connect cause old → (cause ≡ Full) ⊎ (cause ≡ MemoryFault)
@@ -112,6 +125,7 @@ pub at_happens : (moment : ℕ) (r : Recording) (old new : Held) (now : ℕ) →
 at_happens moment r old new now is now_is = record {
   grants = [];
   counted = ap (λ (x : Held). x.denied) is;
+  asked = none_asked (plain.At moment) r old new (ap (λ (x : Held). x.denied) is);
   happens = λ buses events layout s.
       let w = counted (course buses events) in
       let c = runs_counted buses r old (course buses events) s in
@@ -134,6 +148,7 @@ pub no_bytes_happens : (n : ℕ) (piece : List ℕ) (r : Recording) (held : Held
 no_bytes_happens n piece r held none = record {
   grants = [];
   counted = refl;
+  asked = none_asked (plain.Bytes n piece) r held held (refl);
   happens = λ buses events layout s.
       let w = counted (course buses events) in
       let c = runs_counted buses r held (course buses events) s in
@@ -144,6 +159,7 @@ pub no_room_happens : (n bytes : ℕ) (r : Recording) (held : Held) → key_of n
 no_room_happens n bytes r held none = record {
   grants = [];
   counted = refl;
+  asked = none_asked (plain.Room n bytes) r held held (refl);
   happens = λ buses events layout s.
       let w = counted (course buses events) in
       let c = runs_counted buses r held (course buses events) s in
@@ -154,6 +170,7 @@ pub no_shut_happens : (n : ℕ) (r : Recording) (held : Held) → key_of n r.key
 no_shut_happens n r held none = record {
   grants = [];
   counted = refl;
+  asked = none_asked (plain.Shut n) r held held (refl);
   happens = λ buses events layout s.
       let w = counted (course buses events) in
       let c = runs_counted buses r held (course buses events) s in
@@ -180,6 +197,7 @@ pub gone_happens : (event : PlainEvent) (refusal : Option CoreFault) (n key : �
 gone_happens event refusal n key r held later_r later named gone same = record {
   grants = [];
   counted = same;
+  asked = none_asked (event) r held later (same);
   happens = λ buses events layout s.
       let h = found_at buses (λ n fed. fed) r.keys held (course buses events) n key s.stands named in
       absurd (none-some (place_of h.reader (history buses (course buses events)) h.conn) (sym gone ∙ h.place));
@@ -193,6 +211,7 @@ pub shut_happens : (n key : ℕ) (r : Recording) (old new : Held) (now : ℕ) �
 shut_happens n key r old new now named is now_is = record {
   grants = [];
   counted = ap (λ (x : Held). x.denied) is ∙ hung_up_denied key old (at old key);
+  asked = none_asked (plain.Shut n) r old new (ap (λ (x : Held). x.denied) is ∙ hung_up_denied key old (at old key));
   happens = λ buses events layout s.
       let w = counted (course buses events) in
       let c = runs_counted buses r old (course buses events) s in
@@ -235,6 +254,7 @@ pub bytes_refused : (n key : ℕ) (piece : List ℕ) (r : Recording) (held : Hel
 bytes_refused n key piece r held cause named e = record {
   grants = [];
   counted = refl;
+  asked = none_asked (plain.Bytes n piece) r held held (refl);
   happens = λ buses events layout s.
       let w = counted (course buses events) in
       let c = runs_counted buses r held (course buses events) s in
@@ -270,8 +290,8 @@ pub record IsReading (n key : ℕ) (piece : List ℕ) (grants : List Bool) (firs
   pub opened : open_connection w n ≡ Some conn
   pub free : course_fault buses w (open_connection w n) piece ≡ None
   pub keys : r.keys ≡ first_r.keys
-  pub upto : IsUpTo buses (opening_in_order buses layout) first_r.keys n key named conn.fed piece (accepting n piece w) grants start held
-  pub tells : Tells r (world_upto buses (opening_in_order buses layout) first_r.keys n key named conn.fed piece (accepting n piece w) grants start)
+  pub upto : IsUpTo buses (opening_in_order buses layout) first_r.keys n key named conn.fed piece (accepting n piece w) first.denied grants start held
+  pub tells : Tells r (world_upto buses (opening_in_order buses layout) first_r.keys n key named conn.fed piece (accepting n piece w) first.denied grants start)
 
 -- so it was, whatever the events were before, where memory answered so to its lines so far
 abbrev pub ReadsWith : List Bool → ℕ → ℕ → List ℕ → Recording → Held → ℕ → Recording → Held → Type 0
@@ -320,7 +340,7 @@ reads_with_more grants n key piece first_r first start stop granted steps r held
     let i = reads buses events layout s in
     let order = opening_in_order buses layout in
     let w = counted (course buses events) in
-    let l = lined buses order first_r.keys n key i.named i.conn.fed piece (accepting n piece w) grants start stop granted held new r onward is i.upto i.tells in
+    let l = lined buses order first_r.keys n key i.named i.conn.fed piece (accepting n piece w) first.denied grants start stop granted held new r onward is i.upto i.tells in
     record {
       named = i.named;
       conn = i.conn;
@@ -328,7 +348,7 @@ reads_with_more grants n key piece first_r first start stop granted steps r held
       free = i.free;
       keys = noted_keys n steps r ∙ i.keys;
       upto = l.upto;
-      tells = subst (λ (steps : List PlainStep). Tells (noted n steps r) (world_upto buses order first_r.keys n key i.named i.conn.fed piece (accepting n piece w) (grants ++ granted ∷ []) stop)) (sym steps_are) l.tells;
+      tells = subst (λ (steps : List PlainStep). Tells (noted n steps r) (world_upto buses order first_r.keys n key i.named i.conn.fed piece (accepting n piece w) first.denied (grants ++ granted ∷ []) stop)) (sym steps_are) l.tells;
     }
 
 pub reads_more : (n key : ℕ) (piece : List ℕ) (first_r : Recording) (first : Held) (start stop : ℕ) (granted : Bool) (steps : List PlainStep) (r : Recording) (held new : Held) → start < stop
@@ -346,7 +366,7 @@ bytes_with grants n key piece first_r first start r held new is reads buses even
     let i = reads buses events layout s in
     let order = opening_in_order buses layout in
     let w = counted (course buses events) in
-    let e = lines_ended buses order first_r.keys n key i.named i.conn.fed piece (accepting n piece w) grants start held new is i.upto in
+    let e = lines_ended buses order first_r.keys n key i.named i.conn.fed piece (accepting n piece w) first.denied grants start held new is i.upto in
     let p : Piece = record { bytes = piece; grants = grants } in
     let world : accepted buses (Bytes n p) w ≡ fold (course_answered buses n) (accepting n piece w) (lines_under grants (new_marks buses i.conn.fed piece)) = ap (λ o. fed_to buses n p o w) i.opened in (
       i.free,
@@ -361,6 +381,12 @@ pub bytes_happens : (n key : ℕ) (piece : List ℕ) (first_r : Recording) (firs
 bytes_happens n key piece first_r first start r held new is reads = record {
   grants = reads.grants;
   counted = ap (λ (x : Option (ℕ × Asked) × Held). x.1.denied) is ∙ heard_denied key piece start held (at held key) ∙ reads.counted;
+  asked = λ buses events layout s.
+      let i = reads.reads buses events layout s in
+      let w = counted (course buses events) in
+      let p : Piece = record { bytes = piece; grants = reads.grants } in
+      (lines_ended buses (opening_in_order buses layout) first_r.keys n key i.named i.conn.fed piece (accepting n piece w) first.denied reads.grants start held new is i.upto).counts
+      ∙ sym (ap (λ (cause : Option CoreFault). denied_fed buses n p w first.denied cause (open_connection w n)) i.free ∙ ap (denied_fed buses n p w first.denied None) i.opened);
   happens = bytes_with reads.grants n key piece first_r first start r held new is reads.reads;
 }
 
@@ -425,6 +451,7 @@ pub room_happens : (n key bytes : ℕ) (first_r : Recording) (first : Held) (lef
 room_happens n key bytes first_r first left r held ends same gives = record {
   grants = [];
   counted = same;
+  asked = none_asked (plain.Room n bytes) first_r first (taken_at key left held) (same);
   happens = λ buses events layout s.
       let i = gives buses events layout s in
       let w = counted (course buses events) in

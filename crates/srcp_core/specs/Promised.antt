@@ -8,7 +8,7 @@ use Rattle.srcp_info.specs.declared.key.Key.{Key}
 use Rattle.srcp_rules.specs.declared.layout.Bus.{Bus}
 use Rattle.srcp_rules.specs.State.{IsWhole}
 use Rattle.srcp_core.specs.Connection.{Connection, is_open, is_settled, overran, given, sent, unsent, recorded}
-use Rattle.srcp_core.specs.Course.{course, history, numbered, rows}
+use Rattle.srcp_core.specs.Course.{start, course, history, numbered, rows, denied_over}
 use Rattle.srcp_core.specs.Laws.{IsRecordOf, IsSession, ListsStill, ListsNoneTwice, ListsRising, ListsHeld, HoldsPassed, SendsLines, IsThereFrom, HoldsRegistry, IsPrefixOf, GivesOwed, AddsUp, OverrunsWhereFull, IsWholeWorld, KeepsKeys, has_key, is_over, times_listed, without_events}
 use Rattle.srcp_core.specs.Under.{Event, Room, all_under, denied_by}
 use Rattle.srcp_core.specs.declared.event.Event.{Event as PlainEvent}
@@ -113,12 +113,13 @@ module _ (buses : List Bus) where
 -- ---- a whole run
 
 -- what memory answered in each event, with which the record is that of the course of the events, and tells of it what it promises;
--- the record counts exactly the answers that refused, up to the greatest u64;
+-- the record counts exactly the answers that refused, up to the greatest u64, and these are all asked for in that course;
 -- where it counts none each answer gave, and the course is that of the events where memory gives all
 pub record IsPromised (buses : List Bus) (events : List PlainEvent) (told : Record) : Type 0 where
   pub grants : List (List Bool)
   pub count : length grants ≡ length events
   pub counted : told.denied ≡ fold denied_by 0 grants
+  pub asked : told.denied ≡ denied_over buses 0 start (all_under grants events)
   pub given : told.denied ≡ 0 → AllByRecursion (AllByRecursion IsTrue) grants
   pub is : IsRecordOf buses (all_under grants events) told
   pub sessions : ToldSessions buses (all_under grants events) told

@@ -3,7 +3,7 @@ use Rattle.std.specs.Prelude.{◌≡◌, ◌+◌, ◌++◌, ◌∷◌, [], ℕ, 
 use Rattle.std.specs.List.{AllByRecursion}
 use Rattle.srcp_rules.specs.declared.layout.Bus.{Bus}
 use Rattle.srcp_rules.specs.Layout.{IsLayout}
-use Rattle.srcp_core.specs.Course.{World, counted, fault, accepted, course}
+use Rattle.srcp_core.specs.Course.{World, start, counted, fault, accepted, course, denied_in, denied_over}
 use Rattle.srcp_core.specs.Held.{Held}
 use Rattle.srcp_core.specs.Machine.{let_out, item_at, unsent_at, changed_at, without_sent}
 use Rattle.srcp_core.specs.Recording.{Recording, key_of, without_key, told_of, gave, took}
@@ -47,12 +47,18 @@ module _ (buses : List Bus) where
 abbrev pub GivesAll : List Bool → Held → Type 0
 GivesAll grants held = held.denied ≡ 0 → AllByRecursion IsTrue grants
 
+-- whatever the events were before, what was refused in the event is what was asked for in their course
+abbrev pub CountsAsked : Recording → Held → Held → Event → Type 0
+CountsAsked r held later event = (buses : List Bus) (events : List Event) → IsLayout buses → Runs buses r held (course buses events)
+    → later.denied ≡ denied_in buses held.denied (counted (course buses events)) event
+
 -- what memory answered, with which, whatever the events were before, the event is carried out or refused as it is in their course
 pub record HappensAs (event : PlainEvent) (refusal : Option CoreFault) (r : Recording) (held : Held) (later_r : Recording) (later : Held) : Type 0 where
   pub grants : List Bool
   pub happens : (buses : List Bus) (events : List Event) → IsLayout buses → Runs buses r held (course buses events)
       → Happened buses (under grants event) refusal later_r later (counted (course buses events))
   pub counted : later.denied ≡ denied_by held.denied grants
+  pub asked : CountsAsked r held later (under grants event)
 
 -- and so with the number of the event, which is noted where it is refused
 pub record FollowsAs (number : ℕ) (event : PlainEvent) (r : Recording) (held : Held) (later_r : Recording) (later : Held) : Type 0 where
@@ -60,6 +66,7 @@ pub record FollowsAs (number : ℕ) (event : PlainEvent) (r : Recording) (held :
   pub follows : (buses : List Bus) (events : List Event) → IsLayout buses → number ≡ length events + 1
       → Runs buses r held (course buses events) → Runs buses later_r later (course buses (events ++ under grants event ∷ []))
   pub counted : later.denied ≡ denied_by held.denied grants
+  pub asked : CountsAsked r held later (under grants event)
 
 -- a call leads from the course of any events to that with its event
 abbrev pub LeadsTo : Event → Held → Held → Type 0
@@ -100,6 +107,7 @@ pub record RunsUnder (buses : List Bus) (events : List PlainEvent) (r : Recordin
   pub grants : List (List Bool)
   pub count : length grants ≡ length events
   pub counted : held.denied ≡ fold denied_by 0 grants
+  pub asked : held.denied ≡ denied_over buses 0 start (all_under grants events)
   pub runs : Runs buses r held (course buses (all_under grants events))
 
 -- what memory answered in each event of a run, where its record is that of the course of the events under these answers
@@ -107,6 +115,7 @@ pub record RunsRecord (buses : List Bus) (events : List PlainEvent) (told : Reco
   pub grants : List (List Bool)
   pub count : length grants ≡ length events
   pub counted : told.denied ≡ fold denied_by 0 grants
+  pub asked : told.denied ≡ denied_over buses 0 start (all_under grants events)
   pub is : IsRecordOf buses (all_under grants events) told
 
 -- the moment that an event tells has 64 bits

@@ -1,5 +1,6 @@
 -- What memory answers in each event, and what of that the course of the events takes in.
-use Rattle.std.specs.Prelude.{ℕ, ◌+◌, min, fold, Bool, true, false, not, ◌&&◌, ◌||◌, if◌then◌else◌, List, [], ◌∷◌}
+use Rattle.std.specs.Prelude.{ℕ, ◌+◌, min, fold, Bool, true, false, not, ◌&&◌, ◌||◌, if◌then◌else◌, List, [], ◌∷◌, nat_lt, Result, Ok, Err}
+use Rattle.srcp_info.specs.declared.change.Code.{Code}
 use Rattle.srcp_info.specs.declared.change.Code.TheVariants.{C500}
 use Rattle.srcp_info.specs.declared.change.Reply.{Reply}
 use Rattle.srcp_info.specs.declared.change.Reply.TheVariants.{Accepted}
@@ -94,6 +95,16 @@ is_accepted _ = false
 -- the command wants memory: it adds rows, and nothing else refuses it
 abbrev pub wants_memory : State → (session moment : ℕ) → Command → Bool
 wants_memory state session moment command = adds_rows state command && is_accepted (effect_of state session moment command).reply
+
+-- a line before the session wants memory: it is GO, and an id is left
+abbrev pub greeting_wants : (last_id : ℕ) → Greeting → Bool
+greeting_wants last_id Goes = nat_lt last_id 4294967295
+greeting_wants last_id _ = false
+
+-- a line of a session wants memory: it reads as a command that does
+abbrev pub reading_wants : State → (session moment : ℕ) → Result Command Code → Bool
+reading_wants state session moment (Err code) = false
+reading_wants state session moment (Ok command) = wants_memory state session moment command
 
 -- what the command does: nothing where it wants memory, which is refused to it
 abbrev pub effect : State → (session moment : ℕ) → Order → Effect

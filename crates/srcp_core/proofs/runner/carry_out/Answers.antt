@@ -13,6 +13,7 @@ returns-clause-record g c =
       grants = u.grants;
       count = u.count;
       counted = c.in_ok-record.ensures.denied ∙ u.counted;
+      asked = c.in_ok-record.ensures.denied ∙ u.asked;
       is = record_is c.args.layout.now (all_under u.grants c.args.events.now) c.loop-index.recorder c.loop-index.core c.in_ok-record.field-0 c.buses.ensures.laid_out u.runs
           c.in_ok-record.ensures.steps c.in_ok-record.ensures.refused c.in_ok-record.ensures.connections c.in_ok-record.ensures.rows;
     }
