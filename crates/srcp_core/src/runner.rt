@@ -33,8 +33,9 @@ impl From<Memory> for RunFault {
 /// information session, however its writes were cut: on a still registry it was sent its listing, each device that was
 /// there all the time is listed exactly once, and a client that applies all lines holds the registry once it is settled
 /// (`sessions`). Every other connection was sent its replies alone (`replies`). Rooms add up, and nothing is sent after an
-/// overrun (`rooms`). The registry stayed whole (`registry`). Where the record counts no refusal, memory gave in each event
-/// (`given`), and the course is the one with ample memory (`laws::ample_memory`).
+/// overrun (`rooms`). The registry stayed whole (`registry`). The record counts exactly the answers that refused (`counted`),
+/// each of which was asked for (`asked`). Where it counts none, memory gave in each event (`given`), and the course is the
+/// one with ample memory (`laws::ample_memory`).
 ///
 /// # Errors
 /// `Memory` where memory was refused to the core when it was made, or to the record.
