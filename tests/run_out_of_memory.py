@@ -4,39 +4,68 @@
 `rt try` builds the program of crates/out_of_memory_tests once, without a proof, and refuses the growth of the same number in each
 case. A case names a trial and how many growths are made before it, so that each growth of the trial is refused in one of
 them. What came of it is `refused` or `granted` where the promises were kept, `unprepared` where the growth is none of the
-call's, and `broken` else. The last line counts the cases; the status is 0 only where all of them pass.
+call's, and `broken` else. The trials of a listing are handed its script and print the whole record of the run; one that is no
+record of listing_out_of_memory.py is `broken` too. The last line counts the cases; the status is 0 only where all of them pass.
 """
-import os
 import re
 import subprocess
 import sys
 import tempfile
 from pathlib import Path
 
+from listing_out_of_memory import RECORDS, SCRIPT, event_refused, is_expected
+
 CRATE = Path(__file__).resolve().parent.parent / "crates" / "out_of_memory_tests"
 # how many growths each trial is tried with, which is more than it has
 TRIALS = {"ring": 3, "feed": 5, "mirror": 4, "layout": 5, "connect": 8, "configuration": 18, "script": 4, "words": 66,
-          "serve": 9, "play-flat": 52, "play-nested": 56}
+          "serve": 9, "play-flat": 52, "play-nested": 56, "listing-flat": 29, "listing-nested": 32}
+LISTINGS = ("listing-flat", "listing-nested")
+# how many growths of a listing's trial are left out: they read its script, which is not its run
+READING = 19
 BEFORE = 200
-OUTCOME = re.compile(r"^== (\S+)-(\d+)\n(\w+)\n", re.M)
+OUTCOME = re.compile(r"^== (\S+)-(\d+)\n((?:.*\n)*?)(\w+)\n(?=== |\Z)", re.M)
+
+
+def write_cases(folder):
+    """Writes the standard input of each case."""
+    for trial, most in TRIALS.items():
+        left_out, script = (READING, SCRIPT) if trial in LISTINGS else (0, "")
+        for growth in range(1, most + 1):
+            Path(folder, f"{trial}-{growth:03}").write_text(f"{trial} {BEFORE - left_out - growth}\n{script}")
 
 
 def outcomes_of_all():
-    """For each trial, what came of it with its first growth refused, its second, and so on."""
+    """For each trial, what came of it with its first growth refused, its second, and so on; and for each listing the events
+    that were refused in its records, in that order."""
     with tempfile.TemporaryDirectory() as cases:
-        for trial, most in TRIALS.items():
-            for growth in range(1, most + 1):
-                Path(cases, f"{trial}-{growth:03}").write_text(f"{trial} {BEFORE - growth}")
+        write_cases(cases)
         # one step for the interpreter: the run that is compiled with checks is what counts
         done = subprocess.run(["rt", "try", "--steps", "1", "--fail-alloc", str(BEFORE + 1), "--cases", cases],
                               cwd=CRATE, capture_output=True, text=True, stdin=subprocess.DEVNULL)
-    came = {trial: [] for trial in TRIALS}
-    for trial, growth, outcome in OUTCOME.findall(done.stdout + done.stderr):
-        came[trial].append(outcome)
+    came, events = {trial: [] for trial in TRIALS}, {trial: [] for trial in LISTINGS}
+    for trial, growth, record, outcome in OUTCOME.findall(done.stdout):
+        expected = is_expected(outcome, record) if trial in LISTINGS else record == ""
+        came[trial].append(outcome if expected else "broken")
         assert len(came[trial]) == int(growth), f"{trial} {growth} is out of order"
+        if not expected:
+            print(f"{trial} {growth} printed before {outcome}:\n{record}")
+        elif event := event_refused(record):
+            events[trial].append(event)
     if done.returncode != 0 or any(len(came[trial]) != most for trial, most in TRIALS.items()):
         sys.exit(f"growths: rt try ended with {done.returncode}\n{(done.stdout + done.stderr)[-4000:]}")
-    return came
+    return came, events
+
+
+def faults_of_listings(came, events):
+    """What is wrong with the listings beside their records, one line each."""
+    for trial in LISTINGS:
+        if came[trial][0] != "unprepared":
+            yield f"{trial}: growths of its run are left out"
+        if events[trial] != sorted(events[trial]):
+            yield f"{trial}: its growths are refused in the events {events[trial]}, in this order"
+    met = set().union(*events.values())
+    if met != set(RECORDS) - {0}:
+        yield f"listings: growths are refused in the events {sorted(met)} alone"
 
 
 def faults_of(came):
@@ -55,8 +84,8 @@ def faults_of(came):
 
 
 def main():
-    came = outcomes_of_all()
-    faults = list(faults_of(came))
+    came, events = outcomes_of_all()
+    faults = [*faults_of(came), *faults_of_listings(came, events)]
     for trial, outcomes in came.items():
         print(f"{trial}: {outcomes.count('refused')} growths refused")
     for fault in faults:

@@ -1,10 +1,12 @@
 //! One trial of what a refused growth leaves, for `tests/run_out_of_memory.py`. Standard input names the trial and says how many
 //! growths are made before it. `rt try --fail-alloc N` refuses the Nth growth of a program, so this says which growth of the
-//! trial is refused. What came of it is printed; without a name all trials are made, and each has to be granted.
+//! trial is refused. What came of it is printed. The lines behind the first are the script of a listing, which prints its
+//! record before that. Without a name all trials that want no script are made, and each has to be granted.
 #![tactic(auto)]
 
 mod calls;
 mod door;
+mod listing;
 mod outcome;
 mod play;
 
@@ -12,14 +14,14 @@ use crate::outcome::{Outcome, Refused};
 use srcp_rules::{Flat, Nested};
 use srcp_text::{read_number, words};
 use std::alloc::Global;
-use std::io::Read;
+use std::io::{Read, Write};
 use std::process::ExitCode;
 use std::vec::Vec;
 
 /// How many growths may be made before a trial.
 const MOST_BEFORE: u32 = 10_000;
 
-/// The names of the trials.
+/// The names of the trials that want no script.
 const TRIALS: [&[u8]; 11] = [
     b"ring",
     b"feed",
@@ -36,21 +38,23 @@ const TRIALS: [&[u8]; 11] = [
 
 /// Makes the trial that is asked for.
 fn main(rt: HostRuntime) -> ExitCode {
-    let mut asked = [0; 64];
-    let count = match rt.stdin().read(&mut asked) {
+    let mut input = [0; 1024];
+    let count = match rt.stdin().read(&mut input) {
         Ok(count) => count,
         Err(_) => return ExitCode::FAILURE,
     };
-    let mut words = words(&asked[..count]);
+    let (asked, script) = cut_at_line_feed(&input[..count]);
+    let mut words = words(asked);
     match words.next() {
         Some(name) => {
             let before = words.next().and_then(|word| read_number(word, MOST_BEFORE));
-            let outcome = trial_after(rt.alloc(), name, before.unwrap_or(0));
+            let before = before.unwrap_or(0);
+            let outcome = trial_after(rt.alloc(), before, name, script, &mut rt.stdout());
             let _ = println!(rt; "{outcome}");
         }
         None => {
             for name in TRIALS {
-                let outcome = trial_after(rt.alloc(), name, 0);
+                let outcome = trial_after(rt.alloc(), 0, name, script, &mut rt.stdout());
                 let _ = println!(rt; "{outcome}");
             }
         }
@@ -58,10 +62,24 @@ fn main(rt: HostRuntime) -> ExitCode {
     ExitCode::SUCCESS
 }
 
+/// What stands before the first LF, and what stands behind it.
+fn cut_at_line_feed(text: &[u8]) -> (&[u8], &[u8]) {
+    match text.iter().position(|byte| *byte == b'\n') {
+        Some(place) => (&text[..place], &text[place + 1..]),
+        None => (text, &[]),
+    }
+}
+
 /// Makes so many growths, and then the trial of that name.
-fn trial_after(alloc: Global, name: &[u8], before: u32) -> Outcome {
+fn trial_after<W: Write>(
+    alloc: Global,
+    before: u32,
+    name: &[u8],
+    script: &[u8],
+    out: &mut W,
+) -> Outcome {
     let made = growths(alloc, before);
-    let outcome = match trial(alloc, name) {
+    let outcome = match trial(alloc, name, script, out) {
         Ok(outcome) => outcome,
         Err(Refused) => Outcome::Unprepared,
     };
@@ -83,7 +101,12 @@ fn growths(alloc: Global, count: u32) -> Result<Vec<Vec<u32>>, Refused> {
 }
 
 /// Makes the trial of that name.
-fn trial(alloc: Global, name: &[u8]) -> Result<Outcome, Refused> {
+fn trial<W: Write>(
+    alloc: Global,
+    name: &[u8],
+    script: &[u8],
+    out: &mut W,
+) -> Result<Outcome, Refused> {
     match name {
         b"ring" => Ok(calls::ring(alloc)),
         b"feed" => calls::feed(alloc),
@@ -96,6 +119,8 @@ fn trial(alloc: Global, name: &[u8]) -> Result<Outcome, Refused> {
         b"serve" => door::serve(alloc),
         b"play-flat" => play::play::<Flat>(alloc),
         b"play-nested" => play::play::<Nested>(alloc),
+        b"listing-flat" => listing::listing::<Flat, W>(alloc, script, out),
+        b"listing-nested" => listing::listing::<Nested, W>(alloc, script, out),
         _ => Ok(Outcome::Broken),
     }
 }

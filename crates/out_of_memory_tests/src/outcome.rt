@@ -1,5 +1,6 @@
 //! What came of a trial.
 use srcp_rules::{LayoutFault, Memory};
+use srcp_tool::ScriptFault;
 use std::alloc::{AllocError, AllocFailed};
 use std::fmt;
 
@@ -64,6 +65,12 @@ impl<T: Drop> From<AllocFailed<T>> for Refused {
 
 impl From<Memory> for Refused {
     fn from(_: Memory) -> Refused {
+        Refused
+    }
+}
+
+impl From<ScriptFault> for Refused {
+    fn from(_: ScriptFault) -> Refused {
         Refused
     }
 }

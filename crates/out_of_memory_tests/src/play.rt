@@ -38,9 +38,7 @@ const ROWS: usize = 12;
 /// the locks, and then one for each lock that was accepted: it was told nothing of what was refused.
 pub(crate) fn play<R: Rows>(alloc: Global) -> Result<Outcome, Refused> {
     let layout = one_bus(alloc)?;
-    let Ok(events) = read_script(alloc, SCRIPT) else {
-        return Ok(Outcome::Unprepared);
-    };
+    let events = read_script(alloc, SCRIPT)?;
     let Ok(record) = run::<R>(alloc, &layout, &events) else {
         return Ok(Outcome::Refused);
     };
