@@ -57,7 +57,7 @@ pub record CallsAgree : Type 0 where
       (λ buses events n. is_nil (unsent_at key (let_out key held)) ≡ lends_none_in buses (course buses events) n)
   pub shuts : (key : ℕ) (held : Held) → OfConnection key held (λ buses events n. fault buses (course buses events) (Shut n) ≡ None)
 
--- what was refused stays counted, and no other call counts a refusal
+-- what was refused stays counted, and a call that opens no connection and reads no piece counts nothing more
 pub record CallsCount : Type 0 where
   pub moment : (moment : ℕ) (old new : Held) → new ≡ advanced moment old → new.denied ≡ old.denied
   pub opened : (key : ℕ) (old new : Held) → IsAdmitted key old new → new.denied ≡ old.denied
