@@ -11,12 +11,11 @@ use Rattle.srcp_rules.specs.declared.layout.Bus.{Bus}
 use Rattle.srcp_core.specs.Course.{course}
 use Rattle.srcp_core.specs.Held.{Held}
 use Rattle.srcp_core.specs.Stands.{StandsFor}
-use Rattle.srcp_core.specs.Under.{Open}
-use Rattle.srcp_info.proofs.ClientLaws.{all_append}
+use Rattle.srcp_core.specs.Under.{Open, denied_by}
 use Rattle.srcp_core.proofs.Told.{all_front}
 use Rattle.srcp_serve.specs.Calls.{Call as DoorCall, Tells, Adds, PeersDiffer, peer_of}
 use Rattle.srcp_serve.specs.Calls as door
-use Rattle.srcp_serve.specs.Given.{Guest, Call, NowCall, AcceptCall, ReadCall, WriteCall, CloseCall, IsGiven, told_call}
+use Rattle.srcp_serve.specs.Given.{Guest, Call, NowCall, AcceptCall, ReadCall, WriteCall, CloseCall, answers_of, told_call}
 use Rattle.srcp_serve.specs.Serving.{Seat, Stand, Moments, Newcomers, IsFair, IsServed, question, is_now, moment_of, newcomer_of, seats, visits_ask, visit_events, kept, is_let_in, let_in, welcomed, with_moment, timed, begun, visited, turned, turn_asks, turns_away, stand_after}
 use Rattle.srcp_serve.specs.Places.{IsHosting, IsServing, IsLeftOut, IsNotOf, IsOneOf, IsTurnGiven, one_if, LetsIn, MakesTurn, SeatsPeer, SeatsDiffer, ServesCourse, ServesSoFar, Sit, TakesMoment, Visit, VisitsPlaces, AreOwn, asked_by, calls_of, left_by, made_by, seat_of, visits_of}
 use Rattle.srcp_serve.specs.Turns.{AsksNewcomer, AsksPeers, AsksTurn, AsksTurns, IsTurn, is_of_peer}
@@ -26,7 +25,7 @@ use Rattle.srcp_serve.specs.declared.serving.visit.Seat.{Seat as Own}
 use Rattle.srcp_serve.proofs.Hosting.{none_left_out}
 use Rattle.srcp_serve.proofs.PlaceLaws.{all_here, all_seated, kept_by, known_left, round_seats, visits_apart}
 use Rattle.srcp_serve.proofs.ServingLaws.{served-more}
-use Rattle.srcp_serve.proofs.Telling.{adds_one, adds_then, given_then, same_calls}
+use Rattle.srcp_serve.proofs.Telling.{adds_one, adds_then, given_then, refusals_then, same_calls}
 use Rattle.srcp_serve.proofs.TurnsTaken.{peers_told, sent_taken}
 use Rattle.srcp_serve.proofs.VisitLaws.{AreApart, visits_asked, visits_make}
 
@@ -148,7 +147,7 @@ module _ (old : Held) (told_old told_new : Option (List DoorCall)) (owns : List 
     early = [];
     keys = keys;
     adds = adds_one (door.AcceptCall (Ok None)) told_old told_new told h is;
-    given = λ d. (refl, tt);
+    counted = refl;
     asked = refl;
     others = none_left_out stand.places;
     hosting = hosting;
@@ -162,7 +161,7 @@ module _ (old : Held) (told_old told_new : Option (List DoorCall)) (owns : List 
     early = [];
     keys = keys;
     adds = adds_one (door.AcceptCall (Err failed)) told_old told_new told h is;
-    given = λ d. (refl, tt);
+    counted = refl;
     asked = refl;
     others = none_left_out stand.places;
     hosting = hosting;
@@ -184,7 +183,7 @@ lets_peer peer opens old new told_old told_mid told_new owns owns_new h asks sit
       early = x.welcomes.early;
       keys = x.welcomes.keys;
       adds = given_then told_old told_mid later.adds.before told (AcceptCall (Ok (Some peer)) x.granted ∷ []) x.welcomes.early later.adds.was first x.welcomes.adds;
-      given = x.welcomes.given;
+      counted = x.welcomes.counted;
       asked = x.welcomes.asked ∙ sym (append-nil (turns_away buses stand.events guest));
       others = x.welcomes.others;
       hosting = x.welcomes.hosting;
@@ -260,9 +259,9 @@ tail_of : (told : List DoorCall) (now : Result ℕ DoorFault) (answer : Result (
 tail_of told now answer rest t e = ap (list_all is_of_peer) (sym (ap (drop 2) (sym t.is ∙ e))) ∙ t.peers
 
 pub makes_turn : (opens : Bool) (old mid between new : Held) (told_old told_mid told_between told_new : Option (List DoorCall)) (owns_old owns owns_new : List (Option Own))
-    → TakesMoment old told_old mid told_mid → AsksNewcomer told_mid told_between → LetsIn mid told_mid owns_old between told_between owns opens → (new.denied ≡ 0 → between.denied ≡ 0)
+    → TakesMoment old told_old mid told_mid → mid.denied ≡ old.denied → AsksNewcomer told_mid told_between → LetsIn mid told_mid owns_old between told_between owns opens
     → AsksPeers told_between told_new → VisitsPlaces between told_between owns new told_new owns_new → AsksTurn told_old told_new → MakesTurn old told_old owns_old new told_new owns_new opens
-makes_turn opens old mid between new told_old told_mid told_between told_new owns_old owns owns_new moment asks_in lets low asks_visits visits asks_turn buses stand keys told hosting is peers calls adds differ known =
+makes_turn opens old mid between new told_old told_mid told_between told_new owns_old owns owns_new moment same_count asks_in lets asks_visits visits asks_turn buses stand keys told hosting is peers calls adds differ known =
     let later = asks_visits told is in
     let w = later.adds in
     let one = asks_in w.before w.was in
@@ -301,7 +300,7 @@ makes_turn opens old mid between new told_old told_mid told_between told_new own
       calls = all;
       keys = x.keys;
       adds = adds_all;
-      given = λ d. all_append IsGiven begins seen (tt, b.given (low d)) (x.given d);
+      counted = refusals_then old between new begins seen (b.counted ∙ ap (λ k. denied_by k (answers_of begins)) same_count) x.counted;
       turn = record { now = t.answer; newcomer = b.answer; granted = b.granted; rest = b.early ++ seen; is = refl; peers = of_peers };
       asked = turn_asked buses stand t.answer b.answer b.granted b.early x.round of_peers x.own x.seats_are b.hosting.differ b.others b.asked x.asked;
       known = subst (λ (s : Stand). AllByRecursion (IsOneOf peers_then) s.places) (sym ends) known_last;
@@ -326,11 +325,11 @@ differ_none (suc n) = differ_none n
 pub serves_first : (old : Held) (told_old : Option (List DoorCall)) → ServesSoFar 0 0 old told_old old told_old (replicate 64 None)
 serves_first old told_old buses before calls layout stands was is differ =
     let none : [] ≡ calls = append_cancel_left before [] calls (append-nil before ∙ same_Some before (before ++ calls) (sym was ∙ is)) in
-    subst (λ (c : List DoorCall). IsServing buses 0 0 c old (replicate 64 None)) none (record {
+    subst (λ (c : List DoorCall). IsServing buses 0 0 c old old (replicate 64 None)) none (record {
       calls = [];
       keys = [];
       are = refl;
-      given = λ d. tt;
+      counted = refl;
       served = record { turns_are = refl; asked = refl };
       known = known_none 64;
       hosting = record { layout = layout; sit = sit_none 64; few = omega arith; differ = differ_none 64; long = refl; stands = stands };
@@ -346,9 +345,9 @@ served_then buses count told later so t asked =
     subst (λ (c : List Call). IsServed buses (count + 1) (told ++ c) × (stand_after buses (told ++ c) ≡ turned buses (stand_after buses told) c)) (sym t.is)
     (served-more buses count told t.now rest so (not_now t.rest t.peers) asked_now)
 
-pub serves_on : (count opened : ℕ) (opens : Bool) (old mid new : Held) (told_old told_mid told_new : Option (List DoorCall)) (owns owns_new : List (Option Own)) → ServesSoFar count opened old told_old mid told_mid owns → (new.denied ≡ 0 → mid.denied ≡ 0) → AsksTurns count told_old told_mid → AsksTurn told_mid told_new
+pub serves_on : (count opened : ℕ) (opens : Bool) (old mid new : Held) (told_old told_mid told_new : Option (List DoorCall)) (owns owns_new : List (Option Own)) → ServesSoFar count opened old told_old mid told_mid owns → AsksTurns count told_old told_mid → AsksTurn told_mid told_new
     → MakesTurn mid told_mid owns new told_new owns_new opens → ServesSoFar (count + 1) (opened + one_if opens) old told_old new told_new owns_new
-serves_on count opened opens old mid new told_old told_mid told_new owns owns_new so low asks_before asks turn buses before calls layout stands was is differ =
+serves_on count opened opens old mid new told_old told_mid told_new owns owns_new so asks_before asks turn buses before calls layout stands was is differ =
     let told : List DoorCall = before ++ calls in
     let later = asks told is in
     let w = later.adds in
@@ -369,7 +368,7 @@ serves_on count opened opens old mid new told_old told_mid told_new owns owns_ne
       calls = s.calls ++ x.calls;
       keys = x.keys;
       are = map-append told_call s.calls x.calls ∙ ap (λ c. c ++ map told_call x.calls) s.are ∙ ap (λ c. first ++ c) (sym same) ∙ sym whole;
-      given = λ d. all_append IsGiven s.calls x.calls (s.given (low d)) (x.given d);
+      counted = refusals_then old mid new s.calls x.calls s.counted x.counted;
       served = more.0;
       known = subst (λ (v : Stand). AllByRecursion (IsOneOf (filter_map peer_of calls)) v.places) (sym more.1) known;
       hosting = subst (λ (v : Stand). IsHosting buses v x.keys new owns_new) (sym more.1) x.hosting;
@@ -386,7 +385,7 @@ serves_all count turns opened old now told_old told_now owns e asks so buses bef
     record {
       calls = s.calls;
       are = s.are;
-      given = s.given;
+      counted = s.counted;
       course = record {
         keys = s.keys;
         served = served;

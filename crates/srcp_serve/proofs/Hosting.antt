@@ -4,25 +4,24 @@ use Rattle.std.proofs.lemmas.Bool.Decides.{nat_tests}
 use Rattle.std.proofs.lemmas.Grind.{flat_map-append}
 use Rattle.std.proofs.lemmas.List.{map-append, length-map}
 use Rattle.std.specs.List.{filter, slice_index_or, slice_set, AllByRecursion}
-use Rattle.std.specs.Prelude.{is_none, position, nat_lt, IsTrue}
+use Rattle.std.specs.Prelude.{is_none, position, nat_lt}
 use Rattle.std.proofs.lemmas.List.Sums.{fold-append}
-use Rattle.srcp_info.proofs.ClientLaws.{all_append}
 use Rattle.srcp_rules.specs.declared.layout.Bus.{Bus}
 use Rattle.srcp_core.specs.Agrees.{CountsOpen, OfCourse}
 use Rattle.srcp_core.specs.Connection.{is_open}
 use Rattle.srcp_core.specs.Course.{World, start, counted, course, fault, happens, or_refused}
 use Rattle.srcp_core.specs.Held.{Held}
-use Rattle.srcp_core.specs.Machine.{refused_connect}
+use Rattle.srcp_core.specs.Machine.{IsAdmitted, refused_connect}
 use Rattle.srcp_core.specs.Recording.{key_of, without_key}
 use Rattle.srcp_core.specs.Run.{LeadsTo, LeadsToOpen}
-use Rattle.srcp_core.specs.Under.{Event, Open, At}
+use Rattle.srcp_core.specs.Under.{Event, Open, At, denied_by}
 use Rattle.srcp_core.specs.Stands.{StandsFor}
 use Rattle.srcp_core.specs.declared.record.CoreFault.{CoreFault}
 use Rattle.srcp_core.specs.declared.record.CoreFault.TheVariants.{Full, Memory as MemoryFault}
 use Rattle.srcp_core.proofs.Numbers.{key_push_last, length_without}
 use Rattle.srcp_serve.specs.Calls.{Call as DoorCall, Tells}
 use Rattle.srcp_serve.specs.Calls as door
-use Rattle.srcp_serve.specs.Given.{Guest, Call, CloseCall, AllGiven, IsGiven}
+use Rattle.srcp_serve.specs.Given.{Guest, Call, CloseCall, CountsRefusals}
 use Rattle.srcp_serve.specs.Serving.{Seat, Stand, Closes as ClosesQuestion, question, is_let_in, let_in, welcomed, visit_events}
 use Rattle.srcp_serve.specs.Places.{AreOwn, Visit, calls_of, made_by, asked_by, visits_of, seat_of, left_by, Sit, SitsAt, IsNotOf, IsLeftOut, IsHosting, WelcomesPeer, AreVisited, AreVisitedSoFar, SeatsPeer, TakesMoment, VisitsPlace, VisitsPlaces, VisitsSoFar}
 use Rattle.srcp_serve.specs.Turns.{AsksPeers}
@@ -30,7 +29,7 @@ use Rattle.srcp_serve.specs.Visits.{AddsGiven, Closes, Visits}
 use Rattle.srcp_serve.specs.declared.door.DoorFault.{DoorFault}
 use Rattle.srcp_serve.specs.declared.serving.visit.Seat.{Seat as Own}
 use Rattle.srcp_serve.proofs.PlaceLaws.{count_append, count_cleared, count_cons, count_seated, count_without, differ_cleared, differ_seated, free_in, free_is, length-sit, new_apart, none_free, own_append, sit_pushed, sit_seated, sit_without, sits_here, visits-append}
-use Rattle.srcp_serve.proofs.Telling.{adds_none, adds_one, given_then}
+use Rattle.srcp_serve.proofs.Telling.{adds_none, adds_one, given_then, refusals_then}
 use Rattle.srcp_serve.proofs.VisitLaws.{asked_by-append}
 
 -- ---- the moment
@@ -92,9 +91,9 @@ seats_full peer old mid cause told_old told_new owns closes leads why refused ca
     stands : StandsFor buses keys mid (course buses (stand.events ++ Open false ∷ []))
     stands = leads buses stand.events keys hosting.layout hosting.stands
 
-    away : (granted : Bool) → fault buses (course buses stand.events) (Open granted) ≡ Some cause → StandsFor buses keys mid (course buses (stand.events ++ Open granted ∷ [])) → (mid.denied ≡ 0 → IsTrue granted)
-        → WelcomesPeer buses stand told_old told mid owns peer false
-    away granted denies after_open gave =
+    away : (granted : Bool) → fault buses (course buses stand.events) (Open granted) ≡ Some cause → StandsFor buses keys mid (course buses (stand.events ++ Open granted ∷ [])) → mid.denied ≡ denied_by old.denied (granted ∷ [])
+        → WelcomesPeer buses stand told_old told mid owns old peer false
+    away granted denies after_open counted =
         let guest : Guest = record { peer = peer; granted = granted } in
         let shut : is_let_in buses stand.events granted ≡ false = ap is_none denies in
         let after : Stand = record { events = stand.events ++ Open granted ∷ []; guests = stand.guests; places = stand.places } in
@@ -106,7 +105,7 @@ seats_full peer old mid cause told_old told_new owns closes leads why refused ca
             early = CloseCall peer c.answer ∷ [];
             keys = keys;
             adds = c.adds;
-            given = λ d. (gave d, (tt, tt));
+            counted = counted;
             asked = sym (ap (λ b. if b then [] else ClosesQuestion peer ∷ []) shut);
             others = subst (λ (s : Stand). AllByRecursion (IsLeftOut (CloseCall peer c.answer ∷ [])) s.places) (sym w) (close_left_out peer c.answer stand.places new);
             hosting = subst (λ (s : Stand). IsHosting buses s keys mid owns) (sym w) (record {
@@ -121,22 +120,20 @@ seats_full peer old mid cause told_old told_new owns closes leads why refused ca
           };
         }
 
-    full : cause ≡ Full → WelcomesPeer buses stand told_old told mid owns peer false
+    counts : (c : CoreFault) → cause ≡ c → mid.denied ≡ (refused_connect c old).denied
+    counts c e = ap (λ (h : Held). h.denied) refused ∙ ap (λ c. (refused_connect c old).denied) e
+
+    full : cause ≡ Full → WelcomesPeer buses stand told_old told mid owns old peer false
     full e =
         let is_full : fault buses (course buses stand.events) (Open false) ≡ Some Full = subst (λ c. fault buses (course buses stand.events) (Open false) ≡ Some c) e out in
-        away true (full_open buses (course buses stand.events) is_full ∙ ap (λ c. Some c) (sym e)) (subst (λ (w : World). StandsFor buses keys mid w) (full_course buses stand.events is_full) stands) (λ d. refl)
+        away true (full_open buses (course buses stand.events) is_full ∙ ap (λ c. Some c) (sym e)) (subst (λ (w : World). StandsFor buses keys mid w) (full_course buses stand.events is_full) stands) (counts Full e)
 
-    memory : cause ≡ MemoryFault → WelcomesPeer buses stand told_old told mid owns peer false
-    memory e = away false out stands (λ d. absurd (denied d))
-      where
-        denied : mid.denied ≡ 0 → ⊥
-        denied d =
-            let more : mid.denied ≡ (refused_connect MemoryFault old).denied = ap (λ (h : Held). h.denied) refused ∙ ap (λ c. (refused_connect c old).denied) e in
-            omega (arith, more, d)
+    memory : cause ≡ MemoryFault → WelcomesPeer buses stand told_old told mid owns old peer false
+    memory e = away false out stands (counts MemoryFault e)
 
-pub seats_in : (peer key free : ℕ) (old mid : Held) (told_old : Option (List DoorCall)) (owns : List (Option Own)) → LeadsToOpen key old mid → OfCourse old (λ buses events. fault buses (course buses events) (Open true) ≡ None)
+pub seats_in : (peer key free : ℕ) (old mid : Held) (told_old : Option (List DoorCall)) (owns : List (Option Own)) → IsAdmitted key old mid → LeadsToOpen key old mid → OfCourse old (λ buses events. fault buses (course buses events) (Open true) ≡ None)
     → position is_none owns ≡ Some free → SeatsPeer peer old told_old owns mid told_old (slice_set owns free (Some (record { peer = peer; key = key }))) true
-seats_in peer key free old mid told_old owns leads accepts place buses stand keys told hosting is new =
+seats_in peer key free old mid told_old owns admitted leads accepts place buses stand keys told hosting is new =
     let own : Own = record { peer = peer; key = key } in
     let guest : Guest = record { peer = peer; granted = true } in
     let seat : Seat = record { peer = peer; conn = length stand.guests + 1 } in
@@ -159,7 +156,7 @@ seats_in peer key free old mid told_old owns leads accepts place buses stand key
         early = [];
         keys = pushed;
         adds = adds_none told_old told is;
-        given = λ d. (refl, tt);
+        counted = ap (λ (h : Held). h.denied) admitted.rest;
         asked = sym (ap (λ b. if b then [] else ClosesQuestion peer ∷ []) let_in_is);
         others = none_left_out (welcomed buses stand guest).places;
         hosting = subst (λ (s : Stand). IsHosting buses s pushed mid (slice_set owns free (Some own))) (sym w) (record {
@@ -206,7 +203,7 @@ place_free place d old told_old owns here buses stand keys told hosting is front
   round = None ∷ [];
   keys = keys;
   adds = adds_none told_old told is;
-  given = λ d. tt;
+  counted = refl;
   seats_are = refl;
   own = tt;
   asked = refl;
@@ -232,7 +229,7 @@ module _ (place : ℕ) (d : Option Own) (own : Own) (old new : Held) (told_old t
         round = Some (seat, x.calls) ∷ [];
         keys = keys;
         adds = subst (λ (c : List Call). AddsGiven told_old told c) (sym (append-nil x.calls)) x.adds;
-        given = subst (λ (c : List Call). AllGiven c new) (sym (append-nil x.calls)) x.given;
+        counted = subst (λ (c : List Call). CountsRefusals old c new) (sym (append-nil x.calls)) x.counted;
         seats_are = refl;
         own = (x.own, tt);
         asked = ap (map question) (append-nil x.calls) ∙ x.asked ∙ sym (append-nil _);
@@ -267,7 +264,7 @@ module _ (place : ℕ) (d : Option Own) (own : Own) (old new : Held) (told_old t
         round = Some (seat, x.calls) ∷ [];
         keys = fewer;
         adds = subst (λ (c : List Call). AddsGiven told_old told c) (sym (append-nil x.calls)) x.adds;
-        given = subst (λ (c : List Call). AllGiven c new) (sym (append-nil x.calls)) x.given;
+        counted = subst (λ (c : List Call). CountsRefusals old c new) (sym (append-nil x.calls)) x.counted;
         seats_are = refl;
         own = (x.own, tt);
         asked = ap (map question) (append-nil x.calls) ∙ x.asked ∙ sym (append-nil _);
@@ -287,7 +284,7 @@ places_first old told_old owns buses stand keys told hosting is = record {
     round = [];
     keys = keys;
     adds = adds_none told_old told is;
-    given = λ d. tt;
+    counted = refl;
     seats_are = refl;
     own = tt;
     asked = refl;
@@ -295,13 +292,13 @@ places_first old told_old owns buses stand keys told hosting is = record {
   };
 }
 
-module _ (buses : List Bus) (stand : Stand) (old : Option (List DoorCall)) (seats : List (Option Seat)) where
+module _ (buses : List Bus) (stand : Stand) (old : Option (List DoorCall)) (core_old : Held) (seats : List (Option Seat)) where
   -- one place more was visited
-  visited_then : (mid : List DoorCall) (told_mid : Option (List DoorCall)) (between new : Held) (owns owns_after : List (Option Own)) (told : List DoorCall) (place : Option Seat) (ahead : List (Option Seat)) → told_mid ≡ Some mid → (new.denied ≡ 0 → between.denied ≡ 0)
-      → (x : AreVisited buses stand old mid between owns [] seats (place ∷ ahead))
-      → AreVisited buses (record { events = stand.events ++ made_by (visits_of x.round); guests = stand.guests; places = map left_by x.round ++ place ∷ ahead }) told_mid told new owns_after (map left_by x.round) (place ∷ []) ahead
-      → AreVisited buses stand old told new owns_after [] (seats ++ place ∷ []) ahead
-  visited_then mid told_mid between new owns owns_after told place ahead is low x y =
+  visited_then : (mid : List DoorCall) (told_mid : Option (List DoorCall)) (between new : Held) (owns owns_after : List (Option Own)) (told : List DoorCall) (place : Option Seat) (ahead : List (Option Seat)) → told_mid ≡ Some mid
+      → (x : AreVisited buses stand old mid between owns core_old [] seats (place ∷ ahead))
+      → AreVisited buses (record { events = stand.events ++ made_by (visits_of x.round); guests = stand.guests; places = map left_by x.round ++ place ∷ ahead }) told_mid told new owns_after between (map left_by x.round) (place ∷ []) ahead
+      → AreVisited buses stand old told new owns_after core_old [] (seats ++ place ∷ []) ahead
+  visited_then mid told_mid between new owns owns_after told place ahead is x y =
       let both : List (Option Visit) = x.round ++ y.round in
       let xs : List Visit = visits_of x.round in
       let ys : List Visit = visits_of y.round in
@@ -314,7 +311,7 @@ module _ (buses : List Bus) (stand : Stand) (old : Option (List DoorCall)) (seat
         round = both;
         keys = y.keys;
         adds = subst (λ (c : List Call). AddsGiven old told c) (sym calls) (given_then old told_mid mid told (calls_of xs) (calls_of ys) is x.adds y.adds);
-        given = λ d. subst (λ (c : List Call). AllByRecursion IsGiven c) (sym calls) (all_append IsGiven (calls_of xs) (calls_of ys) (x.given (low d)) (y.given d));
+        counted = subst (λ (c : List Call). CountsRefusals core_old c new) (sym calls) (refusals_then core_old between new (calls_of xs) (calls_of ys) x.counted y.counted);
         seats_are = map-append seat_of x.round y.round ∙ ap (λ front. front ++ map seat_of y.round) x.seats_are ∙ ap (λ more. seats ++ more) y.seats_are;
         own = subst (λ (vs : List Visit). AreOwn vs) (sym all) (own_append xs ys x.own y.own);
         asked = ap (map question) calls ∙ map-append question (calls_of xs) (calls_of ys) ∙ ap (λ qs. qs ++ map question (calls_of ys)) x.asked ∙ ap (λ qs. asked_by buses stand.events xs ++ qs) y.asked
@@ -327,9 +324,9 @@ module _ (buses : List Bus) (stand : Stand) (old : Option (List DoorCall)) (seat
 length-left : (round : List (Option Visit)) (seats : List (Option Seat)) → map seat_of round ≡ seats → length (map left_by round) ≡ length seats
 length-left round seats e = length-map round left_by ∙ sym (length-map round seat_of) ∙ ap length e
 
-module _ (place : ℕ) (old mid new : Held) (told_old told_mid told_new : Option (List DoorCall)) (owns_old owns owns_after : List (Option Own)) (long : length owns ≡ 64) (within : place < 64) (visits : VisitsPlace place mid told_mid owns new told_new owns_after) (low : new.denied ≡ 0 → mid.denied ≡ 0) where
+module _ (place : ℕ) (old mid new : Held) (told_old told_mid told_new : Option (List DoorCall)) (owns_old owns owns_after : List (Option Own)) (long : length owns ≡ 64) (within : place < 64) (visits : VisitsPlace place mid told_mid owns new told_new owns_after) where
   placed_on : (buses : List Bus) (stand : Stand) (told told_then : List DoorCall) → told_new ≡ Some told → told_mid ≡ Some told_then → (seats ahead : List (Option Seat)) → stand.places ≡ seats ++ ahead → length seats ≡ place
-      → AreVisited buses stand told_old told_then mid owns [] seats ahead → AreVisitedSoFar buses stand told_old told new owns_after (place + 1)
+      → AreVisited buses stand told_old told_then mid owns old [] seats ahead → AreVisitedSoFar buses stand told_old told new owns_after old (place + 1)
   placed_on buses stand told told_then is was seats [] are many x =
       let a = length-sit x.keys owns (map left_by x.round ++ []) x.hosting.sit in
       let none : List (Option Seat) = [] in
@@ -344,7 +341,7 @@ module _ (place : ℕ) (old mid new : Held) (told_old told_mid told_new : Option
         ahead = ahead;
         are = are ∙ sym (append_assoc seats (p ∷ []) ahead);
         many = length-append seats (p ∷ []) ∙ ap (λ n. n + 1) many;
-        visited = visited_then buses stand told_old seats told_then told_mid mid new owns owns_after told p ahead was low x y;
+        visited = visited_then buses stand told_old old seats told_then told_mid mid new owns owns_after told p ahead was x y;
       }
 
   pub places_on : VisitsSoFar place old told_old owns_old mid told_mid owns → AsksPeers told_mid told_new → VisitsSoFar (place + 1) old told_old owns_old new told_new owns_after
@@ -358,8 +355,8 @@ places_all place old now told_old told_now owns_old owns long most so buses stan
     let s = so buses stand keys told hosting is in
     all s.seats s.ahead s.are s.many s.visited
   where
-    all : (seats ahead : List (Option Seat)) → stand.places ≡ seats ++ ahead → length seats ≡ place → AreVisited buses stand told_old told now owns [] seats ahead → AreVisited buses stand told_old told now owns [] stand.places []
-    all seats [] are many x = subst (λ (ps : List (Option Seat)). AreVisited buses stand told_old told now owns [] ps []) (sym (are ∙ append-nil seats)) x
+    all : (seats ahead : List (Option Seat)) → stand.places ≡ seats ++ ahead → length seats ≡ place → AreVisited buses stand told_old told now owns old [] seats ahead → AreVisited buses stand told_old told now owns old [] stand.places []
+    all seats [] are many x = subst (λ (ps : List (Option Seat)). AreVisited buses stand told_old told now owns old [] ps []) (sym (are ∙ append-nil seats)) x
     all seats (p ∷ ahead) are many x =
         let a = length-sit x.keys owns (map left_by x.round ++ p ∷ ahead) x.hosting.sit in
         let b = length-append (map left_by x.round) (p ∷ ahead) in

@@ -8,7 +8,7 @@ use Rattle.srcp_core.specs.Course.{course, fault}
 use Rattle.srcp_core.specs.Held.{Held}
 use Rattle.srcp_core.specs.Run.{LeadsOn}
 use Rattle.srcp_core.specs.Stands.{StandsFor}
-use Rattle.srcp_core.specs.Under.{Event, Piece, Bytes, giving}
+use Rattle.srcp_core.specs.Under.{Event, Piece, Bytes, denied_by, giving}
 use Rattle.srcp_core.specs.declared.record.CoreFault.{CoreFault}
 use Rattle.srcp_rules.specs.declared.layout.Bus.{Bus}
 use Rattle.srcp_serve.specs.Calls.{Call as DoorCall, Tells}
@@ -28,7 +28,7 @@ module _ (peer key : ℕ) (old : Held) (told_old : Option (List DoorCall)) (read
       record {
         read = None;
         adds = adds_none told_old told is;
-        given = λ d. tt;
+        counted = refl;
         asked = ap (λ t. if t then Reads peer 256 ∷ [] else []) (sym none);
         stays_is = refl;
         stands = subst (λ (all : List Event). StandsFor buses keys old (course buses all)) (sym (append-nil events)) s.stands;
@@ -43,7 +43,7 @@ module _ (peer key : ℕ) (old : Held) (told_old : Option (List DoorCall)) (read
         record {
           read = Some (record { answer = answer; buffer = buffer; grants = [] });
           adds = adds_one (door.ReadCall peer answer buffer) told_old told_new told tells is;
-          given = λ d. (tt, tt);
+          counted = refl;
           asked = asks buses events n [] (course_says buses events keys n s.layout s.named s.stands);
           stays_is = ap (λ t. t || false) loses ∙ or_no stays;
           stands = subst (λ (o : Option Piece). StandsFor buses keys old (course buses (events ++ map (Bytes n) (pieces o)))) (sym none)
@@ -68,7 +68,7 @@ module _ (peer key : ℕ) (old : Held) (told_old : Option (List DoorCall)) (read
       record {
         read = Some (record { answer = Ok (got.Bytes count); buffer = buffer; grants = leads.grants });
         adds = adds_one (door.ReadCall peer (Ok (got.Bytes count)) buffer) told_old told_new told tells named;
-        given = λ d. (leads.given d, tt);
+        counted = leads.counted ∙ ap (denied_by old.denied) (sym (append-nil leads.grants));
         asked = asks (Ok (got.Bytes count)) buffer told_new e full tells buses events n leads.grants (course_says buses events keys n s.layout s.named s.stands);
         stays_is = ap not (sym (stays_ok ∙ fine));
         stands = leads.leads buses events keys n s.layout s.named s.stands;

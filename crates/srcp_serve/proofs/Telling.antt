@@ -1,10 +1,15 @@
 -- What a door told, call after call.
-use Rattle.std.proofs.Common.{◌≡◌, ◌∙◌, List, [], ◌∷◌, ◌++◌, map, Option, Some, None, Result, refl, ap, sym, subst, append_assoc, append-nil, ℕ}
+use Rattle.std.proofs.Common.{◌≡◌, ◌∙◌, List, [], ◌∷◌, ◌++◌, map, Option, Some, None, Result, refl, ap, sym, subst, append_assoc, append-nil, ℕ, ◌+◌, if◌then◌else◌}
 use Rattle.std.proofs.lemmas.List.{append_cancel_left, map-append}
+use Rattle.std.proofs.lemmas.Grind.{flat_map-append}
+use Rattle.std.proofs.lemmas.List.Sums.{fold-append}
 use Rattle.std.proofs.lemmas.Option.{same_Some}
-use Rattle.std.specs.Prelude.{IfSome}
+use Rattle.std.specs.Prelude.{IfSome, min}
+use Rattle.srcp_core.specs.Held.{Held}
+use Rattle.srcp_core.specs.Under.{denied_by}
+use Rattle.srcp_core.proofs.Given.{none_denied}
 use Rattle.srcp_serve.specs.Calls.{Call as DoorCall, Tells, CloseCall, Adds}
-use Rattle.srcp_serve.specs.Given.{Call, told_call}
+use Rattle.srcp_serve.specs.Given.{Call, CountsRefusals, GivesUnlessCounted, answers_in, answers_of, told_call}
 use Rattle.srcp_serve.specs.Visits.{AddsGiven, Closes}
 use Rattle.srcp_serve.specs.declared.door.DoorFault.{DoorFault}
 
@@ -30,6 +35,17 @@ adds_then old mid_told mid told xs ys e a b =
 pub given_then : (old mid_told : Option (List DoorCall)) (mid told : List DoorCall) (xs ys : List Call) → mid_told ≡ Some mid → AddsGiven old mid xs → AddsGiven mid_told told ys → AddsGiven old told (xs ++ ys)
 given_then old mid_told mid told xs ys e a b =
     subst (λ (calls : List DoorCall). Adds old told calls) (sym (map-append told_call xs ys)) (adds_then old mid_told mid told (map told_call xs) (map told_call ys) e a b)
+
+-- the refusals of these calls were counted, and then those of the others
+pub refusals_then : (old mid new : Held) (xs ys : List Call) → CountsRefusals old xs mid → CountsRefusals mid ys new → CountsRefusals old (xs ++ ys) new
+refusals_then old mid new xs ys a b =
+    b ∙ ap (λ k. denied_by k (answers_of ys)) a
+    ∙ sym (fold-append (λ count granted. if granted then count else min (count + 1) 18446744073709551615) old.denied (answers_of xs) (answers_of ys))
+    ∙ ap (denied_by old.denied) (sym (flat_map-append answers_in xs ys))
+
+-- where none is counted, each answer gave
+pub gives_all : GivesUnlessCounted
+gives_all old calls new counted none = (none_denied (answers_of calls) old.denied (sym counted ∙ none)).1
 
 -- the same calls were added
 pub same_calls : (old : Option (List DoorCall)) (told xs ys : List DoorCall) → Adds old told xs → Adds old told ys → xs ≡ ys

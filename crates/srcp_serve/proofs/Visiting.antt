@@ -6,7 +6,7 @@ use Rattle.std.proofs.lemmas.List.{map-append}
 use Rattle.std.proofs.lemmas.List.Elements.{filter_map-append}
 use Rattle.std.proofs.lemmas.List.Folds.{list_any-append}
 use Rattle.std.proofs.lemmas.List.Sums.{sum_by-append}
-use Rattle.std.specs.List.{list_any, filter_map, count_by, AllByRecursion}
+use Rattle.std.specs.List.{list_any, filter_map, count_by}
 use Rattle.std.specs.Prelude.{◌||◌, ◌&&◌, nat_lt, if◌then◌else◌}
 use Rattle.srcp_rules.specs.declared.layout.Bus.{Bus}
 use Rattle.srcp_core.specs.Agrees.{OfConnection, closes as closes_in}
@@ -15,14 +15,13 @@ use Rattle.srcp_core.specs.Held.{Held}
 use Rattle.srcp_core.specs.Recording.{without_key}
 use Rattle.srcp_core.specs.Run.{LeadsToFree}
 use Rattle.srcp_core.specs.Stands.{StandsFor}
-use Rattle.srcp_core.specs.Under.{Event, Piece, Bytes, Room, Shut}
-use Rattle.srcp_info.proofs.ClientLaws.{all_append}
+use Rattle.srcp_core.specs.Under.{Event, Piece, Bytes, Room, Shut, denied_by}
 use Rattle.srcp_serve.specs.Calls.{Call as DoorCall}
-use Rattle.srcp_serve.specs.Given.{Call, ReadCall, WriteCall, CloseCall, IsGiven}
+use Rattle.srcp_serve.specs.Given.{Call, ReadCall, WriteCall, CloseCall, answers_of}
 use Rattle.srcp_serve.specs.Serving.{Seat, Question, Writes, Closes as ClosesQuestion, question, visit, exchange, rooms, lent_none_last, handed, is_closing, reads_of, writes_of, closes_of, visit_events, is_about, is_close, is_write, loses, loses_reading, loses_writing, falls_short, piece_of, count_of}
 use Rattle.srcp_serve.specs.Turns.{AsksPeers}
 use Rattle.srcp_serve.specs.Visits.{AreAbout, AreWritesTo, Closes, Exchanges, IsExchanged, IsLetGo, IsReadFrom, IsVisited, IsWrittenTo, LetsGo, Reading, ReadsIn, Visits, WritesOut, read_calls}
-use Rattle.srcp_serve.proofs.Telling.{given_then}
+use Rattle.srcp_serve.proofs.Telling.{given_then, refusals_then}
 use Rattle.srcp_serve.proofs.VisitLaws.{own_calls}
 
 same_peer : (peer : ℕ) → (peer == peer) ≡ true
@@ -77,9 +76,9 @@ writes_loses peer (call ∷ calls) own =
     subst (λ (c : Call). list_any loses (c ∷ calls) ≡ list_any loses_writing (c ∷ calls)) (sym own.0.is)
     (ap (λ t. loses_writing (WriteCall peer own.0.bytes own.0.answer) || t) (writes_loses peer calls own.1))
 
-writes_given : (peer : ℕ) (calls : List Call) → AreWritesTo peer calls → AllByRecursion IsGiven calls
-writes_given peer [] own = tt
-writes_given peer (call ∷ calls) own = (subst (λ (c : Call). IsGiven c) (sym own.0.is) tt, writes_given peer calls own.1)
+writes_answers : (peer : ℕ) (calls : List Call) → AreWritesTo peer calls → answers_of calls ≡ []
+writes_answers peer [] own = refl
+writes_answers peer (call ∷ calls) own = subst (λ (c : Call). answers_of (c ∷ calls) ≡ []) (sym own.0.is) (writes_answers peer calls own.1)
 
 writes_about : (peer : ℕ) (calls : List Call) → AreWritesTo peer calls → AreAbout peer calls
 writes_about peer [] own = tt
@@ -111,7 +110,7 @@ same_rooms xs ys c l s k =
     ∙ ap (λ t. filter_map count_of ys ++ last_room (not (list_any loses ys) && (not t && nat_lt (count_by is_write xs) 300))) s
     ∙ ap (λ m. filter_map count_of ys ++ last_room (not (list_any loses ys) && (not (list_any falls_short ys) && nat_lt m 300))) k
 
-module _ (buses : List Bus) (events : List Event) (keys : List (Option ℕ)) (n peer : ℕ) where
+module _ (buses : List Bus) (events : List Event) (keys : List (Option ℕ)) (n peer : ℕ) (core_old : Held) where
   abbrev seat : Seat
   seat = record { peer = peer; conn = n }
 
@@ -129,7 +128,7 @@ module _ (buses : List Bus) (events : List Event) (keys : List (Option ℕ)) (n 
   same_exchange xs ys p r = ap (λ pieces. map (Bytes n) pieces ++ map (Room n) (rooms xs)) p ∙ ap (λ counts. map (Bytes n) (filter_map piece_of ys) ++ map (Room n) counts) r
 
   -- the peer was lost in reading
-  pub exchanged_lost : (old : Option (List DoorCall)) (told : List DoorCall) (new : Held) → IsReadFrom buses events keys n peer old told new false → IsExchanged buses events keys n peer old told new false
+  pub exchanged_lost : (old : Option (List DoorCall)) (told : List DoorCall) (new : Held) → IsReadFrom buses events keys n peer old told new core_old false → IsExchanged buses events keys n peer old told new core_old false
   exchanged_lost old told new r =
       let calls : List Call = read_calls peer r.read in
       let lost : list_any loses calls ≡ true = reads_loses peer r.read ∙ r.stays_is in
@@ -138,7 +137,7 @@ module _ (buses : List Bus) (events : List Event) (keys : List (Option ℕ)) (n 
       record {
         calls = calls;
         adds = r.adds;
-        given = r.given;
+        counted = r.counted;
         own = reads_about peer r.read;
         quiet = reads_close peer r.read;
         asked = r.asked ∙ sym (append-nil (reads_of buses events seat)) ∙ ap (λ t. reads_of buses events seat ++ handed_by t (filter_map piece_of calls) (filter_map count_of calls)) (sym r.stays_is);
@@ -147,9 +146,9 @@ module _ (buses : List Bus) (events : List Event) (keys : List (Option ℕ)) (n 
       }
 
   -- it was written to after the read
-  pub exchanged : (old told_mid : Option (List DoorCall)) (mid told : List DoorCall) (between new : Held) (stays : Bool) → told_mid ≡ Some mid → (new.denied ≡ 0 → between.denied ≡ 0) → (r : IsReadFrom buses events keys n peer old mid between true)
-      → IsWrittenTo buses (events ++ map (Bytes n) (filter_map piece_of (read_calls peer r.read))) keys n peer told_mid told new stays → IsExchanged buses events keys n peer old told new stays
-  exchanged old told_mid mid told between new stays is low r w =
+  pub exchanged : (old told_mid : Option (List DoorCall)) (mid told : List DoorCall) (between new : Held) (stays : Bool) → told_mid ≡ Some mid → new.denied ≡ between.denied → (r : IsReadFrom buses events keys n peer old mid between core_old true)
+      → IsWrittenTo buses (events ++ map (Bytes n) (filter_map piece_of (read_calls peer r.read))) keys n peer told_mid told new stays → IsExchanged buses events keys n peer old told new core_old stays
+  exchanged old told_mid mid told between new stays is same r w =
       let reads : List Call = read_calls peer r.read in
       let calls : List Call = reads ++ w.calls in
       let pieces : filter_map piece_of calls ≡ filter_map piece_of reads = filter_map-append piece_of reads w.calls ∙ ap (λ more. filter_map piece_of reads ++ more) (writes_pieces peer w.calls w.own) ∙ append-nil (filter_map piece_of reads) in
@@ -166,7 +165,7 @@ module _ (buses : List Bus) (events : List Event) (keys : List (Option ℕ)) (n 
       record {
         calls = calls;
         adds = given_then old told_mid mid told reads w.calls is r.adds w.adds;
-        given = λ d. all_append IsGiven reads w.calls (r.given (low d)) (writes_given peer w.calls w.own);
+        counted = refusals_then core_old between new reads w.calls r.counted (same ∙ ap (denied_by between.denied) (sym (writes_answers peer w.calls w.own)));
         own = about_append peer reads w.calls (reads_about peer r.read) (writes_about peer w.calls w.own);
         quiet = any_second is_close reads w.calls (reads_close peer r.read) ∙ writes_close peer w.calls w.own;
         asked = map-append question reads w.calls ∙ ap (λ qs. qs ++ map question w.calls) r.asked ∙ ap (λ qs. reads_of buses events seat ++ qs) (w.asked ∙ sym asks);
@@ -184,7 +183,7 @@ module _ (buses : List Bus) (events : List Event) (keys : List (Option ℕ)) (n 
   shutting b = if b then Shut n ∷ [] else []
 
   -- it keeps its place
-  pub visited_stays : (old : Option (List DoorCall)) (told : List DoorCall) (new : Held) → (x : IsExchanged buses events keys n peer old told new true) → is_closing buses n (events ++ exchange n x.calls) ≡ false → IsVisited buses events keys n peer old told new true
+  pub visited_stays : (old : Option (List DoorCall)) (told : List DoorCall) (new : Held) → (x : IsExchanged buses events keys n peer old told new core_old true) → is_closing buses n (events ++ exchange n x.calls) ≡ false → IsVisited buses events keys n peer old told new core_old true
   visited_stays old told new x open_still =
       let mine : visit x.calls seat ≡ x.calls = own_calls peer x.calls x.own in
       let more : visit_events x.calls seat ≡ exchange n x.calls =
@@ -193,7 +192,7 @@ module _ (buses : List Bus) (events : List Event) (keys : List (Option ℕ)) (n 
       record {
         calls = x.calls;
         adds = x.adds;
-        given = x.given;
+        counted = x.counted;
         own = x.own;
         asked = x.asked ∙ sym (append-nil (reads_of buses events seat ++ writes_of buses events x.calls seat)) ∙ ap (λ qs. (reads_of buses events seat ++ writes_of buses events x.calls seat) ++ qs) (sym none);
         closes = x.quiet;
@@ -201,9 +200,9 @@ module _ (buses : List Bus) (events : List Event) (keys : List (Option ℕ)) (n 
       }
 
   -- it is let go
-  pub visited_goes : (old told_mid : Option (List DoorCall)) (mid told : List DoorCall) (between new : Held) (value : Bool) → told_mid ≡ Some mid → (new.denied ≡ 0 → between.denied ≡ 0) → (x : IsExchanged buses events keys n peer old mid between value)
-      → list_any loses x.calls || is_closing buses n (events ++ exchange n x.calls) ≡ true → IsLetGo buses (events ++ exchange n x.calls) keys n peer told_mid told new → IsVisited buses events keys n peer old told new false
-  visited_goes old told_mid mid told between new value is low x ends g =
+  pub visited_goes : (old told_mid : Option (List DoorCall)) (mid told : List DoorCall) (between new : Held) (value : Bool) → told_mid ≡ Some mid → new.denied ≡ between.denied → (x : IsExchanged buses events keys n peer old mid between core_old value)
+      → list_any loses x.calls || is_closing buses n (events ++ exchange n x.calls) ≡ true → IsLetGo buses (events ++ exchange n x.calls) keys n peer told_mid told new → IsVisited buses events keys n peer old told new core_old false
+  visited_goes old told_mid mid told between new value is same x ends g =
       let last : Call = CloseCall peer g.closed.answer in
       let calls : List Call = x.calls ++ last ∷ [] in
       let pieces : filter_map piece_of calls ≡ filter_map piece_of x.calls = filter_map-append piece_of x.calls (last ∷ []) ∙ append-nil (filter_map piece_of x.calls) in
@@ -224,7 +223,7 @@ module _ (buses : List Bus) (events : List Event) (keys : List (Option ℕ)) (n 
       record {
         calls = calls;
         adds = given_then old told_mid mid told x.calls (last ∷ []) is x.adds g.closed.adds;
-        given = λ d. all_append IsGiven x.calls (last ∷ []) (x.given (low d)) (tt, tt);
+        counted = refusals_then core_old between new x.calls (last ∷ []) x.counted same;
         own = own;
         asked = map-append question x.calls (last ∷ []) ∙ ap (λ qs. qs ++ ClosesQuestion peer ∷ []) (x.asked ∙ ap (λ qs. reads_of buses events seat ++ qs) (sym writes)) ∙ ap (λ qs. (reads_of buses events seat ++ writes_of buses events calls seat) ++ qs) (sym asks);
         closes = closing;
@@ -238,19 +237,19 @@ module _ (buses : List Bus) (events : List Event) (keys : List (Option ℕ)) (n 
 
 module _ (peer key : ℕ) (old mid : Held) (told_old told_mid : Option (List DoorCall)) where
   pub exchanges_lost : ReadsIn peer key old told_old mid told_mid false → Exchanges peer key old told_old mid told_mid false
-  exchanges_lost reads buses events keys n told s is = exchanged_lost buses events keys n peer told_old told mid (reads buses events keys n told s is)
+  exchanges_lost reads buses events keys n told s is = exchanged_lost buses events keys n peer old told_old told mid (reads buses events keys n told s is)
 
   pub visit_stays : (closing : Bool) → Exchanges peer key old told_old mid told_mid true → OfConnection key mid (λ buses events n. closing ≡ closes_in buses (course buses events) n) → closing ≡ false → Visits peer key old told_old mid told_mid true
   visit_stays closing exchanges says open_still buses events keys n told s is =
       let x = exchanges buses events keys n told s is in
-      visited_stays buses events keys n peer told_old told mid x (sym (says buses (events ++ exchange n x.calls) keys n s.layout s.named x.stands) ∙ open_still)
+      visited_stays buses events keys n peer old told_old told mid x (sym (says buses (events ++ exchange n x.calls) keys n s.layout s.named x.stands) ∙ open_still)
 
-  module _ (new : Held) (told_new : Option (List DoorCall)) (low : new.denied ≡ 0 → mid.denied ≡ 0) (asks : AsksPeers told_mid told_new) where
+  module _ (new : Held) (told_new : Option (List DoorCall)) (same : new.denied ≡ mid.denied) (asks : AsksPeers told_mid told_new) where
     pub exchanges_on : (stays : Bool) → ReadsIn peer key old told_old mid told_mid true → WritesOut peer key mid told_mid new told_new stays → Exchanges peer key old told_old new told_new stays
     exchanges_on stays reads writes buses events keys n told s is =
         let w = (asks told is).adds in
         let r = reads buses events keys n w.before s w.was in
-        exchanged buses events keys n peer told_old told_mid w.before told mid new stays w.was low r
+        exchanged buses events keys n peer old told_old told_mid w.before told mid new stays w.was same r
         (writes buses (events ++ map (Bytes n) (filter_map piece_of (read_calls peer r.read))) keys n told (record { layout = s.layout; named = s.named; stands = r.stands }) is)
 
     module _ (goes : LetsGo peer key mid told_mid new told_new) where
@@ -258,14 +257,14 @@ module _ (peer key : ℕ) (old mid : Held) (told_old told_mid : Option (List Doo
       visit_lost exchanges buses events keys n told s is =
           let w = (asks told is).adds in
           let x = exchanges buses events keys n w.before s w.was in
-          visited_goes buses events keys n peer told_old told_mid w.before told mid new false w.was low x (ap (λ t. t || is_closing buses n (events ++ exchange n x.calls)) x.loses_is)
+          visited_goes buses events keys n peer old told_old told_mid w.before told mid new false w.was same x (ap (λ t. t || is_closing buses n (events ++ exchange n x.calls)) x.loses_is)
           (goes buses (events ++ exchange n x.calls) keys n told (record { layout = s.layout; named = s.named; stands = x.stands }) is)
 
       pub visit_closed : (closing : Bool) → Exchanges peer key old told_old mid told_mid true → OfConnection key mid (λ buses events n. closing ≡ closes_in buses (course buses events) n) → closing ≡ true → Visits peer key old told_old new told_new false
       visit_closed closing exchanges says ends buses events keys n told s is =
           let w = (asks told is).adds in
           let x = exchanges buses events keys n w.before s w.was in
-          visited_goes buses events keys n peer told_old told_mid w.before told mid new true w.was low x
+          visited_goes buses events keys n peer old told_old told_mid w.before told mid new true w.was same x
           (ap (λ t. t || is_closing buses n (events ++ exchange n x.calls)) x.loses_is ∙ sym (says buses (events ++ exchange n x.calls) keys n s.layout s.named x.stands) ∙ ends)
           (goes buses (events ++ exchange n x.calls) keys n told (record { layout = s.layout; named = s.named; stands = x.stands }) is)
 

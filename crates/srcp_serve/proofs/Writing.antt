@@ -1,5 +1,5 @@
 -- One write of a visit: what is lent, and what is taken of it.
-use Rattle.std.proofs.Common.{◌≡◌, ◌∙◌, ℕ, suc, ◌<◌, true, false, ◌==◌, List, [], ◌∷◌, length, Option, Ok, Err, inl, inr, ap, sym, subst, arith, refl}
+use Rattle.std.proofs.Common.{◌≡◌, ◌∙◌, ℕ, suc, ◌<◌, true, false, ◌==◌, List, [], ◌∷◌, length, Option, Ok, Err, inl, inr, sym, subst, arith, refl}
 use Rattle.std.proofs.lemmas.Bool.Decides.{nat_tests}
 use Rattle.srcp_core.specs.Agrees.{OfConnection}
 use Rattle.srcp_core.specs.Held.{Held}
@@ -24,9 +24,6 @@ nil_of (x ∷ xs) e = absurd (by (length xs) e)
 some_of : (xs : List ℕ) → (length xs == 0) ≡ false → 0 < length xs
 some_of [] e = absurd (let bad : true ≡ false = e in cc)
 some_of (x ∷ xs) e = omega arith
-
-pub out_denied : (key : ℕ) (old mid : Held) → mid ≡ let_out key old → mid.denied ≡ 0 → old.denied ≡ 0
-out_denied key old mid out d = ap (λ (held : Held). held.denied) (sym out) ∙ d
 
 module _ (peer key : ℕ) (old : Held) (told_old : Option (List Call)) where
   -- these bytes are lent

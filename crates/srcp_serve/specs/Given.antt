@@ -1,7 +1,8 @@
 -- The calls of a door, with what memory answered in the event that each makes.
-use Rattle.std.specs.Prelude.{⊤, ◌≡◌, ℕ, Bool, IsTrue, List, Option, Result}
+use Rattle.std.specs.Prelude.{◌≡◌, ℕ, Bool, IsTrue, List, [], ◌∷◌, flat_map, Option, Some, Result, Ok}
 use Rattle.std.specs.List.{AllByRecursion}
 use Rattle.srcp_core.specs.Held.{Held}
+use Rattle.srcp_core.specs.Under.{denied_by}
 use Rattle.srcp_serve.specs.Calls.{Call as DoorCall}
 use Rattle.srcp_serve.specs.Calls as door
 use Rattle.srcp_serve.specs.declared.door.DoorFault.{DoorFault}
@@ -24,15 +25,24 @@ told_call (ReadCall peer answer buffer grants) = door.ReadCall peer answer buffe
 told_call (WriteCall peer bytes answer) = door.WriteCall peer bytes answer
 told_call (CloseCall peer answer) = door.CloseCall peer answer
 
--- memory gave all that it was asked for in the call
-abbrev pub IsGiven : Call → Type 0
-IsGiven (AcceptCall answer granted) = IsTrue granted
-IsGiven (ReadCall peer answer buffer grants) = AllByRecursion IsTrue grants
-IsGiven other = ⊤
+-- what memory answered in the call, in turn
+abbrev pub answers_in : Call → List Bool
+answers_in (AcceptCall (Ok (Some peer)) granted) = granted ∷ []
+answers_in (ReadCall peer answer buffer grants) = grants
+answers_in other = []
 
--- where no memory was refused by then, it gave in all these calls
-abbrev pub AllGiven : List Call → Held → Type 0
-AllGiven calls held = held.denied ≡ 0 → AllByRecursion IsGiven calls
+-- and in all these calls
+abbrev pub answers_of : List Call → List Bool
+answers_of calls = flat_map answers_in calls
+
+-- from the one to the other, the core counted exactly the answers of these calls that refused
+abbrev pub CountsRefusals : (old : Held) → List Call → (new : Held) → Type 0
+CountsRefusals old calls new = new.denied ≡ denied_by old.denied (answers_of calls)
+
+-- so memory gave in all these calls where the core counts no refusal
+abbrev pub GivesUnlessCounted : Type 0
+GivesUnlessCounted = (old : Held) (calls : List Call) (new : Held) → CountsRefusals old calls new → new.denied ≡ 0
+    → AllByRecursion IsTrue (answers_of calls)
 
 -- a peer that came in, and whether memory was given to its connection
 pub record Guest : Type 0 where

@@ -9,7 +9,7 @@ use Rattle.srcp_core.specs.Recording.{key_of}
 use Rattle.srcp_core.specs.Stands.{StandsFor}
 use Rattle.srcp_core.specs.Under.{Event}
 use Rattle.srcp_serve.specs.Calls.{Call as DoorCall, Adds, PeersDiffer, peer_of}
-use Rattle.srcp_serve.specs.Given.{Guest, Call, NowCall, AcceptCall, AllGiven, told_call}
+use Rattle.srcp_serve.specs.Given.{Guest, Call, NowCall, AcceptCall, CountsRefusals, told_call}
 use Rattle.srcp_serve.specs.Serving.{Seat, Stand, Question, IsServed, question, newcomer_of, is_about, is_close, visit_events, visit_asks, timed, turned, turn_asks, turns_away, welcomed, stand_after, events_of, SendsWhatIsTaken}
 use Rattle.srcp_serve.specs.Turns.{is_of_peer}
 use Rattle.srcp_serve.specs.Visits.{AddsGiven, AreAbout}
@@ -131,13 +131,13 @@ module _ (buses : List Bus) (stand : Stand) (old : Option (List DoorCall)) (told
     pub adds : AddsGiven old told (NowCall answer ∷ [])
     pub stands : StandsFor buses keys held (course buses (timed buses stand (NowCall answer ∷ [])).events)
 
-  module _ (owns : List (Option Own)) where
+  module _ (owns : List (Option Own)) (core_old : Held) where
     -- the newcomer has its place, or was turned away
     pub record IsWelcomed (guest : Guest) (opens : Bool) : Type 0 where
       pub early : List Call
       pub keys : List (Option ℕ)
       pub adds : AddsGiven old told early
-      pub given : AllGiven (AcceptCall (Ok (Some guest.peer)) guest.granted ∷ early) held
+      pub counted : CountsRefusals core_old (AcceptCall (Ok (Some guest.peer)) guest.granted ∷ early) held
       pub asked : map question early ≡ turns_away buses stand.events guest
       pub others : AllByRecursion (IsLeftOut early) (welcomed buses stand guest).places
       pub hosting : IsHosting buses (welcomed buses stand guest) keys held owns
@@ -155,7 +155,7 @@ module _ (buses : List Bus) (stand : Stand) (old : Option (List DoorCall)) (told
       pub early : List Call
       pub keys : List (Option ℕ)
       pub adds : AddsGiven old told (AcceptCall answer granted ∷ early)
-      pub given : AllGiven (AcceptCall answer granted ∷ early) held
+      pub counted : CountsRefusals core_old (AcceptCall answer granted ∷ early) held
       pub asked : map question early
           ≡ flat_map (turns_away buses stand.events) (filter_map newcomer_of (AcceptCall answer granted ∷ []))
       pub others : AllByRecursion (IsLeftOut early)
@@ -170,7 +170,7 @@ module _ (buses : List Bus) (stand : Stand) (old : Option (List DoorCall)) (told
       pub round : List (Option Visit)
       pub keys : List (Option ℕ)
       pub adds : AddsGiven old told (calls_of (visits_of round))
-      pub given : AllGiven (calls_of (visits_of round)) held
+      pub counted : CountsRefusals core_old (calls_of (visits_of round)) held
       pub seats_are : map seat_of round ≡ seats
       pub own : AreOwn (visits_of round)
       pub asked : map question (calls_of (visits_of round)) ≡ asked_by buses stand.events (visits_of round)
@@ -187,7 +187,7 @@ module _ (buses : List Bus) (stand : Stand) (old : Option (List DoorCall)) (told
       pub calls : List Call
       pub keys : List (Option ℕ)
       pub adds : AddsGiven old told calls
-      pub given : AllGiven calls held
+      pub counted : CountsRefusals core_old calls held
       pub turn : IsTurnGiven calls
       pub asked : map question calls ≡ turn_asks buses stand calls
       pub known : AllByRecursion (IsOneOf (peers ++ filter_map peer_of (map told_call calls))) (turned buses stand calls).places
@@ -211,7 +211,7 @@ abbrev pub SeatsPeer : (peer : ℕ) (old : Held) (told_old : Option (List DoorCa
     (new : Held) (told_new : Option (List DoorCall)) (owns_new : List (Option Own)) (opens : Bool) → Type 0
 SeatsPeer peer old told_old owns_old new told_new owns_new opens = HostsOn
     (λ buses stand keys told. AllByRecursion (IsNotOf peer) stand.places
-    → WelcomesPeer buses stand told_old told new owns_new peer opens)
+    → WelcomesPeer buses stand told_old told new owns_new old peer opens)
     old owns_old told_new
 
 -- one newcomer is asked for, where all that have a place are of some peers, and it is none of them
@@ -219,7 +219,7 @@ abbrev pub LetsIn : (old : Held) (told_old : Option (List DoorCall)) (owns_old :
     (new : Held) (told_new : Option (List DoorCall)) (owns_new : List (Option Own)) (opens : Bool) → Type 0
 LetsIn old told_old owns_old new told_new owns_new opens = HostsOn
     (λ buses stand keys told. (peers : List ℕ) (calls : List DoorCall) → Adds told_old told calls → PeersDiffer peers calls
-    → AllByRecursion (IsOneOf peers) stand.places → IsBegun buses stand told_old told new owns_new opens)
+    → AllByRecursion (IsOneOf peers) stand.places → IsBegun buses stand told_old told new owns_new old opens)
     old owns_old told_new
 
 -- who has that place is visited
@@ -228,29 +228,29 @@ abbrev pub VisitsPlace : (place : ℕ) (old : Held) (told_old : Option (List Doo
 VisitsPlace place old told_old owns_old new told_new owns_new = HostsOn
     (λ buses stand keys told. (front : List (Option Seat)) (seat : Option Seat) (ahead : List (Option Seat))
     → length front ≡ place → stand.places ≡ front ++ seat ∷ ahead
-    → AreVisited buses stand told_old told new owns_new front (seat ∷ []) ahead)
+    → AreVisited buses stand told_old told new owns_new old front (seat ∷ []) ahead)
     old owns_old told_new
 
 -- so many places were visited
 pub record AreVisitedSoFar (buses : List Bus) (stand : Stand) (old : Option (List DoorCall)) (told : List DoorCall) (held : Held)
-    (owns : List (Option Own)) (count : ℕ) : Type 0 where
+    (owns : List (Option Own)) (core_old : Held) (count : ℕ) : Type 0 where
   pub seats : List (Option Seat)
   pub ahead : List (Option Seat)
   pub are : stand.places ≡ seats ++ ahead
   pub many : length seats ≡ count
-  pub visited : AreVisited buses stand old told held owns [] seats ahead
+  pub visited : AreVisited buses stand old told held owns core_old [] seats ahead
 
 -- so many places are visited, in their order
 abbrev pub VisitsSoFar : (count : ℕ) (old : Held) (told_old : Option (List DoorCall)) (owns_old : List (Option Own))
     (now : Held) (told_now : Option (List DoorCall)) (owns_now : List (Option Own)) → Type 0
 VisitsSoFar count old told_old owns_old now told_now owns_now = HostsOn
-    (λ buses stand keys told. AreVisitedSoFar buses stand told_old told now owns_now count) old owns_old told_now
+    (λ buses stand keys told. AreVisitedSoFar buses stand told_old told now owns_now old count) old owns_old told_now
 
 -- all places are visited, in their order
 abbrev pub VisitsPlaces : (old : Held) (told_old : Option (List DoorCall)) (owns_old : List (Option Own))
     (new : Held) (told_new : Option (List DoorCall)) (owns_new : List (Option Own)) → Type 0
 VisitsPlaces old told_old owns_old new told_new owns_new = HostsOn
-    (λ buses stand keys told. AreVisited buses stand told_old told new owns_new [] stand.places [])
+    (λ buses stand keys told. AreVisited buses stand told_old told new owns_new old [] stand.places [])
     old owns_old told_new
 
 -- a turn is made, where all that have a place are of some peers, and no newcomer is one of them
@@ -258,18 +258,18 @@ abbrev pub MakesTurn : (old : Held) (told_old : Option (List DoorCall)) (owns_ol
     (new : Held) (told_new : Option (List DoorCall)) (owns_new : List (Option Own)) (opens : Bool) → Type 0
 MakesTurn old told_old owns_old new told_new owns_new opens = HostsOn
     (λ buses stand keys told. (peers : List ℕ) (calls : List DoorCall) → Adds told_old told calls → PeersDiffer peers calls
-    → AllByRecursion (IsOneOf peers) stand.places → IsTurnMade buses stand told_old told new owns_new peers opens)
+    → AllByRecursion (IsOneOf peers) stand.places → IsTurnMade buses stand told_old told new owns_new old peers opens)
     old owns_old told_new
 
 -- ---- serving
 
 -- the calls are those of so many turns, and the core and the places stand as their answers say
-pub record IsServing (buses : List Bus) (count opens : ℕ) (told : List DoorCall) (held : Held)
+pub record IsServing (buses : List Bus) (count opens : ℕ) (told : List DoorCall) (old held : Held)
     (owns : List (Option Own)) : Type 0 where
   pub calls : List Call
   pub keys : List (Option ℕ)
   pub are : map told_call calls ≡ told
-  pub given : AllGiven calls held
+  pub counted : CountsRefusals old calls held
   pub served : IsServed buses count calls
   pub known : AllByRecursion (IsOneOf (filter_map peer_of told)) (stand_after buses calls).places
   pub hosting : IsHosting buses (stand_after buses calls) keys held owns
@@ -286,7 +286,7 @@ Begins So old told_old told_new = (buses : List Bus) (before calls : List DoorCa
 abbrev pub ServesSoFar : (count opens : ℕ) (old : Held) (told_old : Option (List DoorCall)) (new : Held)
     (told_new : Option (List DoorCall)) (owns : List (Option Own)) → Type 0
 ServesSoFar count opens old told_old new told_new owns =
-    Begins (λ buses calls. IsServing buses count opens calls new owns) old told_old told_new
+    Begins (λ buses calls. IsServing buses count opens calls old new owns) old told_old told_new
 
 -- the calls are those of exactly so many turns, each write handed what the course leaves unsent; the core stands for the
 -- events that the answers make; and what each connection was sent by them is to the byte what the door took of its peer
@@ -297,16 +297,16 @@ pub record IsOfCourse (buses : List Bus) (count opens : ℕ) (told : List Call) 
   pub opened : opens ≡ length (course buses (events_of buses told)).connections  -- one for each Open that is accepted
   pub taken : SendsWhatIsTaken buses told
 
--- memory answered something in the calls that the door told, by which they are of the course; it gave in all of them
--- where the core counts no refusal
-pub record IsOfGiven (buses : List Bus) (count opens : ℕ) (told : List DoorCall) (held : Held) : Type 0 where
+-- memory answered something in the calls that the door told, by which they are of the course; and the core counted
+-- exactly the answers that refused
+pub record IsOfGiven (buses : List Bus) (count opens : ℕ) (told : List DoorCall) (old held : Held) : Type 0 where
   pub calls : List Call
   pub are : map told_call calls ≡ told
-  pub given : AllGiven calls held
+  pub counted : CountsRefusals old calls held
   pub course : IsOfCourse buses count opens calls held
 
 -- what serving so many turns is, where so many peers were let in
 abbrev pub ServesCourse : (count opens : ℕ) (old : Held) (told_old : Option (List DoorCall)) (new : Held)
     (told_new : Option (List DoorCall)) → Type 0
 ServesCourse count opens old told_old new told_new =
-    Begins (λ buses calls. IsOfGiven buses count opens calls new) old told_old told_new
+    Begins (λ buses calls. IsOfGiven buses count opens calls old new) old told_old told_new

@@ -11,7 +11,7 @@ use Rattle.srcp_core.specs.Stands.{StandsFor}
 use Rattle.srcp_core.specs.Under.{Event, Bytes, Room, Shut}
 use Rattle.srcp_serve.specs.Calls.{Call as DoorCall, Adds}
 use Rattle.srcp_serve.specs.Calls as door
-use Rattle.srcp_serve.specs.Given.{Call, ReadCall, WriteCall, AllGiven, told_call}
+use Rattle.srcp_serve.specs.Given.{Call, ReadCall, WriteCall, CountsRefusals, told_call}
 use Rattle.srcp_serve.specs.Serving.{Writes, question, piece_of, count_of, is_about, is_close, loses, loses_reading, loses_writing, rooms, exchange, lent, handed, reads_of, writes_of, visit_asks, visit_events}
 use Rattle.srcp_serve.specs.declared.door.DoorFault.{DoorFault}
 use Rattle.srcp_serve.specs.declared.door.Got.{Got}
@@ -69,10 +69,10 @@ read_calls peer (Some read) = ReadCall peer read.answer read.buffer read.grants 
 module _ (buses : List Bus) (events : List Event) (keys : List (Option ℕ)) (n peer : ℕ)
     (old : Option (List DoorCall)) (told : List DoorCall) (new : Held) where
   -- it was read from, where bytes would be taken
-  pub record IsReadFrom (stays : Bool) : Type 0 where
+  pub record IsReadFrom (core_old : Held) (stays : Bool) : Type 0 where
     pub read : Option Reading
     pub adds : AddsGiven old told (read_calls peer read)
-    pub given : AllGiven (read_calls peer read) new
+    pub counted : CountsRefusals core_old (read_calls peer read) new
     pub asked : map question (read_calls peer read) ≡ reads_of buses events (record { peer = peer; conn = n })
     pub stays_is : list_any loses_reading (read_calls peer read) ≡ not stays
     pub stands : StandsFor buses keys new (course buses (events ++ map (Bytes n) (filter_map piece_of (read_calls peer read))))
@@ -121,10 +121,10 @@ module _ (buses : List Bus) (events : List Event) (keys : List (Option ℕ)) (n 
     pub stands : StandsFor buses keys new (course buses (events ++ map (Room n) (rooms calls)))
 
   -- it was read from and written to
-  pub record IsExchanged (stays : Bool) : Type 0 where
+  pub record IsExchanged (core_old : Held) (stays : Bool) : Type 0 where
     pub calls : List Call
     pub adds : AddsGiven old told calls
-    pub given : AllGiven calls new
+    pub counted : CountsRefusals core_old calls new
     pub own : AreAbout peer calls
     pub quiet : list_any is_close calls ≡ false
     pub asked : map question calls
@@ -139,10 +139,10 @@ module _ (buses : List Bus) (events : List Event) (keys : List (Option ℕ)) (n 
     pub stands : StandsFor buses (without_key n keys) new (course buses (events ++ Shut n ∷ []))
 
   -- it was visited, and has its place still or was let go
-  pub record IsVisited (stays : Bool) : Type 0 where
+  pub record IsVisited (core_old : Held) (stays : Bool) : Type 0 where
     pub calls : List Call
     pub adds : AddsGiven old told calls
-    pub given : AllGiven calls new
+    pub counted : CountsRefusals core_old calls new
     pub own : AreAbout peer calls
     pub asked : map question calls ≡ visit_asks buses events calls (record { peer = peer; conn = n })
     pub closes : list_any is_close calls ≡ not stays
@@ -161,7 +161,7 @@ Follows So key old told_new = (buses : List Bus) (events : List Event) (keys : L
 abbrev pub ReadsIn : (peer key : ℕ) (old : Held) (told_old : Option (List DoorCall))
     (new : Held) (told_new : Option (List DoorCall)) (stays : Bool) → Type 0
 ReadsIn peer key old told_old new told_new stays = Follows
-    (λ buses events keys n told. IsReadFrom buses events keys n peer told_old told new stays) key old told_new
+    (λ buses events keys n told. IsReadFrom buses events keys n peer told_old told new old stays) key old told_new
 
 -- it is written to, once at most
 abbrev pub WritesOnce : (peer key : ℕ) (old : Held) (told_old : Option (List DoorCall))
@@ -179,7 +179,7 @@ WritesOut peer key old told_old new told_new stays = Follows
 abbrev pub Exchanges : (peer key : ℕ) (old : Held) (told_old : Option (List DoorCall))
     (new : Held) (told_new : Option (List DoorCall)) (stays : Bool) → Type 0
 Exchanges peer key old told_old new told_new stays = Follows
-    (λ buses events keys n told. IsExchanged buses events keys n peer told_old told new stays) key old told_new
+    (λ buses events keys n told. IsExchanged buses events keys n peer told_old told new old stays) key old told_new
 
 -- its connection is shut, and it is let go
 abbrev pub LetsGo : (peer key : ℕ) (old : Held) (told_old : Option (List DoorCall))
@@ -191,4 +191,4 @@ LetsGo peer key old told_old new told_new = Follows
 abbrev pub Visits : (peer key : ℕ) (old : Held) (told_old : Option (List DoorCall))
     (new : Held) (told_new : Option (List DoorCall)) (stays : Bool) → Type 0
 Visits peer key old told_old new told_new stays = Follows
-    (λ buses events keys n told. IsVisited buses events keys n peer told_old told new stays) key old told_new
+    (λ buses events keys n told. IsVisited buses events keys n peer told_old told new old stays) key old told_new

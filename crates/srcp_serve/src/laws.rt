@@ -3,6 +3,7 @@
 
 ghost use Rattle.std.specs.Prelude.{List};
 ghost use Rattle.srcp_rules.specs.declared.layout.Bus.{Bus};
+ghost use Rattle.srcp_serve.specs.Given.{GivesUnlessCounted};
 ghost use Rattle.srcp_serve.specs.Serving.{SentIsTaken};
 
 /// What the door took of each peer is to the byte what the course of its answers says was sent to the
@@ -10,4 +11,9 @@ ghost use Rattle.srcp_serve.specs.Serving.{SentIsTaken};
 /// answer is past what was asked.
 pub fn sent_is_taken()
     ensures { (buses : List Bus) → SentIsTaken buses }
+{}
+
+/// Memory gave in all calls whose refusals the core counted exactly, where it counts none.
+pub fn gives_unless_counted()
+    ensures { GivesUnlessCounted }
 {}

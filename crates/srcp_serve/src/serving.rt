@@ -59,7 +59,6 @@ fn turn<R: Rows, D: Door>(
     requires { tally.old.faults ≤ D.faults door.old }
     ensures faults { CountsFaults tally.old.faults (D.faults door.old) tally.new.faults (D.faults door.new) }
     ensures told { AsksTurn (D.told door.old) (D.told door.new) }
-    ensures denied { core.new.denied ≡ 0 → core.old.denied ≡ 0 }
     ensures course { MakesTurn core.old (D.told door.old) places.old core.new (D.told door.new) places.new result }
 {
     take_moment(core, door, tally);
@@ -78,7 +77,6 @@ fn visit_places<R: Rows, D: Door>(
     requires { tally.old.faults ≤ D.faults door.old }
     ensures faults { CountsFaults tally.old.faults (D.faults door.old) tally.new.faults (D.faults door.new) }
     ensures told { AsksPeers (D.told door.old) (D.told door.new) }
-    ensures denied { core.new.denied ≡ 0 → core.old.denied ≡ 0 }
     ensures course { VisitsPlaces core.old (D.told door.old) places.old core.new (D.told door.new) places.new }
 {
     for place in 0..PLACES {
@@ -98,7 +96,6 @@ fn visit_place<R: Rows, D: Door>(
     requires within { place < 64 }
     ensures faults { CountsFaults tally.old.faults (D.faults door.old) tally.new.faults (D.faults door.new) }
     ensures told { AsksPeers (D.told door.old) (D.told door.new) }
-    ensures denied { core.new.denied ≡ 0 → core.old.denied ≡ 0 }
     ensures course { VisitsPlace place core.old (D.told door.old) places.old core.new (D.told door.new) places.new }
 {
     let Some(seat) = places[place] else {
@@ -114,7 +111,7 @@ fn take_moment<R: Rows, D: Door>(core: &mut Core<'_, R>, door: &mut D, tally: &m
     requires { tally.old.faults ≤ D.faults door.old }
     ensures faults { CountsFaults tally.old.faults (D.faults door.old) tally.new.faults (D.faults door.new) }
     ensures told { AsksMoment (D.told door.old) (D.told door.new) }
-    ensures denied { core.new.denied ≡ 0 → core.old.denied ≡ 0 }
+    ensures denied { core.new.denied ≡ core.old.denied }
     ensures course { TakesMoment core.old (D.told door.old) core.new (D.told door.new) }
 {
     match door.now() {
@@ -133,7 +130,6 @@ fn let_in<R: Rows, D: Door>(
     requires { tally.old.faults ≤ D.faults door.old }
     ensures faults { CountsFaults tally.old.faults (D.faults door.old) tally.new.faults (D.faults door.new) }
     ensures told { AsksNewcomer (D.told door.old) (D.told door.new) }
-    ensures denied { core.new.denied ≡ 0 → core.old.denied ≡ 0 }
     ensures course { LetsIn core.old (D.told door.old) places.old core.new (D.told door.new) places.new result }
 {
     match door.accept() {
@@ -157,7 +153,6 @@ fn seat<R: Rows, D: Door>(
     requires { tally.old.faults ≤ D.faults door.old }
     ensures faults { CountsFaults tally.old.faults (D.faults door.old) tally.new.faults (D.faults door.new) }
     ensures told { AsksPeers (D.told door.old) (D.told door.new) }
-    ensures denied { core.new.denied ≡ 0 → core.old.denied ≡ 0 }
     ensures course { SeatsPeer peer core.old (D.told door.old) places.old core.new (D.told door.new) places.new result }
 {
     let Ok(key) = core.connect() else {

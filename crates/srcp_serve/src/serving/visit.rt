@@ -45,7 +45,6 @@ pub(super) fn visit<R: Rows, D: Door>(
     requires { tally.old.faults ≤ D.faults door.old }
     ensures faults { CountsFaults tally.old.faults (D.faults door.old) tally.new.faults (D.faults door.new) }
     ensures asks { AsksPeers (D.told door.old) (D.told door.new) }
-    ensures denied { core.new.denied ≡ 0 → core.old.denied ≡ 0 }
     ensures told { Visits seat.now.peer seat.now.key core.old (D.told door.old) core.new (D.told door.new) result }
 {
     if !exchange(core, door, seat, tally) {
@@ -69,7 +68,6 @@ fn exchange<R: Rows, D: Door>(
     requires { tally.old.faults ≤ D.faults door.old }
     ensures faults { CountsFaults tally.old.faults (D.faults door.old) tally.new.faults (D.faults door.new) }
     ensures asks { AsksPeers (D.told door.old) (D.told door.new) }
-    ensures denied { core.new.denied ≡ 0 → core.old.denied ≡ 0 }
     ensures told { Exchanges seat.now.peer seat.now.key core.old (D.told door.old) core.new (D.told door.new) result }
 {
     if !read_in(core, door, seat, tally) {
@@ -88,7 +86,7 @@ pub(super) fn let_go<R: Rows, D: Door>(
     requires { tally.old.faults ≤ D.faults door.old }
     ensures faults { CountsFaults tally.old.faults (D.faults door.old) tally.new.faults (D.faults door.new) }
     ensures asks { AsksPeers (D.told door.old) (D.told door.new) }
-    ensures denied { core.new.denied ≡ 0 → core.old.denied ≡ 0 }
+    ensures denied { core.new.denied ≡ core.old.denied }
     ensures told { LetsGo seat.now.peer seat.now.key core.old (D.told door.old) core.new (D.told door.new) }
 {
     let _ = core.hangup(seat.key);
@@ -118,7 +116,6 @@ fn read_in<R: Rows, D: Door>(
     requires { tally.old.faults ≤ D.faults door.old }
     ensures faults { CountsFaults tally.old.faults (D.faults door.old) tally.new.faults (D.faults door.new) }
     ensures asks { AsksPeers (D.told door.old) (D.told door.new) }
-    ensures denied { core.new.denied ≡ 0 → core.old.denied ≡ 0 }
     ensures told { ReadsIn seat.now.peer seat.now.key core.old (D.told door.old) core.new (D.told door.new) result }
 {
     if !core.ready(seat.key) {
@@ -146,7 +143,7 @@ fn write_out<R: Rows, D: Door>(
     requires { tally.old.faults ≤ D.faults door.old }
     ensures faults { CountsFaults tally.old.faults (D.faults door.old) tally.new.faults (D.faults door.new) }
     ensures asks { AsksPeers (D.told door.old) (D.told door.new) }
-    ensures denied { core.new.denied ≡ 0 → core.old.denied ≡ 0 }
+    ensures denied { core.new.denied ≡ core.old.denied }
     ensures told { WritesOut seat.now.peer seat.now.key core.old (D.told door.old) core.new (D.told door.new) result }
 {
     for _ in 0..MOST_WRITES {
@@ -168,7 +165,7 @@ fn write_once<R: Rows, D: Door>(
     requires { tally.old.faults ≤ D.faults door.old }
     ensures faults { CountsFaults tally.old.faults (D.faults door.old) tally.new.faults (D.faults door.new) }
     ensures asks { AsksPeers (D.told door.old) (D.told door.new) }
-    ensures denied { core.new.denied ≡ 0 → core.old.denied ≡ 0 }
+    ensures denied { core.new.denied ≡ core.old.denied }
     ensures told { WritesOnce seat.now.peer seat.now.key core.old (D.told door.old) core.new (D.told door.new) result }
 {
     let Ok(lent) = core.outgoing(seat.key) else {

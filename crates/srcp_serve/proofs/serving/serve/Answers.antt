@@ -21,7 +21,7 @@ loop-preserved g c = record {
   faults = counts_then _ _ _ _ _ _ c.loop.invariant.faults c.turn-opens.ensures.faults;
   few = fewer c.turn-opens.result c.loop.opened c.loop.counter c.one_more_if-opened.result c.loop.invariant.few c.one_more_if-opened.ensures;
   course = subst (λ (n : ℕ). ServesSoFar (c.loop.counter + 1) n c.args.core.now (g.D.Door.told c.args.door.now) c.turn-opens.new.core (g.D.Door.told c.turn-opens.new.door) c.turn-opens.new.places) (sym c.one_more_if-opened.ensures)
-      (serves_on c.loop.counter c.loop.opened c.turn-opens.result c.args.core.now c.loop.core c.turn-opens.new.core (g.D.Door.told c.args.door.now) (g.D.Door.told c.loop.door) (g.D.Door.told c.turn-opens.new.door) c.loop.places c.turn-opens.new.places c.loop.invariant.course c.turn-opens.ensures.denied c.loop.invariant.told c.turn-opens.ensures.told c.turn-opens.ensures.course);
+      (serves_on c.loop.counter c.loop.opened c.turn-opens.result c.args.core.now c.loop.core c.turn-opens.new.core (g.D.Door.told c.args.door.now) (g.D.Door.told c.loop.door) (g.D.Door.told c.turn-opens.new.door) c.loop.places c.turn-opens.new.places c.loop.invariant.course c.loop.invariant.told c.turn-opens.ensures.told c.turn-opens.ensures.course);
   told = turns_on c.loop.counter (g.D.Door.told c.args.door.now) (g.D.Door.told c.loop.door) (g.D.Door.told c.turn-opens.new.door) c.loop.invariant.told c.turn-opens.ensures.told;
 }
 

@@ -14,6 +14,6 @@ returns-clause-told g c =
 pub returns-clause-course : goal.returns-clause-course
 returns-clause-course g c =
     makes_turn c.let_in-opens.result c.args.core.now c.take_moment.new.core c.let_in-opens.new.core c.visit_places.new.core (g.D.Door.told c.args.door.now) (g.D.Door.told c.take_moment.new.door) (g.D.Door.told c.let_in-opens.new.door) (g.D.Door.told c.visit_places.new.door)
-    c.args.places.now c.let_in-opens.new.places c.visit_places.new.places c.take_moment.ensures.course c.let_in-opens.ensures.told c.let_in-opens.ensures.course c.visit_places.ensures.denied c.visit_places.ensures.told c.visit_places.ensures.course
+    c.args.places.now c.let_in-opens.new.places c.visit_places.new.places c.take_moment.ensures.course c.take_moment.ensures.denied c.let_in-opens.ensures.told c.let_in-opens.ensures.course c.visit_places.ensures.told c.visit_places.ensures.course
     (turn_goes_on (g.D.Door.told c.args.door.now) (g.D.Door.told c.let_in-opens.new.door) (g.D.Door.told c.visit_places.new.door)
     (turn_begins (g.D.Door.told c.args.door.now) (g.D.Door.told c.take_moment.new.door) (g.D.Door.told c.let_in-opens.new.door) c.take_moment.ensures.told c.let_in-opens.ensures.told) c.visit_places.ensures.told)

@@ -9,7 +9,6 @@ loop-place-init g c = record {
   long = c.told-places;
   faults = none_failed _ _ c.requires;
   told = asks_none (g.D.Door.told c.args.door.now);
-  denied = λ d. d;
   course = places_first c.args.core.now (g.D.Door.told c.args.door.now) c.args.places.now;
 }
 
@@ -18,9 +17,8 @@ loop-place-preserved g c = record {
   long = c.visit_place.array_long;
   faults = counts_then _ _ _ _ _ _ c.loop-place.invariant.faults c.visit_place.ensures.faults;
   told = asks_then (g.D.Door.told c.args.door.now) (g.D.Door.told c.loop-place.door) (g.D.Door.told c.visit_place.new.door) c.loop-place.invariant.told c.visit_place.ensures.told;
-  denied = λ d. c.loop-place.invariant.denied (c.visit_place.ensures.denied d);
   course = places_on c.loop-place.place c.args.core.now c.loop-place.core c.visit_place.new.core (g.D.Door.told c.args.door.now) (g.D.Door.told c.loop-place.door) (g.D.Door.told c.visit_place.new.door) c.args.places.now c.loop-place.places c.visit_place.new.places
-      c.loop-place.invariant.long c.loop-place-test.true c.visit_place.ensures.course c.visit_place.ensures.denied c.loop-place.invariant.course c.visit_place.ensures.told;
+      c.loop-place.invariant.long c.loop-place-test.true c.visit_place.ensures.course c.loop-place.invariant.course c.visit_place.ensures.told;
 }
 
 pub visit_place-requires-clause-counted : goal.visit_place-requires-clause-counted

@@ -9,6 +9,5 @@ invariant-loop-place g l = record {
   long : length l.places ≡ 64;
   faults : CountsFaults l.fn.tally.faults (g.D.Door.faults l.fn.door) l.tally.faults (g.D.Door.faults l.door);
   told : AsksPeers (g.D.Door.told l.fn.door) (g.D.Door.told l.door);
-  denied : l.core.denied ≡ 0 → l.fn.core.denied ≡ 0;
   course : VisitsSoFar l.place l.fn.core (g.D.Door.told l.fn.door) l.fn.places l.core (g.D.Door.told l.door) l.places;
 }

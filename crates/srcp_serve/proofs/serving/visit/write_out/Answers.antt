@@ -1,4 +1,4 @@
-use Rattle.std.proofs.Common.{◌≡◌, arith}
+use Rattle.std.proofs.Common.{◌≡◌, ◌∙◌, arith, refl}
 use Rattle.srcp_serve.proofs.Rounds.{ends_failed, ends_full, ends_less, takes_first, takes_on}
 use Rattle.srcp_serve.proofs.Tallies.{counts_then, none_failed}
 use Rattle.srcp_serve.proofs.Turning.{asks_none, asks_then}
@@ -8,7 +8,7 @@ pub loop-init : goal.loop-init
 loop-init g c = record {
   faults = none_failed _ _ c.requires;
   asks = asks_none _;
-  denied = λ d. d;
+  denied = refl;
   told = takes_first c.args.seat.now.peer c.args.seat.now.key c.args.core.now (g.D.Door.told c.args.door.now);
 }
 
@@ -16,7 +16,7 @@ pub loop-preserved : goal.loop-preserved
 loop-preserved g c = record {
   faults = counts_then _ _ _ _ _ _ c.loop.invariant.faults c.write_once.ensures.faults;
   asks = asks_then (g.D.Door.told c.args.door.now) (g.D.Door.told c.loop.door) (g.D.Door.told c.write_once.new.door) c.loop.invariant.asks c.write_once.ensures.asks;
-  denied = λ d. c.loop.invariant.denied (c.write_once.ensures.denied d);
+  denied = c.write_once.ensures.denied ∙ c.loop.invariant.denied;
   told = takes_on c.args.seat.now.peer c.args.seat.now.key c.args.core.now c.loop.core c.write_once.new.core (g.D.Door.told c.args.door.now) (g.D.Door.told c.loop.door) (g.D.Door.told c.write_once.new.door) c.loop.counter c.loop.invariant.told c.write_once.ensures.asks c.in-All.ensures.told;
 }
 

@@ -8,6 +8,6 @@ abbrev pub invariant-loop : goal.invariant-loop
 invariant-loop g l = record {
   faults : CountsFaults l.fn.tally.faults (g.D.Door.faults l.fn.door) l.tally.faults (g.D.Door.faults l.door);
   asks : AsksPeers (g.D.Door.told l.fn.door) (g.D.Door.told l.door);
-  denied : l.core.denied ≡ 0 → l.fn.core.denied ≡ 0;
+  denied : l.core.denied ≡ l.fn.core.denied;
   told : TakesSoFar l.seat.peer l.seat.key l.fn.core (g.D.Door.told l.fn.door) l.core (g.D.Door.told l.door) l.counter;
 }
