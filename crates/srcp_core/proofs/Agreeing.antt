@@ -1,23 +1,23 @@
 -- What the answers of a core's calls say of the course that it stands for.
-use Rattle.std.proofs.Common.{◌≡◌, ℕ, suc, ◌+◌, ◌<◌, Bool, true, false, List, [], ◌∷◌, ◌++◌, length, refl, ap, sym, ◌∙◌, arith, ◌⊎◌, inl, inr}
+use Rattle.std.proofs.Common.{◌≡◌, ℕ, suc, ◌+◌, Bool, true, false, List, [], ◌∷◌, ◌++◌, length, refl, ap, sym, ◌∙◌, arith}
 use Rattle.std.proofs.lemmas.Option.{none-some}
 use Rattle.std.proofs.lemmas.Bool.{le-ltb}
 use Rattle.std.specs.List.{filter}
 use Rattle.std.specs.Option.{option_map_or}
-use Rattle.std.specs.Prelude.{Option, Some, None, is_none, is_some, count_by, nat_lt, slice_get, slice_index_or, not, ◌&&◌, ◌||◌, if◌then◌else◌, Result, Ok, Err, MatchResult, IfOk, IfErr, IsErr, IsErrOf, IsSome, ◌↔◌}
+use Rattle.std.specs.Prelude.{Option, Some, None, is_none, is_some, count_by, nat_lt, slice_get, slice_index_or, not, ◌&&◌, ◌||◌, if◌then◌else◌, IsSome}
 use Rattle.srcp_rules.specs.declared.layout.Bus.{Bus}
 use Rattle.srcp_rules.specs.Layout.{IsLayout}
 use Rattle.srcp_rules.specs.State.{opening, shown_rows}
-use Rattle.srcp_core.specs.Under.{Event, Open, Bytes, Room, Shut, giving}
+use Rattle.srcp_core.specs.Under.{Event, Open, Bytes, Room, Shut, Piece}
 use Rattle.srcp_core.specs.Agrees.{OfCourse, OfConnection, NamesNewest, CountsOpen, TakesPieces, is_last, closes, lent_of, lent}
 use Rattle.srcp_core.specs.Connection.{Connection, is_open, is_nil, overran, unsent, finish}
-use Rattle.srcp_core.specs.Course.{World, course, fault, absent_fault, bytes_fault as course_fault, history, open_connection}
-use Rattle.srcp_core.specs.Held.{Place, Held, at, open_count}
-use Rattle.srcp_core.specs.Machine.{IsAdmitted, bytes_fault, is_closing, is_closing_from, unsent_at, unsent_of, let_out}
+use Rattle.srcp_core.specs.Course.{World, course, fault, absent_fault, history, open_connection}
+use Rattle.srcp_core.specs.Held.{Place, Held, at}
+use Rattle.srcp_core.specs.Machine.{IsAdmitted, IsNotAdmitted, bytes_fault, bytes_fault_from, is_closing, is_closing_from, unsent_at, unsent_of, let_out}
 use Rattle.srcp_core.specs.Recording.{key_of}
 use Rattle.srcp_core.specs.Stands.{StandsFor, place_of}
 use Rattle.srcp_core.specs.declared.record.CoreFault.{CoreFault}
-use Rattle.srcp_core.specs.declared.record.CoreFault.TheVariants.{Full, Memory as MemoryFault, NoSuch, Busy, PieceTooLong, Closing as ClosingFault}
+use Rattle.srcp_core.specs.declared.record.CoreFault.TheVariants.{Full, Memory as MemoryFault, Busy, PieceTooLong, Closing as ClosingFault}
 use Rattle.srcp_core.specs.declared.record.Finish.TheVariants.{Live, Closing, Overrun, Shut as ShutFinish}
 use Rattle.srcp_core.proofs.Answering.{IsFine}
 use Rattle.srcp_core.proofs.Calling.{over_is, fault_same, full_fault, free_fault}
@@ -35,25 +35,17 @@ fine buses layout events = sound buses (opening_in_order buses layout) Anything 
 
 -- ---- a connection is opened
 
-pub opened_agrees : (key : ℕ) (old new : Held) → IsAdmitted key old new → OfCourse old (λ buses events. fault buses (course buses events) (Open true) ≡ None)
-opened_agrees key old new a buses events keys layout s = free_fault buses keys old (course buses events) s a.room true
+pub accepts_agrees : (key : ℕ) (old new : Held) → IsAdmitted key old new
+    → OfCourse old (λ buses events. fault buses (course buses events) (Open true) ≡ None)
+accepts_agrees key old new a buses events keys layout s = free_fault buses keys old (course buses events) s a.room true
 
-pub full_agrees : (old : Held) → open_count old ≡ 64 → OfCourse old (λ buses events. fault buses (course buses events) (Open false) ≡ Some Full)
-full_agrees old full buses events keys layout s = full_fault buses keys old (course buses events) s full false
+pub refuses_agrees : (cause : CoreFault) (old new : Held) → IsNotAdmitted cause old new
+    → OfCourse old (λ buses events. fault buses (course buses events) (Open false) ≡ Some cause)
+refuses_agrees Full old new is buses events keys layout s = full_fault buses keys old (course buses events) s is.0 false
+refuses_agrees MemoryFault old new is buses events keys layout s = free_fault buses keys old (course buses events) s is.0 false
+refuses_agrees other old new is buses events keys layout s = absurd is
 
-memory_agrees : (old : Held) → open_count old < 64 → OfCourse old (λ buses events. fault buses (course buses events) (Open false) ≡ Some MemoryFault)
-memory_agrees old room buses events keys layout s = free_fault buses keys old (course buses events) s room false
-
-pub connect_agrees : (old new : Held) (result : Result ℕ CoreFault) → IsErrOf result Full ↔ (open_count old ≡ 64) → (IsErrOf result MemoryFault → open_count old < 64) → IfOk result (λ key. IsAdmitted key old new) → IfErr result (λ cause. (cause ≡ Full) ⊎ (cause ≡ MemoryFault))
-    → OfCourse old (λ buses events. MatchResult result (λ _. fault buses (course buses events) (Open true) ≡ None) (λ cause. fault buses (course buses events) (Open false) ≡ Some cause))
-connect_agrees old new (Ok key) full memory a causes = opened_agrees key old new a
-connect_agrees old new (Err cause) full memory a causes = by causes
-  where
-    by : (cause ≡ Full) ⊎ (cause ≡ MemoryFault) → OfCourse old (λ buses events. fault buses (course buses events) (Open false) ≡ Some cause)
-    by (inl e) = λ buses events keys layout s. full_agrees old (full.0 (ap (λ (c : CoreFault). let r : Result ℕ CoreFault = Err c in r) e)) buses events keys layout s ∙ ap Some (sym e)
-    by (inr e) = λ buses events keys layout s. memory_agrees old (memory (ap (λ (c : CoreFault). let r : Result ℕ CoreFault = Err c in r) e)) buses events keys layout s ∙ ap Some (sym e)
-
-names_newest : (key : ℕ) (held : Held) → NamesNewest key held
+pub names_newest : (key : ℕ) (held : Held) → NamesNewest key held
 names_newest key held buses events keys s =
     let last : length (course buses events).connections + 1 ≡ suc (length keys) = omega (arith, s.long) in
     ap (λ k. key_of k (keys ++ Some key ∷ [])) last ∙ key_push_last keys (Some key)
@@ -75,10 +67,6 @@ counts_open held buses events keys s = count_keys keys (course buses events).con
     by k conn e true o = ap is_some (s.opens (suc k) conn e o).named ∙ sym o
     by k conn e false o = ap is_some (s.closed (suc k) conn e o) ∙ sym o
 
-pub connect_named : (held : Held) (result : Result ℕ CoreFault) → IfOk result (λ key. NamesNewest key held)
-connect_named held (Ok key) = names_newest key held
-connect_named held (Err cause) = tt
-
 -- ---- a connection that has a key
 
 module _ (buses : List Bus) (layout : IsLayout buses) (events : List Event) (keys : List (Option ℕ)) (n key : ℕ) (named : key_of n keys ≡ Some key) (held : Held) (s : StandsFor buses keys held (course buses events)) where
@@ -91,8 +79,9 @@ module _ (buses : List Bus) (layout : IsLayout buses) (events : List Event) (key
   its_over : overran its.conn (history buses w) ≡ is_over_place (history buses w) its.conn
   its_over = over_is buses (history buses w) its.conn its.shut (at_number (Fine buses (history buses w)) n w.connections its.conn (fine buses layout events) its.there)
 
-  fault_is : (piece : List ℕ) → bytes_fault key piece held ≡ fault buses w (Bytes n (giving piece))
-  fault_is piece = fault_same buses (opening_in_order buses layout) (λ n fed. fed) keys held w n key piece (fine buses layout events) s named
+  fault_is : (piece : Piece) → bytes_fault key piece.bytes held ≡ fault buses w (Bytes n piece)
+  fault_is piece =
+      fault_same buses (opening_in_order buses layout) (λ n fed. fed) keys held w n key piece.bytes (fine buses layout events) s named
 
   there_is : absent_fault buses (open_connection w n) ≡ None
   there_is = ap (absent_fault buses) its.opened
@@ -142,19 +131,28 @@ module _ (buses : List Bus) (layout : IsLayout buses) (events : List Event) (key
       by true e = place_given_up its.reader (history buses w) its.conn (sym its_over ∙ e)
       by false e = unsent_is e
 
--- ---- the calls of a connection
+-- ---- what is held of a connection
 
-pub ready_agrees : (key : ℕ) (held : Held) (answer : Bool) → answer ≡ is_none (bytes_fault key [] held) → OfConnection key held (λ buses events n. answer ≡ is_none (fault buses (course buses events) (Bytes n (giving []))))
-ready_agrees key held answer is buses events keys n layout named s = is ∙ ap is_none (fault_is buses layout events keys n key named held s [])
+pub there_agrees : (key : ℕ) (held : Held) → OfConnection key held (λ buses events n. IsSome (at held key))
+there_agrees key held buses events keys n layout named s = by (at held key) (is_there buses layout events keys n key named held s)
+  where
+    by : (o : Option Place) → (o ≡ None → ⊥) → IsSome o
+    by None h = absurd (h refl)
+    by (Some p) h = refl
+
+pub bytes_agree : (key : ℕ) (piece : Piece) (held : Held)
+    → OfConnection key held (λ buses events n. bytes_fault key piece.bytes held ≡ fault buses (course buses events) (Bytes n piece))
+bytes_agree key piece held buses events keys n layout named s = fault_is buses layout events keys n key named held s piece
 
 -- where a piece of no bytes is accepted, so is any of at most 256
-pub ready_takes : (key : ℕ) (held : Held) (answer : Bool) → answer ≡ is_none (bytes_fault key [] held) → OfConnection key held (λ buses events n. answer ≡ true → TakesPieces buses (course buses events) n)
-ready_takes key held answer is buses events keys n layout named s accepts piece few =
-    from (open_connection (course buses events) n) (sym (ready_agrees key held answer is buses events keys n layout named s) ∙ accepts)
+pub takes_agrees : (key : ℕ) (held : Held) → is_none (bytes_fault key [] held) ≡ true
+    → OfConnection key held (λ buses events n. TakesPieces buses (course buses events) n)
+takes_agrees key held accepts buses events keys n layout named s piece few =
+    sym (bytes_agree key piece held buses events keys n layout named s) ∙ from (at held key) accepts
   where
-    from : (o : Option Connection) → is_none (course_fault buses (course buses events) o []) ≡ true → course_fault buses (course buses events) o piece.bytes ≡ None
+    from : (o : Option Place) → is_none (bytes_fault_from [] o) ≡ true → bytes_fault_from piece.bytes o ≡ None
     from None e = cc
-    from (Some conn) e = by (conn.ended || overran conn (history buses (course buses events))) (is_nil (unsent conn)) e
+    from (Some p) e = by (p.ended || p.overran) (is_nil p.unsent) e
       where
         by : (over idle : Bool) → is_none (if over then Some ClosingFault else (if not idle then Some Busy else None)) ≡ true
             → (if over then Some ClosingFault else (if not idle then Some Busy else (if nat_lt 256 (length piece.bytes) then Some PieceTooLong else None))) ≡ None
@@ -162,21 +160,16 @@ ready_takes key held answer is buses events keys n layout named s accepts piece 
         by false false e = cc
         by false true e = ap (λ t. if t then Some PieceTooLong else None) (le-ltb 256 (length piece.bytes) few)
 
-pub closing_agrees : (key : ℕ) (held : Held) (answer : Bool) → answer ≡ is_closing key held → OfConnection key held (λ buses events n. answer ≡ closes buses (course buses events) n)
-closing_agrees key held answer is buses events keys n layout named s = is ∙ closing_is buses layout events keys n key named held s
+pub closes_agrees : (key : ℕ) (held : Held)
+    → OfConnection key held (λ buses events n. is_closing key held ≡ closes buses (course buses events) n)
+closes_agrees key held buses events keys n layout named s = closing_is buses layout events keys n key named held s
 
-pub received_agrees : {A : Type 0} (key : ℕ) (piece : List ℕ) (held : Held) (result : Result A CoreFault) → MatchResult result (λ _. bytes_fault key piece held ≡ None) (λ cause. bytes_fault key piece held ≡ Some cause)
-    → OfConnection key held (λ buses events n. MatchResult result (λ _. fault buses (course buses events) (Bytes n (giving piece)) ≡ None) (λ cause. fault buses (course buses events) (Bytes n (giving piece)) ≡ Some cause))
-received_agrees key piece held (Ok x) e buses events keys n layout named s = sym (fault_is buses layout events keys n key named held s piece) ∙ e
-received_agrees key piece held (Err cause) e buses events keys n layout named s = sym (fault_is buses layout events keys n key named held s piece) ∙ e
+pub lends_agrees : (key : ℕ) (held : Held)
+    → OfConnection key held (λ buses events n. unsent_at key (let_out key held) ≡ lent buses (course buses (events ++ Room n 0 ∷ [])) n)
+lends_agrees key held buses events keys n layout named s =
+    lent_is buses layout (events ++ Room n 0 ∷ []) keys n key named (let_out key held)
+    (out_stands key held buses events keys n layout named s)
 
-pub lent_agrees : {A : Type 0} (key : ℕ) (held : Held) (bytes_of : A → List ℕ) (result : Result A CoreFault) → IsErr result ↔ (at held key ≡ None) → IfOk result (λ bytes. bytes_of bytes ≡ unsent_at key (let_out key held))
-    → OfConnection key held (λ buses events n. MatchResult result (λ bytes. bytes_of bytes ≡ lent buses (course buses (events ++ Room n 0 ∷ [])) n) (λ _. ⊥))
-lent_agrees key held bytes_of (Ok bytes) absent is buses events keys n layout named s =
-    is ∙ lent_is buses layout (events ++ Room n 0 ∷ []) keys n key named (let_out key held) (out_stands key held buses events keys n layout named s)
-lent_agrees key held bytes_of (Err cause) absent is buses events keys n layout named s = is_there buses layout events keys n key named held s (absent.0 refl)
-
-pub shut_agrees : {A : Type 0} (key : ℕ) (held : Held) (result : Result A CoreFault) → MatchResult result (λ _. IsSome (at held key)) (λ cause. (cause ≡ NoSuch) × (at held key ≡ None))
-    → OfConnection key held (λ buses events n. MatchResult result (λ _. fault buses (course buses events) (Shut n) ≡ None) (λ _. ⊥))
-shut_agrees key held (Ok x) e buses events keys n layout named s = there_is buses layout events keys n key named held s
-shut_agrees key held (Err cause) e buses events keys n layout named s = is_there buses layout events keys n key named held s e.1
+pub shuts_agrees : (key : ℕ) (held : Held)
+    → OfConnection key held (λ buses events n. fault buses (course buses events) (Shut n) ≡ None)
+shuts_agrees key held buses events keys n layout named s = there_is buses layout events keys n key named held s

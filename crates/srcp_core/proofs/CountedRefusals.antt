@@ -1,22 +1,21 @@
 -- The core counts the refusals of memory that the course asks for.
-use Rattle.std.proofs.Common.{◌≡◌, ℕ, ◌+◌, min, Bool, true, false, cond, List, [], ◌∷◌, ◌++◌, length, refl, ap, sym, ◌∙◌, subst}
+use Rattle.std.proofs.Common.{◌≡◌, ℕ, ◌+◌, Bool, true, false, List, [], ◌∷◌, ◌++◌, refl, ap, sym, ◌∙◌}
 use Rattle.std.specs.List.{fold}
-use Rattle.std.specs.Prelude.{Option, Some, None, ◌||◌, ◌==◌, nat_lt, Result, Ok, Err, not, if◌then◌else◌, filter}
+use Rattle.std.specs.Prelude.{Option, Some, None, ◌||◌, ◌==◌, nat_lt, Result, Ok, Err, not, if◌then◌else◌}
 use Rattle.srcp_info.specs.declared.change.Code.{Code}
 use Rattle.srcp_info.specs.declared.change.Code.TheVariants.{C500}
 use Rattle.srcp_info.specs.declared.change.Reply.TheVariants.{Go, Refused}
 use Rattle.srcp_info.specs.declared.value.Mode.{Mode}
-use Rattle.srcp_info.specs.Client.{IsRisingBy}
 use Rattle.srcp_text.specs.Marks.{Mark}
 use Rattle.srcp_rules.specs.declared.command.Command.{Command}
 use Rattle.srcp_rules.specs.declared.layout.Bus.{Bus}
 use Rattle.srcp_rules.specs.Effect.{Effect, effect as effect_of}
 use Rattle.srcp_rules.specs.State.{State}
-use Rattle.srcp_core.specs.Connection.{Connection, is_open}
-use Rattle.srcp_core.specs.Course.{World, state, history, open_connection, command_of, counted, fault, answered as course_answered, happens, new_marks, at_connection, wants_as, denied_lines, denied_fed, denied_in, denied_over}
+use Rattle.srcp_core.specs.Connection.{Connection}
+use Rattle.srcp_core.specs.Course.{World, history, open_connection, command_of, counted, fault, answered as course_answered, happens, new_marks, at_connection, wants_as, denied_lines, denied_fed, denied_in, denied_over}
 use Rattle.srcp_core.specs.Handshake.{Greeting, Speaks, Chooses, Goes, Refuses, greets as greets_of}
 use Rattle.srcp_core.specs.Held.{Place, Held, at}
-use Rattle.srcp_core.specs.Machine.{obeyed, finished, freed_of, changed_at, carried, replied, goes, greeted, begun, denied_line, commanded, answered_from, answered, asked_of}
+use Rattle.srcp_core.specs.Machine.{obeyed, freed_of, changed_at, carried, replied, goes, greeted, begun, denied_line, commanded, answered_from, answered, asked_of}
 use Rattle.srcp_core.specs.Recording.{key_of}
 use Rattle.srcp_core.specs.Stands.{StandsBy, place_of}
 use Rattle.srcp_core.specs.Under.{Event, Heard, lines_under, under, denied_by, wants_memory, greeting_wants, reading_wants}

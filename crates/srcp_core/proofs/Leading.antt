@@ -1,14 +1,13 @@
 -- Each call of the core leads from the course of any events to that with its event.
-use Rattle.std.proofs.Common.{◌≡◌, ℕ, ◌+◌, ◌<◌, ◌≤◌, List, [], ◌∷◌, ◌++◌, map, length, min, ◌-◌, refl, ap, sym, ◌∙◌, subst, arith, ◌⊎◌, inl, inr, true, false}
-use Rattle.std.specs.Prelude.{Option, Some, None, Result, Ok, Err, IfOk, IfErr, IsErrOf, MatchResult, ◌↔◌}
+use Rattle.std.proofs.Common.{◌≡◌, ℕ, ◌+◌, ◌<◌, ◌≤◌, List, [], ◌∷◌, ◌++◌, map, length, min, ◌-◌, refl, ap, sym, ◌∙◌, subst, arith, inl, true, false}
+use Rattle.std.specs.Prelude.{Option, Some, None}
 use Rattle.srcp_rules.specs.declared.layout.Bus.{Bus}
 use Rattle.srcp_rules.specs.Layout.{IsLayout}
-use Rattle.srcp_rules.specs.State.{opening}
 use Rattle.srcp_core.specs.Under.{Event, Open, Room, At, Shut, step_told}
 use Rattle.srcp_core.specs.declared.record.Step.TheVariants as told
 use Rattle.srcp_core.specs.Course.{World, counted, fault, absent_fault, accepted, course}
 use Rattle.srcp_core.specs.Held.{Place, Held, at, open_count}
-use Rattle.srcp_core.specs.Machine.{IsAdmitted, refused_connect, one_denied, advanced, hung_up, let_out, unsent_at, changed_at, changed_in, without_sent, live_session}
+use Rattle.srcp_core.specs.Machine.{IsAdmitted, IsNotAdmitted, opening_held, one_denied, advanced, hung_up, let_out, unsent_at, changed_at, changed_in, without_sent, live_session}
 use Rattle.srcp_core.specs.Recording.{Recording, nothing_told, key_of, told_of, opened, stepped, shut}
 use Rattle.srcp_core.specs.Run.{Runs, count_at, taken_at, taking, LeadsTo, LeadsAt, LeadsToFree, LeadsToOpen}
 use Rattle.srcp_core.specs.Stands.{StandsFor}
@@ -21,7 +20,6 @@ use Rattle.srcp_core.proofs.Running.{fine_course, open_with, full_happens, memor
 use Rattle.srcp_core.proofs.SessionLaws.{opening_in_order}
 use Rattle.srcp_core.proofs.Standing.{found_at}
 use Rattle.srcp_core.proofs.Taking.{filled_kept, taken_kept, Kept}
-use Rattle.srcp_core.proofs.Given.{counts}
 
 -- what a run would have told of the course
 abbrev pub telling : List (Option ℕ) → World → Recording
@@ -43,16 +41,10 @@ open_leads key old new a buses events keys layout s =
     (runs_on buses events (Open true) None (length events + 1) (opened key (telling keys w)) new refl h).stands
 
 -- before all events
-pub stands_first : {E : Type 0} (buses : List Bus) (moment last_id : ℕ) (result : Result Held E) → IfOk result (λ core. core ≡ record { buses = buses; rows = opening buses moment; moment = moment; last_id = last_id; places = []; denied = 0 })
-    → moment ≡ 0 → last_id ≡ 0 → IfOk result (λ core. StandsFor buses [] core (course buses []))
-stands_first buses moment last_id (Ok core) e m l =
-    let first : core ≡ record { buses = buses; rows = opening buses 0; moment = 0; last_id = 0; places = []; denied = 0 } =
-    e ∙ ap (λ k. record { buses = buses; rows = opening buses k; moment = k; last_id = last_id; places = []; denied = 0 }) m
-    ∙ ap (λ k. record { buses = buses; rows = opening buses 0; moment = 0; last_id = k; places = []; denied = 0 }) l in
-    (runs_start buses nothing_told core refl first).stands
-stands_first buses moment last_id (Err fault) e m l = tt
+pub first_stands : (buses : List Bus) (held : Held) → held ≡ opening_held buses 0 0 → StandsFor buses [] held (course buses [])
+first_stands buses held first = (runs_start buses nothing_told held refl first).stands
 
-pub full_leads : (old new : Held) → open_count old ≡ 64 → new ≡ old → LeadsTo (Open false) old new
+full_leads : (old new : Held) → open_count old ≡ 64 → new ≡ old → LeadsTo (Open false) old new
 full_leads old new full same buses events keys layout s =
     let w = course buses events in
     let h = (full_happens (telling keys w) old new full same).happens buses events layout (runs_telling buses keys old w s) in
@@ -63,24 +55,11 @@ memory_leads old new room same buses events keys layout s =
     let w = course buses events in
     (runs_on buses events (Open false) (Some MemoryFault) (length events + 1) (telling keys w) new refl (memory_with (telling keys w) old new room same buses events layout (runs_telling buses keys old w s))).stands
 
--- a connection is opened, or there are 64, or memory was refused
-pub opens_or_not : (old new : Held) (result : Result ℕ CoreFault) → IsErrOf result Full ↔ (open_count old ≡ 64) → (IsErrOf result MemoryFault → open_count old < 64) → IfOk result (λ key. IsAdmitted key old new) → IfErr result (λ cause. new ≡ refused_connect cause old) → IfErr result (λ cause. (cause ≡ Full) ⊎ (cause ≡ MemoryFault))
-    → MatchResult result (λ key. LeadsToOpen key old new) (λ _. LeadsTo (Open false) old new)
-opens_or_not old new (Ok key) full memory a refused causes = open_leads key old new a
-opens_or_not old new (Err cause) full memory a refused causes = by causes
-  where
-    by : (cause ≡ Full) ⊎ (cause ≡ MemoryFault) → LeadsTo (Open false) old new
-    by (inl e) = full_leads old new (full.0 (ap (λ (c : CoreFault). let r : Result ℕ CoreFault = Err c in r) e)) (refused ∙ ap (λ (c : CoreFault). refused_connect c old) e)
-    by (inr e) = memory_leads old new (memory (ap (λ (c : CoreFault). let r : Result ℕ CoreFault = Err c in r) e)) (refused ∙ ap (λ (c : CoreFault). refused_connect c old) e)
-
-pub opens_denied : (old new : Held) (result : Result ℕ CoreFault) → IfOk result (λ key. IsAdmitted key old new) → IfErr result (λ cause. new ≡ refused_connect cause old) → IfErr result (λ cause. (cause ≡ Full) ⊎ (cause ≡ MemoryFault))
-    → new.denied ≡ 0 → old.denied ≡ 0
-opens_denied old new (Ok key) a refused causes d = sym (ap (λ (x : Held). x.denied) a.rest) ∙ d
-opens_denied old new (Err cause) a refused causes d = by causes
-  where
-    by : (cause ≡ Full) ⊎ (cause ≡ MemoryFault) → old.denied ≡ 0
-    by (inl e) = sym (ap (λ (x : Held). x.denied) (refused ∙ ap (λ (c : CoreFault). refused_connect c old) e)) ∙ d
-    by (inr e) = absurd (counts old.denied (sym (ap (λ (x : Held). x.denied) (refused ∙ ap (λ (c : CoreFault). refused_connect c old) e)) ∙ d))
+-- no connection is opened
+pub not_open_leads : (cause : CoreFault) (old new : Held) → IsNotAdmitted cause old new → LeadsTo (Open false) old new
+not_open_leads Full old new is = full_leads old new is.0 is.1
+not_open_leads MemoryFault old new is = memory_leads old new is.0 is.1
+not_open_leads other old new is = absurd is
 
 pub shut_leads : (key : ℕ) (old new : Held) → new ≡ hung_up key old → LeadsToFree key old new
 shut_leads key old new is buses events keys n layout named s =

@@ -4,7 +4,7 @@ use Rattle.std.proofs.lemmas.Bool.{le-leb, lt-leb}
 use Rattle.std.proofs.lemmas.List.Sums.{fold-append}
 use Rattle.std.specs.List.{flat_map}
 use Rattle.std.specs.Option.{option_map_or}
-use Rattle.std.specs.Prelude.{nat_le, not, ◌&&◌, ◌||◌, if◌then◌else◌, Some, None, option_map, Result, Ok, Err, IfOk, MatchResult}
+use Rattle.std.specs.Prelude.{nat_le, not, ◌&&◌, ◌||◌, if◌then◌else◌, Some, None, option_map}
 use Rattle.srcp_feed.specs.Cursor.{beyond}
 use Rattle.srcp_feed.specs.declared.Next.{Next}
 use Rattle.srcp_feed.specs.declared.Next.TheVariants.{Told, Listed}
@@ -15,7 +15,8 @@ use Rattle.srcp_core.specs.Agrees.{OfConnection, lent, lent_of, lends_none, lend
 use Rattle.srcp_core.specs.Connection.{Connection, cursor_at, fitting, given, given_room, is_nil, is_open, is_settled, line_of, overran, owed, text, took, unsent, untold}
 use Rattle.srcp_core.specs.Course.{World, absent_fault, accepted, counted, course, happens, history, if_open, numbered, open_connection, or_refused, rows, start}
 use Rattle.srcp_core.specs.Held.{Held}
-use Rattle.srcp_core.specs.declared.record.CoreFault.{CoreFault}
+use Rattle.srcp_core.specs.Machine.{let_out, unsent_at}
+use Rattle.srcp_core.proofs.Agreeing.{lends_agrees}
 use Rattle.srcp_core.proofs.Adding.{left_after, rooms_add_up, takes_within}
 use Rattle.srcp_core.proofs.FullLines.{AreFull, owed_full}
 use Rattle.srcp_core.proofs.Numbers.{numbered_with}
@@ -142,10 +143,8 @@ module _ (buses : List Bus) (layout : IsLayout buses) (events : List Event) (n :
   lends_none_is = ap is_nil lent_is ∙ nothing ∙ ap (λ o. option_map_or (lends_none_of buses w) o true) (sym opened)
 
 -- what is lent is empty exactly where the course says so
-pub none_agrees : {A : Type 0} (key : ℕ) (held : Held) (bytes_of : A → List ℕ) (result : Result A CoreFault)
-    → OfConnection key held (λ buses events n. MatchResult result (λ bytes. bytes_of bytes ≡ lent buses (course buses (events ++ Room n 0 ∷ [])) n) (λ _. ⊥))
-    → OfConnection key held (λ buses events n. IfOk result (λ bytes. is_nil (bytes_of bytes) ≡ lends_none buses (course buses events) n))
-none_agrees key held bytes_of (Ok bytes) is buses events keys n layout named s =
+pub none_agrees : (key : ℕ) (held : Held)
+    → OfConnection key held (λ buses events n. is_nil (unsent_at key (let_out key held)) ≡ lends_none buses (course buses events) n)
+none_agrees key held buses events keys n layout named s =
     let its = found_at buses (λ n fed. fed) keys held (course buses events) n key s named in
-    ap is_nil (is buses events keys n layout named s) ∙ lends_none_is buses layout events n its.conn its.there its.up
-none_agrees key held bytes_of (Err cause) is buses events keys n layout named s = tt
+    ap is_nil (lends_agrees key held buses events keys n layout named s) ∙ lends_none_is buses layout events n its.conn its.there its.up

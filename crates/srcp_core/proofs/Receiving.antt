@@ -1,7 +1,7 @@
 -- A piece leads from the course of any events to that with its bytes.
 use Rattle.std.proofs.Common.{◌≡◌, ℕ, ◌+◌, Bool, List, [], ◌∷◌, ◌++◌, length, refl, ap, sym, ◌∙◌, subst}
 use Rattle.std.specs.List.{fold}
-use Rattle.std.specs.Prelude.{Option, Some, None, Result, Ok, Err, MatchResult, OnOk, OnErr}
+use Rattle.std.specs.Prelude.{Option, Some, None}
 use Rattle.srcp_core.specs.Under.{Bytes, Piece, giving, denied_by}
 use Rattle.srcp_core.specs.Course.{course}
 use Rattle.srcp_core.specs.Held.{Held, at}
@@ -64,7 +64,8 @@ lines_read key piece first (granted ∷ grants) before counted a = lines_read ke
 
 -- ---- the whole piece
 
-taken_leads : (key : ℕ) (piece : List ℕ) (old new : Held) → bytes_fault key piece old ≡ None → IsReceived key piece old new → LeadsOn key piece old new
+pub taken_leads : (key : ℕ) (piece : List ℕ) (old new : Held) → bytes_fault key piece old ≡ None → IsReceived key piece old new
+    → LeadsOn key piece old new
 taken_leads key piece old new free received =
     let reached = lines_taken key piece received.grants old in
     let a = lines_read key piece old received.grants (0, old) received.counted (record { grants = []; counted = refl; is = λ n first_r named. record { told = first_r; keys = refl; reads = reads_with_none n key piece first_r old named free } }) in
@@ -82,7 +83,8 @@ taken_leads key piece old new free received =
           (runs_on buses events (Bytes n p) None (length events + 1) i.told new refl h).stands;
     }
 
-refused_leads : (key : ℕ) (piece : List ℕ) (old new : Held) (cause : CoreFault) → bytes_fault key piece old ≡ Some cause → new ≡ old → LeadsOn key piece old new
+pub refused_leads : (key : ℕ) (piece : List ℕ) (old new : Held) (cause : CoreFault) → bytes_fault key piece old ≡ Some cause → new ≡ old
+    → LeadsOn key piece old new
 refused_leads key piece old new cause e same = record {
   grants = [];
   counted = ap (λ (x : Held). x.denied) same;
@@ -93,11 +95,6 @@ refused_leads key piece old new cause e same = record {
       subst (λ (x : Held). StandsFor buses keys x (course buses (events ++ Bytes n (giving piece) ∷ []))) (sym same)
       (runs_on buses events (Bytes n (giving piece)) (Some cause) (length events + 1) first_r old refl h).stands;
 }
-
-pub received_leads : (key : ℕ) (piece : List ℕ) (old new : Held) (result : Result Unit CoreFault) → MatchResult result (λ _. bytes_fault key piece old ≡ None) (λ cause. bytes_fault key piece old ≡ Some cause)
-    → OnErr result (new ≡ old) → OnOk result (IsReceived key piece old new) → LeadsOn key piece old new
-received_leads key piece old new (Ok x) free same received = taken_leads key piece old new free received
-received_leads key piece old new (Err cause) e same received = refused_leads key piece old new cause e same
 
 -- memory that was refused before stays refused
 pub received_denied : (key : ℕ) (piece : List ℕ) (old new : Held) → LeadsOn key piece old new → new.denied ≡ 0 → old.denied ≡ 0

@@ -19,7 +19,7 @@ use Rattle.srcp_core.specs.Course.{World, start, numbered, at_connection, did, s
 use Rattle.srcp_core.specs.Handshake.{Greeting, Speaks, Chooses, Goes, Refuses}
 use Rattle.srcp_core.specs.Held.{Place, Held, at}
 use Rattle.srcp_core.specs.Laws.{IsRecordOf}
-use Rattle.srcp_core.specs.Machine.{finish_at, finish_from}
+use Rattle.srcp_core.specs.Machine.{opening_held, finish_at, finish_from}
 use Rattle.srcp_core.specs.Recording.{Recording, key_of, told_of, changed_record, changed_in, finished, finished_by, with_refusal, nothing_told}
 use Rattle.srcp_core.specs.Run.{Runs, Happened, HappensAs, FollowsAs, RunsUnder}
 use Rattle.srcp_core.proofs.CountedRefusals.{denied_over_push}
@@ -267,7 +267,8 @@ follows_more buses events index event r later_r held later layout at f u =
     })
 
 -- before all events
-pub runs_start : (buses : List Bus) (r : Recording) (held : Held) → r ≡ nothing_told → held ≡ record { buses = buses; rows = opening buses 0; moment = 0; last_id = 0; places = []; denied = 0 } → Runs buses r held (course buses [])
+pub runs_start : (buses : List Bus) (r : Recording) (held : Held) → r ≡ nothing_told → held ≡ opening_held buses 0 0
+    → Runs buses r held (course buses [])
 runs_start buses r held e h =
     subst (λ (x : Recording). Runs buses x held start) (sym e)
     (subst (λ (x : Held). Runs buses nothing_told x start) (sym h) (record {
@@ -286,7 +287,8 @@ runs_start buses r held e h =
       tells = record { steps = refl; refused = refl; connections = refl };
     }))
 
-pub runs_none : (buses : List Bus) (events : List PlainEvent) (r : Recording) (held : Held) → r ≡ nothing_told → held ≡ record { buses = buses; rows = opening buses 0; moment = 0; last_id = 0; places = []; denied = 0 } → RunsUnder buses (take 0 events) r held
+pub runs_none : (buses : List Bus) (events : List PlainEvent) (r : Recording) (held : Held) → r ≡ nothing_told → held ≡ opening_held buses 0 0
+    → RunsUnder buses (take 0 events) r held
 runs_none buses events r held e h = record { grants = []; count = refl; counted = ap (λ (x : Held). x.denied) h; asked = ap (λ (x : Held). x.denied) h; runs = runs_start buses r held e h }
 
 -- once all events happened

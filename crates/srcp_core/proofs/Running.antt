@@ -2,7 +2,7 @@
 use Rattle.std.proofs.Common.{◌≡◌, ◌≢◌, ℕ, zero, suc, min, max, ◌-◌, ◌<◌, ◌≤◌, Bool, true, false, List, [], ◌∷◌, ◌++◌, take, length, refl, ap, sym, ◌∙◌, subst, arith, append-nil, ◌⊎◌, inl, inr}
 use Rattle.std.proofs.lemmas.Bool.{ltb-false}
 use Rattle.std.specs.List.{fold}
-use Rattle.std.specs.Prelude.{Option, Some, None, Result, Err, IsErrOf, ◌↔◌, not, ◌||◌, ◌==◌, nat_lt, slice_get, slice_set, if◌then◌else◌}
+use Rattle.std.specs.Prelude.{Option, Some, None, not, ◌||◌, ◌==◌, nat_lt, slice_get, slice_set, if◌then◌else◌}
 use Rattle.std.proofs.lemmas.List.{map-append}
 use Rattle.std.proofs.lemmas.Option.{none-some}
 use Rattle.std.proofs.Math.Nat.{pos_of_ne-zero, zero-min}
@@ -19,7 +19,7 @@ use Rattle.srcp_core.specs.declared.record.Step.TheVariants as told
 use Rattle.srcp_core.specs.Connection.{Connection, is_nil}
 use Rattle.srcp_core.specs.Course.{World, numbered, at_connection, open_connection, did, history, fresh, counted, fault, absent_fault, bytes_fault as course_fault, accepted, fed_to, shut_as, answered as course_answered, new_marks, course, denied_fed}
 use Rattle.srcp_core.specs.Held.{Place, Held, at, open_count}
-use Rattle.srcp_core.specs.Machine.{IsAdmitted, refused_connect, one_denied, HasRoom, bytes_fault, bytes_fault_from, heard_at, line_taken, steps_of_line, freed_place, freed_of, hung_up, hung_up_from, advanced, live_session, live_session_of, let_out, without_sent, changed_at, changed_in as changed_places_in, filled, unsent_of, unsent_at, item_of, item_at}
+use Rattle.srcp_core.specs.Machine.{IsAdmitted, IsNotAdmitted, one_denied, HasRoom, bytes_fault, bytes_fault_from, heard_at, line_taken, steps_of_line, freed_place, freed_of, hung_up, hung_up_from, advanced, live_session, live_session_of, let_out, without_sent, changed_at, changed_in as changed_places_in, filled, unsent_of, unsent_at, item_of, item_at}
 use Rattle.srcp_core.specs.Recording.{Recording, key_of, told_of, opened, shut, stepped, noted, gave, took, without_key, changed_record, changed_in}
 use Rattle.srcp_core.specs.Run.{Tells, Runs, Happened, HappensAs, CountsAsked, count_at, taken_at, taking}
 use Rattle.srcp_core.specs.Stands.{StandsFor, place_of}
@@ -58,9 +58,6 @@ told_as event refusal r held x y later new e f h = subst (λ (z : Held). Happens
 -- nothing is asked for where the count stays
 none_asked : (event : PlainEvent) (r : Recording) (held later : Held) → later.denied ≡ held.denied → CountsAsked r held later (under [] event)
 none_asked event r held later same buses events layout s = same ∙ sym (denied_in_none buses (counted (course buses events)) held.denied event)
-
-abbrev pub err_of : CoreFault → Result ℕ CoreFault
-err_of cause = Err cause
 
 -- ---- a connection is opened
 
@@ -112,12 +109,11 @@ memory_happens r old new room same = record {
 }
 
 -- no connection was opened
-pub open_refused : (r : Recording) (old new : Held) (cause : CoreFault) → IsErrOf (err_of cause) Full ↔ (open_count old ≡ 64) → (IsErrOf (err_of cause) MemoryFault → open_count old < 64) → new ≡ refused_connect cause old → (cause ≡ Full) ⊎ (cause ≡ MemoryFault)
+pub open_refused : (r : Recording) (old new : Held) (cause : CoreFault) → IsNotAdmitted cause old new
     → HappensAs plain.Open (Some cause) r old r new
-open_refused r old new cause full memory refused (inl e) =
-    subst (λ (c : CoreFault). HappensAs plain.Open (Some c) r old r new) (sym e) (full_happens r old new (full.0 (ap err_of e)) (refused ∙ ap (λ (c : CoreFault). refused_connect c old) e))
-open_refused r old new cause full memory refused (inr e) =
-    subst (λ (c : CoreFault). HappensAs plain.Open (Some c) r old r new) (sym e) (memory_happens r old new (memory (ap err_of e)) (refused ∙ ap (λ (c : CoreFault). refused_connect c old) e))
+open_refused r old new Full is = full_happens r old new is.0 is.1
+open_refused r old new MemoryFault is = memory_happens r old new is.0 is.1
+open_refused r old new other is = absurd is
 
 -- ---- a moment
 
@@ -188,9 +184,12 @@ hung_up_moment : (key : ℕ) (held : Held) (o : Option Place) → (hung_up_from 
 hung_up_moment key held None = refl
 hung_up_moment key held (Some p) = elim ((p.session == 0) || p.ended) as (λ t. (if t then freed_place key held else freed_of p.session (freed_place key held)).moment ≡ held.moment) [ true ↦ refl | false ↦ refl ]
 
-pub hung_up_denied : (key : ℕ) (held : Held) (o : Option Place) → (hung_up_from key held o).denied ≡ held.denied
+hung_up_denied : (key : ℕ) (held : Held) (o : Option Place) → (hung_up_from key held o).denied ≡ held.denied
 hung_up_denied key held None = refl
 hung_up_denied key held (Some p) = elim ((p.session == 0) || p.ended) as (λ t. (if t then freed_place key held else freed_of p.session (freed_place key held)).denied ≡ held.denied) [ true ↦ refl | false ↦ refl ]
+
+pub shut_count : (key : ℕ) (old new : Held) → new ≡ hung_up key old → new.denied ≡ old.denied
+shut_count key old new is = ap (λ (x : Held). x.denied) is ∙ hung_up_denied key old (at old key)
 
 -- a number that has a key has a place there
 pub gone_happens : (event : PlainEvent) (refusal : Option CoreFault) (n key : ℕ) (r : Recording) (held : Held) (later_r : Recording) (later : Held) → key_of n r.keys ≡ Some key → at held key ≡ None → later.denied ≡ held.denied → HappensAs event refusal r held later_r later
@@ -210,8 +209,8 @@ shut_keys n (Some session) m r = refl
 pub shut_happens : (n key : ℕ) (r : Recording) (old new : Held) (now : ℕ) → key_of n r.keys ≡ Some key → new ≡ hung_up key old → now ≡ new.moment → HappensAs (plain.Shut n) None r old (with_end (live_session key old) now (shut n r)) new
 shut_happens n key r old new now named is now_is = record {
   grants = [];
-  counted = ap (λ (x : Held). x.denied) is ∙ hung_up_denied key old (at old key);
-  asked = none_asked (plain.Shut n) r old new (ap (λ (x : Held). x.denied) is ∙ hung_up_denied key old (at old key));
+  counted = shut_count key old new is;
+  asked = none_asked (plain.Shut n) r old new (shut_count key old new is);
   happens = λ buses events layout s.
       let w = counted (course buses events) in
       let c = runs_counted buses r old (course buses events) s in

@@ -16,7 +16,7 @@ use Rattle.srcp_rules.specs.declared.layout.Bus.{Bus}
 use Rattle.srcp_rules.specs.declared.command.Command.{Command}
 use Rattle.srcp_rules.specs.Due.{due, freed, began}
 use Rattle.srcp_rules.specs.Effect.{Effect, effect}
-use Rattle.srcp_rules.specs.State.{Update, updated_all, shown_rows}
+use Rattle.srcp_rules.specs.State.{Update, opening, updated_all, shown_rows}
 use Rattle.srcp_text.specs.Marks.{Mark, Line, TooLong}
 use Rattle.srcp_text.specs.Reading.{Reading, nothing_read}
 use Rattle.srcp_text.specs.Feeding.{feed_of}
@@ -41,7 +41,7 @@ use Rattle.srcp_core.specs.declared.record.Step.TheVariants.{Obeyed, Began, Ende
 use Rattle.srcp_core.specs.declared.record.Finish.{Finish}
 use Rattle.srcp_core.specs.declared.record.Finish.TheVariants.{Live, Closing as Finishes, Overrun, Shut}
 use Rattle.srcp_core.specs.declared.record.CoreFault.{CoreFault}
-use Rattle.srcp_core.specs.declared.record.CoreFault.TheVariants.{Memory as MemoryFault, NoSuch, Busy, PieceTooLong, Closing}
+use Rattle.srcp_core.specs.declared.record.CoreFault.TheVariants.{Full, Memory as MemoryFault, NoSuch, Busy, PieceTooLong, Closing}
 
 -- ---- one place
 
@@ -278,6 +278,11 @@ longest_answer other = 64
 
 -- ---- calls
 
+-- a core as it begins
+abbrev pub opening_held : List Bus → (moment last_id : ℕ) → Held
+opening_held buses moment last_id =
+    record { buses = buses; rows = opening buses moment; moment = moment; last_id = last_id; places = []; denied = 0 }
+
 -- there was a place free, and the connection has it
 pub record IsAdmitted (key : ℕ) (old new : Held) : Type 0 where
   pub room : open_count old < 64
@@ -287,10 +292,11 @@ pub record IsAdmitted (key : ℕ) (old new : Held) : Type 0 where
   pub count : open_count new ≡ open_count old + 1
   pub rest : new ≡ record old { places = new.places }
 
--- no connection was opened: where memory was refused, that is counted
-abbrev pub refused_connect : CoreFault → Held → Held
-refused_connect MemoryFault held = one_denied held
-refused_connect fault held = held
+-- no connection was opened: 64 are open, or fewer are and memory was refused, which is counted
+abbrev pub IsNotAdmitted : CoreFault → Held → Held → Type 0
+IsNotAdmitted Full old new = (open_count old ≡ 64) × (new ≡ old)
+IsNotAdmitted MemoryFault old new = (open_count old < 64) × (new ≡ one_denied old)
+IsNotAdmitted other old new = ⊥
 
 -- why bytes are refused, the first cause
 abbrev pub bytes_fault_from : List ℕ → Option Place → Option CoreFault

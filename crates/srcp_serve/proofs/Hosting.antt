@@ -1,23 +1,21 @@
 -- What the functions of a turn make of the places, where the core stands for a course.
-use Rattle.std.proofs.Common.{◌≡◌, ◌∙◌, ℕ, suc, ◌+◌, ◌<◌, ◌⊎◌, ⊎_elim, Bool, true, false, List, [], ◌∷◌, ◌++◌, map, length, if◌then◌else◌, Option, Some, None, Ok, Err, Result, refl, ap, sym, subst, arith, append_assoc, append-nil, length-append}
-use Rattle.std.proofs.lemmas.Bool.Decides.{nat_tests}
+use Rattle.std.proofs.Common.{◌≡◌, ◌∙◌, ℕ, suc, ◌+◌, ◌<◌, Bool, true, false, List, [], ◌∷◌, ◌++◌, map, length, if◌then◌else◌, Option, Some, None, Ok, Err, Result, refl, ap, sym, subst, arith, append_assoc, append-nil, length-append}
 use Rattle.std.proofs.lemmas.Grind.{flat_map-append}
 use Rattle.std.proofs.lemmas.List.{map-append, length-map}
 use Rattle.std.specs.List.{filter, slice_index_or, slice_set, AllByRecursion}
 use Rattle.std.specs.Prelude.{is_none, position, nat_lt}
 use Rattle.std.proofs.lemmas.List.Sums.{fold-append}
 use Rattle.srcp_rules.specs.declared.layout.Bus.{Bus}
-use Rattle.srcp_core.specs.Agrees.{CountsOpen, OfCourse}
 use Rattle.srcp_core.specs.Connection.{is_open}
 use Rattle.srcp_core.specs.Course.{World, start, counted, course, fault, happens, or_refused}
-use Rattle.srcp_core.specs.Held.{Held}
-use Rattle.srcp_core.specs.Machine.{IsAdmitted, refused_connect}
+use Rattle.srcp_core.specs.Held.{Held, open_count}
+use Rattle.srcp_core.specs.Machine.{IsAdmitted, IsNotAdmitted, advanced}
 use Rattle.srcp_core.specs.Recording.{key_of, without_key}
-use Rattle.srcp_core.specs.Run.{LeadsTo, LeadsToOpen}
-use Rattle.srcp_core.specs.Under.{Event, Open, At, denied_by}
+use Rattle.srcp_core.specs.Under.{Event, Open, denied_by}
 use Rattle.srcp_core.specs.Stands.{StandsFor}
 use Rattle.srcp_core.specs.declared.record.CoreFault.{CoreFault}
 use Rattle.srcp_core.specs.declared.record.CoreFault.TheVariants.{Full, Memory as MemoryFault}
+use Rattle.srcp_core.proofs.CallLaws.{calls_agree, calls_lead}
 use Rattle.srcp_core.proofs.Numbers.{key_push_last, length_without}
 use Rattle.srcp_serve.specs.Calls.{Call as DoorCall, Tells}
 use Rattle.srcp_serve.specs.Calls as door
@@ -34,11 +32,11 @@ use Rattle.srcp_serve.proofs.VisitLaws.{asked_by-append}
 
 -- ---- the moment
 
-pub takes_moment : (moment : ℕ) (old new : Held) (told_old told_new : Option (List DoorCall)) → Tells told_old (door.NowCall (Ok moment)) told_new → LeadsTo (At moment) old new → TakesMoment old told_old new told_new
-takes_moment moment old new told_old told_new h leads owns buses stand keys told hosting is = record {
+pub takes_moment : (moment : ℕ) (old new : Held) (told_old told_new : Option (List DoorCall)) → Tells told_old (door.NowCall (Ok moment)) told_new → new ≡ advanced moment old → TakesMoment old told_old new told_new
+takes_moment moment old new told_old told_new h is_advanced owns buses stand keys told hosting is = record {
   answer = Ok moment;
   adds = adds_one (door.NowCall (Ok moment)) told_old told_new told h is;
-  stands = leads buses stand.events keys hosting.layout hosting.stands;
+  stands = calls_lead.moment moment old new is_advanced buses stand.events keys hosting.layout hosting.stands;
 }
 
 pub keeps_moment : (failed : DoorFault) (old : Held) (told_old told_new : Option (List DoorCall)) → Tells told_old (door.NowCall (Err failed)) told_new → TakesMoment old told_old old told_new
@@ -77,23 +75,20 @@ module _ (buses : List Bus) where
       ∙ sym (ap (λ o. or_refused buses o (Open true) (counted w)) (full_open w e))
       ∙ sym (fold-append (happens buses) start events (Open true ∷ []))
 
-pub seats_full : (peer : ℕ) (old mid : Held) (cause : CoreFault) (told_old told_new : Option (List DoorCall)) (owns : List (Option Own)) → Closes peer told_old told_new → LeadsTo (Open false) old mid
-    → OfCourse old (λ buses events. fault buses (course buses events) (Open false) ≡ Some cause) → mid ≡ refused_connect cause old → (cause ≡ Full) ⊎ (cause ≡ MemoryFault) → SeatsPeer peer old told_old owns mid told_new owns false
-seats_full peer old mid cause told_old told_new owns closes leads why refused causes buses stand keys told hosting is new =
-    ⊎_elim full memory causes
+pub seats_full : (peer : ℕ) (old mid : Held) (cause : CoreFault) (told_old told_new : Option (List DoorCall)) (owns : List (Option Own)) → Closes peer told_old told_new
+    → IsNotAdmitted cause old mid → SeatsPeer peer old told_old owns mid told_new owns false
+seats_full peer old mid cause told_old told_new owns closes turned_away buses stand keys told hosting is new =
+    by cause turned_away (calls_agree.refuses cause old mid turned_away buses stand.events keys hosting.layout hosting.stands)
   where
     no_more : (n : ℕ) → n ≡ n + 0
     no_more n = omega arith
 
-    out : fault buses (course buses stand.events) (Open false) ≡ Some cause
-    out = why buses stand.events keys hosting.layout hosting.stands
-
     stands : StandsFor buses keys mid (course buses (stand.events ++ Open false ∷ []))
-    stands = leads buses stand.events keys hosting.layout hosting.stands
+    stands = calls_lead.not_opened cause old mid turned_away buses stand.events keys hosting.layout hosting.stands
 
-    away : (granted : Bool) → fault buses (course buses stand.events) (Open granted) ≡ Some cause → StandsFor buses keys mid (course buses (stand.events ++ Open granted ∷ [])) → mid.denied ≡ denied_by old.denied (granted ∷ [])
-        → WelcomesPeer buses stand told_old told mid owns old peer false
-    away granted denies after_open counted =
+    away : (cause : CoreFault) (granted : Bool) → fault buses (course buses stand.events) (Open granted) ≡ Some cause
+        → StandsFor buses keys mid (course buses (stand.events ++ Open granted ∷ [])) → mid.denied ≡ denied_by old.denied (granted ∷ []) → WelcomesPeer buses stand told_old told mid owns old peer false
+    away cause granted denies after_open counted =
         let guest : Guest = record { peer = peer; granted = granted } in
         let shut : is_let_in buses stand.events granted ≡ false = ap is_none denies in
         let after : Stand = record { events = stand.events ++ Open granted ∷ []; guests = stand.guests; places = stand.places } in
@@ -120,25 +115,22 @@ seats_full peer old mid cause told_old told_new owns closes leads why refused ca
           };
         }
 
-    counts : (c : CoreFault) → cause ≡ c → mid.denied ≡ (refused_connect c old).denied
-    counts c e = ap (λ (h : Held). h.denied) refused ∙ ap (λ c. (refused_connect c old).denied) e
+    by : (cause : CoreFault) → IsNotAdmitted cause old mid → fault buses (course buses stand.events) (Open false) ≡ Some cause
+        → WelcomesPeer buses stand told_old told mid owns old peer false
+    by Full a out =
+        away Full true (full_open buses (course buses stand.events) out)
+        (subst (λ (w : World). StandsFor buses keys mid w) (full_course buses stand.events out) stands) (ap (λ (h : Held). h.denied) a.1)
+    by MemoryFault a out = away MemoryFault false out stands (ap (λ (h : Held). h.denied) a.1)
+    by other a out = absurd a
 
-    full : cause ≡ Full → WelcomesPeer buses stand told_old told mid owns old peer false
-    full e =
-        let is_full : fault buses (course buses stand.events) (Open false) ≡ Some Full = subst (λ c. fault buses (course buses stand.events) (Open false) ≡ Some c) e out in
-        away true (full_open buses (course buses stand.events) is_full ∙ ap (λ c. Some c) (sym e)) (subst (λ (w : World). StandsFor buses keys mid w) (full_course buses stand.events is_full) stands) (counts Full e)
-
-    memory : cause ≡ MemoryFault → WelcomesPeer buses stand told_old told mid owns old peer false
-    memory e = away false out stands (counts MemoryFault e)
-
-pub seats_in : (peer key free : ℕ) (old mid : Held) (told_old : Option (List DoorCall)) (owns : List (Option Own)) → IsAdmitted key old mid → LeadsToOpen key old mid → OfCourse old (λ buses events. fault buses (course buses events) (Open true) ≡ None)
+pub seats_in : (peer key free : ℕ) (old mid : Held) (told_old : Option (List DoorCall)) (owns : List (Option Own)) → IsAdmitted key old mid
     → position is_none owns ≡ Some free → SeatsPeer peer old told_old owns mid told_old (slice_set owns free (Some (record { peer = peer; key = key }))) true
-seats_in peer key free old mid told_old owns admitted leads accepts place buses stand keys told hosting is new =
+seats_in peer key free old mid told_old owns admitted place buses stand keys told hosting is new =
     let own : Own = record { peer = peer; key = key } in
     let guest : Guest = record { peer = peer; granted = true } in
     let seat : Seat = record { peer = peer; conn = length stand.guests + 1 } in
     let pushed : List (Option ℕ) = keys ++ Some key ∷ [] in
-    let let_in_is : is_let_in buses stand.events true ≡ true = ap is_none (accepts buses stand.events keys hosting.layout hosting.stands) in
+    let let_in_is : is_let_in buses stand.events true ≡ true = ap is_none (calls_agree.accepts key old mid admitted buses stand.events keys hosting.layout hosting.stands) in
     let after : Stand = record { events = stand.events ++ Open true ∷ []; guests = stand.guests; places = stand.places } in
     let w : welcomed buses stand guest ≡ let_in buses stand guest = ap (λ b. if b then let_in buses stand guest else after) let_in_is in
     let conn : seat.conn ≡ length keys + 1 = ap (λ n. n + 1) (sym hosting.long) in
@@ -165,32 +157,20 @@ seats_in peer key free old mid told_old owns admitted leads accepts place buses 
           few = omega (arith, c, one, more, before);
           differ = differ_seated seat stand.places (new_apart keys seat owns stand.places hosting.sit conn new) hosting.differ;
           long = length-append keys (Some key ∷ []) ∙ ap (λ n. n + 1) hosting.long ∙ sym (length-append stand.guests (peer ∷ []));
-          stands = leads buses stand.events keys hosting.layout hosting.stands;
+          stands = calls_lead.opened key old mid admitted buses stand.events keys hosting.layout hosting.stands;
         });
         opened = ap (λ (s : Stand). length s.guests) w ∙ length-append stand.guests (peer ∷ []);
       };
     }
 
 -- a place is free where one is let in
-pub seats_none : (peer : ℕ) (opens : Bool) (old new : Held) (told_old told_new : Option (List DoorCall)) (owns : List (Option Own)) → OfCourse old (λ buses events. fault buses (course buses events) (Open true) ≡ None) → CountsOpen old → length owns ≡ 64
+pub seats_none : (peer : ℕ) (opens : Bool) (old new : Held) (told_old told_new : Option (List DoorCall)) (owns : List (Option Own)) → open_count old < 64 → length owns ≡ 64
     → position is_none owns ≡ None → SeatsPeer peer old told_old owns new told_new owns opens
-seats_none peer opens old new told_old told_new owns accepts counted long none buses stand keys told hosting is fresh =
+seats_none peer opens old new told_old told_new owns below long none buses stand keys told hosting is fresh =
     let taken = none_free keys owns stand.places hosting.sit none in
     let few = hosting.few in
-    let count = hosting.stands.count in
-    let opened = counted buses stand.events keys hosting.stands in
-    let below = room (open_of (course buses stand.events)) (accepts buses stand.events keys hosting.layout hosting.stands) in
-    absurd (omega (arith, taken, few, count, opened, below, long))
-  where
-    open_of : World → ℕ
-    open_of w = length (filter is_open w.connections)
-
-    room : (n : ℕ) → (if nat_lt n 64 then None else Some Full) ≡ None → n < 64
-    room n e = by (nat_lt n 64) refl e
-      where
-        by : (b : Bool) → nat_lt n 64 ≡ b → (if b then None else Some Full) ≡ None → n < 64
-        by true t e = grind (arith, nat_tests)
-        by false t e = cc
+    let opened = calls_agree.counted old buses stand.events keys hosting.stands in
+    absurd (omega (arith, taken, few, opened, below, long))
 
 -- ---- the visit of a place
 

@@ -1,15 +1,17 @@
 -- The read of a visit.
 use Rattle.std.proofs.Common.{◌≡◌, ◌∙◌, ℕ, ◌≤◌, Bool, true, false, not, List, [], ◌∷◌, ◌++◌, map, take, length, Option, Some, None, Result, Ok, Err, refl, ap, sym, subst, arith, append-nil, length-take}
 use Rattle.std.specs.List.{filter_map}
-use Rattle.std.specs.Prelude.{is_none, if◌then◌else◌, ◌||◌, MatchResult}
+use Rattle.std.specs.Prelude.{is_none, if◌then◌else◌, ◌||◌, MatchResult, OnOk}
 use Rattle.std.specs.Result.{is_ok}
-use Rattle.srcp_core.specs.Agrees.{OfConnection, TakesPieces}
+use Rattle.srcp_core.specs.Agrees.{OfConnection}
 use Rattle.srcp_core.specs.Course.{course, fault}
 use Rattle.srcp_core.specs.Held.{Held}
+use Rattle.srcp_core.specs.Machine.{IsReceived, bytes_fault}
 use Rattle.srcp_core.specs.Run.{LeadsOn}
 use Rattle.srcp_core.specs.Stands.{StandsFor}
 use Rattle.srcp_core.specs.Under.{Event, Piece, Bytes, denied_by, giving}
 use Rattle.srcp_core.specs.declared.record.CoreFault.{CoreFault}
+use Rattle.srcp_core.proofs.CallLaws.{calls_agree, calls_lead}
 use Rattle.srcp_rules.specs.declared.layout.Bus.{Bus}
 use Rattle.srcp_serve.specs.Calls.{Call as DoorCall, Tells}
 use Rattle.srcp_serve.specs.Calls as door
@@ -21,7 +23,11 @@ use Rattle.srcp_serve.specs.declared.door.Got.{Got}
 use Rattle.srcp_serve.specs.declared.door.Got.TheVariants as got
 use Rattle.srcp_serve.proofs.Telling.{adds_none, adds_one}
 
-module _ (peer key : ℕ) (old : Held) (told_old : Option (List DoorCall)) (ready : Bool) (course_says : OfConnection key old (λ buses events n. ready ≡ is_none (fault buses (course buses events) (Bytes n (giving []))))) where
+module _ (peer key : ℕ) (old : Held) (told_old : Option (List DoorCall)) (ready : Bool) (ready_is : ready ≡ is_none (bytes_fault key [] old)) where
+  course_says : OfConnection key old (λ buses events n. ready ≡ is_none (fault buses (course buses events) (Bytes n (giving []))))
+  course_says buses events keys n layout named s =
+      ready_is ∙ ap is_none (calls_agree.bytes key (giving []) old buses events keys n layout named s)
+
   pub read_not : ready ≡ false → ReadsIn peer key old told_old old told_old true
   read_not e buses events keys n told s is =
       let none : is_ready buses n events ≡ false = sym (course_says buses events keys n s.layout s.named s.stands) ∙ e in
@@ -58,22 +64,27 @@ module _ (peer key : ℕ) (old : Held) (told_old : Option (List DoorCall)) (read
         pieces o = filter_map (λ x. x) (o ∷ [])
 
   pub read_bytes : (count : ℕ) (buffer : List ℕ) (told_new : Option (List DoorCall)) (new : Held) (result : Result Unit CoreFault) (stays : Bool) → ready ≡ true → length buffer ≡ 256 → Tells told_old (door.ReadCall peer (Ok (got.Bytes count)) buffer) told_new
-      → OfConnection key old (λ buses events n. ready ≡ true → TakesPieces buses (course buses events) n) → LeadsOn key (take count buffer) old new
-      → OfConnection key old (λ buses events n. MatchResult result (λ _. fault buses (course buses events) (Bytes n (giving (take count buffer))) ≡ None) (λ cause. fault buses (course buses events) (Bytes n (giving (take count buffer))) ≡ Some cause))
-      → stays ≡ is_ok result → ReadsIn peer key old told_old new told_new stays
-  read_bytes count buffer told_new new result stays e full tells takes leads says stays_ok buses events keys n told s named =
+      → MatchResult result (λ _. bytes_fault key (take count buffer) old ≡ None) (λ cause. bytes_fault key (take count buffer) old ≡ Some cause)
+      → OnOk result (IsReceived key (take count buffer) old new) → stays ≡ is_ok result → ReadsIn peer key old told_old new told_new stays
+  read_bytes count buffer told_new new result stays e full tells says received stays_ok buses events keys n told s named =
       let piece : List ℕ = take count buffer in
       let few : length piece ≤ 256 = omega (arith, length-take count buffer, full) in
-      let fine : is_ok result ≡ true = by result (says buses events keys n s.layout s.named s.stands) (takes buses events keys n s.layout s.named s.stands e (giving piece) few) in
+      let free : bytes_fault key piece old ≡ None =
+      calls_agree.bytes key (giving piece) old buses events keys n s.layout s.named s.stands
+      ∙ calls_agree.takes key old (sym ready_is ∙ e) buses events keys n s.layout s.named s.stands (giving piece) few in
+      let fine = taken result says received free in
+      let leads : LeadsOn key piece old new = calls_lead.taken key piece old new free fine.1 in
       record {
         read = Some (record { answer = Ok (got.Bytes count); buffer = buffer; grants = leads.grants });
         adds = adds_one (door.ReadCall peer (Ok (got.Bytes count)) buffer) told_old told_new told tells named;
         counted = leads.counted ∙ ap (denied_by old.denied) (sym (append-nil leads.grants));
         asked = asks (Ok (got.Bytes count)) buffer told_new e full tells buses events n leads.grants (course_says buses events keys n s.layout s.named s.stands);
-        stays_is = ap not (sym (stays_ok ∙ fine));
+        stays_is = ap not (sym (stays_ok ∙ fine.0));
         stands = leads.leads buses events keys n s.layout s.named s.stands;
       }
     where
-      by : (r : Result Unit CoreFault) → MatchResult r (λ _. fault buses (course buses events) (Bytes n (giving (take count buffer))) ≡ None) (λ cause. fault buses (course buses events) (Bytes n (giving (take count buffer))) ≡ Some cause) → fault buses (course buses events) (Bytes n (giving (take count buffer))) ≡ None → is_ok r ≡ true
-      by (Ok u) h none = refl
-      by (Err cause) h none = let bad : Some cause ≡ None = sym h ∙ none in cc
+      taken : (r : Result Unit CoreFault) → MatchResult r (λ _. bytes_fault key (take count buffer) old ≡ None) (λ cause. bytes_fault key (take count buffer) old ≡ Some cause)
+          → OnOk r (IsReceived key (take count buffer) old new) → bytes_fault key (take count buffer) old ≡ None
+          → (is_ok r ≡ true) × IsReceived key (take count buffer) old new
+      taken (Ok u) h received none = (refl, received)
+      taken (Err cause) h received none = let bad : Some cause ≡ None = sym h ∙ none in cc

@@ -9,13 +9,13 @@ use Rattle.std.proofs.lemmas.List.Sums.{sum_by-append}
 use Rattle.std.specs.List.{list_any, filter_map, count_by}
 use Rattle.std.specs.Prelude.{◌||◌, ◌&&◌, nat_lt, if◌then◌else◌}
 use Rattle.srcp_rules.specs.declared.layout.Bus.{Bus}
-use Rattle.srcp_core.specs.Agrees.{OfConnection, closes as closes_in}
 use Rattle.srcp_core.specs.Course.{course}
 use Rattle.srcp_core.specs.Held.{Held}
+use Rattle.srcp_core.specs.Machine.{hung_up, is_closing as is_closing_at}
 use Rattle.srcp_core.specs.Recording.{without_key}
-use Rattle.srcp_core.specs.Run.{LeadsToFree}
 use Rattle.srcp_core.specs.Stands.{StandsFor}
 use Rattle.srcp_core.specs.Under.{Event, Piece, Bytes, Room, Shut, denied_by}
+use Rattle.srcp_core.proofs.CallLaws.{calls_agree, calls_lead}
 use Rattle.srcp_serve.specs.Calls.{Call as DoorCall}
 use Rattle.srcp_serve.specs.Given.{Call, ReadCall, WriteCall, CloseCall, answers_of}
 use Rattle.srcp_serve.specs.Serving.{Seat, Question, Writes, Closes as ClosesQuestion, question, visit, exchange, rooms, lent_none_last, handed, is_closing, reads_of, writes_of, closes_of, visit_events, is_about, is_close, is_write, loses, loses_reading, loses_writing, falls_short, piece_of, count_of}
@@ -239,10 +239,10 @@ module _ (peer key : ℕ) (old mid : Held) (told_old told_mid : Option (List Doo
   pub exchanges_lost : ReadsIn peer key old told_old mid told_mid false → Exchanges peer key old told_old mid told_mid false
   exchanges_lost reads buses events keys n told s is = exchanged_lost buses events keys n peer old told_old told mid (reads buses events keys n told s is)
 
-  pub visit_stays : (closing : Bool) → Exchanges peer key old told_old mid told_mid true → OfConnection key mid (λ buses events n. closing ≡ closes_in buses (course buses events) n) → closing ≡ false → Visits peer key old told_old mid told_mid true
+  pub visit_stays : (closing : Bool) → Exchanges peer key old told_old mid told_mid true → closing ≡ is_closing_at key mid → closing ≡ false → Visits peer key old told_old mid told_mid true
   visit_stays closing exchanges says open_still buses events keys n told s is =
       let x = exchanges buses events keys n told s is in
-      visited_stays buses events keys n peer old told_old told mid x (sym (says buses (events ++ exchange n x.calls) keys n s.layout s.named x.stands) ∙ open_still)
+      visited_stays buses events keys n peer old told_old told mid x (sym (says ∙ calls_agree.closes key mid buses (events ++ exchange n x.calls) keys n s.layout s.named x.stands) ∙ open_still)
 
   module _ (new : Held) (told_new : Option (List DoorCall)) (same : new.denied ≡ mid.denied) (asks : AsksPeers told_mid told_new) where
     pub exchanges_on : (stays : Bool) → ReadsIn peer key old told_old mid told_mid true → WritesOut peer key mid told_mid new told_new stays → Exchanges peer key old told_old new told_new stays
@@ -260,14 +260,14 @@ module _ (peer key : ℕ) (old mid : Held) (told_old told_mid : Option (List Doo
           visited_goes buses events keys n peer old told_old told_mid w.before told mid new false w.was same x (ap (λ t. t || is_closing buses n (events ++ exchange n x.calls)) x.loses_is)
           (goes buses (events ++ exchange n x.calls) keys n told (record { layout = s.layout; named = s.named; stands = x.stands }) is)
 
-      pub visit_closed : (closing : Bool) → Exchanges peer key old told_old mid told_mid true → OfConnection key mid (λ buses events n. closing ≡ closes_in buses (course buses events) n) → closing ≡ true → Visits peer key old told_old new told_new false
+      pub visit_closed : (closing : Bool) → Exchanges peer key old told_old mid told_mid true → closing ≡ is_closing_at key mid → closing ≡ true → Visits peer key old told_old new told_new false
       visit_closed closing exchanges says ends buses events keys n told s is =
           let w = (asks told is).adds in
           let x = exchanges buses events keys n w.before s w.was in
           visited_goes buses events keys n peer old told_old told_mid w.before told mid new true w.was same x
-          (ap (λ t. t || is_closing buses n (events ++ exchange n x.calls)) x.loses_is ∙ sym (says buses (events ++ exchange n x.calls) keys n s.layout s.named x.stands) ∙ ends)
+          (ap (λ t. t || is_closing buses n (events ++ exchange n x.calls)) x.loses_is ∙ sym (says ∙ calls_agree.closes key mid buses (events ++ exchange n x.calls) keys n s.layout s.named x.stands) ∙ ends)
           (goes buses (events ++ exchange n x.calls) keys n told (record { layout = s.layout; named = s.named; stands = x.stands }) is)
 
 -- the connection is shut and the peer let go
-pub lets_go : (peer key : ℕ) (old new : Held) (told_old told_new : Option (List DoorCall)) → LeadsToFree key old new → Closes peer told_old told_new → LetsGo peer key old told_old new told_new
-lets_go peer key old new told_old told_new leads closes buses events keys n told s is = record { closed = closes told is; stands = leads buses events keys n s.layout s.named s.stands }
+pub lets_go : (peer key : ℕ) (old new : Held) (told_old told_new : Option (List DoorCall)) → new ≡ hung_up key old → Closes peer told_old told_new → LetsGo peer key old told_old new told_new
+lets_go peer key old new told_old told_new hung closes buses events keys n told s is = record { closed = closes told is; stands = calls_lead.shut key old new hung buses events keys n s.layout s.named s.stands }

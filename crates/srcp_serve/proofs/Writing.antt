@@ -1,11 +1,12 @@
 -- One write of a visit: what is lent, and what is taken of it.
-use Rattle.std.proofs.Common.{◌≡◌, ◌∙◌, ℕ, suc, ◌<◌, true, false, ◌==◌, List, [], ◌∷◌, length, Option, Ok, Err, inl, inr, sym, subst, arith, refl}
+use Rattle.std.proofs.Common.{◌≡◌, ◌∙◌, ℕ, suc, ◌<◌, ◌≤◌, true, false, ◌==◌, List, [], ◌∷◌, length, Option, None, IsSome, Ok, Err, inl, inr, ap, sym, subst, arith, refl}
 use Rattle.std.proofs.lemmas.Bool.Decides.{nat_tests}
 use Rattle.srcp_core.specs.Agrees.{OfConnection}
-use Rattle.srcp_core.specs.Held.{Held}
-use Rattle.srcp_core.specs.Machine.{let_out}
+use Rattle.srcp_core.specs.Held.{Held, Place, at}
+use Rattle.srcp_core.specs.Machine.{let_out, unsent_at, changed_at, without_sent}
 use Rattle.srcp_core.specs.Run.{LeadsAt}
 use Rattle.srcp_core.specs.Under.{Room}
+use Rattle.srcp_core.proofs.CallLaws.{calls_agree, calls_lead}
 use Rattle.srcp_serve.specs.Calls.{Call, Tells, WriteCall, Adds}
 use Rattle.srcp_serve.specs.Serving.{lent}
 use Rattle.srcp_serve.specs.Visits.{WritesOnce}
@@ -25,30 +26,44 @@ some_of : (xs : List ℕ) → (length xs == 0) ≡ false → 0 < length xs
 some_of [] e = absurd (let bad : true ≡ false = e in cc)
 some_of (x ∷ xs) e = omega arith
 
+-- so many bytes of what was lent are sent
+module _ (key count : ℕ) (old mid new : Held) (out : mid ≡ let_out key old) (sent : new ≡ changed_at key (without_sent count) mid) where
+  pub sends : (bytes : List ℕ) → bytes ≡ unsent_at key (let_out key old) → count ≤ length bytes → LeadsAt key (λ n. Room n count) old new
+  sends bytes lends few =
+      let few_left = subst (λ (xs : List ℕ). count ≤ length xs) (lends ∙ ap (unsent_at key) (sym out)) few in
+      calls_lead.lent_and_sent key count mid new old few_left sent out
+
 module _ (peer key : ℕ) (old : Held) (told_old : Option (List Call)) where
   -- these bytes are lent
   abbrev Lends : List ℕ → Type 0
-  Lends bytes = OfConnection key old (λ buses events n. bytes ≡ lent buses n events)
+  Lends bytes = bytes ≡ unsent_at key (let_out key old)
+
+  lent_is : (bytes : List ℕ) → Lends bytes → OfConnection key old (λ buses events n. bytes ≡ lent buses n events)
+  lent_is bytes lends buses events keys n layout named s = lends ∙ calls_agree.lends key old buses events keys n layout named s
 
   -- there is no connection at the key
-  pub wrote_absent : (new : Held) (told_new : Option (List Call)) (wrote : Wrote) → OfConnection key old (λ buses events n. ⊥) → WritesOnce peer key old told_old new told_new wrote
-  wrote_absent new told_new wrote never buses events keys n told s is = absurd (never buses events keys n s.layout s.named s.stands)
+  pub wrote_absent : (new : Held) (told_new : Option (List Call)) (wrote : Wrote) → at old key ≡ None → WritesOnce peer key old told_old new told_new wrote
+  wrote_absent new told_new wrote gone buses events keys n told s is =
+      absurd (none_there (subst (λ (o : Option Place). IsSome o) gone (calls_agree.there key old buses events keys n s.layout s.named s.stands)))
+    where
+      none_there : IsSome {T = Place} None → ⊥
+      none_there e = cc
 
-  module _ (mid : Held) (out : mid ≡ let_out key old) (asks : LeadsAt key (λ n. Room n 0) old (let_out key old)) where
+  module _ (mid : Held) (out : mid ≡ let_out key old) where
     asked : LeadsAt key (λ n. Room n 0) old mid
-    asked = subst (λ (held : Held). LeadsAt key (λ n. Room n 0) old held) (sym out) asks
+    asked = subst (λ (held : Held). LeadsAt key (λ n. Room n 0) old held) (sym out) (calls_lead.lent key old)
 
     pub wrote_none : (bytes : List ℕ) → Lends bytes → (length bytes == 0) ≡ true → WritesOnce peer key old told_old mid told_old Less
     wrote_none bytes lends none buses events keys n told s is =
         inl (record {
-          none = sym (lends buses events keys n s.layout s.named s.stands) ∙ nil_of bytes none;
+          none = sym (lent_is bytes lends buses events keys n s.layout s.named s.stands) ∙ nil_of bytes none;
           adds = adds_none told_old told is;
           stands = asked buses events keys n s.layout s.named s.stands;
         })
 
     pub wrote_failed : (bytes : List ℕ) (fault : DoorFault) (told_new : Option (List Call)) → Lends bytes → Tells told_old (WriteCall peer bytes (Err fault)) told_new → (length bytes == 0) ≡ false → WritesOnce peer key old told_old mid told_new Failed
     wrote_failed bytes fault told_new lends tells some buses events keys n told s named =
-        let lent_bytes = lends buses events keys n s.layout s.named s.stands in
+        let lent_bytes = lent_is bytes lends buses events keys n s.layout s.named s.stands in
         record {
           fault = fault;
           adds = subst (λ (xs : List ℕ). Adds told_old told (WriteCall peer xs (Err fault) ∷ [])) lent_bytes (adds_one (WriteCall peer bytes (Err fault)) told_old told_new told tells named);
@@ -59,7 +74,7 @@ module _ (peer key : ℕ) (old : Held) (told_old : Option (List Call)) where
   module _ (bytes : List ℕ) (count : ℕ) (new : Held) (told_new : Option (List Call)) (lends : Lends bytes) (sends : LeadsAt key (λ n. Room n count) old new) (tells : Tells told_old (WriteCall peer bytes (Ok count)) told_new) where
     pub wrote_less : count < length bytes → WritesOnce peer key old told_old new told_new Less
     wrote_less few buses events keys n told s named =
-        let lent_bytes = lends buses events keys n s.layout s.named s.stands in
+        let lent_bytes = lent_is bytes lends buses events keys n s.layout s.named s.stands in
         inr (record {
           count = count;
           adds = subst (λ (xs : List ℕ). Adds told_old told (WriteCall peer xs (Ok count) ∷ [])) lent_bytes (adds_one (WriteCall peer bytes (Ok count)) told_old told_new told tells named);
@@ -69,7 +84,7 @@ module _ (peer key : ℕ) (old : Held) (told_old : Option (List Call)) where
 
     pub wrote_all : count ≡ length bytes → (length bytes == 0) ≡ false → WritesOnce peer key old told_old new told_new All
     wrote_all full some buses events keys n told s named =
-        let lent_bytes = lends buses events keys n s.layout s.named s.stands in
+        let lent_bytes = lent_is bytes lends buses events keys n s.layout s.named s.stands in
         record {
           count = count;
           adds = subst (λ (xs : List ℕ). Adds told_old told (WriteCall peer xs (Ok count) ∷ [])) lent_bytes (adds_one (WriteCall peer bytes (Ok count)) told_old told_new told tells named);

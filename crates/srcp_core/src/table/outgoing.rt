@@ -1,12 +1,7 @@
 //! Bytes that go out.
-ghost use Rattle.std.specs.Prelude.{◌≡◌, ◌≤◌, ◌<◌, [], ◌∷◌, ◌++◌, length, None, IsErr, IsSome, IfOk, IfErr, MatchResult, ◌↔◌};
-ghost use Rattle.srcp_core.specs.Agrees.{OfConnection, lends_none, lent};
-ghost use Rattle.srcp_core.specs.Connection.{is_nil};
-ghost use Rattle.srcp_core.specs.Course.{course};
-ghost use Rattle.srcp_core.specs.Held.{Held, at};
+ghost use Rattle.std.specs.Prelude.{◌≡◌, ◌≤◌, [], length, None, IsErr, IsSome, IfOk, IfErr, MatchResult, ◌↔◌};
+ghost use Rattle.srcp_core.specs.Held.{at};
 ghost use Rattle.srcp_core.specs.Machine.{changed_at, without_sent, unsent_at, let_out, item_at};
-ghost use Rattle.srcp_core.specs.Run.{LeadsAt};
-ghost use Rattle.srcp_core.specs.Under.{Room};
 
 use super::{Core, place};
 use crate::record::CoreFault;
@@ -19,26 +14,11 @@ impl<'a, R: Rows> Core<'a, R> {
 
     /// Lends the bytes that are to be sent of a connection, from its own buffer and with no copy. Where an
     /// information session's buffer is empty, its next line is put in first, which has at most 126 bytes. `NoSuch`
-    /// where there is no such connection, and then nothing changes.
+    /// where there is no such connection, and then nothing changes. Its laws are `lent`, `lends`, `lends_none` and
+    /// `there` of `laws::calls_follow`.
     pub fn outgoing(&mut self, conn: usize) -> Result<&[u8], CoreFault>
         ensures* ends { sem 𝓛 (EndsAs R.row R.Rows self.entry (let_out conn self.old)) }
-        ensures absent { IsErr result ↔ (at self.old conn ≡ None) }
-        ensures fault { IfErr result (λ fault. fault ≡ CoreFault.NoSuch) }
-        ensures bytes { IfOk result (λ bytes. bytes.now ≡ unsent_at conn (let_out conn self.old)) }
-        ensures one_line { unsent_at conn self.old ≡ [] → IfOk result (λ bytes. length bytes.now ≤ 126) }
-        ensures course { OfConnection conn self.old (λ buses events n. MatchResult result (λ bytes. bytes.now ≡ lent buses (course buses (events ++ Room n 0 ∷ [])) n) (λ _. ⊥)) }
-        ensures empty { OfConnection conn self.old (λ buses events n. IfOk result (λ bytes. is_nil bytes.now ≡ lends_none buses (course buses events) n)) }
-        ensures denied { (let_out conn self.old).denied ≡ self.old.denied }
-        ensures stands { LeadsAt conn (λ n. Room n 0) self.old (let_out conn self.old) }
-    {
-        self.lend(conn)
-    }
-
-    /// Lends the bytes that are to be sent, after the next line is put in.
-    fn lend(&mut self, conn: usize) -> Result<&[u8], CoreFault>
-        ensures* ends { sem 𝓛 (EndsAs R.row R.Rows self.entry (let_out conn self.old)) }
-        ensures absent { IsErr result ↔ (at self.old conn ≡ None) }
-        ensures fault { IfErr result (λ fault. fault ≡ CoreFault.NoSuch) }
+        ensures absent { MatchResult result (λ _. IsSome (at self.old conn)) (λ fault. (fault ≡ CoreFault.NoSuch) × (at self.old conn ≡ None)) }
         ensures bytes { IfOk result (λ bytes. bytes.now ≡ unsent_at conn (let_out conn self.old)) }
         ensures one_line { unsent_at conn self.old ≡ [] → IfOk result (λ bytes. length bytes.now ≤ 126) }
     {
@@ -73,21 +53,8 @@ impl<'a, R: Rows> Core<'a, R> {
     }
 
     /// Drops so many of the bytes that are to be sent of a connection, which were sent. The connection is there, and
-    /// no more bytes than it lends.
+    /// no more bytes than it lends. Its laws are `sent`, `none_sent` and `lent_and_sent` of `laws::calls_follow`.
     pub fn sent(&mut self, conn: usize, count: usize)
-        requires open { IsSome (at self.old conn) }
-        requires unsent { count ≤ length (unsent_at conn self.old) }
-        ensures core { self.new ≡ changed_at conn (without_sent count) self.old }
-        ensures denied { self.new.denied ≡ self.old.denied }
-        ensures stands { 0 < count → LeadsAt conn (λ n. Room n count) self.old self.new }
-        ensures none { count ≡ 0 → self.new ≡ self.old }
-        ensures lent { (held : Held) → self.old ≡ let_out conn held → LeadsAt conn (λ n. Room n count) held self.new }
-    {
-        self.drop_sent(conn, count);
-    }
-
-    /// Drops so many of the bytes that are to be sent.
-    fn drop_sent(&mut self, conn: usize, count: usize)
         requires open { IsSome (at self.old conn) }
         requires unsent { count ≤ length (unsent_at conn self.old) }
         ensures { self.new ≡ changed_at conn (without_sent count) self.old }

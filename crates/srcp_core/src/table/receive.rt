@@ -3,10 +3,7 @@ ghost use Rattle.std.specs.Prelude.{◌≡◌, ◌+◌, ◌≤◌, [], ◌∷◌
 ghost use Rattle.srcp_rules.specs.Command.{IsCommandOf};
 ghost use Rattle.srcp_rules.specs.State.{is_there, session_device};
 ghost use Rattle.srcp_text.specs.Marks.{Mark};
-ghost use Rattle.srcp_core.specs.Agrees.{OfConnection};
-ghost use Rattle.srcp_core.specs.Course.{course, fault};
-ghost use Rattle.srcp_core.specs.Run.{LeadsOn};
-ghost use Rattle.srcp_core.specs.Under.{Bytes, giving, denied_by};
+ghost use Rattle.srcp_core.specs.Under.{denied_by};
 ghost use Rattle.srcp_core.specs.Held.{Place, IsSessionAt, IsSound, at};
 ghost use Rattle.srcp_core.specs.Machine.{asked_of, answered, commanded, longest_answer, unsent_at, bytes_fault, heard_at, IsReceived, HasRoom, IsLineTaken, steps_commanded, steps_answered, listed};
 
@@ -22,20 +19,9 @@ impl<'a, R: Rows> Core<'a, R> {
     /// in them: before the session by the handshake of SRCP 0.8, after it by its commands; lines to an information
     /// session are dropped, which is our own choice. Refused, and nothing changes: `NoSuch` where there is no such
     /// connection, `Closing` where it ended or overran, `Busy` while bytes of it are unsent, `PieceTooLong` for more
-    /// than 256 bytes; the first that applies. These causes, their order and the 256 are our own choice.
+    /// than 256 bytes; the first that applies. These causes, their order and the 256 are our own choice. Its laws are
+    /// `taken`, `refused`, `bytes` and `takes` of `laws::calls_follow`.
     pub fn receive(&mut self, conn: usize, piece: &[u8]) -> Result<(), CoreFault>
-        ensures fault { MatchResult result (λ _. bytes_fault conn piece.now self.old ≡ None) (λ fault. bytes_fault conn piece.now self.old ≡ Some fault) }
-        ensures refused { OnErr result (self.new ≡ self.old) }
-        ensures received { OnOk result (IsReceived conn piece.now self.old self.new) }
-        ensures denied { self.new.denied ≡ 0 → self.old.denied ≡ 0 }
-        ensures course { OfConnection conn self.old (λ buses events n. MatchResult result (λ _. fault buses (course buses events) (Bytes n (giving piece.now)) ≡ None) (λ cause. fault buses (course buses events) (Bytes n (giving piece.now)) ≡ Some cause)) }
-        ensures stands { LeadsOn conn piece.now self.old self.new }
-    {
-        self.take_piece(conn, piece)
-    }
-
-    /// Takes a piece, where it is not refused.
-    fn take_piece(&mut self, conn: usize, piece: &[u8]) -> Result<(), CoreFault>
         ensures fault { MatchResult result (λ _. bytes_fault conn piece.now self.old ≡ None) (λ fault. bytes_fault conn piece.now self.old ≡ Some fault) }
         ensures refused { OnErr result (self.new ≡ self.old) }
         ensures received { OnOk result (IsReceived conn piece.now self.old self.new) }

@@ -27,7 +27,7 @@ pub returns-clause-laid_out : goal.returns-clause-laid_out
 returns-clause-laid_out g c = c.buses.ensures.laid_out
 
 pub loop-index-init : goal.loop-index-init
-loop-index-init g c = record { runs = runs_none c.args.layout.now c.args.events.now c.new-recorder.result c.in_ok-core.core c.new-recorder.ensures c.in_ok-core.ensures.core; moments = tt }
+loop-index-init g c = record { runs = runs_none c.args.layout.now c.args.events.now c.new-recorder.result c.in_ok-core.core c.new-recorder.ensures c.in_ok-core.ensures; moments = tt }
 
 pub loop-index-preserved : goal.loop-index-preserved
 loop-index-preserved g c =

@@ -11,4 +11,4 @@ returns-in_ok-opened-in-Ok-clause-course g c =
 
 pub returns-in-Err-clause-course : goal.returns-in-Err-clause-course
 returns-in-Err-clause-course g c =
-    open_refused c.args.recorder.now c.args.core.now c.connect.new.self c.in-Err.fault c.in-Err.ensures.full c.in-Err.ensures.memory c.in-Err.ensures.refused c.in-Err.ensures.causes
+    open_refused c.args.recorder.now c.args.core.now c.connect.new.self c.in-Err.fault c.in-Err.ensures.refused

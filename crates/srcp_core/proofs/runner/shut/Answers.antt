@@ -3,7 +3,7 @@ use Rattle.srcp_core.specs.Machine.{live_session}
 use Rattle.srcp_core.specs.Recording.{Recording, shut, stepped}
 use Rattle.srcp_core.specs.declared.event.Event.TheVariants.{Shut}
 use Rattle.srcp_core.specs.declared.record.Step.TheVariants.{Ended}
-use Rattle.srcp_core.proofs.Running.{told_as, no_shut_happens, gone_happens, shut_happens, with_end}
+use Rattle.srcp_core.proofs.Running.{told_as, no_shut_happens, gone_happens, shut_happens, shut_count, with_end}
 use Rattle.srcp_core.proofs.runner.shut.Goals as goal
 
 pub returns-in_default-clause-course : goal.returns-in_default-clause-course
@@ -11,7 +11,7 @@ returns-in_default-clause-course g c = no_shut_happens c.args.conn c.args.record
 
 pub returns-in-Err-clause-course : goal.returns-in-Err-clause-course
 returns-in-Err-clause-course g c =
-    gone_happens (Shut c.args.conn) (Some c.in-Err.fault) c.args.conn c.in-Some.key c.args.recorder.now c.args.core.now c.args.recorder.now c.hangup.new.self (sym c.key.ensures ∙ c.in-Some.is) c.in-Err.ensures.absent.1 c.hangup.ensures.denied
+    gone_happens (Shut c.args.conn) (Some c.in-Err.fault) c.args.conn c.in-Some.key c.args.recorder.now c.args.core.now c.args.recorder.now c.hangup.new.self (sym c.key.ensures ∙ c.in-Some.is) c.in-Err.ensures.absent.1 (shut_count c.in-Some.key c.args.core.now c.hangup.new.self c.hangup.ensures.core)
 
 pub returns-in_ok-step-clause-course : goal.returns-in_ok-step-clause-course
 returns-in_ok-step-clause-course g c =

@@ -15,7 +15,7 @@ pub returns-in-Err-clause-told : goal.returns-in-Err-clause-told
 returns-in-Err-clause-told g c = asks_moment _ _ _ c.now.ensures.told
 
 pub returns-in-Ok-clause-course : goal.returns-in-Ok-clause-course
-returns-in-Ok-clause-course g c = takes_moment c.in-Ok.moment c.args.core.now c.advance.new.self (g.D.Door.told c.args.door.now) (g.D.Door.told c.now.new.self) c.in-Ok.ensures.told c.advance.ensures.stands
+returns-in-Ok-clause-course g c = takes_moment c.in-Ok.moment c.args.core.now c.advance.new.self (g.D.Door.told c.args.door.now) (g.D.Door.told c.now.new.self) c.in-Ok.ensures.told c.advance.ensures
 
 pub returns-in-Err-clause-course : goal.returns-in-Err-clause-course
 returns-in-Err-clause-course g c = keeps_moment c.in-Err.field-0 c.args.core.now (g.D.Door.told c.args.door.now) (g.D.Door.told c.now.new.self) c.in-Err.ensures.told

@@ -1,11 +1,10 @@
-use Rattle.srcp_core.proofs.Leading.{sent_leads, sent_none, lent_leads}
+use Rattle.std.proofs.Common.{◌≤◌, refl, sym, subst}
+use Rattle.srcp_core.proofs.Sound.{sound_set}
 use Rattle.srcp_core.proofs.table.Core.sent.Goals as goal
 
-pub returns-clause-stands : goal.returns-clause-stands
-returns-clause-stands g c = sent_leads c.args.conn c.args.count c.args.self.now c.drop_sent.new.self c.requires.unsent c.drop_sent.ensures
-
-pub returns-clause-none : goal.returns-clause-none
-returns-clause-none g c = sent_none c.args.conn c.args.count c.args.self.now c.drop_sent.new.self c.drop_sent.ensures
-
-pub returns-clause-lent : goal.returns-clause-lent
-returns-clause-lent g c = λ held lent. lent_leads c.args.conn c.args.count c.args.self.now c.drop_sent.new.self held c.requires.unsent c.drop_sent.ensures lent
+pub invariant_of-self : goal.invariant_of-self
+invariant_of-self g c = (
+  sound_set _ _ _ _ (λ p. record { session = refl; ended = λ h. h }) c.took.ensures.slots c.self.invariant.0,
+  c.self.invariant.1,
+  subst (λ n. 64 ≤ n) (sym c.took.ensures.capacity) c.self.invariant.2,
+)

@@ -1,0 +1,69 @@
+-- What a core's calls make of the course that it stands for, by the equations that they promise and no more.
+use Rattle.std.specs.Prelude.{◌≡◌, ℕ, ◌<◌, ◌≤◌, true, false, List, [], ◌∷◌, ◌++◌, length, Some, None, is_none, IsSome}
+use Rattle.srcp_rules.specs.declared.layout.Bus.{Bus}
+use Rattle.srcp_core.specs.Agrees.{OfCourse, OfConnection, NamesNewest, CountsOpen, TakesPieces}
+use Rattle.srcp_core.specs.Agrees.{closes as closes_in, lent as lent_in, lends_none as lends_none_in}
+use Rattle.srcp_core.specs.Connection.{is_nil}
+use Rattle.srcp_core.specs.Course.{course, fault}
+use Rattle.srcp_core.specs.Held.{Held, at}
+use Rattle.srcp_core.specs.Machine.{IsAdmitted, IsNotAdmitted, IsReceived, opening_held, bytes_fault, advanced, hung_up}
+use Rattle.srcp_core.specs.Machine.{let_out, unsent_at, changed_at, without_sent, is_closing}
+use Rattle.srcp_core.specs.Run.{LeadsTo, LeadsAt, LeadsOn, LeadsToFree, LeadsToOpen}
+use Rattle.srcp_core.specs.Stands.{StandsFor}
+use Rattle.srcp_core.specs.Under.{Open, Bytes, Room, At, Shut, Piece}
+use Rattle.srcp_core.specs.declared.record.CoreFault.{CoreFault}
+
+-- as it begins, a core stands for no events; where it stands for the course of any events, it stands after a call for that with
+-- the call's event, under what memory answered
+pub record CallsLead : Type 0 where
+  pub first : (buses : List Bus) (held : Held) → held ≡ opening_held buses 0 0 → StandsFor buses [] held (course buses [])
+  pub moment : (moment : ℕ) (old new : Held) → new ≡ advanced moment old → LeadsTo (At moment) old new
+  pub opened : (key : ℕ) (old new : Held) → IsAdmitted key old new → LeadsToOpen key old new
+  pub not_opened : (cause : CoreFault) (old new : Held) → IsNotAdmitted cause old new → LeadsTo (Open false) old new
+  pub taken : (key : ℕ) (piece : List ℕ) (old new : Held) → bytes_fault key piece old ≡ None → IsReceived key piece old new
+      → LeadsOn key piece old new
+  pub refused : (key : ℕ) (piece : List ℕ) (old new : Held) (cause : CoreFault) → bytes_fault key piece old ≡ Some cause
+      → new ≡ old → LeadsOn key piece old new
+  pub lent : (key : ℕ) (held : Held) → LeadsAt key (λ n. Room n 0) held (let_out key held)
+  pub sent : (key count : ℕ) (old new : Held) → count ≤ length (unsent_at key old) → new ≡ changed_at key (without_sent count) old
+      → 0 < count → LeadsAt key (λ n. Room n count) old new
+  -- where no bytes were sent, nothing changes
+  pub none_sent : (key count : ℕ) (old new : Held) → new ≡ changed_at key (without_sent count) old → count ≡ 0 → new ≡ old
+  -- of bytes that were just lent, lending and sending are one event, for no bytes too
+  pub lent_and_sent : (key count : ℕ) (old new held : Held) → count ≤ length (unsent_at key old)
+      → new ≡ changed_at key (without_sent count) old → old ≡ let_out key held → LeadsAt key (λ n. Room n count) held new
+  pub shut : (key : ℕ) (old new : Held) → new ≡ hung_up key old → LeadsToFree key old new
+
+-- what is held says what the course says
+pub record CallsAgree : Type 0 where
+  pub accepts : (key : ℕ) (old new : Held) → IsAdmitted key old new
+      → OfCourse old (λ buses events. fault buses (course buses events) (Open true) ≡ None)
+  pub refuses : (cause : CoreFault) (old new : Held) → IsNotAdmitted cause old new
+      → OfCourse old (λ buses events. fault buses (course buses events) (Open false) ≡ Some cause)
+  pub named : (key : ℕ) (held : Held) → NamesNewest key held
+  pub counted : (held : Held) → CountsOpen held
+  pub there : (key : ℕ) (held : Held) → OfConnection key held (λ buses events n. IsSome (at held key))
+  pub bytes : (key : ℕ) (piece : Piece) (held : Held)
+      → OfConnection key held (λ buses events n. bytes_fault key piece.bytes held ≡ fault buses (course buses events) (Bytes n piece))
+  pub takes : (key : ℕ) (held : Held) → is_none (bytes_fault key [] held) ≡ true
+      → OfConnection key held (λ buses events n. TakesPieces buses (course buses events) n)
+  pub closes : (key : ℕ) (held : Held)
+      → OfConnection key held (λ buses events n. is_closing key held ≡ closes_in buses (course buses events) n)
+  pub lends : (key : ℕ) (held : Held)
+      → OfConnection key held
+      (λ buses events n. unsent_at key (let_out key held) ≡ lent_in buses (course buses (events ++ Room n 0 ∷ [])) n)
+  pub lends_none : (key : ℕ) (held : Held)
+      → OfConnection key held
+      (λ buses events n. is_nil (unsent_at key (let_out key held)) ≡ lends_none_in buses (course buses events) n)
+  pub shuts : (key : ℕ) (held : Held) → OfConnection key held (λ buses events n. fault buses (course buses events) (Shut n) ≡ None)
+
+-- what was refused stays counted, and a call that opens no connection and reads no piece counts nothing more
+pub record CallsCount : Type 0 where
+  pub moment : (moment : ℕ) (old new : Held) → new ≡ advanced moment old → new.denied ≡ old.denied
+  pub opened : (key : ℕ) (old new : Held) → IsAdmitted key old new → new.denied ≡ old.denied
+  pub not_opened : (cause : CoreFault) (old new : Held) → IsNotAdmitted cause old new → new.denied ≡ 0 → old.denied ≡ 0
+  -- of a piece, by the answers to its lines
+  pub bytes : (key : ℕ) (piece : List ℕ) (old new : Held) → LeadsOn key piece old new → new.denied ≡ 0 → old.denied ≡ 0
+  pub lent : (key : ℕ) (held : Held) → (let_out key held).denied ≡ held.denied
+  pub sent : (key count : ℕ) (old new : Held) → new ≡ changed_at key (without_sent count) old → new.denied ≡ old.denied
+  pub shut : (key : ℕ) (old new : Held) → new ≡ hung_up key old → new.denied ≡ old.denied
