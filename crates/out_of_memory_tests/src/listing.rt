@@ -33,17 +33,17 @@ pub(crate) fn listing<R: Rows, W: Write>(
 }
 
 /// Prints a record: the steps, what it tells of each connection, the refused events, and the rows. It takes no memory.
-fn print_record<W: Write>(record: &Record, out: &mut W) -> io::Result<()>
-    requires { AllByRecursion (λ row. IsWellFormedShown row.shown) record.now.rows }
+fn print_record<W: Write>(told: &Record, out: &mut W) -> io::Result<()>
+    requires { AllByRecursion (λ row. IsWellFormedShown row.shown) told.now.rows }
 {
-    for step in record.steps.as_slice() {
+    for step in told.steps.as_slice() {
         writeln!(out, "{step:?}")?;
     }
-    let rows = record.rows.as_slice();
-    for connection in record.connections.as_slice() {
+    let rows = told.rows.as_slice();
+    for connection in told.connections.as_slice() {
         print_connection(connection, rows, out)?;
     }
-    for refusal in record.refused.as_slice() {
+    for refusal in told.refused.as_slice() {
         let event = refusal.event;
         let fault = refusal.fault;
         writeln!(out, "refused {event} {fault:?}")?;
