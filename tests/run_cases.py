@@ -18,6 +18,7 @@ import time
 from functools import partial
 from pathlib import Path
 
+from clients import CLIENT_CASES
 from inputs import INPUT_CASES
 from serving import SERVING_CASES
 from tables import TABLE_CASES
@@ -217,12 +218,13 @@ STREAM_CASES = (input_past_its_limit, input_at_its_limit, input_that_cannot_be_r
                 words_that_are_unknown, word_that_is_no_text, configuration_at_its_limit, configuration_past_its_limit,
                 script_past_its_limit, script_at_its_limit, script_that_cannot_be_read, run_that_cannot_be_written,
                 run_in_little_memory, full_bus_that_stalls_nobody)
+ALL_CASES = STREAM_CASES + TABLE_CASES + INPUT_CASES + SERVING_CASES + CLIENT_CASES
 
 
 def cases_by_name():
     """Each case by its name, as a function of the program that returns why the case fails, or None."""
     cases = {folder.name: partial(run_case, folder) for folder in sorted(CASES.iterdir()) if folder.is_dir()}
-    return cases | {case.__name__.replace("_", "-"): case for case in STREAM_CASES + TABLE_CASES + INPUT_CASES + SERVING_CASES}
+    return cases | {case.__name__.replace("_", "-"): case for case in ALL_CASES}
 
 
 def main():

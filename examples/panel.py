@@ -1,0 +1,78 @@
+#!/usr/bin/env python3
+"""panel.py [--host HOST] [--port PORT]: a panel. It joins the server, keeps every row, and prints each line as it comes.
+
+A server closes the connection of a panel that falls behind. This one then joins again, and is sent all rows anew.
+Ctrl-C ends it.
+"""
+import argparse
+import socket
+import time
+
+MOMENT = 0.5  # a listing has no end mark: after so many seconds without a line the panel holds all rows
+
+
+def lines_of(connection):
+    """Yields each line that the server sends, and None after a moment without one, until the connection is closed."""
+    connection.settimeout(MOMENT)
+    begun = b""
+    while True:
+        try:
+            more = connection.recv(65536)
+        except TimeoutError:
+            yield None
+            continue
+        if not more:
+            return
+        *lines, begun = (begun + more).split(b"\n")
+        yield from (line.decode("latin-1") for line in lines)
+
+
+def apply(rows, line):
+    """Puts in the row that an information line tells, or takes out all rows of the device that is gone."""
+    _, code, _, *words = line.split(" ")
+    device = tuple(words[:{"POWER": 2, "LOCK": 4}.get(words[1], 3)])
+    if code == "102":
+        for key in [key for key in rows if key[0] == device]:
+            del rows[key]
+    else:
+        port = words[3] if words[1] == "GA" and code == "100" else None
+        rows[device, code, port] = line
+
+
+def watch(host, port):
+    """Joins the server and prints what it tells, until it closes the connection."""
+    rows, replies, told = {}, 3, False
+    with socket.create_connection((host, port)) as connection:
+        connection.sendall(b"SET CONNECTIONMODE SRCP INFO\nGO\n")
+        for line in lines_of(connection):
+            if line is None:
+                if told:
+                    print(f"-- {len(rows)} rows", flush=True)
+                told = False
+            elif replies:  # the welcome line, and the replies to the two lines that were sent
+                replies -= 1
+            else:
+                apply(rows, line)
+                print(line, flush=True)
+                told = True
+
+
+def main():
+    words = argparse.ArgumentParser(description="Prints what happens on a layout.")
+    words.add_argument("--host", default="127.0.0.1")
+    words.add_argument("--port", type=int, default=4303)
+    asked = words.parse_args()
+    while True:
+        try:
+            watch(asked.host, asked.port)
+            print("-- closed by the server", flush=True)
+        except OSError as fault:
+            print(f"-- {fault}", flush=True)
+        time.sleep(1)
+
+
+if __name__ == "__main__":
+    try:
+        main()
+    except KeyboardInterrupt:
+        pass
