@@ -1,4 +1,5 @@
 -- What is seen of a core: the registry, and a place for each connection.
+-- It models the code: the calls of a core cite it, and what `run` promises and the laws of courses do not.
 use Rattle.std.specs.Prelude.{◌≡◌, ℕ, ◌<◌, ◌≤◌, Bool, true, false, List, Option, Some, None, is_some, count_by, slice_index_or}
 use Rattle.srcp_info.specs.WellFormed.{IsMoment}
 use Rattle.srcp_info.specs.declared.value.Mode.{Mode}

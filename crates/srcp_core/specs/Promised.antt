@@ -1,4 +1,5 @@
 -- What a run promises of the connections that it tells of, and of the registry.
+-- A reader has to believe it: what `run` promises, and the laws of courses, cite it.
 use Rattle.std.specs.Prelude.{◌≡◌, ℕ, zero, suc, ◌+◌, ◌<◌, ◌≤◌, Bool, true, false, IsTrue, List, [], ◌∷◌, ◌++◌, length, fold, slice_get, Option, Some, None}
 use Rattle.std.specs.List.{AllByRecursion}
 use Rattle.srcp_info.specs.declared.change.Change.{Change}

@@ -1,4 +1,5 @@
 -- Until which moment no row is due.
+-- It models the code: the calls of a core cite it, and what `run` promises and the laws of courses do not.
 use Rattle.std.specs.Prelude.{ℕ, ◌≤◌, min, fold, Option, IfSome}
 use Rattle.std.specs.Option.{option_map_or}
 use Rattle.std.specs.List.{AllByRecursion}

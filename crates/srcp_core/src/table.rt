@@ -26,6 +26,26 @@ const MOST_CONNECTIONS: usize = 64;
 const MOST_IN_PIECE: usize = 256;
 
 /// The registry of a layout, and the connections to it with their sessions.
+///
+/// A server calls it in this order, over and over:
+/// 1. `advance` with the present moment;
+/// 2. `connect` for a newcomer, which returns the key of its connection;
+/// 3. for each connection, `receive` with at most 256 bytes that came in, if `ready` says that it takes them;
+/// 4. `outgoing` for the bytes to send and `sent` with how many of them were taken, until it lends none;
+/// 5. `hangup` if the peer is gone, or if `closing` says that the connection is to be closed.
+///
+/// ```
+/// core.advance(now);
+/// let key = core.connect()?;
+/// if core.ready(key) {
+///     core.receive(key, b"GO\n")?;
+/// }
+/// let taken = peer.write(core.outgoing(key)?)?;
+/// core.sent(key, taken);
+/// if core.closing(key) {
+///     core.hangup(key)?;
+/// }
+/// ```
 #[derive(Drop)]
 pub struct Core<'a, R: Rows> {
     alloc: Global,

@@ -12,7 +12,7 @@ use Rattle.srcp_core.specs.Course.{course}
 use Rattle.srcp_core.specs.Held.{Held}
 use Rattle.srcp_core.specs.Stands.{StandsFor}
 use Rattle.srcp_core.specs.Under.{Open, denied_by}
-use Rattle.srcp_core.proofs.Told.{all_front}
+use Rattle.srcp_core.proofs.CourseLaws.SentLinesAreOneList.{all_front}
 use Rattle.srcp_serve.specs.Calls.{Call as DoorCall, Tells, Adds, PeersDiffer, peer_of}
 use Rattle.srcp_serve.specs.Calls as door
 use Rattle.srcp_serve.specs.Given.{Guest, Call, NowCall, AcceptCall, ReadCall, WriteCall, CloseCall, answers_of, told_call}

@@ -15,8 +15,8 @@ use Rattle.srcp_core.specs.Under.{Event, Open, denied_by}
 use Rattle.srcp_core.specs.Stands.{StandsFor}
 use Rattle.srcp_core.specs.declared.record.CoreFault.{CoreFault}
 use Rattle.srcp_core.specs.declared.record.CoreFault.TheVariants.{Full, Memory as MemoryFault}
-use Rattle.srcp_core.proofs.CallLaws.{calls_agree, calls_lead}
-use Rattle.srcp_core.proofs.Numbers.{key_push_last, length_without}
+use Rattle.srcp_core.proofs.Agreement.CallLaws.{calls_agree, calls_lead}
+use Rattle.srcp_core.proofs.Agreement.NumbersAndKeys.{key_push_last, length_without}
 use Rattle.srcp_serve.specs.Calls.{Call as DoorCall, Tells}
 use Rattle.srcp_serve.specs.Calls as door
 use Rattle.srcp_serve.specs.Given.{Guest, Call, CloseCall, CountsRefusals}

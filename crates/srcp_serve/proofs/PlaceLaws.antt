@@ -5,7 +5,7 @@ use Rattle.std.proofs.lemmas.List.Sums.{sum_by-append, sum_by-cons}
 use Rattle.std.specs.List.{list_any, count_by, slice_index_or, slice_set, prefix_len, AllByRecursion}
 use Rattle.std.specs.Prelude.{not, is_some, is_none, position, nat_lt}
 use Rattle.srcp_core.specs.Recording.{key_of, without_key}
-use Rattle.srcp_core.proofs.Numbers.{key_push, key_within, without_other}
+use Rattle.srcp_core.proofs.Agreement.NumbersAndKeys.{key_push, key_within, without_other}
 use Rattle.srcp_serve.specs.Given.{Call, NowCall, AcceptCall, ReadCall, WriteCall, CloseCall}
 use Rattle.srcp_serve.specs.Serving.{Seat, seated, seats, kept, visit, is_about, is_close}
 use Rattle.srcp_serve.specs.Places.{Visit, calls_of, visits_of, seat_of, left_by, AreOwn, SitsAt, Sit, IsApartFrom, SeatsDiffer, IsNotOf, IsOneOf, IsOther, IsLeftOut}

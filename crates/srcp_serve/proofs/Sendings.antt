@@ -16,10 +16,10 @@ use Rattle.srcp_rules.specs.Effect.{Effect}
 use Rattle.srcp_core.specs.Under.{Open, Bytes, At, Shut, Obeyed, Began, Ended, Piece, Order, effect, Heard, greets}
 use Rattle.srcp_core.specs.Connection.{Connection, given, sent, text}
 use Rattle.srcp_core.specs.Course.{World, fresh, numbered, with_numbered, open_connection, at_connection, did, replied, counted, is_info, state, entered, goes, greeted, ended, obeyed, commanded, answered_as, answered, order_of, fault, new_lines, fed_to, shut_as, or_refused, happens}
-use Rattle.srcp_core.proofs.Given.{line_law}
+use Rattle.srcp_core.proofs.Agreement.MemoryAnswers.{line_law}
 use Rattle.srcp_core.specs.declared.record.CoreFault.{CoreFault}
-use Rattle.srcp_core.proofs.Numbers.{numbered_with}
-use Rattle.srcp_core.proofs.Worlds.{all_numbered, all_push, opened}
+use Rattle.srcp_core.proofs.Agreement.NumbersAndKeys.{numbered_with}
+use Rattle.srcp_core.proofs.CourseLaws.SessionsAreKept.{all_numbered, all_push, opened}
 
 -- it was given no line unless it is an information session, and no more was taken of it than it was given
 pub record IsSteady (conn : Connection) : Type 0 where

@@ -11,10 +11,10 @@ use Rattle.srcp_core.specs.Agrees.{lent_of}
 use Rattle.srcp_core.specs.Connection.{Connection, History, is_open, fitting, items_of, sent, unsent, overran, owed, took, given_room}
 use Rattle.srcp_core.specs.Course.{World, start, numbered, with_numbered, if_open, open_connection, at_connection, counted, or_refused, absent_fault, happens, course, history, rows}
 use Rattle.srcp_core.specs.declared.record.CoreFault.TheVariants.{NoSuch}
-use Rattle.srcp_core.proofs.Adding.{owed_plain}
-use Rattle.srcp_core.proofs.Numbers.{numbered_with}
-use Rattle.srcp_core.proofs.Rooms.{fitting_none, took_within}
-use Rattle.srcp_core.proofs.Worlds.{all_numbered}
+use Rattle.srcp_core.proofs.CourseLaws.RoomsAddUp.{owed_plain}
+use Rattle.srcp_core.proofs.Agreement.NumbersAndKeys.{numbered_with}
+use Rattle.srcp_core.proofs.CourseLaws.RoomGivesWhatIsOwed.{fitting_none, took_within}
+use Rattle.srcp_core.proofs.CourseLaws.SessionsAreKept.{all_numbered}
 use Rattle.srcp_serve.specs.Serving.{lent}
 use Rattle.srcp_serve.proofs.LentLaws.{IsWithin, sends_lent}
 use Rattle.srcp_serve.proofs.Sendings.{IsSteady, IsSending, steady_at}

@@ -7,7 +7,7 @@ use Rattle.std.proofs.lemmas.Option.{same_Some}
 use Rattle.std.specs.Prelude.{IfSome, min}
 use Rattle.srcp_core.specs.Held.{Held}
 use Rattle.srcp_core.specs.Under.{denied_by}
-use Rattle.srcp_core.proofs.Given.{none_denied}
+use Rattle.srcp_core.proofs.Agreement.MemoryAnswers.{none_denied}
 use Rattle.srcp_serve.specs.Calls.{Call as DoorCall, Tells, CloseCall, Adds}
 use Rattle.srcp_serve.specs.Given.{Call, CountsRefusals, GivesUnlessCounted, answers_in, answers_of, told_call}
 use Rattle.srcp_serve.specs.Visits.{AddsGiven, Closes}

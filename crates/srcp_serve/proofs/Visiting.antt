@@ -15,7 +15,7 @@ use Rattle.srcp_core.specs.Machine.{hung_up, is_closing as is_closing_at}
 use Rattle.srcp_core.specs.Recording.{without_key}
 use Rattle.srcp_core.specs.Stands.{StandsFor}
 use Rattle.srcp_core.specs.Under.{Event, Piece, Bytes, Room, Shut, denied_by}
-use Rattle.srcp_core.proofs.CallLaws.{calls_agree, calls_lead}
+use Rattle.srcp_core.proofs.Agreement.CallLaws.{calls_agree, calls_lead}
 use Rattle.srcp_serve.specs.Calls.{Call as DoorCall}
 use Rattle.srcp_serve.specs.Given.{Call, ReadCall, WriteCall, CloseCall, answers_of}
 use Rattle.srcp_serve.specs.Serving.{Seat, Question, Writes, Closes as ClosesQuestion, question, visit, exchange, rooms, lent_none_last, handed, is_closing, reads_of, writes_of, closes_of, visit_events, is_about, is_close, is_write, loses, loses_reading, loses_writing, falls_short, piece_of, count_of}

@@ -6,7 +6,7 @@ use Rattle.srcp_core.specs.Held.{Held, Place, at}
 use Rattle.srcp_core.specs.Machine.{let_out, unsent_at, changed_at, without_sent}
 use Rattle.srcp_core.specs.Run.{LeadsAt}
 use Rattle.srcp_core.specs.Under.{Room}
-use Rattle.srcp_core.proofs.CallLaws.{calls_agree, calls_lead}
+use Rattle.srcp_core.proofs.Agreement.CallLaws.{calls_agree, calls_lead}
 use Rattle.srcp_serve.specs.Calls.{Call, Tells, WriteCall, Adds}
 use Rattle.srcp_serve.specs.Serving.{lent}
 use Rattle.srcp_serve.specs.Visits.{WritesOnce}

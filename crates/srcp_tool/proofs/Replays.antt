@@ -8,7 +8,7 @@ use Rattle.srcp_core.specs.Promised.{IsPromised}
 use Rattle.srcp_core.specs.Under.{all_under, step_told}
 use Rattle.srcp_core.specs.declared.event.Event.{Event}
 use Rattle.srcp_core.specs.declared.record.Record.{Record}
-use Rattle.srcp_core.proofs.Given.{gives_as_if}
+use Rattle.srcp_core.proofs.Agreement.MemoryAnswers.{gives_as_if}
 use Rattle.srcp_tool.specs.Output.{printed, replayed, run_of}
 
 -- where no growth was refused it gives what it gives where memory gives all

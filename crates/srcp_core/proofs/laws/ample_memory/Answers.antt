@@ -1,5 +1,5 @@
 -- The law is proved of the definitions.
-use Rattle.srcp_core.proofs.Given.{gives_as_if}
+use Rattle.srcp_core.proofs.Agreement.MemoryAnswers.{gives_as_if}
 use Rattle.srcp_core.proofs.laws.ample_memory.Goals as goal
 
 pub returns : goal.returns

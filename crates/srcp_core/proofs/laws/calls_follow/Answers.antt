@@ -1,5 +1,5 @@
 -- The laws are proved of the definitions.
-use Rattle.srcp_core.proofs.CallLaws.{calls_lead, calls_agree, calls_count}
+use Rattle.srcp_core.proofs.Agreement.CallLaws.{calls_lead, calls_agree, calls_count}
 use Rattle.srcp_core.proofs.laws.calls_follow.Goals as goal
 
 pub returns : goal.returns

@@ -4,8 +4,8 @@ use Rattle.srcp_rules.specs.Sought.{may_be_due, past}
 use Rattle.srcp_rules.proofs.PastLaws.{each_of, fewer_past}
 use Rattle.srcp_rules.proofs.SoughtLaws.{beyond}
 use Rattle.srcp_core.specs.Quiet.{soonest}
-use Rattle.srcp_core.proofs.QuietLaws.{soonest_on, soonest_all}
-use Rattle.srcp_core.proofs.RowLists.{beyond_start}
+use Rattle.srcp_core.proofs.Invariants.NothingIsDueBefore.{soonest_on, soonest_all}
+use Rattle.srcp_core.proofs.Invariants.RowLists.{beyond_start}
 use Rattle.srcp_core.proofs.quiet.soonest_due.Goals as goal
 
 pub loop-row-init : goal.loop-row-init

@@ -1,5 +1,5 @@
 use Rattle.std.proofs.Common.{ap, ◌∙◌}
-use Rattle.srcp_core.proofs.Recorded.{finish_kept, finish_noted}
+use Rattle.srcp_core.proofs.Agreement.RecordIsOfTheCourse.{finish_kept, finish_noted}
 use Rattle.srcp_core.proofs.recorder.finish_all.Goals as goal
 use Rattle.srcp_core.proofs.recorder.finish_all.Goals.{in-Some, in_default}
 

@@ -2,7 +2,7 @@ use Rattle.std.proofs.Common.{refl, None, [], ◌∷◌}
 use Rattle.srcp_core.specs.Recording.{stepped}
 use Rattle.srcp_core.specs.declared.event.Event.TheVariants.{At}
 use Rattle.srcp_core.specs.declared.record.Step.TheVariants.{Moment}
-use Rattle.srcp_core.proofs.Running.{told_as, at_happens}
+use Rattle.srcp_core.proofs.Agreement.RunsAnEvent.{told_as, at_happens}
 use Rattle.srcp_core.proofs.runner.advance.Goals as goal
 
 pub returns-clause-course : goal.returns-clause-course

@@ -1,8 +1,8 @@
 use Rattle.std.proofs.Common.{sym, ◌∙◌, subst, [], ◌∷◌}
 use Rattle.srcp_core.specs.Machine.{listed}
 use Rattle.srcp_core.specs.Recording.{Recording}
-use Rattle.srcp_core.proofs.Given.{none_denied}
-use Rattle.srcp_core.proofs.Running.{no_bytes_happens, bytes_refused, bytes_room, reads_first, reads_more, bytes_happens, ReadsOn}
+use Rattle.srcp_core.proofs.Agreement.MemoryAnswers.{none_denied}
+use Rattle.srcp_core.proofs.Agreement.RunsAnEvent.{no_bytes_happens, bytes_refused, bytes_room, reads_first, reads_more, bytes_happens, ReadsOn}
 use Rattle.srcp_core.proofs.runner.bytes.Goals as goal
 
 pub returns-in_default-clause-course : goal.returns-in_default-clause-course

@@ -1,8 +1,8 @@
 use Rattle.std.proofs.Common.{◌≤◌, length, ◌∙◌, refl, arith}
 use Rattle.std.proofs.lemmas.Option.{slice_get_read}
 use Rattle.srcp_core.specs.Under.{all_under}
-use Rattle.srcp_core.proofs.Promises.{moments_all, moments_more}
-use Rattle.srcp_core.proofs.Recorded.{record_is, runs_all, runs_none, follows_more}
+use Rattle.srcp_core.proofs.Agreement.RunPromises.{moments_all, moments_more}
+use Rattle.srcp_core.proofs.Agreement.RecordIsOfTheCourse.{record_is, runs_all, runs_none, follows_more}
 use Rattle.srcp_core.proofs.runner.carry_out.Goals as goal
 
 pub returns-clause-record : goal.returns-clause-record

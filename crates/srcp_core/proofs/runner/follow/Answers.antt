@@ -1,5 +1,5 @@
 use Rattle.std.proofs.Common.{ap, ◌∙◌, sym}
-use Rattle.srcp_core.proofs.Recorded.{follows, with_fault}
+use Rattle.srcp_core.proofs.Agreement.RecordIsOfTheCourse.{follows, with_fault}
 use Rattle.srcp_core.proofs.runner.follow.Goals as goal
 
 pub returns-in_ok-refused-clause-course : goal.returns-in_ok-refused-clause-course

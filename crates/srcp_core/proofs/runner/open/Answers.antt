@@ -1,7 +1,7 @@
 use Rattle.std.proofs.Common.{refl, None}
 use Rattle.srcp_core.specs.Recording.{opened}
 use Rattle.srcp_core.specs.declared.event.Event.TheVariants.{Open}
-use Rattle.srcp_core.proofs.Running.{told_as, open_happens, open_refused}
+use Rattle.srcp_core.proofs.Agreement.RunsAnEvent.{told_as, open_happens, open_refused}
 use Rattle.srcp_core.proofs.runner.open.Goals as goal
 
 pub returns-in_ok-opened-in-Ok-clause-course : goal.returns-in_ok-opened-in-Ok-clause-course

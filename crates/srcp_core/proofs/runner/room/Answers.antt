@@ -1,7 +1,7 @@
 use Rattle.std.proofs.Common.{◌≡◌, ℕ, ◌-◌, ◌⊎◌, inl, inr, refl, sym, ◌∙◌, arith, None}
 use Rattle.srcp_core.specs.Run.{taking, taken_at, count_at}
 use Rattle.srcp_core.specs.declared.event.Event.TheVariants.{Room}
-use Rattle.srcp_core.proofs.Running.{told_as, no_room_happens, gives_first, gives_as, room_happens}
+use Rattle.srcp_core.proofs.Agreement.RunsAnEvent.{told_as, no_room_happens, gives_first, gives_as, room_happens}
 use Rattle.srcp_core.proofs.runner.room.Goals as goal
 use Rattle.srcp_core.proofs.runner.room.Goals.{then-left-eq0-via-then-left-eq0, then-left-eq0-via-else-left-eq0+then-count-eq0}
 

@@ -1,5 +1,5 @@
 use Rattle.std.proofs.Common.{◌≡◌}
-use Rattle.srcp_core.proofs.Running.{GivesOn}
+use Rattle.srcp_core.proofs.Agreement.RunsAnEvent.{GivesOn}
 use Rattle.srcp_core.proofs.runner.room.Given as goal
 
 abbrev pub invariant-loop-count : goal.invariant-loop-count

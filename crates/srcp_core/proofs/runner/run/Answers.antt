@@ -1,4 +1,4 @@
-use Rattle.srcp_core.proofs.Promises.{promised}
+use Rattle.srcp_core.proofs.Agreement.RunPromises.{promised}
 use Rattle.srcp_core.proofs.runner.run.Goals as goal
 
 pub returns-clause-promised : goal.returns-clause-promised

@@ -3,7 +3,7 @@ use Rattle.srcp_core.specs.Machine.{live_session}
 use Rattle.srcp_core.specs.Recording.{Recording, shut, stepped}
 use Rattle.srcp_core.specs.declared.event.Event.TheVariants.{Shut}
 use Rattle.srcp_core.specs.declared.record.Step.TheVariants.{Ended}
-use Rattle.srcp_core.proofs.Running.{told_as, no_shut_happens, gone_happens, shut_happens, shut_count, with_end}
+use Rattle.srcp_core.proofs.Agreement.RunsAnEvent.{told_as, no_shut_happens, gone_happens, shut_happens, shut_count, with_end}
 use Rattle.srcp_core.proofs.runner.shut.Goals as goal
 
 pub returns-in_default-clause-course : goal.returns-in_default-clause-course

@@ -1,5 +1,5 @@
 use Rattle.std.proofs.Common.{sym, refl}
-use Rattle.srcp_core.proofs.Running.{taking_none}
+use Rattle.srcp_core.proofs.Agreement.RunsAnEvent.{taking_none}
 use Rattle.srcp_core.proofs.runner.take.Goals as goal
 
 pub returns-in_default-clause-recorder : goal.returns-in_default-clause-recorder

@@ -6,7 +6,7 @@ use Rattle.srcp_info.specs.WellFormed.{IsWellFormed}
 use Rattle.srcp_feed.specs.Feed.{Feed}
 use Rattle.srcp_core.specs.Held.{Place}
 use Rattle.srcp_core.specs.Machine.{queue_of}
-use Rattle.srcp_core.proofs.Places.{filled_still, item_still, next_tellable}
+use Rattle.srcp_core.proofs.Invariants.PlaceLaws.{filled_still, item_still, next_tellable}
 use Rattle.srcp_core.proofs.connection.Connection.fill.Goals as goal
 
 pub returns-then-self-len-clause-place : goal.returns-then-self-len-clause-place

@@ -1,5 +1,5 @@
 use Rattle.std.proofs.lemmas.Bool.{ltb-true}
-use Rattle.srcp_core.proofs.QuietLaws.{nothing_due}
+use Rattle.srcp_core.proofs.Invariants.NothingIsDueBefore.{nothing_due}
 use Rattle.srcp_core.proofs.quiet.Timed.is_quiet_at.Goals as goal
 
 pub returns : goal.returns

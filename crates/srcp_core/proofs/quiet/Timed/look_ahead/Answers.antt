@@ -1,4 +1,4 @@
-use Rattle.srcp_core.proofs.QuietLaws.{quiet_soonest}
+use Rattle.srcp_core.proofs.Invariants.NothingIsDueBefore.{quiet_soonest}
 use Rattle.srcp_core.proofs.quiet.Timed.look_ahead.Goals as goal
 
 pub invariant_of-self : goal.invariant_of-self

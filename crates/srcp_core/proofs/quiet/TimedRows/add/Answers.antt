@@ -1,4 +1,4 @@
-use Rattle.srcp_core.proofs.QuietLaws.{quiet_add}
+use Rattle.srcp_core.proofs.Invariants.NothingIsDueBefore.{quiet_add}
 use Rattle.srcp_core.proofs.quiet.TimedRows.add.Goals as goal
 
 pub invariant_of-self-2 : goal.invariant_of-self-2

@@ -1,6 +1,6 @@
 use Rattle.std.proofs.Common.{sym, subst}
 use Rattle.srcp_core.specs.Quiet.{IsQuietUntil}
-use Rattle.srcp_core.proofs.QuietLaws.{quiet_without}
+use Rattle.srcp_core.proofs.Invariants.NothingIsDueBefore.{quiet_without}
 use Rattle.srcp_core.proofs.quiet.TimedRows.drop_device.Goals as goal
 
 pub invariant_of-self : goal.invariant_of-self

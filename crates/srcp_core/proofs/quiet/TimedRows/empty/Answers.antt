@@ -1,6 +1,6 @@
 use Rattle.std.proofs.Common.{sym, subst}
 use Rattle.srcp_core.specs.Quiet.{IsQuietUntil}
-use Rattle.srcp_core.proofs.QuietLaws.{quiet_opening}
+use Rattle.srcp_core.proofs.Invariants.NothingIsDueBefore.{quiet_opening}
 use Rattle.srcp_core.proofs.quiet.TimedRows.empty.Goals as goal
 
 pub invariant_of-result : goal.invariant_of-result

@@ -1,4 +1,4 @@
-use Rattle.srcp_core.proofs.QuietLaws.{quiet_set}
+use Rattle.srcp_core.proofs.Invariants.NothingIsDueBefore.{quiet_set}
 use Rattle.srcp_core.proofs.quiet.TimedRows.set.Goals as goal
 
 pub invariant_of-self : goal.invariant_of-self

@@ -1,7 +1,7 @@
 use Rattle.std.proofs.Common.{◌≤◌, ◌<◌, ◌^◌, sym, ◌∙◌, subst}
 use Rattle.srcp_rules.specs.Due.{due}
 use Rattle.srcp_core.specs.Held.{Held}
-use Rattle.srcp_core.proofs.Sound.{sound_due, sound_moment, sound_carried_as}
+use Rattle.srcp_core.proofs.Invariants.CoreStaysSound.{sound_due, sound_moment, sound_carried_as}
 use Rattle.srcp_core.proofs.table.Core.advance.Goals as goal
 
 pub invariant_of-self : goal.invariant_of-self

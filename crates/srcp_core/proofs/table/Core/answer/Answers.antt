@@ -2,8 +2,8 @@ use Rattle.std.proofs.Common.{◌≡◌, Some, sym, ap, ◌∙◌, subst}
 use Rattle.std.specs.Option.{option_copied}
 use Rattle.srcp_rules.specs.Layout.{IsLayout}
 use Rattle.srcp_core.specs.Held.{Held, IsSound, at}
-use Rattle.srcp_core.proofs.Asking.{asked_by}
-use Rattle.srcp_core.proofs.Replies.{session_row}
+use Rattle.srcp_core.proofs.Invariants.LinesAsk.{asked_by}
+use Rattle.srcp_core.proofs.Invariants.RepliesStayUnsent.{session_row}
 use Rattle.srcp_core.proofs.table.Core.answer.Goals as goal
 
 pub command-requires-clause-session : goal.command-requires-clause-session

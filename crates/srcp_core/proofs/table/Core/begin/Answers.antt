@@ -1,7 +1,7 @@
 use Rattle.std.proofs.Common.{◌≡◌, ◌+◌, ◌≤◌, sym, ap, ◌∙◌, subst, arith}
 use Rattle.srcp_core.specs.Held.{Held, IsSound}
 use Rattle.srcp_core.specs.Machine.{begun}
-use Rattle.srcp_core.proofs.Sound.{begun_is, sound_begun}
+use Rattle.srcp_core.proofs.Invariants.CoreStaysSound.{begun_is, sound_begun}
 use Rattle.srcp_core.proofs.table.Core.begin.Goals as goal
 
 pub invariant_of-self-2 : goal.invariant_of-self-2

@@ -4,8 +4,8 @@ use Rattle.srcp_rules.specs.Effect.{effect}
 use Rattle.srcp_rules.specs.State.{State, is_there, session_device}
 use Rattle.srcp_core.specs.Held.{Held, IsSound}
 use Rattle.srcp_core.specs.Machine.{told_each}
-use Rattle.srcp_core.proofs.Denials.{denied_same, given_took}
-use Rattle.srcp_core.proofs.Sound.{sound_obeyed, sound_carried_as}
+use Rattle.srcp_core.proofs.Invariants.RefusalsChangeNothing.{denied_same, given_took}
+use Rattle.srcp_core.proofs.Invariants.CoreStaysSound.{sound_obeyed, sound_carried_as}
 use Rattle.srcp_core.proofs.table.Core.carry_out.Goals as goal
 
 pub invariant_of-self-2 : goal.invariant_of-self-2

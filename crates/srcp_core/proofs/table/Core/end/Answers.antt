@@ -2,8 +2,8 @@ use Rattle.std.proofs.Common.{◌≤◌, true, sym, ap, ◌∙◌, subst, map}
 use Rattle.srcp_rules.specs.Due.{freed}
 use Rattle.srcp_core.specs.Held.{Held, IsSessionAt}
 use Rattle.srcp_core.specs.Machine.{told_each, changed_at}
-use Rattle.srcp_core.proofs.Sound.{sound_ended, sound_carried_as}
-use Rattle.srcp_core.proofs.Walks.{change_in}
+use Rattle.srcp_core.proofs.Invariants.CoreStaysSound.{sound_ended, sound_carried_as}
+use Rattle.srcp_core.proofs.Invariants.ChangesOneByOne.{change_in}
 use Rattle.srcp_core.proofs.table.Core.end.Goals as goal
 
 pub invariant_of-self : goal.invariant_of-self

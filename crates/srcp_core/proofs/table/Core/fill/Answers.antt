@@ -2,10 +2,10 @@ use Rattle.std.proofs.Common.{◌≡◌, Some, sym, ap, ◌∙◌, subst}
 use Rattle.std.specs.Option.{option_copied_mut}
 use Rattle.srcp_rules.specs.State.{shown_rows}
 use Rattle.srcp_core.specs.Held.{Held, at}
-use Rattle.srcp_core.proofs.Covers.{IsMild}
-use Rattle.srcp_core.proofs.Sound.{filled_mild, sound_place}
+use Rattle.srcp_core.proofs.Invariants.PlacesCover.{IsMild}
+use Rattle.srcp_core.proofs.Invariants.CoreStaysSound.{filled_mild, sound_place}
 use Rattle.srcp_core.proofs.table.Core.fill.Goals as goal
-use Rattle.srcp_core.proofs.RowLists.{shown_tellable}
+use Rattle.srcp_core.proofs.Invariants.RowLists.{shown_tellable}
 
 pub fill-requires : goal.fill-requires
 fill-requires g c = shown_tellable c.self.inside.layout.now (g.R.Rows.state c.self.inside.rows) c.self.invariant.0.whole

@@ -2,7 +2,7 @@ use Rattle.std.proofs.Common.{◌≡◌, sym, ap, subst}
 use Rattle.srcp_core.specs.Held.{Held}
 use Rattle.srcp_core.specs.Machine.{goes}
 use Rattle.srcp_core.specs.declared.answered.Answered.{Answered}
-use Rattle.srcp_core.proofs.Replies.{goes_granted}
+use Rattle.srcp_core.proofs.Invariants.RepliesStayUnsent.{goes_granted}
 use Rattle.srcp_core.proofs.table.Core.go.Goals as goal
 
 pub returns-in-Ok-clause-core : goal.returns-in-Ok-clause-core

@@ -3,8 +3,8 @@ use Rattle.std.specs.Prelude.{is_some, count_by, Option, List}
 use Rattle.srcp_rules.specs.Due.{freed}
 use Rattle.srcp_core.specs.Held.{Held, Place, at, open_count}
 use Rattle.srcp_core.specs.Machine.{freed_place, told_each}
-use Rattle.srcp_core.proofs.Walks.{change_in}
-use Rattle.srcp_core.proofs.Sound.{live_session_is, sound_hung_up, sound_carried_as}
+use Rattle.srcp_core.proofs.Invariants.ChangesOneByOne.{change_in}
+use Rattle.srcp_core.proofs.Invariants.CoreStaysSound.{live_session_is, sound_hung_up, sound_carried_as}
 use Rattle.srcp_core.proofs.table.Core.hangup.Goals as goal
 
 pub invariant_of-self-in-Some-live_session : goal.invariant_of-self-in-Some-live_session

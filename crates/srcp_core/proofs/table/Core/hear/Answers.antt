@@ -1,7 +1,7 @@
 use Rattle.std.proofs.Common.{◌≡◌, Some, sym, ap, ◌∙◌}
 use Rattle.std.specs.Option.{option_copied_mut}
 use Rattle.srcp_core.specs.Held.{Held, at}
-use Rattle.srcp_core.proofs.Hearing.{sound_heard}
+use Rattle.srcp_core.proofs.Invariants.LinesAreFound.{sound_heard}
 use Rattle.srcp_core.proofs.table.Core.hear.Goals as goal
 
 pub invariant_of-self-2 : goal.invariant_of-self-2

@@ -1,7 +1,7 @@
 use Rattle.std.proofs.Common.{sym, ap, subst, ◌∙◌}
 use Rattle.srcp_rules.specs.Layout.{IsLayout}
 use Rattle.srcp_rules.specs.State.{opening}
-use Rattle.srcp_core.proofs.Sound.{sound_opening}
+use Rattle.srcp_core.proofs.Invariants.CoreStaysSound.{sound_opening}
 use Rattle.srcp_core.proofs.table.Core.new.Goals as goal
 
 pub stamp_all-requires : goal.stamp_all-requires

@@ -2,8 +2,8 @@ use Rattle.std.proofs.Common.{length, sym, ap, ◌∙◌, subst, map, arith}
 use Rattle.srcp_rules.specs.Effect.{effect}
 use Rattle.srcp_core.specs.Held.{Held, IsSessionAt}
 use Rattle.srcp_core.specs.Machine.{unsent_at, replied}
-use Rattle.srcp_core.proofs.Walks.{change_in}
-use Rattle.srcp_core.proofs.Replies.{told_each_shorter, longest_most, session_replied}
+use Rattle.srcp_core.proofs.Invariants.ChangesOneByOne.{change_in}
+use Rattle.srcp_core.proofs.Invariants.RepliesStayUnsent.{told_each_shorter, longest_most, session_replied}
 use Rattle.srcp_core.proofs.table.Core.obey.Goals as goal
 
 pub reply-requires-clause-room : goal.reply-requires-clause-room

@@ -1,5 +1,5 @@
 use Rattle.std.proofs.Common.{◌≤◌, refl, sym, subst}
-use Rattle.srcp_core.proofs.Sound.{sound_set}
+use Rattle.srcp_core.proofs.Invariants.CoreStaysSound.{sound_set}
 use Rattle.srcp_core.proofs.table.Core.reply.Goals as goal
 
 pub invariant_of-self : goal.invariant_of-self

@@ -1,4 +1,4 @@
-use Rattle.srcp_core.proofs.RowLists.{told_well_formed}
+use Rattle.srcp_core.proofs.Invariants.RowLists.{told_well_formed}
 use Rattle.srcp_core.proofs.table.Core.rows.Goals as goal
 
 pub returns-clause-well_formed : goal.returns-clause-well_formed

@@ -1,4 +1,4 @@
-use Rattle.srcp_core.proofs.Hearing.{line_asks, line_room, line_answered}
+use Rattle.srcp_core.proofs.Invariants.LinesAreFound.{line_asks, line_room, line_answered}
 use Rattle.srcp_core.proofs.table.Core.take_line.Goals as goal
 
 pub answer-requires-clause-asked : goal.answer-requires-clause-asked

@@ -1,4 +1,4 @@
-use Rattle.srcp_core.proofs.Hearing.{line_added}
+use Rattle.srcp_core.proofs.Invariants.LinesAreFound.{line_added}
 use Rattle.srcp_core.proofs.table.Core.take_lines.Goals as goal
 
 pub loop-stop-preserved : goal.loop-stop-preserved

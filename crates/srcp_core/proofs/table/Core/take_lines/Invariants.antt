@@ -1,5 +1,5 @@
 use Rattle.std.proofs.Common.{◌-◌, length}
-use Rattle.srcp_core.proofs.Hearing.{IsTaken}
+use Rattle.srcp_core.proofs.Invariants.LinesAreFound.{IsTaken}
 use Rattle.srcp_core.proofs.table.Core.take_lines.Given as goal
 
 abbrev pub invariant-loop-stop : goal.invariant-loop-stop

@@ -2,7 +2,7 @@ use Rattle.std.proofs.Common.{ap, sym, ◌∙◌, ◌++◌}
 use Rattle.srcp_rules.specs.State.{State}
 use Rattle.srcp_rules.proofs.SoughtLaws.{beyond}
 use Rattle.srcp_info.specs.declared.change.Cursor.TheVariants.{Start, After}
-use Rattle.srcp_core.proofs.RowLists.{beyond_start, one_listed, all_listed, fewer_left}
+use Rattle.srcp_core.proofs.Invariants.RowLists.{beyond_start, one_listed, all_listed, fewer_left}
 use Rattle.srcp_core.proofs.table.finish.all_rows.Goals as goal
 
 pub loop-row-init : goal.loop-row-init

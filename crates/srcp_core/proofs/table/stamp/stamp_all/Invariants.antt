@@ -2,7 +2,7 @@ use Rattle.std.proofs.Common.{◌≡◌, length}
 use Rattle.std.specs.List.{AllByRecursion}
 use Rattle.srcp_rules.specs.State.{IsRising, IsRowOf, opening}
 use Rattle.srcp_rules.proofs.SoughtLaws.{beyond}
-use Rattle.srcp_core.proofs.Stamping.{stamped_beyond}
+use Rattle.srcp_core.proofs.Invariants.OpeningRowsAreStamped.{stamped_beyond}
 use Rattle.srcp_core.proofs.table.stamp.stamp_all.Given as goal
 
 abbrev pub invariant-loop-row : goal.invariant-loop-row

@@ -3,8 +3,8 @@ use Rattle.srcp_info.specs.declared.change.Cursor.TheVariants.{After}
 use Rattle.srcp_rules.specs.Due.{due}
 use Rattle.srcp_rules.specs.State.{updated_all}
 use Rattle.srcp_core.specs.Machine.{told_each}
-use Rattle.srcp_core.proofs.DueWalks.{AreAhead, all_ahead, due_ahead, due_goes_on, due_stops}
-use Rattle.srcp_core.proofs.Walks.{change_in}
+use Rattle.srcp_core.proofs.Invariants.DueInOneWalk.{AreAhead, all_ahead, due_ahead, due_goes_on, due_stops}
+use Rattle.srcp_core.proofs.Invariants.ChangesOneByOne.{change_in}
 use Rattle.srcp_core.proofs.table.walk.carry_out_each.Goals as goal
 
 pub tell_all-requires : goal.tell_all-requires

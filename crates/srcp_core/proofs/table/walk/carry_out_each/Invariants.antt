@@ -2,8 +2,8 @@ use Rattle.std.proofs.Common.{◌≡◌, length, map}
 use Rattle.srcp_rules.specs.Due.{due}
 use Rattle.srcp_rules.specs.State.{IsWhole, updated_all}
 use Rattle.srcp_core.specs.Machine.{told_each}
-use Rattle.srcp_core.proofs.DueWalks.{AreAhead}
-use Rattle.srcp_core.proofs.Walks.{change_in}
+use Rattle.srcp_core.proofs.Invariants.DueInOneWalk.{AreAhead}
+use Rattle.srcp_core.proofs.Invariants.ChangesOneByOne.{change_in}
 use Rattle.srcp_core.proofs.table.walk.carry_out_each.Given as goal
 
 abbrev pub invariant-loop-change : goal.invariant-loop-change

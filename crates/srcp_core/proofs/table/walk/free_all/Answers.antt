@@ -4,7 +4,7 @@ use Rattle.srcp_rules.specs.State.{updated_all}
 use Rattle.srcp_rules.proofs.FreedStepLaws.{freed_later}
 use Rattle.srcp_rules.proofs.ToldLaws.{freed_told}
 use Rattle.srcp_core.specs.Machine.{told_each}
-use Rattle.srcp_core.proofs.Walks.{change_in, goes_on, stops}
+use Rattle.srcp_core.proofs.Invariants.ChangesOneByOne.{change_in, goes_on, stops}
 use Rattle.srcp_core.proofs.table.walk.free_all.Goals as goal
 
 pub tell_all-requires : goal.tell_all-requires

@@ -2,7 +2,7 @@ use Rattle.std.proofs.Common.{ap, sym, ◌∙◌, arith, Some, slice_set}
 use Rattle.std.specs.Option.{option_copied_mut}
 use Rattle.slab.specs.Slab.{Slab}
 use Rattle.srcp_core.specs.Held.{Place}
-use Rattle.srcp_core.proofs.Telling.{told_upto_all, told_step_some, told_step_none}
+use Rattle.srcp_core.proofs.Invariants.EveryPlaceIsTold.{told_upto_all, told_step_some, told_step_none}
 use Rattle.srcp_core.proofs.table.walk.tell_all.Goals as goal
 use Rattle.srcp_core.proofs.table.walk.tell_all.Goals.{in-Some, in_default}
 

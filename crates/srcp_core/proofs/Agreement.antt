@@ -1,0 +1,20 @@
+-- The code of the core agrees with the course of its events.
+pub mod RefusalsAreCounted
+pub mod NumbersAndKeys
+pub mod PlacesChange
+pub mod StandsAfterAChange
+pub mod LinesAgree
+pub mod MemoryAnswers
+pub mod LinesAreNoted
+pub mod PiecesAgree
+pub mod EventsAgree
+pub mod OutgoingLinesAgree
+pub mod RoomsAgree
+pub mod RunsAnEvent
+pub mod RecordIsOfTheCourse
+pub mod RunPromises
+pub mod CallsFollowTheCourse
+pub mod PiecesFollowTheCourse
+pub mod AnswersAgree
+pub mod NothingIsLent
+pub mod CallLaws

@@ -1,0 +1,175 @@
+-- What the answers of a core's calls say of the course that it stands for.
+use Rattle.std.proofs.Common.{◌≡◌, ℕ, suc, ◌+◌, Bool, true, false, List, [], ◌∷◌, ◌++◌, length, refl, ap, sym, ◌∙◌, arith}
+use Rattle.std.proofs.lemmas.Option.{none-some}
+use Rattle.std.proofs.lemmas.Bool.{le-ltb}
+use Rattle.std.specs.List.{filter}
+use Rattle.std.specs.Option.{option_map_or}
+use Rattle.std.specs.Prelude.{Option, Some, None, is_none, is_some, count_by, nat_lt, slice_get, slice_index_or, not, ◌&&◌, ◌||◌, if◌then◌else◌, IsSome}
+use Rattle.srcp_rules.specs.declared.layout.Bus.{Bus}
+use Rattle.srcp_rules.specs.Layout.{IsLayout}
+use Rattle.srcp_rules.specs.State.{opening, shown_rows}
+use Rattle.srcp_core.specs.Under.{Event, Open, Bytes, Room, Shut, Piece}
+use Rattle.srcp_core.specs.Agrees.{OfCourse, OfConnection, NamesNewest, CountsOpen, TakesPieces, is_last, closes, lent_of, lent}
+use Rattle.srcp_core.specs.Connection.{Connection, is_open, is_nil, overran, unsent, finish}
+use Rattle.srcp_core.specs.Course.{World, course, fault, absent_fault, history, open_connection}
+use Rattle.srcp_core.specs.Held.{Place, Held, at}
+use Rattle.srcp_core.specs.Machine.{IsAdmitted, IsNotAdmitted, bytes_fault, bytes_fault_from, is_closing, is_closing_from, unsent_at, unsent_of, let_out}
+use Rattle.srcp_core.specs.Recording.{key_of}
+use Rattle.srcp_core.specs.Stands.{StandsFor, place_of}
+use Rattle.srcp_core.specs.declared.record.CoreFault.{CoreFault}
+use Rattle.srcp_core.specs.declared.record.CoreFault.TheVariants.{Full, Memory as MemoryFault, Busy, PieceTooLong, Closing as ClosingFault}
+use Rattle.srcp_core.specs.declared.record.Finish.TheVariants.{Live, Closing, Overrun, Shut as ShutFinish}
+use Rattle.srcp_core.proofs.Agreement.LinesAgree.{IsFine}
+use Rattle.srcp_core.proofs.Agreement.EventsAgree.{over_is, fault_same, full_fault, free_fault}
+use Rattle.srcp_core.proofs.Agreement.CallsFollowTheCourse.{out_stands}
+use Rattle.srcp_core.proofs.Agreement.NumbersAndKeys.{key_push_last, opens_cons}
+use Rattle.srcp_core.proofs.Agreement.PlacesChange.{is_over_place, place_ended, place_overran, place_unsent, place_given_up}
+use Rattle.srcp_core.proofs.CourseLaws.SessionsOfACourse.{anything, at_number, opening_in_order}
+use Rattle.srcp_core.proofs.Agreement.StandsAfterAChange.{Anything, Fine, Found, found_at}
+use Rattle.srcp_core.proofs.Invariants.EveryPlaceIsTold.{count_by_cons}
+use Rattle.srcp_core.proofs.CourseLaws.SessionsAreKept.{sound}
+
+-- every course has sound connections
+fine : (buses : List Bus) (layout : IsLayout buses) (events : List Event) → IsFine buses (opening_in_order buses layout) (course buses events)
+fine buses layout events = sound buses (opening_in_order buses layout) Anything (anything (shown_rows (opening buses 0))) events
+
+-- ---- a connection is opened
+
+pub accepts_agrees : (key : ℕ) (old new : Held) → IsAdmitted key old new
+    → OfCourse old (λ buses events. fault buses (course buses events) (Open true) ≡ None)
+accepts_agrees key old new a buses events keys layout s = free_fault buses keys old (course buses events) s a.room true
+
+pub refuses_agrees : (cause : CoreFault) (old new : Held) → IsNotAdmitted cause old new
+    → OfCourse old (λ buses events. fault buses (course buses events) (Open false) ≡ Some cause)
+refuses_agrees Full old new is buses events keys layout s = full_fault buses keys old (course buses events) s is.0 false
+refuses_agrees MemoryFault old new is buses events keys layout s = free_fault buses keys old (course buses events) s is.0 false
+refuses_agrees other old new is buses events keys layout s = absurd is
+
+pub names_newest : (key : ℕ) (held : Held) → NamesNewest key held
+names_newest key held buses events keys s =
+    let last : length (course buses events).connections + 1 ≡ suc (length keys) = omega (arith, s.long) in
+    ap (λ k. key_of k (keys ++ Some key ∷ [])) last ∙ key_push_last keys (Some key)
+
+-- keys and connections side by side
+count_keys : (keys : List (Option ℕ)) (conns : List Connection) → length keys ≡ length conns → ((k : ℕ) (conn : Connection) → slice_get conns k ≡ Some conn → is_some (slice_index_or keys k None) ≡ is_open conn) → count_by is_some keys ≡ length (filter is_open conns)
+count_keys [] [] l law = refl
+count_keys [] (conn ∷ conns) l law = absurd (omega (arith, l))
+count_keys (key ∷ keys) [] l law = absurd (omega (arith, l))
+count_keys (key ∷ keys) (conn ∷ conns) l law =
+    let less : length keys ≡ length conns = omega (arith, l) in
+    let more = count_keys keys conns less (λ k other e. law (suc k) other e) in
+    count_by_cons is_some key keys ∙ ap (λ n. (if is_some key then 1 else 0) + n) more ∙ ap (λ t. (if t then 1 else 0) + length (filter is_open conns)) (law 0 conn refl) ∙ sym (opens_cons conn conns)
+
+pub counts_open : (held : Held) → CountsOpen held
+counts_open held buses events keys s = count_keys keys (course buses events).connections s.long (λ k conn e. by k conn e (is_open conn) refl) ∙ sym s.count
+  where
+    by : (k : ℕ) (conn : Connection) → slice_get (course buses events).connections k ≡ Some conn → (o : Bool) → is_open conn ≡ o → is_some (key_of (suc k) keys) ≡ is_open conn
+    by k conn e true o = ap is_some (s.opens (suc k) conn e o).named ∙ sym o
+    by k conn e false o = ap is_some (s.closed (suc k) conn e o) ∙ sym o
+
+-- ---- a connection that has a key
+
+module _ (buses : List Bus) (layout : IsLayout buses) (events : List Event) (keys : List (Option ℕ)) (n key : ℕ) (named : key_of n keys ≡ Some key) (held : Held) (s : StandsFor buses keys held (course buses events)) where
+  abbrev w : World
+  w = course buses events
+
+  its : Found buses (λ n fed. fed) held w n key
+  its = found_at buses (λ n fed. fed) keys held w n key s named
+
+  its_over : overran its.conn (history buses w) ≡ is_over_place (history buses w) its.conn
+  its_over = over_is buses (history buses w) its.conn its.shut (at_number (Fine buses (history buses w)) n w.connections its.conn (fine buses layout events) its.there)
+
+  fault_is : (piece : Piece) → bytes_fault key piece.bytes held ≡ fault buses w (Bytes n piece)
+  fault_is piece =
+      fault_same buses (opening_in_order buses layout) (λ n fed. fed) keys held w n key piece.bytes (fine buses layout events) s named
+
+  there_is : absent_fault buses (open_connection w n) ≡ None
+  there_is = ap (absent_fault buses) its.opened
+
+  is_there : at held key ≡ None → ⊥
+  is_there gone = none-some (place_of its.reader (history buses w) its.conn) (sym gone ∙ its.place)
+
+  -- its place, by what is known of that
+  last_is : (p : Place) → at held key ≡ Some p → p.overran ≡ overran its.conn (history buses w) → p.ended ≡ its.conn.ended → (overran its.conn (history buses w) ≡ false → p.unsent ≡ unsent its.conn)
+      → is_closing key held ≡ (overran its.conn (history buses w) || (its.conn.ended && is_nil (unsent its.conn)))
+  last_is p here over ended bytes =
+      ap is_closing_from here ∙ ap (λ t. t || (p.ended && is_nil p.unsent)) over ∙ ap (λ t. overran its.conn (history buses w) || (t && is_nil p.unsent)) ended
+      ∙ by (overran its.conn (history buses w)) bytes
+    where
+      by : (t : Bool) → (t ≡ false → p.unsent ≡ unsent its.conn) → (t || (its.conn.ended && is_nil p.unsent)) ≡ (t || (its.conn.ended && is_nil (unsent its.conn)))
+      by true h = refl
+      by false h = ap (λ bytes. its.conn.ended && is_nil bytes) (h refl)
+
+  abbrev its_place : Place
+  its_place = place_of its.reader (history buses w) its.conn
+
+  overran_is : its_place.overran ≡ overran its.conn (history buses w)
+  overran_is = place_overran its.reader (history buses w) its.conn ∙ sym its_over
+
+  unsent_is : overran its.conn (history buses w) ≡ false → its_place.unsent ≡ unsent its.conn
+  unsent_is still = place_unsent its.reader (history buses w) its.conn (sym its_over ∙ still)
+
+  closing_is : is_closing key held ≡ closes buses w n
+  closing_is =
+      last_is its_place its.place overran_is (place_ended its.reader (history buses w) its.conn) unsent_is
+      ∙ by (overran its.conn (history buses w)) (its.conn.ended && is_nil (unsent its.conn))
+      ∙ ap (λ t. is_last (if t then (if overran its.conn (history buses w) then Overrun else (if its.conn.ended && is_nil (unsent its.conn) then Closing else Live)) else ShutFinish)) (sym its.up)
+      ∙ ap (λ o. option_map_or (λ (conn : Connection). is_last (finish conn (history buses w))) o false) (sym its.opened)
+    where
+      by : (over over_now : Bool) → (over || over_now) ≡ is_last (if over then Overrun else (if over_now then Closing else Live))
+      by true over_now = refl
+      by false true = refl
+      by false false = refl
+
+  lent_is : unsent_at key held ≡ lent buses w n
+  lent_is =
+      ap unsent_of its.place
+      ∙ by (overran its.conn (history buses w)) refl
+      ∙ ap (λ o. option_map_or (lent_of buses w) o []) (sym its.opened)
+    where
+      by : (t : Bool) → overran its.conn (history buses w) ≡ t → its_place.unsent ≡ (if t then [] else unsent its.conn)
+      by true e = place_given_up its.reader (history buses w) its.conn (sym its_over ∙ e)
+      by false e = unsent_is e
+
+-- ---- what is held of a connection
+
+pub there_agrees : (key : ℕ) (held : Held) → OfConnection key held (λ buses events n. IsSome (at held key))
+there_agrees key held buses events keys n layout named s = by (at held key) (is_there buses layout events keys n key named held s)
+  where
+    by : (o : Option Place) → (o ≡ None → ⊥) → IsSome o
+    by None h = absurd (h refl)
+    by (Some p) h = refl
+
+pub bytes_agree : (key : ℕ) (piece : Piece) (held : Held)
+    → OfConnection key held (λ buses events n. bytes_fault key piece.bytes held ≡ fault buses (course buses events) (Bytes n piece))
+bytes_agree key piece held buses events keys n layout named s = fault_is buses layout events keys n key named held s piece
+
+-- where a piece of no bytes is accepted, so is any of at most 256
+pub takes_agrees : (key : ℕ) (held : Held) → is_none (bytes_fault key [] held) ≡ true
+    → OfConnection key held (λ buses events n. TakesPieces buses (course buses events) n)
+takes_agrees key held accepts buses events keys n layout named s piece few =
+    sym (bytes_agree key piece held buses events keys n layout named s) ∙ from (at held key) accepts
+  where
+    from : (o : Option Place) → is_none (bytes_fault_from [] o) ≡ true → bytes_fault_from piece.bytes o ≡ None
+    from None e = cc
+    from (Some p) e = by (p.ended || p.overran) (is_nil p.unsent) e
+      where
+        by : (over idle : Bool) → is_none (if over then Some ClosingFault else (if not idle then Some Busy else None)) ≡ true
+            → (if over then Some ClosingFault else (if not idle then Some Busy else (if nat_lt 256 (length piece.bytes) then Some PieceTooLong else None))) ≡ None
+        by true idle e = cc
+        by false false e = cc
+        by false true e = ap (λ t. if t then Some PieceTooLong else None) (le-ltb 256 (length piece.bytes) few)
+
+pub closes_agrees : (key : ℕ) (held : Held)
+    → OfConnection key held (λ buses events n. is_closing key held ≡ closes buses (course buses events) n)
+closes_agrees key held buses events keys n layout named s = closing_is buses layout events keys n key named held s
+
+pub lends_agrees : (key : ℕ) (held : Held)
+    → OfConnection key held (λ buses events n. unsent_at key (let_out key held) ≡ lent buses (course buses (events ++ Room n 0 ∷ [])) n)
+lends_agrees key held buses events keys n layout named s =
+    lent_is buses layout (events ++ Room n 0 ∷ []) keys n key named (let_out key held)
+    (out_stands key held buses events keys n layout named s)
+
+pub shuts_agrees : (key : ℕ) (held : Held)
+    → OfConnection key held (λ buses events n. fault buses (course buses events) (Shut n) ≡ None)
+shuts_agrees key held buses events keys n layout named s = there_is buses layout events keys n key named held s

@@ -1,0 +1,65 @@
+-- What a core's calls make of the course that it stands for.
+use Rattle.std.proofs.Common.{◌≡◌, refl, ap, sym, ◌∙◌}
+use Rattle.srcp_core.specs.Calls.{CallsLead, CallsAgree, CallsCount}
+use Rattle.srcp_core.specs.Held.{Held}
+use Rattle.srcp_core.specs.Machine.{IsNotAdmitted}
+use Rattle.srcp_core.specs.declared.record.CoreFault.{CoreFault}
+use Rattle.srcp_core.specs.declared.record.CoreFault.TheVariants.{Full, Memory as MemoryFault}
+use Rattle.srcp_core.proofs.Agreement.AnswersAgree.{there_agrees, accepts_agrees, refuses_agrees, names_newest, counts_open, bytes_agree, takes_agrees}
+use Rattle.srcp_core.proofs.Agreement.AnswersAgree.{closes_agrees, lends_agrees, shuts_agrees}
+use Rattle.srcp_core.proofs.Agreement.MemoryAnswers.{counts}
+use Rattle.srcp_core.proofs.Agreement.CallsFollowTheCourse.{first_stands, at_leads, open_leads, not_open_leads, out_leads, shut_leads}
+use Rattle.srcp_core.proofs.Agreement.CallsFollowTheCourse.{sent_leads, sent_none, lent_leads}
+use Rattle.srcp_core.proofs.Agreement.NothingIsLent.{none_agrees}
+use Rattle.srcp_core.proofs.Agreement.PiecesFollowTheCourse.{taken_leads, refused_leads, received_denied}
+use Rattle.srcp_core.proofs.Agreement.RunsAnEvent.{shut_count}
+
+pub calls_lead : CallsLead
+calls_lead = record {
+  first = first_stands;
+  moment = at_leads;
+  opened = open_leads;
+  not_opened = not_open_leads;
+  taken = taken_leads;
+  refused = refused_leads;
+  lent = out_leads;
+  sent = sent_leads;
+  none_sent = sent_none;
+  lent_and_sent = lent_leads;
+  shut = shut_leads;
+}
+
+pub calls_agree : CallsAgree
+calls_agree = record {
+  accepts = accepts_agrees;
+  refuses = refuses_agrees;
+  named = names_newest;
+  counted = counts_open;
+  there = there_agrees;
+  bytes = bytes_agree;
+  takes = takes_agrees;
+  closes = closes_agrees;
+  lends = lends_agrees;
+  lends_none = none_agrees;
+  shuts = shuts_agrees;
+}
+
+not_opened_counts : (cause : CoreFault) (old new : Held) → IsNotAdmitted cause old new → new.denied ≡ 0 → old.denied ≡ 0
+not_opened_counts Full old new is d = ap (λ (h : Held). h.denied) (sym is.1) ∙ d
+not_opened_counts MemoryFault old new is d = absurd (counts old.denied (ap (λ (h : Held). h.denied) (sym is.1) ∙ d))
+not_opened_counts other old new is d = absurd is
+
+-- cores that are the same have the same count
+same_count : (old new other : Held) → new ≡ other → other.denied ≡ old.denied → new.denied ≡ old.denied
+same_count old new other is same = ap (λ (h : Held). h.denied) is ∙ same
+
+pub calls_count : CallsCount
+calls_count = record {
+  moment = λ moment old new is. same_count old new _ is refl;
+  opened = λ key old new a. same_count old new _ a.rest refl;
+  not_opened = not_opened_counts;
+  bytes = received_denied;
+  lent = λ key held. refl;
+  sent = λ key count old new is. same_count old new _ is refl;
+  shut = shut_count;
+}

@@ -1,0 +1,150 @@
+-- Where nothing is lent of a connection.
+use Rattle.std.proofs.Common.{◌≡◌, ℕ, ◌+◌, ◌-◌, ◌<◌, Bool, true, false, List, [], ◌∷◌, ◌++◌, length, map, take, refl, ap, sym, ◌∙◌, arith, append-nil, length-append, length-drop}
+use Rattle.std.proofs.lemmas.Bool.{le-leb, lt-leb}
+use Rattle.std.proofs.lemmas.List.Sums.{fold-append}
+use Rattle.std.specs.List.{flat_map}
+use Rattle.std.specs.Option.{option_map_or}
+use Rattle.std.specs.Prelude.{nat_le, not, ◌&&◌, ◌||◌, if◌then◌else◌, Some, None, option_map}
+use Rattle.srcp_feed.specs.Cursor.{beyond}
+use Rattle.srcp_feed.specs.declared.Next.{Next}
+use Rattle.srcp_feed.specs.declared.Next.TheVariants.{Told, Listed}
+use Rattle.srcp_rules.specs.declared.layout.Bus.{Bus}
+use Rattle.srcp_rules.specs.Layout.{IsLayout}
+use Rattle.srcp_core.specs.Under.{Event, Room}
+use Rattle.srcp_core.specs.Agrees.{OfConnection, lent, lent_of, lends_none, lends_none_of}
+use Rattle.srcp_core.specs.Connection.{Connection, cursor_at, fitting, given, given_room, is_nil, is_open, is_settled, line_of, overran, owed, text, took, unsent, untold}
+use Rattle.srcp_core.specs.Course.{World, absent_fault, accepted, counted, course, happens, history, if_open, numbered, open_connection, or_refused, rows, start}
+use Rattle.srcp_core.specs.Held.{Held}
+use Rattle.srcp_core.specs.Machine.{let_out, unsent_at}
+use Rattle.srcp_core.proofs.Agreement.AnswersAgree.{lends_agrees}
+use Rattle.srcp_core.proofs.CourseLaws.RoomsAddUp.{left_after, rooms_add_up, takes_within}
+use Rattle.srcp_core.proofs.CourseLaws.LinesHaveBytes.{AreFull, owed_full}
+use Rattle.srcp_core.proofs.Agreement.NumbersAndKeys.{numbered_with}
+use Rattle.srcp_core.proofs.CourseLaws.RoomSettles.{sends_replies}
+use Rattle.srcp_core.proofs.Agreement.StandsAfterAChange.{found_at}
+
+some_bytes : (xs ys : List ℕ) → 0 < length xs → is_nil (xs ++ ys) ≡ false
+some_bytes [] ys h = absurd (omega (arith, h))
+some_bytes (x ∷ xs) ys h = refl
+
+-- the next line is empty only where there is none
+next_nil : (nexts : List Next) → AreFull nexts → is_nil (flat_map line_of (take 1 nexts)) ≡ is_nil nexts
+next_nil [] full = refl
+next_nil (what ∷ nexts) full = some_bytes (line_of what) [] full.0
+
+-- where no item was given, replies are left exactly where bytes are
+replies_left : (conn : Connection) (byte : ℕ) (bytes : List ℕ) → conn.items ≡ [] → unsent conn ≡ byte ∷ bytes → nat_le (length conn.out) conn.taken ≡ false
+replies_left conn byte bytes items u =
+    let all : given conn ≡ conn.out = ap (λ is. conn.out ++ text is) items ∙ append-nil conn.out in
+    let size : length (given conn) ≡ length conn.out = ap (λ (xs : List ℕ). length xs) all in
+    let left : length (unsent conn) ≡ length (given conn) - conn.taken = length-drop conn.taken (given conn) in
+    let some : length (unsent conn) ≡ length (byte ∷ bytes) = ap (λ (xs : List ℕ). length xs) u in
+    lt-leb (length conn.out) conn.taken (omega (arith, size, left, some))
+
+replies_taken : (conn : Connection) → unsent conn ≡ [] → nat_le (length conn.out) conn.taken ≡ true
+replies_taken conn u =
+    let left : length (unsent conn) ≡ length (given conn) - conn.taken = length-drop conn.taken (given conn) in
+    let none : length (unsent conn) ≡ 0 = ap (λ (xs : List ℕ). length xs) u in
+    let size : length (given conn) ≡ length conn.out + length (text conn.items) = length-append conn.out (text conn.items) in
+    le-leb (length conn.out) conn.taken (omega (arith, left, none, size))
+
+module _ (buses : List Bus) (w : World) (conn : Connection) (up : is_open conn ≡ true) where
+  abbrev nexts : List Next
+  nexts = owed conn (history buses w) (rows buses w)
+
+  abbrev settled : Bool
+  settled = is_settled conn (history buses w) (rows buses w)
+
+  abbrev Rests : Type 0
+  Rests = is_nil (unsent conn ++ flat_map line_of (fitting 0 (unsent conn) nexts)) ≡ (nat_le (length conn.out) conn.taken && (not conn.info || settled))
+
+  and_false : (t : Bool) → false ≡ t && false
+  and_false true = refl
+  and_false false = refl
+
+  some_left : (conn.info ≡ false → conn.items ≡ []) → (byte : ℕ) (bytes : List ℕ) → unsent conn ≡ byte ∷ bytes → Rests
+  some_left plain byte bytes u =
+      ap (λ left. is_nil (left ++ flat_map line_of (fitting 0 left nexts))) u
+      ∙ by conn.info refl
+    where
+      by : (info : Bool) → conn.info ≡ info → false ≡ (nat_le (length conn.out) conn.taken && (not conn.info || settled))
+      by true i =
+          and_false (nat_le (length conn.out) conn.taken)
+          ∙ ap (λ t. nat_le (length conn.out) conn.taken && (false || t)) (sym (ap (λ left. is_open conn && (conn.info && (is_nil left && is_nil nexts))) u ∙ ap (λ t. t && (conn.info && false)) up ∙ ap (λ t. t && false) i))
+          ∙ ap (λ t. nat_le (length conn.out) conn.taken && (not t || settled)) (sym i)
+      by false i = ap (λ t. t && (not conn.info || settled)) (sym (replies_left conn byte bytes (plain i) u))
+
+  none_left : unsent conn ≡ [] → Rests
+  none_left u =
+      ap (λ left. is_nil (left ++ flat_map line_of (fitting 0 left nexts))) u
+      ∙ next_nil nexts (owed_full conn (history buses w) (rows buses w))
+      ∙ by conn.info refl
+      ∙ ap (λ t. t && (not conn.info || settled)) (sym (replies_taken conn u))
+    where
+      by : (info : Bool) → conn.info ≡ info → is_nil nexts ≡ (not conn.info || settled)
+      by true i =
+          sym (ap (λ left. is_open conn && (conn.info && (is_nil left && is_nil nexts))) u ∙ ap (λ t. t && (conn.info && is_nil nexts)) up ∙ ap (λ t. t && is_nil nexts) i)
+          ∙ ap (λ t. not t || settled) (sym i)
+      by false i =
+          ap (λ t. is_nil (if t then map Told (untold conn (history buses w)) ++ map Listed (beyond (cursor_at conn (length (history buses w))) (rows buses w)) else [])) (ap (λ t. t && conn.info) up ∙ i)
+          ∙ ap (λ t. not t || settled) (sym i)
+
+  rests : (conn.info ≡ false → conn.items ≡ []) → Rests
+  rests plain = by (unsent conn) refl
+    where
+      by : (left : List ℕ) → unsent conn ≡ left → Rests
+      by [] u = none_left u
+      by (byte ∷ bytes) u = some_left plain byte bytes u
+
+module _ (buses : List Bus) (layout : IsLayout buses) (events : List Event) (n : ℕ) (conn : Connection) (there : numbered n (course buses events).connections ≡ Some conn) (up : is_open conn ≡ true) where
+  abbrev w : World
+  w = course buses events
+
+  abbrev room : Connection → Connection
+  room = given_room 0 (history buses w) (rows buses w)
+
+  stays_open : is_open (room conn) ≡ true
+  stays_open = by (overran conn (history buses w)) ∙ up
+    where
+      by : (t : Bool) → is_open (if t then conn else took 0 (length (history buses w)) (owed conn (history buses w) (rows buses w)) conn) ≡ is_open conn
+      by true = refl
+      by false = refl
+
+  opened : open_connection w n ≡ Some conn
+  opened = ap if_open there ∙ ap (λ t. if t then Some conn else None) up
+
+  lent_is : lent buses (course buses (events ++ Room n 0 ∷ [])) n ≡ lent_of buses w (room conn)
+  lent_is =
+      let next : course buses (events ++ Room n 0 ∷ []) ≡ happens buses w (Room n 0) = fold-append (happens buses) start events (Room n 0 ∷ []) in
+      let world : happens buses w (Room n 0) ≡ accepted buses (Room n 0) (counted w) = ap (λ o. or_refused buses (absent_fault buses o) (Room n 0) (counted w)) opened in
+      let found : numbered n (accepted buses (Room n 0) (counted w)).connections ≡ Some (room conn) = numbered_with n room w.connections ∙ ap (option_map room) there in
+      ap (λ (v : World). lent buses v n) (next ∙ world)
+      ∙ ap (λ o. option_map_or (lent_of buses w) (if_open o) []) found
+      ∙ ap (λ t. option_map_or (lent_of buses w) (if t then Some (room conn) else None) []) stays_open
+
+  nothing : is_nil (lent_of buses w (room conn)) ≡ lends_none_of buses w conn
+  nothing = by (overran conn (history buses w)) refl
+    where
+      adds : overran (room conn) (history buses w) ≡ overran conn (history buses w)
+      adds = (rooms_add_up buses layout events n conn there up).overruns 0
+
+      by : (t : Bool) → overran conn (history buses w) ≡ t → is_nil (lent_of buses w (room conn)) ≡ lends_none_of buses w conn
+      by true e =
+          ap (λ t. is_nil (if t then [] else unsent (room conn))) (adds ∙ e)
+          ∙ ap (λ t. t || (nat_le (length conn.out) conn.taken && (not conn.info || is_settled conn (history buses w) (rows buses w)))) (sym e)
+      by false e =
+          ap (λ t. is_nil (if t then [] else unsent (room conn))) (adds ∙ e)
+          ∙ ap (λ t. is_nil (unsent (if t then conn else took 0 (length (history buses w)) (owed conn (history buses w) (rows buses w)) conn))) e
+          ∙ ap is_nil (left_after (length (history buses w)) (owed conn (history buses w) (rows buses w)) conn (takes_within buses layout events n conn there))
+          ∙ rests buses w conn up (λ plain. (sends_replies buses layout events n conn there plain).no_items)
+          ∙ ap (λ t. t || (nat_le (length conn.out) conn.taken && (not conn.info || is_settled conn (history buses w) (rows buses w)))) (sym e)
+
+  lends_none_is : is_nil (lent buses (course buses (events ++ Room n 0 ∷ [])) n) ≡ lends_none buses w n
+  lends_none_is = ap is_nil lent_is ∙ nothing ∙ ap (λ o. option_map_or (lends_none_of buses w) o true) (sym opened)
+
+-- what is lent is empty exactly where the course says so
+pub none_agrees : (key : ℕ) (held : Held)
+    → OfConnection key held (λ buses events n. is_nil (unsent_at key (let_out key held)) ≡ lends_none buses (course buses events) n)
+none_agrees key held buses events keys n layout named s =
+    let its = found_at buses (λ n fed. fed) keys held (course buses events) n key s named in
+    ap is_nil (lends_agrees key held buses events keys n layout named s) ∙ lends_none_is buses layout events n its.conn its.there its.up

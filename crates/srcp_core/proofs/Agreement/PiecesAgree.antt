@@ -1,0 +1,335 @@
+-- A core that stands for a course takes a piece as the course does.
+use Rattle.std.proofs.Common.{◌≡◌, ◌≢◌, ℕ, zero, suc, ◌+◌, ◌<◌, ◌≤◌, Bool, true, false, List, [], ◌∷◌, ◌++◌, take, drop, length, refl, ap, sym, ◌∙◌, subst, arith, append-nil, length-append}
+use Rattle.std.proofs.lemmas.Bool.{eqb-true, eq-eqb}
+use Rattle.std.proofs.lemmas.List.{drop_all}
+use Rattle.std.proofs.lemmas.List.Sums.{fold-append}
+use Rattle.std.proofs.lemmas.Option.{none-some}
+use Rattle.std.proofs.Math.Nat.{le_refl}
+use Rattle.std.specs.List.{fold}
+use Rattle.std.specs.Option.{option_map}
+use Rattle.std.specs.Prelude.{Option, Some, None, ◌||◌, ◌==◌, nat_lt, slice_set, slice_range, Result, Ok, Err, if◌then◌else◌}
+use Rattle.srcp_info.specs.Line.{reply_line}
+use Rattle.srcp_info.specs.declared.change.Code.{Code}
+use Rattle.srcp_info.specs.declared.change.Code.TheVariants.{C500}
+use Rattle.srcp_info.specs.declared.change.Reply.{Reply}
+use Rattle.srcp_info.specs.declared.change.Reply.TheVariants.{Protocol, Mode as ModeReply, Go, Refused}
+use Rattle.srcp_info.specs.declared.value.Mode.{Mode}
+use Rattle.srcp_text.specs.Marks.{Mark, Line, TooLong, marks}
+use Rattle.srcp_text.specs.Reading.{Reading, StandsAt}
+use Rattle.srcp_text.specs.Feeding.{feed_of}
+use Rattle.srcp_text.specs.declared.reader.Fed.{Fed}
+use Rattle.srcp_text.specs.declared.reader.Fed.TheVariants.{Line as FoundLine, TooLong as FoundTooLong, More}
+use Rattle.srcp_text.proofs.ReadingLaws.{marks-fed, stands-fed, fed_to_stop, fed_to_end, later_marks}
+use Rattle.srcp_rules.specs.declared.layout.Bus.{Bus}
+use Rattle.srcp_rules.specs.Effect.{Effect}
+use Rattle.srcp_rules.specs.State.{opening, shown_rows}
+use Rattle.srcp_info.proofs.ClientLaws.{key_at}
+use Rattle.srcp_info.specs.Client.{IsRisingBy}
+use Rattle.srcp_core.specs.Under.{Obeyed, Began, Heard, Order, effect, greets, lines_under}
+use Rattle.srcp_core.specs.Connection.{Connection}
+use Rattle.srcp_core.specs.Course.{World, numbered, at_connection, did, is_info, state, history, order_of, replied, entered, goes, greeted, ended, obeyed, commanded, answered_as, answered as course_answered, open_connection, new_marks, wants_as, denied_lines}
+use Rattle.srcp_core.specs.Handshake.{Greeting, Speaks, Chooses, Goes, Refuses}
+use Rattle.srcp_core.specs.Held.{Place, Held, at, place_at}
+use Rattle.srcp_core.specs.Machine.{asked_of, heard_from, heard_in, heard_at, line_taken, steps_of_line, answered, steps_answered, steps_answered_from}
+use Rattle.srcp_core.specs.Recording.{Recording, key_of, noted}
+use Rattle.srcp_core.specs.Stands.{StandsBy, StandsFor, place_of}
+use Rattle.srcp_core.specs.declared.asked.Asked.{Asked}
+use Rattle.srcp_core.proofs.Agreement.LinesAgree.{IsFine, stands_answered}
+use Rattle.srcp_core.proofs.Agreement.RefusalsAreCounted.{after, denied_answered, denied_push, denied_none}
+use Rattle.srcp_core.proofs.Invariants.PlacesCover.{Where, Here, Away, where_is, place_set_here}
+use Rattle.srcp_core.proofs.Agreement.MemoryAnswers.{lines_push}
+use Rattle.srcp_core.proofs.Agreement.LinesAreNoted.{Tells, tells_answered}
+use Rattle.srcp_core.proofs.Agreement.PlacesChange.{place_reader, place_read}
+use Rattle.srcp_core.proofs.CourseLaws.SessionsOfACourse.{anything}
+use Rattle.srcp_core.proofs.Agreement.NumbersAndKeys.{numbered_with, with_itself}
+use Rattle.srcp_core.proofs.Agreement.StandsAfterAChange.{Anything, found_at, stands_changed}
+use Rattle.srcp_core.proofs.CourseLaws.SessionsAreKept.{sound_answered, sound_at}
+
+-- ---- the bytes that were accepted
+
+abbrev pub fed_of : ℕ → World → Option (List ℕ)
+fed_of n w = option_map (λ (c : Connection). c.fed) (numbered n w.connections)
+
+-- ---- the reader alone
+
+-- of a number these bytes were read, of the others all
+abbrev pub partly : ℕ → List ℕ → ℕ → List ℕ → List ℕ
+partly n bytes m fed = if m == n then bytes else fed
+
+partly_here : (n : ℕ) (bytes fed : List ℕ) → partly n bytes n fed ≡ bytes
+partly_here n bytes fed = ap (λ t. if t then bytes else fed) (eq-eqb n n refl)
+
+partly_other : (n m : ℕ) (bytes fed : List ℕ) → m ≢ n → partly n bytes m fed ≡ fed
+partly_other n m bytes fed d = by (m == n) refl
+  where
+    by : (t : Bool) → (m == n) ≡ t → (if t then bytes else fed) ≡ fed
+    by true e = absurd (d (eqb-true m n e))
+    by false e = refl
+
+module _ (buses : List Bus) (keys : List (Option ℕ)) (n key : ℕ) (named : key_of n keys ≡ Some key) where
+  -- the reader reads on
+  stands_read : (read later : ℕ → List ℕ → List ℕ) (held : Held) (w : World) (p : Place) (reader : Reading) → StandsBy buses read keys held w → at held key ≡ Some p
+      → ((conn : Connection) → numbered n w.connections ≡ Some conn → StandsAt (later n conn.fed) reader) → ((m : ℕ) (bytes : List ℕ) → m ≢ n → later m bytes ≡ read m bytes)
+      → StandsBy buses later keys (record held { places = slice_set held.places key (Some (record p { reader = reader })) }) w
+  stands_read read later held w p reader s here reads others =
+      let h = found_at buses read keys held w n key s named in
+      let same : place_of h.reader (history buses w) h.conn ≡ p = let both : Some (place_of h.reader (history buses w) h.conn) ≡ Some p = sym h.place ∙ here in cc in
+      subst (λ (conns : List Connection). StandsBy buses later keys (record held { places = slice_set held.places key (Some (record p { reader = reader })) }) (record w { connections = conns })) (with_itself n w.connections)
+      (stands_changed buses read later keys held w n key h.conn (λ c. c) (record p { reader = reader }) reader s named h.there h.up h.up
+      (ap (λ (q : Place). record q { reader = reader }) (sym same) ∙ place_read h.reader (history buses w) h.conn reader) (reads h.conn h.there) others)
+
+-- ---- the accepted bytes stay while lines are answered
+
+module _ (buses : List Bus) (n : ℕ) where
+  fed_at : (f : Connection → Connection) (w : World) → ((c : Connection) → (f c).fed ≡ c.fed) → fed_of n (at_connection n f w) ≡ fed_of n w
+  fed_at f w law = ap (option_map (λ (c : Connection). c.fed)) (numbered_with n f w.connections) ∙ by (numbered n w.connections)
+    where
+      by : (o : Option Connection) → option_map (λ (c : Connection). c.fed) (option_map f o) ≡ option_map (λ (c : Connection). c.fed) o
+      by None = refl
+      by (Some c) = ap Some (law c)
+
+  fed_replied : (reply : Reply) (w : World) → fed_of n (replied n reply w) ≡ fed_of n w
+  fed_replied reply w = fed_at (λ conn. record conn { out = conn.out ++ reply_line w.moment reply }) w (λ c. refl)
+
+  fed_goes : (mode : Mode) (w : World) → fed_of n (goes buses n mode w) ≡ fed_of n w
+  fed_goes mode w =
+      elim (nat_lt w.last_id 4294967295) as (λ t. fed_of n (if t then replied n (Go (w.last_id + 1)) (entered buses n (w.last_id + 1) (did (Began (w.last_id + 1) w.moment mode) (record w { last_id = w.last_id + 1 }))) else replied n (Refused C500) w) ≡ fed_of n w) [
+        | true ↦ fed_replied (Go (w.last_id + 1)) (entered buses n (w.last_id + 1) (did (Began (w.last_id + 1) w.moment mode) (record w { last_id = w.last_id + 1 })))
+            ∙ fed_at (λ conn. record conn { session = w.last_id + 1; info = is_info conn.mode; go_step = length (did (Began (w.last_id + 1) w.moment mode) (record w { last_id = w.last_id + 1 })).steps }) (did (Began (w.last_id + 1) w.moment mode) (record w { last_id = w.last_id + 1 })) (λ c. refl)
+        | false ↦ fed_replied (Refused C500) w
+      ]
+
+  fed_greeted : (mode : Mode) (greeting : Greeting) (w : World) → fed_of n (greeted buses n mode greeting w) ≡ fed_of n w
+  fed_greeted mode Speaks w = fed_replied Protocol w
+  fed_greeted mode (Chooses chosen) w = fed_replied ModeReply (at_connection n (λ conn. record conn { mode = chosen }) w) ∙ fed_at (λ conn. record conn { mode = chosen }) w (λ c. refl)
+  fed_greeted mode Goes w = fed_goes mode w
+  fed_greeted mode (Refuses code) w = fed_replied (Refused code) w
+
+  fed_obeyed : (session : ℕ) (command : Order) (result : Effect) (w : World) → fed_of n (obeyed buses n session command result w) ≡ fed_of n w
+  fed_obeyed session command result w =
+      elim result.ends as (λ t. fed_of n (if t then ended buses n session (replied n result.reply (did (Obeyed session w.moment command) w)) else replied n result.reply (did (Obeyed session w.moment command) w)) ≡ fed_of n w) [
+        | true ↦ fed_at (λ conn. record conn { ended = true }) (replied n result.reply (did (Obeyed session w.moment command) w)) (λ c. refl) ∙ fed_replied result.reply (did (Obeyed session w.moment command) w)
+        | false ↦ fed_replied result.reply (did (Obeyed session w.moment command) w)
+      ]
+
+  fed_commanded : (session : ℕ) (command : Result Order Code) (w : World) → fed_of n (commanded buses n session command w) ≡ fed_of n w
+  fed_commanded session (Err code) w = fed_replied (Refused code) w
+  fed_commanded session (Ok command) w = fed_obeyed session command (effect (state buses w) session w.moment command) w
+
+  fed_answered_as : (o : Option Connection) (mark : Heard) (w : World) → fed_of n (answered_as buses n o mark w) ≡ fed_of n w
+  fed_answered_as None mark w = refl
+  fed_answered_as (Some conn) mark w =
+      elim (conn.info || conn.ended) as (λ t. fed_of n (if t then w else (if conn.session == 0 then greeted buses n conn.mode (greets mark) w else commanded buses n conn.session (order_of buses mark) w)) ≡ fed_of n w) [
+        | true ↦ refl
+        | false ↦ elim (conn.session == 0) as (λ t. fed_of n (if t then greeted buses n conn.mode (greets mark) w else commanded buses n conn.session (order_of buses mark) w) ≡ fed_of n w) [
+          | true ↦ fed_greeted conn.mode (greets mark) w
+          | false ↦ fed_commanded conn.session (order_of buses mark) w
+        ]
+      ]
+
+-- ---- the lines of a piece
+
+-- the piece was read up to a place, and its lines up to there were answered; w is the course with all of it accepted
+module _ (buses : List Bus) (order : IsRisingBy key_at (shown_rows (opening buses 0))) (keys : List (Option ℕ)) (n key : ℕ) (named : key_of n keys ≡ Some key) (fed piece : List ℕ) (w : World) (before : ℕ) where
+  -- the lines up to a place
+  abbrev pub marks_upto : ℕ → List Mark
+  marks_upto start = drop (length (marks fed)) (marks (fed ++ take start piece))
+
+  abbrev pub world_upto : List Bool → ℕ → World
+  world_upto grants start = fold (course_answered buses n) w (lines_under grants (marks_upto start))
+
+  pub record IsUpTo (grants : List Bool) (start : ℕ) (held : Held) : Type 0 where
+    pub count : length grants ≡ length (marks_upto start)
+    pub fine : IsFine buses order (world_upto grants start)
+    pub fed_is : fed_of n (world_upto grants start) ≡ Some (fed ++ piece)
+    pub stands : StandsBy buses (partly n (fed ++ take start piece)) keys held (world_upto grants start)
+    pub counts : held.denied ≡ denied_lines buses n w before (lines_under grants (marks_upto start))
+
+  -- one line more
+  line_answered : (grants : List Bool) (granted : Bool) (start stop : ℕ) (mark : Mark) (held : Held) (p : Place) (reader : Reading) (r : Recording) → start < stop → at held key ≡ Some p
+      → ((bytes : List ℕ) → StandsAt bytes p.reader → marks (bytes ++ slice_range piece start stop) ≡ marks bytes ++ mark ∷ [])
+      → ((bytes : List ℕ) → StandsAt bytes p.reader → StandsAt (bytes ++ slice_range piece start stop) reader)
+      → IsUpTo grants start held → Tells r (world_upto grants start)
+      → IsUpTo (grants ++ granted ∷ []) stop (answered granted key (asked_of held.buses p mark) (record held { places = slice_set held.places key (Some (record p { reader = reader })) }))
+      × Tells (noted n (steps_answered granted key (asked_of held.buses p mark) (record held { places = slice_set held.places key (Some (record p { reader = reader })) })) r) (world_upto (grants ++ granted ∷ []) stop)
+  line_answered grants granted start stop mark held p reader r onward here adds moves u t =
+      let h = found_at buses (partly n (fed ++ take start piece)) keys held (world_upto grants start) n key u.stands named in
+      let same : place_of h.reader (history buses (world_upto grants start)) h.conn ≡ p = let both : Some (place_of h.reader (history buses (world_upto grants start)) h.conn) ≡ Some p = sym h.place ∙ here in cc in
+      let its : h.reader ≡ p.reader = sym (place_reader h.reader (history buses (world_upto grants start)) h.conn) ∙ ap (λ (q : Place). q.reader) same in
+      let stood : StandsAt (fed ++ take start piece) p.reader = subst (λ r. StandsAt (fed ++ take start piece) r) its (subst (λ bytes. StandsAt bytes h.reader) (partly_here n (fed ++ take start piece) h.conn.fed) h.reads) in
+      let le : start ≤ stop = omega (arith, onward) in
+      let both = fed_to_stop fed piece start stop (mark ∷ []) p.reader reader le adds moves stood in
+      let more : marks_upto stop ≡ marks_upto start ++ mark ∷ [] = later_marks fed (take start piece) (marks (fed ++ take stop piece)) (mark ∷ []) both.0 in
+      let line : Heard = record { mark = mark; granted = granted } in
+      let lines : lines_under (grants ++ granted ∷ []) (marks_upto stop) ≡ lines_under grants (marks_upto start) ++ line ∷ [] = ap (lines_under (grants ++ granted ∷ [])) more ∙ lines_push grants (marks_upto start) granted mark u.count in
+      let next : world_upto (grants ++ granted ∷ []) stop ≡ course_answered buses n (world_upto grants start) line =
+      ap (fold (course_answered buses n) w) lines ∙ fold-append (course_answered buses n) w (lines_under grants (marks_upto start)) (line ∷ []) in
+      let mid = record held { places = slice_set held.places key (Some (record p { reader = reader })) } in
+      let reads : StandsBy buses (partly n (fed ++ take stop piece)) keys mid (world_upto grants start) =
+      stands_read buses keys n key named (partly n (fed ++ take start piece)) (partly n (fed ++ take stop piece)) held (world_upto grants start) p reader u.stands here
+      (λ conn e. subst (λ bytes. StandsAt bytes reader) (sym (partly_here n (fed ++ take stop piece) conn.fed)) both.1)
+      (λ m bytes d. partly_other n m (fed ++ take stop piece) bytes d ∙ sym (partly_other n m (fed ++ take start piece) bytes d)) in
+      let here_now : at mid key ≡ Some (record p { reader = reader }) = place_set_here held.places key p (Some (record p { reader = reader })) here in (
+        record {
+          count = length-append grants (granted ∷ []) ∙ ap (λ k. k + 1) u.count ∙ sym (ap length more ∙ length-append (marks_upto start) (mark ∷ []));
+          fine = subst (λ (v : World). IsFine buses order v) (sym next) (sound_answered buses order Anything (anything (shown_rows (opening buses 0))) n (world_upto grants start) line u.fine);
+          fed_is = ap (fed_of n) next ∙ fed_answered_as buses n (open_connection (world_upto grants start) n) line (world_upto grants start) ∙ u.fed_is;
+          stands = subst (λ (v : World). StandsBy buses (partly n (fed ++ take stop piece)) keys (answered granted key (asked_of held.buses p mark) mid) v) (sym next)
+              (stands_answered buses order (partly n (fed ++ take stop piece)) keys n key named mid (world_upto grants start) granted mark (record p { reader = reader }) u.fine reads here_now);
+          counts = denied_answered buses (partly n (fed ++ take stop piece)) keys n key named mid (world_upto grants start) granted mark (record p { reader = reader }) reads here_now
+              ∙ ap (λ k. after k granted (wants_as buses (world_upto grants start) (open_connection (world_upto grants start) n) mark)) u.counts
+              ∙ sym (ap (denied_lines buses n w before) lines ∙ denied_push buses n w before (lines_under grants (marks_upto start)) line);
+        },
+        subst (λ (v : World). Tells (noted n (steps_answered granted key (asked_of held.buses p mark) mid) r) v) (sym next)
+            (subst (λ (o : Option Place). Tells (noted n (steps_answered_from granted (asked_of held.buses p mark) mid o) r) (course_answered buses n (world_upto grants start) line)) (sym here_now)
+            (tells_answered buses order (partly n (fed ++ take stop piece)) keys n key r mid (world_upto grants start) granted mark (record p { reader = reader }) u.fine reads named here_now t)),
+      )
+
+  -- after one more line of the piece
+  pub record IsLined (grants : List Bool) (start stop : ℕ) (granted : Bool) (held new : Held) (r : Recording) : Type 0 where
+    pub upto : IsUpTo (grants ++ granted ∷ []) stop new
+    pub tells : Tells (noted n (steps_of_line key granted (heard_at key piece start held)) r) (world_upto (grants ++ granted ∷ []) stop)
+
+  -- what the reader finds
+  abbrev finds : Held → Place → Fed → Reading → Option (ℕ × Asked) × Held
+  finds held p result reading = ((heard_from held.buses p (result, reading)).0, record held { places = slice_set held.places key (Some (heard_from held.buses p (result, reading)).1) })
+
+  lined_at : (grants : List Bool) (start stop : ℕ) (granted : Bool) (held new : Held) (r : Recording) (p : Place) (mark : Mark) (s : ℕ) (reading : Reading) → start < stop → at held key ≡ Some p
+      → ((bytes : List ℕ) → StandsAt bytes p.reader → marks (bytes ++ slice_range piece start s) ≡ marks bytes ++ mark ∷ [])
+      → ((bytes : List ℕ) → StandsAt bytes p.reader → StandsAt (bytes ++ slice_range piece start s) reading)
+      → ◌≡◌ {A = ℕ × Held} (stop, new) (s, answered granted key (asked_of held.buses p mark) (record held { places = slice_set held.places key (Some (record p { reader = reading })) }))
+      → ◌≡◌ {A = Option (ℕ × Asked) × Held} (heard_at key piece start held) (Some (s, asked_of held.buses p mark), record held { places = slice_set held.places key (Some (record p { reader = reading })) })
+      → IsUpTo grants start held → Tells r (world_upto grants start) → IsLined grants start stop granted held new r
+  lined_at grants start stop granted held new r p mark s reading onward here adds moves is finding u t =
+      let both = line_answered grants granted start s mark held p reading r (subst (λ k. start < k) stop_is onward) here adds moves u t in
+      record {
+        upto = subst (λ k. IsUpTo (grants ++ granted ∷ []) k new) (sym stop_is) (subst (λ (x : Held). IsUpTo (grants ++ granted ∷ []) s x) (sym (ap (λ (x : ℕ × Held). x.1) is)) both.0);
+        tells = subst (λ k. Tells (noted n (steps_of_line key granted (heard_at key piece start held)) r) (world_upto (grants ++ granted ∷ []) k)) (sym stop_is)
+            (subst (λ steps. Tells (noted n steps r) (world_upto (grants ++ granted ∷ []) s)) (sym (ap (steps_of_line key granted) finding)) both.1);
+      }
+    where
+      stop_is : stop ≡ s
+      stop_is = ap (λ (x : ℕ × Held). x.0) is
+
+  pub lined : (grants : List Bool) (start stop : ℕ) (granted : Bool) (held new : Held) (r : Recording) → start < stop → ◌≡◌ {A = ℕ × Held} (stop, new) (line_taken key granted (start, held) (heard_at key piece start held))
+      → IsUpTo grants start held → Tells r (world_upto grants start) → IsLined grants start stop granted held new r
+  lined grants start stop granted held new r onward is u t =
+      let h = found_at buses (partly n (fed ++ take start piece)) keys held (world_upto grants start) n key u.stands named in
+      from (place_of h.reader (history buses (world_upto grants start)) h.conn) h.place (feed_of (place_of h.reader (history buses (world_upto grants start)) h.conn).reader piece start).0 (feed_of (place_of h.reader (history buses (world_upto grants start)) h.conn).reader piece start).1 refl
+    where
+      from : (p : Place) → at held key ≡ Some p → (result : Fed) (reading : Reading) → ◌≡◌ {A = Fed × Reading} (feed_of p.reader piece start) (result, reading) → IsLined grants start stop granted held new r
+      from p here result reading e = by result reading e
+          (ap (λ (o : Option Place). heard_in key piece start held o) here ∙ ap (λ (x : Fed × Reading). let y : Option (ℕ × Asked) × Held = finds held p x.0 x.1 in y) e)
+        where
+          by : (result : Fed) (reading : Reading) → ◌≡◌ {A = Fed × Reading} (feed_of p.reader piece start) (result, reading) → ◌≡◌ {A = Option (ℕ × Asked) × Held} (heard_at key piece start held) (finds held p result reading) → IsLined grants start stop granted held new r
+          by More reading e finding =
+              let both : ◌≡◌ {A = ℕ × Held} (stop, new) (start, held) = is ∙ ap (line_taken key granted (start, held)) finding in
+              let same : stop ≡ start = ap (λ (x : ℕ × Held). x.0) both in
+              absurd (omega (arith, onward, same))
+          by (FoundLine s) reading e finding =
+              lined_at grants start stop granted held new r p (Line reading.line) s reading onward here
+              (λ bytes stood. marks-fed bytes p.reader reading piece start (FoundLine s) (sym e) stood) (λ bytes stood. stands-fed bytes p.reader reading piece start (FoundLine s) (sym e) stood)
+              (is ∙ ap (line_taken key granted (start, held)) finding) finding u t
+          by (FoundTooLong s) reading e finding =
+              lined_at grants start stop granted held new r p TooLong s reading onward here
+              (λ bytes stood. marks-fed bytes p.reader reading piece start (FoundTooLong s) (sym e) stood) (λ bytes stood. stands-fed bytes p.reader reading piece start (FoundTooLong s) (sym e) stood)
+              (is ∙ ap (line_taken key granted (start, held)) finding) finding u t
+
+  -- ---- the end of a piece
+
+  -- all bytes were read
+  stands_all : (held : Held) (v : World) (bytes : List ℕ) → fed_of n v ≡ Some bytes → StandsBy buses (partly n bytes) keys held v → StandsFor buses keys held v
+  stands_all held v bytes whole s = record {
+    layout = s.layout;
+    rows = s.rows;
+    moment = s.moment;
+    last_id = s.last_id;
+    count = s.count;
+    long = s.long;
+    opens = λ m conn e o. let a = s.opens m conn e o in record { key = a.key; reader = a.reader; named = a.named; place = a.place; reads = subst (λ read. StandsAt read a.reader) (read_is m conn e (where_is m n)) a.reads };
+    closed = s.closed;
+    apart = s.apart;
+    owned = s.owned;
+  }
+    where
+      read_is : (m : ℕ) (conn : Connection) → numbered m v.connections ≡ Some conn → Where m n → partly n bytes m conn.fed ≡ conn.fed
+      read_is m conn e (Here same) =
+          let its : Some conn.fed ≡ Some bytes = sym (ap (option_map (λ (c : Connection). c.fed)) (ap (λ j. numbered j v.connections) (sym same) ∙ e)) ∙ whole in
+          let equal : conn.fed ≡ bytes = cc in
+          ap (λ j. partly n bytes j conn.fed) same ∙ partly_here n bytes conn.fed ∙ sym equal
+      read_is m conn e (Away d) = partly_other n m bytes conn.fed d
+
+  pub record IsEnded (grants : List Bool) (new : Held) (v : World) : Type 0 where
+    pub fine : IsFine buses order (fold (course_answered buses n) w (lines_under grants (new_marks buses fed piece)))
+    pub stands : StandsFor buses keys new (fold (course_answered buses n) w (lines_under grants (new_marks buses fed piece)))
+    pub world_is : v ≡ fold (course_answered buses n) w (lines_under grants (new_marks buses fed piece))
+    pub counts : new.denied ≡ denied_lines buses n w before (lines_under grants (new_marks buses fed piece))
+
+  pub lines_ended : (grants : List Bool) (start : ℕ) (held new : Held) → ◌≡◌ {A = Option (ℕ × Asked) × Held} (None, new) (heard_at key piece start held) → IsUpTo grants start held → IsEnded grants new (world_upto grants start)
+  lines_ended grants start held new is u =
+      let h = found_at buses (partly n (fed ++ take start piece)) keys held (world_upto grants start) n key u.stands named in
+      let p = place_of h.reader (history buses (world_upto grants start)) h.conn in
+      let stood : StandsAt (fed ++ take start piece) p.reader =
+      subst (λ r. StandsAt (fed ++ take start piece) r) (sym (place_reader h.reader (history buses (world_upto grants start)) h.conn)) (subst (λ bytes. StandsAt bytes h.reader) (partly_here n (fed ++ take start piece) h.conn.fed) h.reads) in
+      from p h.place stood (feed_of p.reader piece start).0 (feed_of p.reader piece start).1 refl
+    where
+      from : (p : Place) → at held key ≡ Some p → StandsAt (fed ++ take start piece) p.reader → (result : Fed) (reading : Reading) → ◌≡◌ {A = Fed × Reading} (feed_of p.reader piece start) (result, reading) → IsEnded grants new (world_upto grants start)
+      from p here stood result reading e = by result reading e
+          (is ∙ ap (λ (o : Option Place). heard_in key piece start held o) here ∙ ap (λ (x : Fed × Reading). let y : Option (ℕ × Asked) × Held = finds held p x.0 x.1 in y) e)
+        where
+          by : (result : Fed) (reading : Reading) → ◌≡◌ {A = Fed × Reading} (feed_of p.reader piece start) (result, reading) → ◌≡◌ {A = Option (ℕ × Asked) × Held} (None, new) (finds held p result reading) → IsEnded grants new (world_upto grants start)
+          by (FoundLine s) reading e finding = absurd (none-some (s, asked_of held.buses p (Line reading.line)) (ap (λ (x : Option (ℕ × Asked) × Held). x.0) finding))
+          by (FoundTooLong s) reading e finding = absurd (none-some (s, asked_of held.buses p TooLong) (ap (λ (x : Option (ℕ × Asked) × Held). x.0) finding))
+          by More reading e finding =
+              let new_is : new ≡ record held { places = slice_set held.places key (Some (record p { reader = reading })) } = ap (λ (x : Option (ℕ × Asked) × Held). x.1) finding in
+              let both = fed_to_end fed piece start [] p.reader reading (λ bytes stood. marks-fed bytes p.reader reading piece start More (sym e) stood) (λ bytes stood. stands-fed bytes p.reader reading piece start More (sym e) stood) stood in
+              let last : new_marks buses fed piece ≡ marks_upto start = later_marks fed (take start piece) (marks (fed ++ piece)) [] both.0 ∙ append-nil (marks_upto start) in
+              let world : world_upto grants start ≡ fold (course_answered buses n) w (lines_under grants (new_marks buses fed piece)) = ap (λ ms. fold (course_answered buses n) w (lines_under grants ms)) (sym last) in
+              let reads : StandsBy buses (partly n (fed ++ piece)) keys (record held { places = slice_set held.places key (Some (record p { reader = reading })) }) (world_upto grants start) =
+              stands_read buses keys n key named (partly n (fed ++ take start piece)) (partly n (fed ++ piece)) held (world_upto grants start) p reading u.stands here
+              (λ conn e. subst (λ bytes. StandsAt bytes reading) (sym (partly_here n (fed ++ piece) conn.fed)) both.1)
+              (λ m bytes d. partly_other n m (fed ++ piece) bytes d ∙ sym (partly_other n m (fed ++ take start piece) bytes d)) in
+              record {
+                fine = subst (λ (v : World). IsFine buses order v) world u.fine;
+                stands = subst (λ (v : World). StandsFor buses keys new v) world (subst (λ (x : Held). StandsFor buses keys x (world_upto grants start)) (sym new_is) (stands_all (record held { places = slice_set held.places key (Some (record p { reader = reading })) }) (world_upto grants start) (fed ++ piece) u.fed_is reads));
+                world_is = world;
+                counts = ap (λ (x : Held). x.denied) new_is ∙ u.counts ∙ ap (λ ms. denied_lines buses n w before (lines_under grants ms)) (sym last);
+              }
+
+-- ---- the beginning of a piece
+
+pub set_same : (places : List (Option Place)) (key : ℕ) (p : Place) → place_at places key ≡ Some p → slice_set places key (Some p) ≡ places
+set_same [] key p h = refl
+set_same (x ∷ places) zero p h = ap (λ y. y ∷ places) (sym h)
+set_same (x ∷ places) (suc key) p h = ap (λ ys. x ∷ ys) (set_same places key p h)
+
+-- the world with all of the piece accepted
+abbrev pub accepting : ℕ → List ℕ → World → World
+accepting n piece w = at_connection n (λ c. record c { fed = c.fed ++ piece }) w
+
+pub piece_begun : (buses : List Bus) (order : IsRisingBy key_at (shown_rows (opening buses 0))) (keys : List (Option ℕ)) (n key : ℕ) (named : key_of n keys ≡ Some key) (piece : List ℕ) (held : Held) (w : World) (conn : Connection)
+    → IsFine buses order w → StandsFor buses keys held w → numbered n w.connections ≡ Some conn
+    → IsUpTo buses order keys n key named conn.fed piece (accepting n piece w) held.denied [] 0 held × (world_upto buses order keys n key named conn.fed piece (accepting n piece w) held.denied [] 0 ≡ accepting n piece w)
+piece_begun buses order keys n key named piece held w conn a s there =
+    let h = found_at buses (λ n fed. fed) keys held w n key s named in
+    let f : Connection → Connection = λ c. record c { fed = c.fed ++ piece } in
+    let same : h.conn ≡ conn = let both : Some h.conn ≡ Some conn = sym h.there ∙ there in cc in
+    let none : drop (length (marks conn.fed)) (marks (conn.fed ++ [])) ≡ [] = ap (λ bytes. drop (length (marks conn.fed)) (marks bytes)) (append-nil conn.fed) ∙ drop_all (length (marks conn.fed)) (marks conn.fed) (le_refl (length (marks conn.fed))) in
+    let world : fold (course_answered buses n) (accepting n piece w) (lines_under [] (drop (length (marks conn.fed)) (marks (conn.fed ++ [])))) ≡ accepting n piece w = ap (λ ms. fold (course_answered buses n) (accepting n piece w) (lines_under [] ms)) none in
+    let p = place_of h.reader (history buses w) h.conn in
+    let changed : StandsBy buses (partly n (conn.fed ++ [])) keys (record held { places = slice_set held.places key (Some p) }) (accepting n piece w) =
+    stands_changed buses (λ n fed. fed) (partly n (conn.fed ++ [])) keys held w n key h.conn f p h.reader s named h.there h.up h.up refl
+    (subst (λ bytes. StandsAt bytes h.reader) (ap (λ (c : Connection). c.fed) same ∙ sym (append-nil conn.fed) ∙ sym (partly_here n (conn.fed ++ []) (f h.conn).fed)) h.reads)
+    (λ m bytes d. partly_other n m (conn.fed ++ []) bytes d) in
+    let stands : StandsBy buses (partly n (conn.fed ++ [])) keys held (accepting n piece w) =
+    subst (λ (places : List (Option Place)). StandsBy buses (partly n (conn.fed ++ [])) keys (record held { places = places }) (accepting n piece w)) (set_same held.places key p h.place) changed in
+    let fine : IsFine buses order (accepting n piece w) = sound_at buses order Anything (anything (shown_rows (opening buses 0))) n f w (λ other k g. record { fits = g.fits; before = g.before; plain = g.plain; within = g.within }) a in (
+      record {
+        count = sym (ap length none);
+        fine = subst (λ (v : World). IsFine buses order v) (sym world) fine;
+        fed_is = ap (fed_of n) world ∙ ap (option_map (λ (c : Connection). c.fed)) (numbered_with n f w.connections ∙ ap (option_map f) there);
+        stands = subst (λ (v : World). StandsBy buses (partly n (conn.fed ++ [])) keys held v) (sym world) stands;
+        counts = sym (denied_none buses n (accepting n piece w) held.denied (drop (length (marks conn.fed)) (marks (conn.fed ++ []))));
+      },
+      world,
+    )

@@ -1,0 +1,101 @@
+-- A piece leads from the course of any events to that with its bytes.
+use Rattle.std.proofs.Common.{◌≡◌, ℕ, ◌+◌, Bool, List, [], ◌∷◌, ◌++◌, length, refl, ap, sym, ◌∙◌, subst}
+use Rattle.std.specs.List.{fold}
+use Rattle.std.specs.Prelude.{Option, Some, None}
+use Rattle.srcp_core.specs.Under.{Bytes, Piece, giving, denied_by}
+use Rattle.srcp_core.specs.Course.{course}
+use Rattle.srcp_core.specs.Held.{Held, at}
+use Rattle.srcp_core.specs.Machine.{IsReceived, CountsEach, bytes_fault, heard_at, line_taken, lines_taken, steps_of_line, answered}
+use Rattle.srcp_core.specs.Recording.{Recording, key_of, noted}
+use Rattle.srcp_core.specs.Run.{LeadsOn}
+use Rattle.srcp_core.specs.Stands.{StandsFor}
+use Rattle.srcp_core.specs.declared.asked.Asked.{Asked}
+use Rattle.srcp_core.specs.declared.record.CoreFault.{CoreFault}
+use Rattle.srcp_core.proofs.Invariants.LinesAreFound.{line_found, heard_denied}
+use Rattle.srcp_core.proofs.Agreement.CallsFollowTheCourse.{telling, runs_telling}
+use Rattle.srcp_core.proofs.Agreement.RecordIsOfTheCourse.{runs_on}
+use Rattle.srcp_core.proofs.Agreement.MemoryAnswers.{counted_more, none_denied}
+use Rattle.srcp_core.proofs.Agreement.RunsAnEvent.{ReadsWith, reads_with_none, reads_with_more, bytes_with, bytes_refused, noted_keys}
+
+-- a line of a piece, taken at a place of it
+abbrev line_on : ℕ → List ℕ → ℕ × Held → Bool → ℕ × Held
+line_on key piece before granted = line_taken key granted before (heard_at key piece before.0 before.1)
+
+-- ---- the lines of a piece, with what a run would have told of them
+
+record IsRead (n key : ℕ) (piece : List ℕ) (grants : List Bool) (first_r : Recording) (first : Held) (reached : ℕ × Held) : Type 0 where
+  told : Recording
+  keys : told.keys ≡ first_r.keys
+  reads : ReadsWith grants n key piece first_r first reached.0 told reached.1
+
+-- what memory answered to them, with which it is, whatever a run has told before
+record AreRead (key : ℕ) (piece : List ℕ) (first : Held) (reached : ℕ × Held) : Type 0 where
+  grants : List Bool
+  counted : reached.1.denied ≡ denied_by first.denied grants
+  is : (n : ℕ) (first_r : Recording) → key_of n first_r.keys ≡ Some key → IsRead n key piece grants first_r first reached
+
+line_read : (key : ℕ) (piece : List ℕ) (first : Held) (before : ℕ × Held) (granted : Bool) → (line_on key piece before granted).1.denied ≡ denied_by before.1.denied (granted ∷ []) → AreRead key piece first before → AreRead key piece first (line_on key piece before granted)
+line_read key piece first before granted counted a = by (heard_at key piece before.0 before.1).0 (heard_at key piece before.0 before.1).1 refl
+  where
+    by : (found : Option (ℕ × Asked)) (mid : Held) → ◌≡◌ {A = Option (ℕ × Asked) × Held} (heard_at key piece before.0 before.1) (found, mid) → AreRead key piece first (line_on key piece before granted)
+    by None mid e =
+        let same : ◌≡◌ {A = ℕ × Held} (line_on key piece before granted) before = ap (line_taken key granted before) e in
+        subst (λ (reached : ℕ × Held). AreRead key piece first reached) (sym same) a
+    by (Some (stop, asked)) mid e =
+        let new : Held = answered granted key asked mid in
+        let is : ◌≡◌ {A = ℕ × Held} (stop, new) (line_on key piece before granted) = sym (ap (line_taken key granted before) e) in
+        let steps = steps_of_line key granted (heard_at key piece before.0 before.1) in
+        subst (λ (reached : ℕ × Held). AreRead key piece first reached) is
+        (record {
+          grants = a.grants ++ granted ∷ [];
+          counted = counted_more first.denied before.1.denied new.denied a.grants granted a.counted (ap (λ (x : ℕ × Held). x.1.denied) is ∙ counted);
+          is = λ n first_r named.
+              let i = a.is n first_r named in
+              record {
+                told = noted n steps i.told;
+                keys = noted_keys n steps i.told ∙ i.keys;
+                reads = reads_with_more a.grants n key piece first_r first before.0 stop granted steps i.told before.1 new (line_found key piece before.0 stop asked before.1 mid (sym e)).onward is refl i.reads;
+              };
+        })
+
+lines_read : (key : ℕ) (piece : List ℕ) (first : Held) (grants : List Bool) (before : ℕ × Held) → CountsEach key piece before grants → AreRead key piece first before → AreRead key piece first (fold (line_on key piece) before grants)
+lines_read key piece first [] before counted a = a
+lines_read key piece first (granted ∷ grants) before counted a = lines_read key piece first grants (line_on key piece before granted) counted.1 (line_read key piece first before granted counted.0 a)
+
+-- ---- the whole piece
+
+pub taken_leads : (key : ℕ) (piece : List ℕ) (old new : Held) → bytes_fault key piece old ≡ None → IsReceived key piece old new
+    → LeadsOn key piece old new
+taken_leads key piece old new free received =
+    let reached = lines_taken key piece received.grants old in
+    let a = lines_read key piece old received.grants (0, old) received.counted (record { grants = []; counted = refl; is = λ n first_r named. record { told = first_r; keys = refl; reads = reads_with_none n key piece first_r old named free } }) in
+    let counted : new.denied ≡ denied_by old.denied a.grants = ap (λ (x : Option (ℕ × Asked) × Held). x.1.denied) received.rest ∙ heard_denied key piece reached.0 reached.1 (at reached.1 key) ∙ a.counted in
+    record {
+      grants = a.grants;
+      counted = counted;
+      given = λ d. (none_denied a.grants old.denied (sym counted ∙ d)).1;
+      leads = λ buses events keys n layout named s.
+          let first_r = telling keys (course buses events) in
+          let i = a.is n first_r named in
+          let p : Piece = record { bytes = piece; grants = a.grants } in
+          let h = bytes_with a.grants n key piece first_r old reached.0 i.told reached.1 new received.rest i.reads buses events layout (runs_telling buses keys old (course buses events) s) in
+          subst (λ (ks : List (Option ℕ)). StandsFor buses ks new (course buses (events ++ Bytes n p ∷ []))) i.keys
+          (runs_on buses events (Bytes n p) None (length events + 1) i.told new refl h).stands;
+    }
+
+pub refused_leads : (key : ℕ) (piece : List ℕ) (old new : Held) (cause : CoreFault) → bytes_fault key piece old ≡ Some cause → new ≡ old
+    → LeadsOn key piece old new
+refused_leads key piece old new cause e same = record {
+  grants = [];
+  counted = ap (λ (x : Held). x.denied) same;
+  given = λ d. tt;
+  leads = λ buses events keys n layout named s.
+      let first_r = telling keys (course buses events) in
+      let h = (bytes_refused n key piece first_r old cause named e).happens buses events layout (runs_telling buses keys old (course buses events) s) in
+      subst (λ (x : Held). StandsFor buses keys x (course buses (events ++ Bytes n (giving piece) ∷ []))) (sym same)
+      (runs_on buses events (Bytes n (giving piece)) (Some cause) (length events + 1) first_r old refl h).stands;
+}
+
+-- memory that was refused before stays refused
+pub received_denied : (key : ℕ) (piece : List ℕ) (old new : Held) → LeadsOn key piece old new → new.denied ≡ 0 → old.denied ≡ 0
+received_denied key piece old new l d = (none_denied l.grants old.denied (sym l.counted ∙ d)).0

@@ -1,0 +1,217 @@
+-- What a call makes of the place of one connection.
+use Rattle.std.proofs.Common.{◌≡◌, ℕ, ◌+◌, ◌≤◌, Bool, true, false, cond, List, [], ◌∷◌, ◌++◌, length, length-append, drop, refl, ap, sym, ◌∙◌, arith, append-nil, append_assoc}
+use Rattle.std.proofs.lemmas.Bool.Decides.{nat_tests}
+use Rattle.std.proofs.lemmas.List.{length_push, drop-append-le}
+use Rattle.std.specs.List.{filter, fold}
+use Rattle.std.specs.Option.{option_map}
+use Rattle.std.specs.Prelude.{◌&&◌, nat_lt, if◌then◌else◌, Option, Some, None}
+use Rattle.srcp_info.specs.declared.change.Change.{Change}
+use Rattle.srcp_info.specs.declared.change.Cursor.{Cursor}
+use Rattle.srcp_info.specs.declared.change.Cursor.TheVariants.{Start}
+use Rattle.srcp_info.specs.declared.change.Shown.{Shown}
+use Rattle.srcp_info.specs.declared.value.Mode.{Mode}
+use Rattle.srcp_info.specs.declared.value.Mode.TheVariants.{Command as CommandMode, Info}
+use Rattle.srcp_text.specs.Reading.{Reading}
+use Rattle.srcp_feed.specs.Cursor.{concerns}
+use Rattle.srcp_core.specs.Connection.{Connection, History, cursor_at, untold, unsent, heard, text, given}
+use Rattle.srcp_core.specs.Course.{is_info}
+use Rattle.srcp_core.specs.Held.{Place, place_at}
+use Rattle.srcp_core.specs.Machine.{told_place, told_all, told_each, with_unsent, entered_place}
+use Rattle.srcp_core.specs.Stands.{placed, place_of}
+use Rattle.srcp_core.proofs.CourseLaws.Histories.{concerning_by, concerning_push, cursor_by, cursor_later}
+use Rattle.srcp_core.proofs.CourseLaws.ClientHoldsPassedRows.{Fits, tolds, untold_by}
+use Rattle.srcp_core.proofs.Invariants.EveryPlaceIsTold.{told_all_at}
+use Rattle.srcp_core.proofs.CourseLaws.SessionsAreKept.{concerning_start}
+
+-- ---- changes
+
+-- the change, where it concerns a listing that has come so far
+abbrev one : Cursor → Change → List Change
+one cursor change = filter (concerns cursor) (change ∷ [])
+
+more_than : (queue extra : List Change) → nat_lt 256 (length queue) ≡ true → nat_lt 256 (length (queue ++ extra)) ≡ true
+more_than queue extra h = let e = length-append queue extra in grind (arith, nat_tests)
+
+full_more : (queue : List Change) (change : Change) → nat_lt (length queue) 256 ≡ false → nat_lt 256 (length (queue ++ change ∷ [])) ≡ true
+full_more queue change h = let e = length-append queue (change ∷ []) in grind (arith, nat_tests)
+
+room_more : (queue : List Change) (change : Change) → nat_lt (length queue) 256 ≡ true → nat_lt 256 (length (queue ++ change ∷ [])) ≡ false
+room_more queue change h = let e = length-append queue (change ∷ []) in grind (arith, nat_tests)
+
+told_placed : (change : Change) (reader : Reading) (mode : Mode) (session : ℕ) (info ended : Bool) (bytes : List ℕ) (cursor : Cursor) (queue : List Change)
+    → told_place change (placed reader mode session info ended bytes cursor queue) ≡ placed reader mode session info ended bytes cursor (queue ++ one cursor change)
+told_placed change reader mode session false ended bytes cursor queue = refl
+told_placed change reader mode session true ended bytes cursor queue = by (nat_lt 256 (length queue)) (concerns cursor change) (nat_lt (length queue) 256) refl refl refl where
+  by : (over told room : Bool) → nat_lt 256 (length queue) ≡ over → concerns cursor change ≡ told → nat_lt (length queue) 256 ≡ room
+      → told_place change (placed reader mode session true ended bytes cursor queue) ≡ placed reader mode session true ended bytes cursor (queue ++ one cursor change)
+  by true told room o t r = let m = more_than queue (one cursor change) o in rw (o, m) refl
+  by false false room o t r = let e = append-nil queue in rw (o, t, e, o) refl
+  by false true true o t r = let m = room_more queue change r in rw (o, t, r, m) refl
+  by false true false o t r = let m = full_more queue change r in rw (o, t, r, m) refl
+
+-- a place that is told each change in turn
+abbrev pub told_places : List Change → Place → Place
+told_places changes p = fold (λ p change. told_place change p) p changes
+
+pub told_each_at : (changes : List Change) (places : List (Option Place)) (key : ℕ) → place_at (told_each changes places) key ≡ option_map (told_places changes) (place_at places key)
+told_each_at [] places key = sym (same (place_at places key))
+  where
+    same : (o : Option Place) → option_map (told_places []) o ≡ o
+    same None = refl
+    same (Some p) = refl
+told_each_at (change ∷ changes) places key = told_each_at changes (told_all change places) key ∙ ap (option_map (told_places changes)) (told_all_at change places key) ∙ both (place_at places key)
+  where
+    both : (o : Option Place) → option_map (told_places changes) (option_map (told_place change) o) ≡ option_map (told_places (change ∷ changes)) o
+    both None = refl
+    both (Some p) = refl
+
+told_places_placed : (changes : List Change) (reader : Reading) (mode : Mode) (session : ℕ) (info ended : Bool) (bytes : List ℕ) (cursor : Cursor) (queue : List Change)
+    → told_places changes (placed reader mode session info ended bytes cursor queue) ≡ placed reader mode session info ended bytes cursor (queue ++ filter (concerns cursor) changes)
+told_places_placed [] reader mode session info ended bytes cursor queue = ap (placed reader mode session info ended bytes cursor) (sym (append-nil queue))
+told_places_placed (change ∷ changes) reader mode session info ended bytes cursor queue =
+    ap (told_places changes) (told_placed change reader mode session info ended bytes cursor queue)
+    ∙ told_places_placed changes reader mode session info ended bytes cursor (queue ++ one cursor change)
+    ∙ ap (placed reader mode session info ended bytes cursor) (append_assoc queue (one cursor change) (filter (concerns cursor) changes) ∙ ap (λ cs. queue ++ cs) (joined (concerns cursor change) refl))
+  where
+    joined : (t : Bool) → concerns cursor change ≡ t → one cursor change ++ filter (concerns cursor) changes ≡ filter (concerns cursor) (change ∷ changes)
+    joined true e = rw e refl
+    joined false e = rw e refl
+
+-- ---- what was not told of an open connection
+
+pub untold_shut : (conn : Connection) (history : History) → conn.shut ≡ None → untold conn history ≡ untold_by conn.go_step conn.items conn.done history
+untold_shut conn history e = ap (λ s. drop (length (tolds conn.items)) (concerning_by conn.go_step (cursor_by conn.done conn.items) (heard s history))) e
+
+untold_push : (first : List Shown) (conn : Connection) (history : History) (changes : List Change) → conn.shut ≡ None → Fits first history conn.go_step conn.items conn.done
+    → untold conn (history ++ changes ∷ []) ≡ untold conn history ++ filter (concerns (cursor_at conn (length history))) changes
+untold_push first conn history changes shut f =
+    untold_shut conn (history ++ changes ∷ []) shut
+    ∙ ap (drop (length (tolds conn.items))) (concerning_push conn.go_step (cursor_by conn.done conn.items) history changes f.began)
+    ∙ drop-append-le (length (tolds conn.items)) (concerning_by conn.go_step (cursor_by conn.done conn.items) history) (filter (concerns (cursor_by conn.done conn.items (length history))) changes) f.enough
+    ∙ ap (λ cs. cs ++ filter (concerns (cursor_by conn.done conn.items (length history))) changes) (sym (untold_shut conn history shut))
+
+-- a step
+pub told_place_of : (first : List Shown) (reader : Reading) (conn : Connection) (history : History) (changes : List Change) → conn.shut ≡ None → Fits first history conn.go_step conn.items conn.done
+    → told_places changes (place_of reader history conn) ≡ place_of reader (history ++ changes ∷ []) conn
+told_place_of first reader conn history changes shut f =
+    let len : length (history ++ changes ∷ []) ≡ length history + 1 = length_push history changes in
+    let up : length history ≤ length (history ++ changes ∷ []) = omega arith in
+    let cur : cursor_at conn (length (history ++ changes ∷ [])) ≡ cursor_at conn (length history) = cursor_later (length history) (length (history ++ changes ∷ [])) conn.done conn.items up f.finished f.numbers in
+    told_places_placed changes reader conn.mode conn.session conn.info conn.ended (unsent conn) (cursor_at conn (length history)) (untold conn history)
+    ∙ ap (λ q. placed reader conn.mode conn.session conn.info conn.ended (unsent conn) (cursor_at conn (length history)) q) (sym (untold_push first conn history changes shut f))
+    ∙ ap (λ c. placed reader conn.mode conn.session conn.info conn.ended (unsent conn) c (untold conn (history ++ changes ∷ []))) (sym cur)
+
+-- ---- a connection that is no information session
+
+-- what is held of it
+abbrev pub plain_place : Reading → Mode → ℕ → Bool → List ℕ → Place
+plain_place reader mode session ended bytes = record { reader = reader; mode = mode; session = session; info = false; ended = ended; overran = false; unsent = bytes; feed = None }
+
+pub plain_is : (reader : Reading) (history : History) (conn : Connection) → conn.info ≡ false → place_of reader history conn ≡ plain_place reader conn.mode conn.session conn.ended (unsent conn)
+plain_is reader history conn e = ap (λ i. placed reader conn.mode conn.session i conn.ended (unsent conn) (cursor_at conn (length history)) (untold conn history)) e
+
+-- a reply to a connection that was given no lines is put at the end of what was given to it
+pub given_reply : (conn : Connection) (line : List ℕ) → conn.items ≡ [] → given (record conn { out = conn.out ++ line }) ≡ given conn ++ line
+given_reply conn line none =
+    let bare : text conn.items ≡ [] = ap text none in
+    let before : given conn ≡ conn.out = ap (λ t. conn.out ++ t) bare ∙ append-nil conn.out in
+    ap (λ t. (conn.out ++ line) ++ t) bare ∙ append-nil (conn.out ++ line) ∙ ap (λ bytes. bytes ++ line) (sym before)
+
+-- and of what is unsent
+pub unsent_reply : (conn : Connection) (line : List ℕ) → conn.items ≡ [] → conn.taken ≤ length (given conn) → unsent (record conn { out = conn.out ++ line }) ≡ unsent conn ++ line
+unsent_reply conn line none within = ap (drop conn.taken) (given_reply conn line none) ∙ drop-append-le conn.taken (given conn) line within
+
+pub replied_place : (reader : Reading) (history : History) (conn : Connection) (line : List ℕ) → conn.info ≡ false → conn.items ≡ [] → conn.taken ≤ length (given conn)
+    → with_unsent line (place_of reader history conn) ≡ place_of reader history (record conn { out = conn.out ++ line })
+replied_place reader history conn line plain none within =
+    ap (with_unsent line) (plain_is reader history conn plain)
+    ∙ ap (plain_place reader conn.mode conn.session conn.ended) (sym (unsent_reply conn line none within))
+    ∙ sym (plain_is reader history (record conn { out = conn.out ++ line }) plain)
+
+pub chosen_place : (reader : Reading) (history : History) (conn : Connection) (mode : Mode) → conn.info ≡ false → record (place_of reader history conn) { mode = mode } ≡ place_of reader history (record conn { mode = mode })
+chosen_place reader history conn mode plain =
+    ap (λ (p : Place). record p { mode = mode }) (plain_is reader history conn plain)
+    ∙ sym (plain_is reader history (record conn { mode = mode }) plain)
+
+pub ended_place : (reader : Reading) (history : History) (conn : Connection) → conn.info ≡ false → record (place_of reader history conn) { ended = true } ≡ place_of reader history (record conn { ended = true })
+ended_place reader history conn plain =
+    ap (λ (p : Place). record p { ended = true }) (plain_is reader history conn plain)
+    ∙ sym (plain_is reader history (record conn { ended = true }) plain)
+
+-- a session begins
+entered_plain : (reader : Reading) (mode : Mode) (session id : ℕ) (ended : Bool) (bytes : List ℕ) → entered_place id mode (plain_place reader mode session ended bytes) ≡ placed reader mode id (is_info mode) ended bytes Start []
+entered_plain reader CommandMode session id ended bytes = refl
+entered_plain reader Info session id ended bytes = refl
+
+pub entered_place_of : (reader : Reading) (history : History) (conn : Connection) (id go : ℕ) → conn.shut ≡ None → conn.info ≡ false → conn.items ≡ [] → conn.done ≡ None
+    → entered_place id conn.mode (place_of reader history conn) ≡ place_of reader history (record conn { session = id; info = is_info conn.mode; go_step = go })
+entered_place_of reader history conn id go shut plain none undone =
+    ap (entered_place id conn.mode) (plain_is reader history conn plain)
+    ∙ entered_plain reader conn.mode conn.session id conn.ended (unsent conn)
+    ∙ ap (λ c. placed reader conn.mode id (is_info conn.mode) conn.ended (unsent conn) c []) (sym (ap (λ d. cursor_by d conn.items (length history)) undone ∙ ap (λ is. cursor_by None is (length history)) none))
+    ∙ ap (placed reader conn.mode id (is_info conn.mode) conn.ended (unsent conn) (cursor_at conn (length history))) (sym nothing)
+  where
+    nothing : untold (record conn { session = id; info = is_info conn.mode; go_step = go }) history ≡ []
+    nothing =
+        untold_shut (record conn { session = id; info = is_info conn.mode; go_step = go }) history shut
+        ∙ ap (λ d. untold_by go conn.items d history) undone
+        ∙ ap (λ is. untold_by go is None history) none
+        ∙ concerning_start go 0 history
+
+-- ---- the parts of a place
+
+abbrev pub is_over_place : History → Connection → Bool
+is_over_place history conn = conn.info && nat_lt 256 (length (untold conn history))
+
+module _ (reader : Reading) (history : History) (conn : Connection) where
+  part_of : (A : Type 0) (part : Place → A) (t : Bool) → (other : A)
+      → part (record { reader = reader; mode = conn.mode; session = conn.session; info = conn.info; ended = conn.ended; overran = true; unsent = []; feed = None }) ≡ other
+      → part (record { reader = reader; mode = conn.mode; session = conn.session; info = conn.info; ended = conn.ended; overran = false; unsent = unsent conn; feed = if conn.info then Some (record { cursor = cursor_at conn (length history); queue = untold conn history }) else None }) ≡ other
+      → part (cond t (record { reader = reader; mode = conn.mode; session = conn.session; info = conn.info; ended = conn.ended; overran = true; unsent = []; feed = None })
+      (record { reader = reader; mode = conn.mode; session = conn.session; info = conn.info; ended = conn.ended; overran = false; unsent = unsent conn; feed = if conn.info then Some (record { cursor = cursor_at conn (length history); queue = untold conn history }) else None })) ≡ other
+  part_of A part true other a b = a
+  part_of A part false other a b = b
+
+  pub place_mode : (place_of reader history conn).mode ≡ conn.mode
+  place_mode = part_of Mode (λ p. p.mode) (is_over_place history conn) conn.mode refl refl
+
+  pub place_session : (place_of reader history conn).session ≡ conn.session
+  place_session = part_of ℕ (λ p. p.session) (is_over_place history conn) conn.session refl refl
+
+  pub place_info : (place_of reader history conn).info ≡ conn.info
+  place_info = part_of Bool (λ p. p.info) (is_over_place history conn) conn.info refl refl
+
+  pub place_ended : (place_of reader history conn).ended ≡ conn.ended
+  place_ended = part_of Bool (λ p. p.ended) (is_over_place history conn) conn.ended refl refl
+
+  pub place_reader : (place_of reader history conn).reader ≡ reader
+  place_reader = part_of Reading (λ p. p.reader) (is_over_place history conn) reader refl refl
+
+  pub place_read : (other : Reading) → record (place_of reader history conn) { reader = other } ≡ place_of other history conn
+  place_read other = by (is_over_place history conn) refl
+    where
+      by : (t : Bool) → is_over_place history conn ≡ t → record (place_of reader history conn) { reader = other } ≡ place_of other history conn
+      by true e = rw e refl
+      by false e = rw e refl
+
+  pub place_overran : (place_of reader history conn).overran ≡ is_over_place history conn
+  place_overran = by (is_over_place history conn) refl
+    where
+      by : (t : Bool) → is_over_place history conn ≡ t → (place_of reader history conn).overran ≡ is_over_place history conn
+      by true e = rw e refl
+      by false e = rw e refl
+
+  pub place_unsent : is_over_place history conn ≡ false → (place_of reader history conn).unsent ≡ unsent conn
+  place_unsent e = rw e refl
+
+  pub place_given_up : is_over_place history conn ≡ true → (place_of reader history conn).unsent ≡ []
+  place_given_up e = rw e refl
+
+  -- a reply to one that did not overrun
+  pub replied_still : (line : List ℕ) → is_over_place history conn ≡ false → conn.items ≡ [] → conn.taken ≤ length (given conn)
+      → with_unsent line (place_of reader history conn) ≡ place_of reader history (record conn { out = conn.out ++ line })
+  replied_still line still none within = still_placed (unsent conn ++ line) refl still ∙ ap (λ bytes. placed reader conn.mode conn.session conn.info conn.ended bytes (cursor_at conn (length history)) (untold conn history)) (sym (unsent_reply conn line none within))
+    where
+      still_placed : (bytes : List ℕ) → unsent conn ++ line ≡ bytes → is_over_place history conn ≡ false
+          → with_unsent line (place_of reader history conn) ≡ placed reader conn.mode conn.session conn.info conn.ended bytes (cursor_at conn (length history)) (untold conn history)
+      still_placed bytes b e = rw e (ap (λ bytes. record { reader = reader; mode = conn.mode; session = conn.session; info = conn.info; ended = conn.ended; overran = false; unsent = bytes; feed = if conn.info then Some (record { cursor = cursor_at conn (length history); queue = untold conn history }) else None }) b)

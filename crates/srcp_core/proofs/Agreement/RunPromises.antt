@@ -1,0 +1,136 @@
+-- What a run tells has the laws of every course.
+use Rattle.std.proofs.Common.{◌≡◌, ℕ, zero, suc, List, [], ◌∷◌, map, ◌+◌, ◌≤◌, length, take, refl, ap, sym, ◌∙◌, subst, arith}
+use Rattle.std.proofs.lemmas.List.{take_all}
+use Rattle.std.proofs.Math.Nat.{le_refl}
+use Rattle.std.specs.List.{AllByRecursion}
+use Rattle.std.specs.Prelude.{Some, slice_get, Result, Ok, Err, IfOk}
+use Rattle.srcp_rules.specs.declared.layout.Bus.{Bus}
+use Rattle.srcp_rules.specs.Layout.{IsLayout}
+use Rattle.srcp_rules.specs.State.{State, IsWhole, opening}
+use Rattle.srcp_core.specs.Under.{Event, all_under}
+use Rattle.srcp_core.specs.Run.{RunsRecord, HasPlainMoment, PlainMoments}
+use Rattle.srcp_core.proofs.Agreement.MemoryAnswers.{all_moments, none_of_all}
+use Rattle.srcp_core.specs.declared.event.Event.{Event as PlainEvent}
+use Rattle.srcp_core.specs.Connection.{Connection, recorded}
+use Rattle.srcp_core.specs.Course.{World, course, history, numbered, state, state_after}
+use Rattle.srcp_core.specs.Promised.{told_at, ToldSessions, ToldReplies, ToldRooms, IsToldRegistry, IsPromised}
+use Rattle.srcp_core.specs.Laws.{IsRecordOf, IsSession, IsPrefixOf, IsWholeWorld, AllMoments, HasMoment, times_listed, without_events}
+use Rattle.srcp_core.specs.declared.record.ConnRecord.{ConnRecord}
+use Rattle.srcp_core.specs.declared.record.Record.{Record}
+use Rattle.srcp_core.proofs.CourseLaws.EveryCourse.{told_rightly, served_rightly}
+use Rattle.srcp_core.proofs.CourseLaws.SentLinesAreOneList.{all_front}
+
+-- the registry as it is
+whole_now : (buses : List Bus) (w : World) → IsWholeWorld buses w → IsWhole buses (state buses w)
+whole_now buses w whole = subst (λ steps. IsWhole buses (state_after (opening buses 0) steps)) (take_all (length w.steps) w.steps (le_refl (length w.steps))) (whole.states (length w.steps))
+
+-- the connection that is told of
+record Told (f : Connection → ConnRecord) (number : ℕ) (conns : List Connection) (one : ConnRecord) : Type 0 where
+  conn : Connection
+  there : numbered number conns ≡ Some conn
+  is : one ≡ f conn
+
+told_map : (f : Connection → ConnRecord) (number : ℕ) (conns : List Connection) (one : ConnRecord) → told_at number (map f conns) ≡ Some one → Told f number conns one
+told_map f zero conns one e = cc
+told_map f (suc n) [] one e = cc
+told_map f (suc zero) (conn ∷ conns) one e = let same : f conn ≡ one = cc in record { conn = conn; there = refl; is = sym same }
+told_map f (suc (suc n)) (conn ∷ conns) one e = let t = told_map f (suc n) conns one e in record { conn = t.conn; there = t.there; is = t.is }
+
+pub told_sessions : (buses : List Bus) (events : List Event) (told : Record) → IsLayout buses → AllMoments events → IsRecordOf buses events told → ToldSessions buses events told
+told_sessions buses events told layout moments r number one e info =
+    let w = course buses events in
+    let t = told_map (recorded (history buses w)) number w.connections one (ap (told_at number) (sym r.connections) ∙ e) in
+    let session : IsSession buses events number t.conn = record { there = t.there; info = sym (ap (λ (c : ConnRecord). c.info) t.is) ∙ info } in
+    let laws = told_rightly buses in
+    record {
+      conn = t.conn;
+      session = session;
+      is = t.is;
+      still = laws.still layout events number t.conn session;
+      never_twice = laws.never_twice layout events number t.conn session;
+      once = λ first more early whole begins settled device there key own has.
+          ap (λ (c : ConnRecord). times_listed key c.items) t.is
+          ∙ laws.once layout first more number early t.conn begins (subst (λ (es : List Event). IsSession buses es number t.conn) whole session) (all_front HasMoment first more (subst AllMoments whole moments)) settled device there key own has;
+      registry = λ settled. laws.registry layout events number t.conn session moments settled;
+      passed = laws.passed layout events number t.conn session;
+      rising = laws.rising layout events number t.conn session;
+      held = laws.held layout events number t.conn session;
+      lines = laws.lines layout events number t.conn session moments;
+    }
+
+pub told_replies : (buses : List Bus) (events : List Event) (told : Record) → IsLayout buses → IsRecordOf buses events told → ToldReplies buses events told
+told_replies buses events told layout r number one e plain =
+    let w = course buses events in
+    let t = told_map (recorded (history buses w)) number w.connections one (ap (told_at number) (sym r.connections) ∙ e) in
+    let laws = served_rightly buses in
+    let replies = laws.replies layout events number t.conn t.there (sym (ap (λ (c : ConnRecord). c.info) t.is) ∙ plain) in
+    record {
+      conn = t.conn;
+      there = t.there;
+      is = t.is;
+      no_items = ap (λ (c : ConnRecord). c.items) t.is ∙ replies.no_items;
+      front = subst (λ bytes. IsPrefixOf bytes t.conn.out) (sym (ap (λ (c : ConnRecord). c.sent) t.is)) replies.front;
+      all = λ first bytes early whole there info up few.
+          let a = laws.all_replies layout first number bytes early t.conn there info up (subst (λ (es : List Event). numbered number (course buses es).connections ≡ Some t.conn) whole t.there) few in
+          ap (λ (c : ConnRecord). c.sent) t.is ∙ a.all ∙ sym a.replies;
+    }
+
+pub told_rooms : (buses : List Bus) (events : List Event) (told : Record) → IsLayout buses → IsRecordOf buses events told → ToldRooms buses events told
+told_rooms buses events told layout r number one e =
+    let w = course buses events in
+    let t = told_map (recorded (history buses w)) number w.connections one (ap (told_at number) (sym r.connections) ∙ e) in
+    let laws = served_rightly buses in
+    record {
+      conn = t.conn;
+      there = t.there;
+      is = t.is;
+      within = laws.within layout events number t.conn t.there;
+      settles = λ first bytes early whole session up still. laws.settles layout first number bytes early t.conn session up still (subst (λ (es : List Event). numbered number (course buses es).connections ≡ Some t.conn) whole t.there);
+      rooms = λ up. laws.rooms layout events number t.conn t.there up;
+      one_room = λ first a b early whole there up some. ap (λ (es : List Event). without_events (course buses es)) whole ∙ laws.one_room layout first number a b early there up some;
+      overruns = λ info up still changes. laws.overruns layout events number t.conn (record { there = t.there; info = info }) up still changes;
+      no_more = λ first more early whole there over.
+          let n = laws.no_more first more number early t.conn there (subst (λ (es : List Event). numbered number (course buses es).connections ≡ Some t.conn) whole t.there) over in
+          (ap (λ (c : ConnRecord). c.items) t.is ∙ n.items, ap (λ (c : ConnRecord). c.sent) t.is ∙ n.sent_bytes);
+    }
+
+pub told_registry : (buses : List Bus) (events : List Event) (told : Record) → IsLayout buses → AllMoments events → IsRecordOf buses events told → IsToldRegistry buses events told
+told_registry buses events told layout moments r =
+    let laws = served_rightly buses in
+    let world = laws.whole layout events moments in
+    record {
+      rows_whole = subst (λ (state : State). IsWhole buses state) (sym r.rows) (whole_now buses (course buses events) world);
+      world = world;
+      keys = laws.keys layout events moments;
+    }
+
+-- so it is of each record that is given
+pub promised : {E : Type 0} (buses : List Bus) (events : List PlainEvent) (result : Result Record E)
+    → IfOk result (λ told. RunsRecord buses events told) → IfOk result (λ _. PlainMoments events) → IfOk result (λ _. IsLayout buses) → IfOk result (λ told. IsPromised buses events told)
+promised buses events (Ok told) r plain_moments layout =
+    let all = all_under r.grants events in
+    let moments = all_moments r.grants events plain_moments in
+    record {
+      grants = r.grants;
+      count = r.count;
+      counted = r.counted;
+      asked = r.asked;
+      given = λ d. (none_of_all r.grants 0 (sym r.counted ∙ d)).1;
+      is = r.is;
+      sessions = told_sessions buses all told layout moments r.is;
+      replies = told_replies buses all told layout r.is;
+      rooms = told_rooms buses all told layout r.is;
+      registry = told_registry buses all told layout moments r.is;
+    }
+promised buses events (Err fault) r moments layout = tt
+
+-- one moment more
+pub moments_more : (events : List PlainEvent) (index : ℕ) (event : PlainEvent) → slice_get events index ≡ Some event → HasPlainMoment event → AllByRecursion HasPlainMoment (take index events) → AllByRecursion HasPlainMoment (take (index + 1) events)
+moments_more [] index event e h all = cc
+moments_more (x ∷ events) zero event e h all = let same : x ≡ event = cc in (subst HasPlainMoment (sym same) h, tt)
+moments_more (x ∷ events) (suc index) event e h all =
+    let one : suc index + 1 ≡ suc (index + 1) = omega arith in
+    subst (λ k. AllByRecursion HasPlainMoment (take k (x ∷ events))) (sym one) (all.0, moments_more events index event e h all.1)
+
+pub moments_all : (events : List PlainEvent) (index : ℕ) → length events ≤ index → AllByRecursion HasPlainMoment (take index events) → PlainMoments events
+moments_all events index h all = subst PlainMoments (take_all index events h) all

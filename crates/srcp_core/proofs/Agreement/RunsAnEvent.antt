@@ -1,0 +1,500 @@
+-- A run over one more event.
+use Rattle.std.proofs.Common.{◌≡◌, ◌≢◌, ℕ, zero, suc, min, max, ◌-◌, ◌<◌, ◌≤◌, Bool, true, false, List, [], ◌∷◌, ◌++◌, take, length, refl, ap, sym, ◌∙◌, subst, arith, append-nil, ◌⊎◌, inl, inr}
+use Rattle.std.proofs.lemmas.Bool.{ltb-false}
+use Rattle.std.specs.List.{fold}
+use Rattle.std.specs.Prelude.{Option, Some, None, not, ◌||◌, ◌==◌, nat_lt, slice_get, slice_set, if◌then◌else◌}
+use Rattle.std.proofs.lemmas.List.{map-append}
+use Rattle.std.proofs.lemmas.Option.{none-some}
+use Rattle.std.proofs.Math.Nat.{pos_of_ne-zero, zero-min}
+use Rattle.srcp_rules.specs.declared.layout.Bus.{Bus}
+use Rattle.srcp_rules.specs.Layout.{IsLayout}
+use Rattle.srcp_rules.specs.State.{opening, shown_rows}
+use Rattle.srcp_feed.specs.declared.next.Next.{Next}
+use Rattle.srcp_feed.specs.declared.next.Next.TheVariants.{Told, Listed, Settled}
+use Rattle.srcp_core.specs.Under.{Event, Open, Bytes, Room, At, Shut, Piece, Moment, Ended, lines_under, step_told, under, denied_by}
+use Rattle.srcp_core.specs.declared.event.Event.{Event as PlainEvent}
+use Rattle.srcp_core.specs.declared.event.Event.TheVariants as plain
+use Rattle.srcp_core.specs.declared.record.Step.{Step as PlainStep}
+use Rattle.srcp_core.specs.declared.record.Step.TheVariants as told
+use Rattle.srcp_core.specs.Connection.{Connection, is_nil}
+use Rattle.srcp_core.specs.Course.{World, numbered, at_connection, open_connection, did, history, fresh, counted, fault, absent_fault, bytes_fault as course_fault, accepted, fed_to, shut_as, answered as course_answered, new_marks, course, denied_fed}
+use Rattle.srcp_core.specs.Held.{Place, Held, at, open_count}
+use Rattle.srcp_core.specs.Machine.{IsAdmitted, IsNotAdmitted, one_denied, HasRoom, bytes_fault, bytes_fault_from, heard_at, line_taken, steps_of_line, freed_place, freed_of, hung_up, hung_up_from, advanced, live_session, live_session_of, let_out, without_sent, changed_at, changed_in as changed_places_in, filled, unsent_of, unsent_at, item_of, item_at}
+use Rattle.srcp_core.specs.Recording.{Recording, key_of, told_of, opened, shut, stepped, noted, gave, took, without_key, changed_record, changed_in}
+use Rattle.srcp_core.specs.Run.{Tells, Runs, Happened, HappensAs, CountsAsked, count_at, taken_at, taking}
+use Rattle.srcp_core.specs.Stands.{StandsFor, place_of}
+use Rattle.srcp_core.specs.declared.asked.Asked.{Asked}
+use Rattle.srcp_core.specs.declared.record.ConnRecord.{ConnRecord}
+use Rattle.srcp_core.specs.declared.record.CoreFault.{CoreFault}
+use Rattle.srcp_core.specs.declared.record.CoreFault.TheVariants.{Full, Memory as MemoryFault, NoSuch, Busy, PieceTooLong, Closing}
+use Rattle.srcp_core.specs.declared.record.Finish.TheVariants.{Shut as ShutFinish}
+use Rattle.srcp_core.proofs.Agreement.LinesAgree.{IsFine}
+use Rattle.srcp_core.proofs.Agreement.EventsAgree.{absent_at, fault_same, full_fault, free_room, free_fault, stands_counted, stands_advanced, stands_opened, stands_hung_up}
+use Rattle.srcp_core.proofs.Agreement.RefusalsAreCounted.{after, denied_in_none}
+use Rattle.srcp_core.proofs.Agreement.MemoryAnswers.{counted_more}
+use Rattle.srcp_core.proofs.Invariants.LinesAreFound.{nothing_begun, heard_denied}
+use Rattle.srcp_core.proofs.Agreement.LinesAreNoted.{tells_same, tells_did, tells_changed}
+use Rattle.srcp_core.proofs.Agreement.PiecesAgree.{accepting, IsUpTo, world_upto, lined, lines_ended, piece_begun}
+use Rattle.srcp_core.proofs.Agreement.PlacesChange.{place_session, place_ended}
+use Rattle.srcp_core.proofs.CourseLaws.SessionsOfACourse.{anything, at_number, opening_in_order}
+use Rattle.srcp_core.proofs.Agreement.StandsAfterAChange.{Anything, Fine, AllFine, found_at}
+use Rattle.srcp_core.proofs.Agreement.RoomsAgree.{Kept, IsRooming, room_goes_on, room_taken, room_empty}
+use Rattle.srcp_core.proofs.CourseLaws.SessionsAreKept.{sound}
+
+-- every course has sound connections
+pub fine_course : (buses : List Bus) (layout : IsLayout buses) (events : List Event) → IsFine buses (opening_in_order buses layout) (counted (course buses events))
+fine_course buses layout events = sound buses (opening_in_order buses layout) Anything (anything (shown_rows (opening buses 0))) events
+
+tells_counted : (r : Recording) (w : World) → Tells r w → Tells r (counted w)
+tells_counted r w t = record { steps = t.steps; refused = t.refused; connections = t.connections }
+
+runs_counted : (buses : List Bus) (r : Recording) (held : Held) (w : World) → Runs buses r held w → Runs buses r held (counted w)
+runs_counted buses r held w s = record { stands = stands_counted buses r.keys held w s.stands; tells = tells_counted r w s.tells }
+
+-- the same of recordings and cores that are the same
+pub told_as : (event : PlainEvent) (refusal : Option CoreFault) (r : Recording) (held : Held) (x y : Recording) (later new : Held) → y ≡ x → new ≡ later → HappensAs event refusal r held x later → HappensAs event refusal r held y new
+told_as event refusal r held x y later new e f h = subst (λ (z : Held). HappensAs event refusal r held y z) (sym f) (subst (λ (z : Recording). HappensAs event refusal r held z later) (sym e) h)
+
+-- nothing is asked for where the count stays
+none_asked : (event : PlainEvent) (r : Recording) (held later : Held) → later.denied ≡ held.denied → CountsAsked r held later (under [] event)
+none_asked event r held later same buses events layout s = same ∙ sym (denied_in_none buses (counted (course buses events)) held.denied event)
+
+-- ---- a connection is opened
+
+pub open_with : (key : ℕ) (r : Recording) (old new : Held) → IsAdmitted key old new
+    → (buses : List Bus) (events : List Event) → IsLayout buses → Runs buses r old (course buses events) → Happened buses (Open true) None (opened key r) new (counted (course buses events))
+open_with key r old new a buses events layout s =
+    let w = counted (course buses events) in
+    let c = runs_counted buses r old (course buses events) s in (
+      free_fault buses r.keys old w c.stands a.room true,
+      record {
+        stands = stands_opened buses r.keys key old new w a c.stands;
+        tells = record { steps = s.tells.steps; refused = s.tells.refused; connections = ap (λ tolds. tolds ++ told_of fresh ∷ []) s.tells.connections ∙ sym (map-append told_of w.connections (fresh ∷ [])) };
+      },
+    )
+
+pub open_happens : (key : ℕ) (r : Recording) (old new : Held) → IsAdmitted key old new → HappensAs plain.Open None r old (opened key r) new
+open_happens key r old new a = record { grants = []; counted = ap (λ (x : Held). x.denied) a.rest; asked = none_asked plain.Open r old new (ap (λ (x : Held). x.denied) a.rest); happens = open_with key r old new a }
+
+pub full_happens : (r : Recording) (old new : Held) → open_count old ≡ 64 → new ≡ old → HappensAs plain.Open (Some Full) r old r new
+full_happens r old new full same = record {
+  grants = [];
+  counted = ap (λ (x : Held). x.denied) same;
+  asked = none_asked (plain.Open) r old new (ap (λ (x : Held). x.denied) same);
+  happens = λ buses events layout s.
+      let w = counted (course buses events) in
+      let c = runs_counted buses r old (course buses events) s in
+      (full_fault buses r.keys old w c.stands full true, subst (λ (x : Held). Runs buses r x w) (sym same) c);
+}
+
+-- memory was refused
+runs_denied : (buses : List Bus) (r : Recording) (held : Held) (w : World) → Runs buses r held w → Runs buses r (one_denied held) w
+runs_denied buses r held w c = let s = c.stands in record { stands = record { layout = s.layout; rows = s.rows; moment = s.moment; last_id = s.last_id; count = s.count; long = s.long; opens = s.opens; closed = s.closed; apart = s.apart; owned = s.owned }; tells = c.tells }
+
+pub memory_with : (r : Recording) (old new : Held) → open_count old < 64 → new ≡ one_denied old
+    → (buses : List Bus) (events : List Event) → IsLayout buses → Runs buses r old (course buses events) → Happened buses (Open false) (Some MemoryFault) r new (counted (course buses events))
+memory_with r old new room same buses events layout s =
+    let w = counted (course buses events) in
+    let c = runs_counted buses r old (course buses events) s in
+    (free_fault buses r.keys old w c.stands room false, subst (λ (x : Held). Runs buses r x w) (sym same) (runs_denied buses r old w c))
+
+pub memory_happens : (r : Recording) (old new : Held) → open_count old < 64 → new ≡ one_denied old → HappensAs plain.Open (Some MemoryFault) r old r new
+memory_happens r old new room same = record {
+  grants = false ∷ [];
+  counted = ap (λ (x : Held). x.denied) same;
+  asked = λ buses events layout s.
+      let w = counted (course buses events) in
+      ap (λ (x : Held). x.denied) same ∙ ap (after old.denied false) (sym (free_room buses r.keys old w (runs_counted buses r old (course buses events) s).stands room));
+  happens = memory_with r old new room same;
+}
+
+-- no connection was opened
+pub open_refused : (r : Recording) (old new : Held) (cause : CoreFault) → IsNotAdmitted cause old new
+    → HappensAs plain.Open (Some cause) r old r new
+open_refused r old new Full is = full_happens r old new is.0 is.1
+open_refused r old new MemoryFault is = memory_happens r old new is.0 is.1
+open_refused r old new other is = absurd is
+
+-- ---- a moment
+
+pub at_happens : (moment : ℕ) (r : Recording) (old new : Held) (now : ℕ) → new ≡ advanced moment old → now ≡ new.moment → HappensAs (plain.At moment) None r old (stepped (told.Moment now ∷ []) r) new
+at_happens moment r old new now is now_is = record {
+  grants = [];
+  counted = ap (λ (x : Held). x.denied) is;
+  asked = none_asked (plain.At moment) r old new (ap (λ (x : Held). x.denied) is);
+  happens = λ buses events layout s.
+      let w = counted (course buses events) in
+      let c = runs_counted buses r old (course buses events) s in
+      let fine : AllFine buses w = λ n conn e. at_number (Fine buses (history buses w)) n w.connections conn (fine_course buses layout events) e in
+      let same : now ≡ max w.moment moment = now_is ∙ ap (λ (x : Held). x.moment) is ∙ ap (λ m. max m moment) c.stands.moment in (
+        refl,
+        record {
+          stands = subst (λ (x : Held). StandsFor buses r.keys x (accepted buses (At moment) w)) (sym is) (stands_advanced buses r.keys old w moment fine c.stands);
+          tells = record { steps = ap (λ m. r.steps ++ told.Moment m ∷ []) same ∙ ap (λ steps. steps ++ told.Moment (max w.moment moment) ∷ []) c.tells.steps ∙ sym (map-append step_told w.steps (Moment (max w.moment moment) ∷ [])); refused = c.tells.refused; connections = c.tells.connections };
+        },
+      );
+}
+
+-- ---- a number that no open connection has
+
+absent_bytes : (buses : List Bus) (w : World) (n : ℕ) (piece : List ℕ) → open_connection w n ≡ None → course_fault buses w (open_connection w n) piece ≡ Some NoSuch
+absent_bytes buses w n piece e = ap (λ o. course_fault buses w o piece) e
+
+pub no_bytes_happens : (n : ℕ) (piece : List ℕ) (r : Recording) (held : Held) → key_of n r.keys ≡ None → HappensAs (plain.Bytes n piece) (Some NoSuch) r held r held
+no_bytes_happens n piece r held none = record {
+  grants = [];
+  counted = refl;
+  asked = none_asked (plain.Bytes n piece) r held held (refl);
+  happens = λ buses events layout s.
+      let w = counted (course buses events) in
+      let c = runs_counted buses r held (course buses events) s in
+      (absent_bytes buses w n piece (absent_at buses (λ n fed. fed) r.keys held w n c.stands none), c);
+}
+
+pub no_room_happens : (n bytes : ℕ) (r : Recording) (held : Held) → key_of n r.keys ≡ None → HappensAs (plain.Room n bytes) (Some NoSuch) r held r held
+no_room_happens n bytes r held none = record {
+  grants = [];
+  counted = refl;
+  asked = none_asked (plain.Room n bytes) r held held (refl);
+  happens = λ buses events layout s.
+      let w = counted (course buses events) in
+      let c = runs_counted buses r held (course buses events) s in
+      (ap (absent_fault buses) (absent_at buses (λ n fed. fed) r.keys held w n c.stands none), c);
+}
+
+pub no_shut_happens : (n : ℕ) (r : Recording) (held : Held) → key_of n r.keys ≡ None → HappensAs (plain.Shut n) (Some NoSuch) r held r held
+no_shut_happens n r held none = record {
+  grants = [];
+  counted = refl;
+  asked = none_asked (plain.Shut n) r held held (refl);
+  happens = λ buses events layout s.
+      let w = counted (course buses events) in
+      let c = runs_counted buses r held (course buses events) s in
+      (ap (absent_fault buses) (absent_at buses (λ n fed. fed) r.keys held w n c.stands none), c);
+}
+
+-- ---- a connection is shut
+
+-- what is noted of a session that a hang-up ends
+abbrev pub with_end : Option ℕ → ℕ → Recording → Recording
+with_end None moment r = r
+with_end (Some session) moment r = stepped (told.Ended session moment ∷ []) r
+
+hung_up_moment : (key : ℕ) (held : Held) (o : Option Place) → (hung_up_from key held o).moment ≡ held.moment
+hung_up_moment key held None = refl
+hung_up_moment key held (Some p) = elim ((p.session == 0) || p.ended) as (λ t. (if t then freed_place key held else freed_of p.session (freed_place key held)).moment ≡ held.moment) [ true ↦ refl | false ↦ refl ]
+
+hung_up_denied : (key : ℕ) (held : Held) (o : Option Place) → (hung_up_from key held o).denied ≡ held.denied
+hung_up_denied key held None = refl
+hung_up_denied key held (Some p) = elim ((p.session == 0) || p.ended) as (λ t. (if t then freed_place key held else freed_of p.session (freed_place key held)).denied ≡ held.denied) [ true ↦ refl | false ↦ refl ]
+
+pub shut_count : (key : ℕ) (old new : Held) → new ≡ hung_up key old → new.denied ≡ old.denied
+shut_count key old new is = ap (λ (x : Held). x.denied) is ∙ hung_up_denied key old (at old key)
+
+-- a number that has a key has a place there
+pub gone_happens : (event : PlainEvent) (refusal : Option CoreFault) (n key : ℕ) (r : Recording) (held : Held) (later_r : Recording) (later : Held) → key_of n r.keys ≡ Some key → at held key ≡ None → later.denied ≡ held.denied → HappensAs event refusal r held later_r later
+gone_happens event refusal n key r held later_r later named gone same = record {
+  grants = [];
+  counted = same;
+  asked = none_asked (event) r held later (same);
+  happens = λ buses events layout s.
+      let h = found_at buses (λ n fed. fed) r.keys held (course buses events) n key s.stands named in
+      absurd (none-some (place_of h.reader (history buses (course buses events)) h.conn) (sym gone ∙ h.place));
+}
+
+pub shut_keys : (n : ℕ) (o : Option ℕ) (m : ℕ) (r : Recording) → (with_end o m (shut n r)).keys ≡ without_key n r.keys
+shut_keys n None m r = refl
+shut_keys n (Some session) m r = refl
+
+pub shut_happens : (n key : ℕ) (r : Recording) (old new : Held) (now : ℕ) → key_of n r.keys ≡ Some key → new ≡ hung_up key old → now ≡ new.moment → HappensAs (plain.Shut n) None r old (with_end (live_session key old) now (shut n r)) new
+shut_happens n key r old new now named is now_is = record {
+  grants = [];
+  counted = shut_count key old new is;
+  asked = none_asked (plain.Shut n) r old new (shut_count key old new is);
+  happens = λ buses events layout s.
+      let w = counted (course buses events) in
+      let c = runs_counted buses r old (course buses events) s in
+      let h = found_at buses (λ n fed. fed) r.keys old w n key c.stands named in
+      let p = place_of h.reader (history buses w) h.conn in
+      let order = opening_in_order buses layout in
+      let stands = subst (λ (x : Held). StandsFor buses (without_key n r.keys) x (accepted buses (Shut n) w)) (sym is) (stands_hung_up buses order r.keys old w n key (fine_course buses layout events) c.stands named) in
+      let told = shut_told buses n r w h.conn now (h.conn.session == 0) h.conn.ended h.there refl refl (now_is ∙ ap (λ (x : Held). x.moment) is ∙ hung_up_moment key old (at old key) ∙ c.stands.moment) c.tells in
+      let live : live_session key old ≡ (if (h.conn.session == 0) || h.conn.ended then None else Some h.conn.session) =
+      ap live_session_of h.place
+      ∙ ap (λ k. if (k == 0) || p.ended then None else Some k) (place_session h.reader (history buses w) h.conn)
+      ∙ ap (λ t. if (h.conn.session == 0) || t then None else Some h.conn.session) (place_ended h.reader (history buses w) h.conn) in
+      let tells : Tells (with_end (live_session key old) now (shut n r)) (accepted buses (Shut n) w) =
+      subst (λ (o : Option ℕ). Tells (with_end o now (shut n r)) (accepted buses (Shut n) w)) (sym live)
+      (subst (λ (o : Option Connection). Tells (with_end (if (h.conn.session == 0) || h.conn.ended then None else Some h.conn.session) now (shut n r)) (shut_as buses n o w)) (sym h.opened) told) in
+      (ap (absent_fault buses) h.opened, record { stands = subst (λ (keys : List (Option ℕ)). StandsFor buses keys new (accepted buses (Shut n) w)) (sym (keys_are (live_session key old) now)) stands; tells = tells });
+}
+  where
+    keys_are : (o : Option ℕ) (m : ℕ) → (with_end o m (shut n r)).keys ≡ without_key n r.keys
+    keys_are None m = refl
+    keys_are (Some session) m = refl
+
+    shut_told : (buses : List Bus) (n : ℕ) (r : Recording) (w : World) (conn : Connection) (now : ℕ) (first ended : Bool) → numbered n w.connections ≡ Some conn → (conn.session == 0) ≡ first → conn.ended ≡ ended → now ≡ w.moment → Tells r w
+        → Tells (with_end (if (conn.session == 0) || conn.ended then None else Some conn.session) now (shut n r)) (shut_as buses n (Some conn) w)
+    shut_told buses n r w conn now first ended there f e m t =
+        elim ((conn.session == 0) || conn.ended) as (λ b. Tells (with_end (if b then None else Some conn.session) now (shut n r)) (if b then closed else did (Ended conn.session w.moment) closed)) [
+          | true ↦ all
+          | false ↦ subst (λ k. Tells (stepped (told.Ended conn.session k ∷ []) (shut n r)) (did (Ended conn.session w.moment) closed)) (sym m) (tells_did (shut n r) closed (Ended conn.session w.moment) all)
+        ]
+      where
+        closed : World
+        closed = at_connection n (λ c. record c { shut = Some (length w.steps) }) w
+
+        all : Tells (shut n r) closed
+        all = tells_changed (record r { keys = without_key n r.keys }) w n conn (λ c. record c { shut = Some (length w.steps) }) (λ told. record told { finish = ShutFinish }) there refl (record { steps = t.steps; refused = t.refused; connections = t.connections })
+
+-- ---- bytes
+
+pub bytes_refused : (n key : ℕ) (piece : List ℕ) (r : Recording) (held : Held) (cause : CoreFault) → key_of n r.keys ≡ Some key → bytes_fault key piece held ≡ Some cause → HappensAs (plain.Bytes n piece) (Some cause) r held r held
+bytes_refused n key piece r held cause named e = record {
+  grants = [];
+  counted = refl;
+  asked = none_asked (plain.Bytes n piece) r held held (refl);
+  happens = λ buses events layout s.
+      let w = counted (course buses events) in
+      let c = runs_counted buses r held (course buses events) s in
+      (sym (fault_same buses (opening_in_order buses layout) (λ n fed. fed) r.keys held w n key piece (fine_course buses layout events) c.stands named) ∙ e, c);
+}
+
+-- where bytes are not refused there is room for their answers
+pub bytes_room : (key : ℕ) (piece : List ℕ) (held : Held) → bytes_fault key piece held ≡ None → (length piece ≤ 256) × HasRoom key piece 0 held
+bytes_room key piece held e = by (at held key) refl e
+  where
+    some_none : (cause : CoreFault) → Some cause ≡ None → ⊥
+    some_none cause e = cc
+
+    with : (p : Place) (over idle long : Bool) → at held key ≡ Some p → is_nil p.unsent ≡ idle → nat_lt 256 (length piece) ≡ long
+        → (if over then Some Closing else (if not idle then Some Busy else (if long then Some PieceTooLong else None))) ≡ None → (length piece ≤ 256) × HasRoom key piece 0 held
+    with p true idle long h i l e = absurd (some_none Closing e)
+    with p false false long h i l e = absurd (some_none Busy e)
+    with p false true true h i l e = absurd (some_none PieceTooLong e)
+    with p false true false h i l e = (ltb-false 256 (length piece) l, nothing_begun key piece held (ap unsent_of h ∙ nil_is p.unsent i))
+      where
+        nil_is : (xs : List ℕ) → is_nil xs ≡ true → xs ≡ []
+        nil_is [] e = refl
+        nil_is (x ∷ xs) e = cc
+
+    by : (o : Option Place) → at held key ≡ o → bytes_fault_from piece o ≡ None → (length piece ≤ 256) × HasRoom key piece 0 held
+    by None h e = absurd (some_none NoSuch e)
+    by (Some p) h e = with p (p.ended || p.overran) (is_nil p.unsent) (nat_lt 256 (length piece)) h refl refl e
+
+-- the piece was read up to a place
+pub record IsReading (n key : ℕ) (piece : List ℕ) (grants : List Bool) (first_r : Recording) (first : Held) (start : ℕ) (r : Recording) (held : Held) (buses : List Bus) (layout : IsLayout buses) (w : World) : Type 0 where
+  pub named : key_of n first_r.keys ≡ Some key
+  pub conn : Connection
+  pub opened : open_connection w n ≡ Some conn
+  pub free : course_fault buses w (open_connection w n) piece ≡ None
+  pub keys : r.keys ≡ first_r.keys
+  pub upto : IsUpTo buses (opening_in_order buses layout) first_r.keys n key named conn.fed piece (accepting n piece w) first.denied grants start held
+  pub tells : Tells r (world_upto buses (opening_in_order buses layout) first_r.keys n key named conn.fed piece (accepting n piece w) first.denied grants start)
+
+-- so it was, whatever the events were before, where memory answered so to its lines so far
+abbrev pub ReadsWith : List Bool → ℕ → ℕ → List ℕ → Recording → Held → ℕ → Recording → Held → Type 0
+ReadsWith grants n key piece first_r first start r held =
+    (buses : List Bus) (events : List Event) (layout : IsLayout buses) → Runs buses first_r first (course buses events)
+    → IsReading n key piece grants first_r first start r held buses layout (counted (course buses events))
+
+-- what memory answered to its lines so far
+pub record ReadsOn (n key : ℕ) (piece : List ℕ) (first_r : Recording) (first : Held) (start : ℕ) (r : Recording) (held : Held) : Type 0 where
+  pub grants : List Bool
+  pub counted : held.denied ≡ denied_by first.denied grants
+  pub reads : ReadsWith grants n key piece first_r first start r held
+
+pub reads_with_none : (n key : ℕ) (piece : List ℕ) (r : Recording) (held : Held) → key_of n r.keys ≡ Some key → bytes_fault key piece held ≡ None → ReadsWith [] n key piece r held 0 r held
+reads_with_none n key piece r held named free buses events layout s =
+    let w = counted (course buses events) in
+    let order = opening_in_order buses layout in
+    let c = runs_counted buses r held (course buses events) s in
+    let h = found_at buses (λ n fed. fed) r.keys held w n key c.stands named in
+    let b = piece_begun buses order r.keys n key named piece held w h.conn (fine_course buses layout events) c.stands h.there in
+    record {
+      named = named;
+      conn = h.conn;
+      opened = h.opened;
+      free = sym (fault_same buses order (λ n fed. fed) r.keys held w n key piece (fine_course buses layout events) c.stands named) ∙ free;
+      keys = refl;
+      upto = b.0;
+      tells = subst (λ (v : World). Tells r v) (sym b.1) (tells_same r w n (λ c. record c { fed = c.fed ++ piece }) (λ conn e. refl) c.tells);
+    }
+
+pub reads_first : (n key : ℕ) (piece : List ℕ) (r : Recording) (held : Held) → key_of n r.keys ≡ Some key → bytes_fault key piece held ≡ None → ReadsOn n key piece r held 0 r held
+reads_first n key piece r held named free = record { grants = []; counted = refl; reads = reads_with_none n key piece r held named free }
+
+pub noted_keys : (n : ℕ) (steps : List PlainStep) (r : Recording) → (noted n steps r).keys ≡ r.keys
+noted_keys n [] r = refl
+noted_keys n (told.Obeyed session moment command ∷ []) r = refl
+noted_keys n (told.Began session moment mode ∷ []) r = refl
+noted_keys n (told.Moment moment ∷ []) r = refl
+noted_keys n (told.Ended session moment ∷ []) r = refl
+noted_keys n (step ∷ next ∷ steps) r = refl
+
+pub reads_with_more : (grants : List Bool) (n key : ℕ) (piece : List ℕ) (first_r : Recording) (first : Held) (start stop : ℕ) (granted : Bool) (steps : List PlainStep) (r : Recording) (held new : Held) → start < stop
+    → ◌≡◌ {A = ℕ × Held} (stop, new) (line_taken key granted (start, held) (heard_at key piece start held)) → steps ≡ steps_of_line key granted (heard_at key piece start held)
+    → ReadsWith grants n key piece first_r first start r held → ReadsWith (grants ++ granted ∷ []) n key piece first_r first stop (noted n steps r) new
+reads_with_more grants n key piece first_r first start stop granted steps r held new onward is steps_are reads buses events layout s =
+    let i = reads buses events layout s in
+    let order = opening_in_order buses layout in
+    let w = counted (course buses events) in
+    let l = lined buses order first_r.keys n key i.named i.conn.fed piece (accepting n piece w) first.denied grants start stop granted held new r onward is i.upto i.tells in
+    record {
+      named = i.named;
+      conn = i.conn;
+      opened = i.opened;
+      free = i.free;
+      keys = noted_keys n steps r ∙ i.keys;
+      upto = l.upto;
+      tells = subst (λ (steps : List PlainStep). Tells (noted n steps r) (world_upto buses order first_r.keys n key i.named i.conn.fed piece (accepting n piece w) first.denied (grants ++ granted ∷ []) stop)) (sym steps_are) l.tells;
+    }
+
+pub reads_more : (n key : ℕ) (piece : List ℕ) (first_r : Recording) (first : Held) (start stop : ℕ) (granted : Bool) (steps : List PlainStep) (r : Recording) (held new : Held) → start < stop
+    → ◌≡◌ {A = ℕ × Held} (stop, new) (line_taken key granted (start, held) (heard_at key piece start held)) → steps ≡ steps_of_line key granted (heard_at key piece start held)
+    → new.denied ≡ denied_by held.denied (granted ∷ []) → ReadsOn n key piece first_r first start r held → ReadsOn n key piece first_r first stop (noted n steps r) new
+reads_more n key piece first_r first start stop granted steps r held new onward is steps_are counted reads = record {
+  grants = reads.grants ++ granted ∷ [];
+  counted = counted_more first.denied held.denied new.denied reads.grants granted reads.counted counted;
+  reads = reads_with_more reads.grants n key piece first_r first start stop granted steps r held new onward is steps_are reads.reads;
+}
+
+pub bytes_with : (grants : List Bool) (n key : ℕ) (piece : List ℕ) (first_r : Recording) (first : Held) (start : ℕ) (r : Recording) (held new : Held) → ◌≡◌ {A = Option (ℕ × Asked) × Held} (None, new) (heard_at key piece start held) → ReadsWith grants n key piece first_r first start r held
+    → (buses : List Bus) (events : List Event) → IsLayout buses → Runs buses first_r first (course buses events) → Happened buses (Bytes n (record { bytes = piece; grants = grants })) None r new (counted (course buses events))
+bytes_with grants n key piece first_r first start r held new is reads buses events layout s =
+    let i = reads buses events layout s in
+    let order = opening_in_order buses layout in
+    let w = counted (course buses events) in
+    let e = lines_ended buses order first_r.keys n key i.named i.conn.fed piece (accepting n piece w) first.denied grants start held new is i.upto in
+    let p : Piece = record { bytes = piece; grants = grants } in
+    let world : accepted buses (Bytes n p) w ≡ fold (course_answered buses n) (accepting n piece w) (lines_under grants (new_marks buses i.conn.fed piece)) = ap (λ o. fed_to buses n p o w) i.opened in (
+      i.free,
+      subst (λ (v : World). Runs buses r new v) (sym world) (record {
+        stands = subst (λ (keys : List (Option ℕ)). StandsFor buses keys new (fold (course_answered buses n) (accepting n piece w) (lines_under grants (new_marks buses i.conn.fed piece)))) (sym i.keys) e.stands;
+        tells = subst (λ (v : World). Tells r v) e.world_is i.tells;
+      }),
+    )
+
+pub bytes_happens : (n key : ℕ) (piece : List ℕ) (first_r : Recording) (first : Held) (start : ℕ) (r : Recording) (held new : Held) → ◌≡◌ {A = Option (ℕ × Asked) × Held} (None, new) (heard_at key piece start held) → ReadsOn n key piece first_r first start r held
+    → HappensAs (plain.Bytes n piece) None first_r first r new
+bytes_happens n key piece first_r first start r held new is reads = record {
+  grants = reads.grants;
+  counted = ap (λ (x : Option (ℕ × Asked) × Held). x.1.denied) is ∙ heard_denied key piece start held (at held key) ∙ reads.counted;
+  asked = λ buses events layout s.
+      let i = reads.reads buses events layout s in
+      let w = counted (course buses events) in
+      let p : Piece = record { bytes = piece; grants = reads.grants } in
+      (lines_ended buses (opening_in_order buses layout) first_r.keys n key i.named i.conn.fed piece (accepting n piece w) first.denied reads.grants start held new is i.upto).counts
+      ∙ sym (ap (λ (cause : Option CoreFault). denied_fed buses n p w first.denied cause (open_connection w n)) i.free ∙ ap (denied_fed buses n p w first.denied None) i.opened);
+  happens = bytes_with reads.grants n key piece first_r first start r held new is reads.reads;
+}
+
+-- ---- room
+
+pub record IsGiving (n key bytes : ℕ) (first_r : Recording) (left : ℕ) (r : Recording) (held : Held) (buses : List Bus) (layout : IsLayout buses) (w : World) : Type 0 where
+  pub named : key_of n first_r.keys ≡ Some key
+  pub free : fault buses w (Room n bytes) ≡ None
+  pub keys : r.keys ≡ first_r.keys
+  pub rooming : IsRooming buses layout (opening_in_order buses layout) first_r.keys n key named w bytes left r held
+
+abbrev pub GivesOn : ℕ → ℕ → ℕ → Recording → Held → ℕ → Recording → Held → Type 0
+GivesOn n key bytes first_r first left r held =
+    (buses : List Bus) (events : List Event) (layout : IsLayout buses) → Runs buses first_r first (course buses events) → IsGiving n key bytes first_r left r held buses layout (counted (course buses events))
+
+pub gives_first : (n key bytes : ℕ) (r : Recording) (held : Held) → key_of n r.keys ≡ Some key → GivesOn n key bytes r held bytes r held
+gives_first n key bytes r held named buses events layout s =
+    let w = counted (course buses events) in
+    let c = runs_counted buses r held (course buses events) s in
+    let h = found_at buses (λ n fed. fed) r.keys held w n key c.stands named in
+    record {
+      named = named;
+      free = ap (absent_fault buses) h.opened;
+      keys = refl;
+      rooming = record { now = w; kept = record { fine = fine_course buses layout events; stands = c.stands; tells = c.tells }; to_come = refl };
+    }
+
+pub taking_keys : (n key most : ℕ) (held : Held) (r : Recording) → (taking n key most held r).keys ≡ r.keys
+taking_keys n key most held r = by (item_at key held)
+  where
+    by : (item : Option Next) → (gave n item r).keys ≡ r.keys
+    by None = refl
+    by (Some (Told change)) = refl
+    by (Some (Listed row)) = refl
+    by (Some Settled) = refl
+
+pub gives_more : (n key bytes : ℕ) (first_r : Recording) (first : Held) (left : ℕ) (r : Recording) (held : Held) → 0 < count_at key left held → 0 < left - count_at key left held
+    → GivesOn n key bytes first_r first left r held → GivesOn n key bytes first_r first (left - count_at key left held) (taking n key left held r) (taken_at key left held)
+gives_more n key bytes first_r first left r held some more gives buses events layout s =
+    let i = gives buses events layout s in
+    let w = counted (course buses events) in
+    let less : count_at key left held < left = omega arith in
+    record {
+      named = i.named;
+      free = i.free;
+      keys = taking_keys n key left held r ∙ i.keys;
+      rooming = room_goes_on buses layout (opening_in_order buses layout) first_r.keys n key i.named w bytes left r held i.rooming some less;
+    }
+
+pub gives_as : (n key bytes : ℕ) (first_r : Recording) (first : Held) (left : ℕ) (r : Recording) (held : Held) (count : ℕ) (later_r : Recording) (later : Held) → count ≡ count_at key left held → later_r ≡ taking n key left held r → later ≡ taken_at key left held
+    → left - count ≢ 0 → count ≢ 0 → GivesOn n key bytes first_r first left r held → GivesOn n key bytes first_r first (left - count) later_r later
+gives_as n key bytes first_r first left r held count later_r later e f h more some gives =
+    let a : 0 < count = pos_of_ne-zero some in
+    let b : 0 < left - count = pos_of_ne-zero more in
+    subst (λ k. GivesOn n key bytes first_r first (left - k) later_r later) (sym e)
+    (subst (λ (x : Recording). GivesOn n key bytes first_r first (left - count_at key left held) x later) (sym f)
+    (subst (λ (x : Held). GivesOn n key bytes first_r first (left - count_at key left held) (taking n key left held r) x) (sym h)
+    (gives_more n key bytes first_r first left r held (subst (λ k. 0 < k) e a) (subst (λ k. 0 < left - k) e b) gives)))
+
+pub room_happens : (n key bytes : ℕ) (first_r : Recording) (first : Held) (left : ℕ) (r : Recording) (held : Held) → (left - count_at key left held ≡ 0) ⊎ (count_at key left held ≡ 0)
+    → held.denied ≡ first.denied → GivesOn n key bytes first_r first left r held → HappensAs (plain.Room n bytes) None first_r first (taking n key left held r) (taken_at key left held)
+room_happens n key bytes first_r first left r held ends same gives = record {
+  grants = [];
+  counted = same;
+  asked = none_asked (plain.Room n bytes) first_r first (taken_at key left held) (same);
+  happens = λ buses events layout s.
+      let i = gives buses events layout s in
+      let w = counted (course buses events) in
+      let order = opening_in_order buses layout in
+      let k : Kept buses layout order first_r.keys n key i.named (taking n key left held r) (taken_at key left held) (accepted buses (Room n bytes) w) = by buses events layout i (count_at key left held) refl ends in
+      (i.free, record { stands = subst (λ (keys : List (Option ℕ)). StandsFor buses keys (taken_at key left held) (accepted buses (Room n bytes) w)) (sym (taking_keys n key left held r ∙ i.keys)) k.stands; tells = k.tells });
+}
+  where
+    by : (buses : List Bus) (events : List Event) (layout : IsLayout buses) (i : IsGiving n key bytes first_r left r held buses layout (counted (course buses events))) (count : ℕ) → count_at key left held ≡ count → (left - count_at key left held ≡ 0) ⊎ (count_at key left held ≡ 0)
+        → Kept buses layout (opening_in_order buses layout) first_r.keys n key i.named (taking n key left held r) (taken_at key left held) (accepted buses (Room n bytes) (counted (course buses events)))
+    by buses events layout i zero e ends = room_empty buses layout (opening_in_order buses layout) first_r.keys n key i.named (counted (course buses events)) bytes left r held i.rooming e
+    by buses events layout i (suc count) e (inr none) = let bad : suc count ≡ 0 = sym e ∙ none in absurd (omega (arith, bad))
+    by buses events layout i (suc count) e (inl none) =
+        let some : 0 < count_at key left held = omega (arith, e) in
+        let most : count_at key left held ≤ left = omega arith in
+        let all : left ≡ count_at key left held = omega (arith, none, most) in
+        room_taken buses layout (opening_in_order buses layout) first_r.keys n key i.named (counted (course buses events)) bytes left r held i.rooming some all
+
+-- ---- where there is no such connection
+
+changed_same : (n : ℕ) (f : ConnRecord → ConnRecord) → ((told : ConnRecord) → f told ≡ told) → (tolds : List ConnRecord) → changed_record n f tolds ≡ tolds
+changed_same zero f law tolds = refl
+changed_same (suc n) f law tolds = by (slice_get tolds n) refl
+  where
+    same : (tolds : List ConnRecord) (k : ℕ) (told : ConnRecord) → slice_get tolds k ≡ Some told → slice_set tolds k (f told) ≡ tolds
+    same [] k told e = refl
+    same (x ∷ tolds) zero told e = let is : x ≡ told = cc in ap (λ y. y ∷ tolds) (law told ∙ sym is)
+    same (x ∷ tolds) (suc k) told e = ap (λ ys. x ∷ ys) (same tolds k told e)
+
+    by : (o : Option ConnRecord) → slice_get tolds n ≡ o → changed_in n f tolds o ≡ tolds
+    by None e = refl
+    by (Some told) e = same tolds n told e
+
+pub taking_none : (n key most : ℕ) (held : Held) (r : Recording) → at held key ≡ None → (taking n key most held r ≡ r) × ((taken_at key most held ≡ held) × (count_at key most held ≡ 0))
+taking_none n key most held r e =
+    let gone : let_out key held ≡ held = ap (λ (o : Option Place). record held { places = changed_places_in key (filled (shown_rows held.rows)) held.places o }) e in
+    let bytes : unsent_at key (let_out key held) ≡ [] = ap (unsent_at key) gone ∙ ap unsent_of e in
+    let none : count_at key most held ≡ 0 = ap (λ bytes. min (length bytes) most) bytes ∙ zero-min most in (
+      ap (λ k. took n (take k (unsent_at key (let_out key held))) (gave n (item_at key held) r)) none
+          ∙ ap (λ (o : Option Place). took n [] (gave n (item_of (shown_rows held.rows) o) r)) e
+          ∙ ap (λ tolds. record r { connections = tolds }) (changed_same n (λ told. record told { sent = told.sent ++ [] }) (λ told. ap (λ bytes. record told { sent = bytes }) (append-nil told.sent)) r.connections),
+      (
+        ap (λ (x : Held). changed_at key (without_sent (count_at key most held)) x) gone
+            ∙ ap (λ (o : Option Place). record held { places = changed_places_in key (without_sent (count_at key most held)) held.places o }) e,
+        none,
+      ),
+    )

@@ -1,0 +1,24 @@
+-- The laws of every course of events.
+pub mod Histories
+pub mod ListedInOrder
+pub mod ShownRegistry
+pub mod RoomGivesWhatIsOwed
+pub mod SessionsOfACourse
+pub mod ClientHoldsPassedRows
+pub mod SessionsAreKept
+pub mod TwinConnections
+pub mod TwinWorlds
+pub mod EventsOfThePanel
+pub mod SlowPanelIsolation
+pub mod ListedExactlyOnce
+pub mod ItemsOnlyGrow
+pub mod LinesHaveBytes
+pub mod RoomSettles
+pub mod EveryCourse
+pub mod RoomInTwoParts
+pub mod StepsKeepWhole
+pub mod RegistryStaysWhole
+pub mod SentLinesAreOneList
+pub mod NothingAfterTheEnd
+pub mod RoomsAddUp
+pub mod OverrunAt256

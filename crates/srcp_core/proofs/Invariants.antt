@@ -1,0 +1,16 @@
+-- What holds of every core, and what its walks over places and rows do.
+pub mod PlaceLaws
+pub mod EveryPlaceIsTold
+pub mod ChangesOneByOne
+pub mod NothingIsDueBefore
+pub mod DueInOneWalk
+pub mod PlacesCover
+pub mod SessionRows
+pub mod CoreStaysSound
+pub mod LinesAsk
+pub mod RepliesStayUnsent
+pub mod RefusalsChangeNothing
+pub mod LinesAreFound
+pub mod AnswersHaveRoom
+pub mod RowLists
+pub mod OpeningRowsAreStamped

@@ -1,0 +1,156 @@
+-- What the answer to a line leaves of its connection: the line that has begun, and how many bytes are unsent.
+use Rattle.std.proofs.Common.{◌≡◌, ℕ, ◌+◌, ◌<◌, ◌≤◌, ◌^◌, Bool, true, false, cond, List, [], ◌∷◌, map, length, length-append, refl, ap, sym, ◌∙◌, subst, arith}
+use Rattle.std.specs.Option.{option_map}
+use Rattle.std.specs.Prelude.{not, ◌||◌, ◌&&◌, nat_lt, if◌then◌else◌, Option, Some, None, Ok, Err}
+use Rattle.std.proofs.lemmas.Bool.Decides.{nat_tests}
+use Rattle.srcp_info.specs.Line.{reply_line}
+use Rattle.srcp_info.specs.WellFormed.{IsMoment, IsWellFormedReply}
+use Rattle.srcp_info.specs.declared.change.Change.{Change}
+use Rattle.srcp_info.specs.declared.change.Code.TheVariants.{C500}
+use Rattle.srcp_info.specs.declared.change.Reply.{Reply}
+use Rattle.srcp_info.specs.declared.change.Reply.TheVariants.{Accepted, Protocol, Mode as ModeReply, Go, Refused, Shows}
+use Rattle.srcp_info.specs.declared.value.Mode.{Mode}
+use Rattle.srcp_info.proofs.LineLaws.{length-reply_line-le, length-reply_line-most}
+use Rattle.srcp_rules.specs.Due.{began, freed}
+use Rattle.srcp_rules.specs.Effect.{Effect, effect}
+use Rattle.srcp_rules.specs.State.{is_there, session_device}
+use Rattle.srcp_rules.proofs.ToldLaws.{reply_told}
+use Rattle.srcp_text.specs.Marks.{Mark}
+use Rattle.srcp_feed.specs.Cursor.{concerns}
+use Rattle.srcp_feed.specs.Feed.{Feed, is_full, told}
+use Rattle.srcp_core.specs.Handshake.{Greeting, Speaks, Chooses, Goes, Refuses}
+use Rattle.srcp_core.specs.Held.{Place, Held, place_at, at, IsSound}
+use Rattle.srcp_core.specs.Under.{wants_memory}
+use Rattle.srcp_core.specs.Machine.{told_feed, told_place, told_all, told_each, carried, unsent_of, begun_of, changed_in, changed_places, changed_at, with_unsent, replied, longest, longest_answer, entered_place, begun, goes, greeted, denied_line, one_denied, finished, obeyed, answered_from, answered, asked_of}
+use Rattle.srcp_core.specs.declared.asked.Asked.{Asked}
+use Rattle.srcp_core.specs.declared.asked.Asked.TheVariants.{Dropped, Greets, Commands}
+use Rattle.srcp_core.proofs.Invariants.EveryPlaceIsTold.{told_all_at}
+use Rattle.srcp_core.proofs.Invariants.ChangesOneByOne.{change_in}
+use Rattle.srcp_core.proofs.Invariants.PlacesCover.{place_set_here}
+use Rattle.srcp_core.proofs.Invariants.RepliesStayUnsent.{told_shorter, longest_most}
+use Rattle.srcp_core.proofs.Invariants.LinesAsk.{asked_by}
+
+-- at most so many bytes come to the unsent, and the line that has begun stays
+pub record Gains (n : ℕ) (old new : Option Place) : Type 0 where
+  pub few : length (unsent_of new) ≤ length (unsent_of old) + n
+  pub begun : begun_of new ≡ begun_of old
+
+nothing : (o : Option Place) → Gains 0 o o
+nothing o = record { few = omega arith; begun = refl }
+
+both : (m n : ℕ) (a b c : Option Place) → Gains m a b → Gains n b c → Gains (m + n) a c
+both m n a b c g h = record { few = omega (arith, g.few, h.few); begun = h.begun ∙ g.begun }
+
+most : (m n : ℕ) (a b : Option Place) → m ≤ n → Gains m a b → Gains n a b
+most m n a b le g = record { few = omega (arith, le, g.few); begun = g.begun }
+
+told_begun : (change : Change) (p : Place) → (told_place change p).reader.begun ≡ p.reader.begun
+told_begun change p = by p.feed
+  where
+    by : (feed : Option Feed) → (told_feed change p feed).reader.begun ≡ p.reader.begun
+    by None = refl
+    by (Some feed) = elim (concerns feed.cursor change && is_full feed) as (λ t. (cond t (record p { overran = true; unsent = []; feed = None }) (record p { feed = Some (told change feed) })).reader.begun ≡ p.reader.begun) [
+      | true ↦ refl
+      | false ↦ refl
+    ]
+
+told_slot : (change : Change) (o : Option Place) → Gains 0 o (option_map (told_place change) o)
+told_slot change None = record { few = omega arith; begun = refl }
+told_slot change (Some p) = record { few = let t = told_shorter change p in omega (arith, t); begun = told_begun change p }
+
+told_gains : (key : ℕ) (changes : List Change) (places : List (Option Place)) → Gains 0 (place_at places key) (place_at (told_each changes places) key)
+told_gains key [] places = nothing (place_at places key)
+told_gains key (change ∷ changes) places =
+    both 0 0 (place_at places key) (place_at (told_all change places) key) _
+    (subst (λ (o : Option Place). Gains 0 (place_at places key) o) (sym (told_all_at change places key)) (told_slot change (place_at places key)))
+    (told_gains key changes (told_all change places))
+
+-- a change of one connection
+changed_gains : (n key : ℕ) (change : Place → Place) (places : List (Option Place)) → ((p : Place) → Gains n (Some p) (Some (change p))) → Gains n (place_at places key) (place_at (changed_places key change places) key)
+changed_gains n key change places gains = by (place_at places key) refl
+  where
+    by : (o : Option Place) → place_at places key ≡ o → Gains n o (place_at (changed_in key change places o) key)
+    by None e = most 0 n None (place_at places key) (omega arith) (subst (λ (o : Option Place). Gains 0 None o) (sym e) (nothing None))
+    by (Some p) e = subst (λ (o : Option Place). Gains n (Some p) o) (sym (place_set_here places key p (Some (change p)) e)) (gains p)
+
+-- ---- replies
+
+line_few : (moment : ℕ) (reply : Reply) → IsMoment moment → IsWellFormedReply reply → length (reply_line moment reply) ≤ longest reply
+line_few moment Accepted now h = length-reply_line-le moment Accepted now h tt
+line_few moment Protocol now h = length-reply_line-le moment Protocol now h tt
+line_few moment ModeReply now h = length-reply_line-le moment ModeReply now h tt
+line_few moment (Go id) now h = length-reply_line-le moment (Go id) now h tt
+line_few moment (Shows shown) now h = length-reply_line-most moment (Shows shown) now h
+line_few moment (Refused code) now h = length-reply_line-le moment (Refused code) now h tt
+
+replied_gains : (key : ℕ) (reply : Reply) (held : Held) → IsMoment held.moment → IsWellFormedReply reply → Gains (longest reply) (at held key) (at (replied key reply held) key)
+replied_gains key reply held now h =
+    changed_gains (longest reply) key (with_unsent (reply_line held.moment reply)) held.places
+    (λ p. record { few = let l = line_few held.moment reply now h in let a = length-append p.unsent (reply_line held.moment reply) in omega (arith, l, a); begun = refl })
+
+denied_gains : (key : ℕ) (held : Held) → IsMoment held.moment → Gains 64 (at held key) (at (denied_line key held) key)
+denied_gains key held now = replied_gains key (Refused C500) (one_denied held) now tt
+
+begun_gains : (key id : ℕ) (mode : Mode) (held : Held) → Gains 0 (at held key) (at (begun key id mode held) key)
+begun_gains key id mode held =
+    let mid = carried (began id held.moment mode ∷ []) (record held { last_id = id }) in
+    both 0 0 (at held key) (at mid key) (at (begun key id mode held) key) (told_gains key (map change_in (began id held.moment mode ∷ [])) held.places)
+    (changed_gains 0 key (entered_place id mode) mid.places (λ p. record { few = omega arith; begun = refl }))
+
+goes_gains : (granted : Bool) (key : ℕ) (mode : Mode) (held : Held) → IsMoment held.moment → Gains 64 (at held key) (at (goes granted key mode held) key)
+goes_gains granted key mode held now = by (nat_lt held.last_id 4294967295) refl granted
+  where
+    low : nat_lt held.last_id 4294967295 ≡ true → held.last_id + 1 < 2 ^ 32
+    low t = grind (arith, nat_tests)
+
+    by : (t : Bool) → nat_lt held.last_id 4294967295 ≡ t → (granted : Bool)
+        → Gains 64 (at held key) (at (if t then (if granted then replied key (Go (held.last_id + 1)) (begun key (held.last_id + 1) mode held) else denied_line key held) else replied key (Refused C500) held) key)
+    by true e true =
+        both 0 64 (at held key) (at (begun key (held.last_id + 1) mode held) key) _ (begun_gains key (held.last_id + 1) mode held)
+        (replied_gains key (Go (held.last_id + 1)) (begun key (held.last_id + 1) mode held) now (low e))
+    by true e false = denied_gains key held now
+    by false e granted = replied_gains key (Refused C500) held now tt
+
+greeted_gains : (granted : Bool) (key : ℕ) (mode : Mode) (greeting : Greeting) (held : Held) → IsMoment held.moment → Gains 64 (at held key) (at (greeted granted key mode greeting held) key)
+greeted_gains granted key mode Speaks held now = replied_gains key Protocol held now tt
+greeted_gains granted key mode (Chooses chosen) held now =
+    let mid = changed_at key (λ p. record p { mode = chosen }) held in
+    both 0 64 (at held key) (at mid key) _ (changed_gains 0 key (λ p. record p { mode = chosen }) held.places (λ p. record { few = omega arith; begun = refl })) (replied_gains key ModeReply mid now tt)
+greeted_gains granted key mode Goes held now = goes_gains granted key mode held now
+greeted_gains granted key mode (Refuses code) held now = replied_gains key (Refused code) held now tt
+
+finished_gains : (ends : Bool) (key session : ℕ) (held : Held) → Gains 0 (at held key) (at (finished ends key session held) key)
+finished_gains true key session held =
+    let mid = changed_at key (λ p. record p { ended = true }) held in
+    both 0 0 (at held key) (at mid key) _ (changed_gains 0 key (λ p. record p { ended = true }) held.places (λ p. record { few = omega arith; begun = refl })) (told_gains key (map change_in (freed held.rows session held.moment)) mid.places)
+finished_gains false key session held = nothing (at held key)
+
+obeyed_gains : (key session : ℕ) (did : Effect) (held : Held) → IsMoment held.moment → IsWellFormedReply did.reply → Gains 126 (at held key) (at (obeyed key session did held) key)
+obeyed_gains key session did held now h =
+    let mid = carried did.updates held in
+    let end = replied key did.reply mid in
+    most (0 + (longest did.reply + 0)) 126 (at held key) (at (obeyed key session did held) key) (let l = longest_most did.reply in omega (arith, l))
+    (both 0 (longest did.reply + 0) (at held key) (at mid key) (at (obeyed key session did held) key) (told_gains key (map change_in did.updates) held.places)
+    (both (longest did.reply) 0 (at mid key) (at end key) (at (obeyed key session did held) key) (replied_gains key did.reply mid now h) (finished_gains did.ends key session end)))
+
+-- an answer adds no more than its longest, and leaves what is begun
+pub answered_gains : (granted : Bool) (key : ℕ) (asked : Asked) (held : Held) (p : Place) (mark : Mark) → at held key ≡ Some p → asked ≡ asked_of held.buses p mark → IsSound held
+    → Gains (longest_answer asked) (at held key) (at (answered granted key asked held) key)
+answered_gains granted key asked held p mark there is s = by asked is granted (at held key) there
+  where
+    by : (asked : Asked) → asked ≡ asked_of held.buses p mark → (granted : Bool) → (o : Option Place) → o ≡ Some p → Gains (longest_answer asked) (at held key) (at (answered_from granted key asked held o) key)
+    by asked is granted None e = let bad : ◌≡◌ {A = Option Place} None (Some p) = e in absurd (let f : ⊥ = cc in f)
+    by Dropped is granted (Some q) e = most 0 64 (at held key) (at held key) (omega arith) (nothing (at held key))
+    by (Greets greeting) is granted (Some q) e = greeted_gains granted key q.mode greeting held s.moment
+    by (Commands (Err code)) is granted (Some q) e = replied_gains key (Refused code) held s.moment tt
+    by (Commands (Ok command)) is granted (Some q) e = given (granted || not (wants_memory held.rows q.session held.moment command))
+      where
+        given : (t : Bool) → Gains 126 (at held key) (at (cond t (obeyed key q.session (effect held.rows q.session held.moment command) held) (denied_line key held)) key)
+        given false = most 64 126 (at held key) (at (denied_line key held) key) (omega arith) (denied_gains key held s.moment)
+        given true =
+            let same : q ≡ p = cc in
+            let a = asked_by held.buses s.whole.laid_out p mark (Ok command) is in
+            let own : p.session ≡ q.session = sym (ap (λ (r : Place). r.session) same) in
+            let row : is_there (session_device q.session) held.rows ≡ true = subst (λ n. is_there (session_device n) held.rows ≡ true) own (s.sessions.there key p there a.live) in
+            obeyed_gains key q.session (effect held.rows q.session held.moment command) held s.moment
+            (reply_told held.buses held.rows s.whole q.session held.moment row s.moment command)

@@ -1,0 +1,263 @@
+-- What a line that was found in a piece asks for, and what it leaves of its connection.
+use Rattle.std.proofs.Common.{◌≡◌, ℕ, zero, suc, ◌+◌, ◌-◌, ◌*◌, ◌<◌, ◌≤◌, Bool, true, false, List, [], ◌∷◌, ◌++◌, drop, take, length, inl, inr, refl, ap, sym, ◌∙◌, subst, arith}
+use Rattle.std.specs.Prelude.{◌||◌, ◌==◌, if◌then◌else◌, fold, Option, Some, None, Ok, Err, position, slice_set}
+use Rattle.srcp_info.specs.declared.change.Code.{Code}
+use Rattle.srcp_rules.specs.declared.layout.Bus.{Bus}
+use Rattle.srcp_text.specs.Marks.{Mark, Line, TooLong, is_lf, without_cr}
+use Rattle.srcp_text.specs.Reading.{after_lf, extended, nothing_read}
+use Rattle.srcp_text.specs.Feeding.{feed_at, fed_at}
+use Rattle.srcp_text.proofs.ScanLaws.{position_some}
+use Rattle.std.proofs.lemmas.Bool.{cases_lt}
+use Rattle.std.proofs.lemmas.List.{length-drop}
+use Rattle.std.proofs.lemmas.List.Sums.{fold-append}
+use Rattle.srcp_core.specs.Handshake.{greets}
+use Rattle.srcp_core.specs.Held.{Place, Held, IsSound, at}
+use Rattle.srcp_core.specs.Machine.{asked_of, heard_from, heard, heard_in, heard_at, longest_answer, unsent_of, unsent_at, begun_of, begun_at, answered, line_taken, lines_taken, steps_answered, steps_of_line, listed, HasRoom, IsLineTaken, CountsEach, IsReceived}
+use Rattle.srcp_core.specs.Under.{denied_by}
+use Rattle.srcp_core.specs.declared.answered.Answered.{Answered}
+use Rattle.srcp_core.specs.declared.asked.Asked.{Asked}
+use Rattle.srcp_core.specs.declared.asked.Asked.TheVariants.{Dropped, Greets, Commands}
+use Rattle.srcp_core.proofs.Invariants.PlacesCover.{IsMild, place_set_here, where_is, Here, Away}
+use Rattle.srcp_core.proofs.Invariants.AnswersHaveRoom.{answered_gains}
+use Rattle.srcp_core.proofs.Invariants.CoreStaysSound.{sound_place}
+
+-- ---- how long an answer is
+
+pub answer_most : (asked : Asked) → longest_answer asked ≤ 126
+answer_most Dropped = omega arith
+answer_most (Greets greeting) = omega arith
+answer_most (Commands (Ok command)) = omega arith
+answer_most (Commands (Err code)) = omega arith
+
+-- a line that is refused as a command has a short answer however its connection stands
+short : (i z : Bool) (mark : Mark) (code : Code) → longest_answer (if i then Dropped else (if z then Greets (greets mark) else Commands (Err code))) ≤ 64
+short true z mark code = omega arith
+short false true mark code = omega arith
+short false false mark code = omega arith
+
+too_long_short : (buses : List Bus) (p : Place) → longest_answer (asked_of buses p TooLong) ≤ 64
+too_long_short buses p = short (p.info || p.ended) (p.session == 0) TooLong _
+
+empty_short : (buses : List Bus) (p : Place) → longest_answer (asked_of buses p (Line [])) ≤ 64
+empty_short buses p = short (p.info || p.ended) (p.session == 0) (Line []) _
+
+-- ---- a line that was found
+
+pub record IsFound (buses : List Bus) (p new : Place) (piece : List ℕ) (start stop : ℕ) (asked : Asked) : Type 0 where
+  pub onward : start < stop
+  pub within : stop ≤ length piece
+  pub mark : Mark
+  pub asks : asked ≡ asked_of buses new mark
+  pub unsent : new.unsent ≡ p.unsent
+  pub begun : new.reader.begun ≡ Some []
+  pub few : p.reader.begun ≡ Some [] → longest_answer asked ≤ 64 * (stop - start)
+
+-- what is the same of two that are the same
+record AreSame (stop s : ℕ) (asked a : Asked) (new n : Place) : Type 0 where
+  stops : stop ≡ s
+  asks : asked ≡ a
+  place : new ≡ n
+
+are_same : (stop s : ℕ) (asked a : Asked) (new n : Place) → ◌≡◌ {A = Option (ℕ × Asked) × Place} (Some (stop, asked), new) (Some (s, a), n) → AreSame stop s asked a new n
+are_same stop s asked a new n e =
+    let both : ◌≡◌ {A = Option (ℕ × Asked)} (Some (stop, asked)) (Some (s, a)) = ap (λ (r : Option (ℕ × Asked) × Place). r.0) e in
+    let pair : ◌≡◌ {A = ℕ × Asked} (stop, asked) (s, a) = cc in
+    record { stops = ap (λ (r : ℕ × Asked). r.0) pair; asks = ap (λ (r : ℕ × Asked). r.1) pair; place = ap (λ (r : Option (ℕ × Asked) × Place). r.1) e }
+
+module _ (buses : List Bus) (p new : Place) (piece : List ℕ) (start stop : ℕ) (asked : Asked) where
+  pub found : ◌≡◌ {A = Option (ℕ × Asked) × Place} (Some (stop, asked), new) (heard buses piece start p) → IsFound buses p new piece start stop asked
+  found e = by (position is_lf (drop start piece)) refl e
+    where
+      ends : (len : ℕ) → len < length (drop start piece) → (whole : Option (List ℕ)) → extended p.reader.begun (take len (drop start piece)) ≡ whole
+          → ◌≡◌ {A = Option (ℕ × Asked) × Place} (Some (stop, asked), new) (heard_from buses p (fed_at whole (start + len + 1), after_lf whole)) → IsFound buses p new piece start stop asked
+      ends len low None w e =
+          let same = are_same stop (start + len + 1) asked (asked_of buses p TooLong) new (record p { reader = nothing_read }) e in
+          let place : new ≡ record p { reader = nothing_read } = same.place in
+          let at : stop ≡ start + len + 1 = same.stops in
+          let is : asked ≡ asked_of buses p TooLong = same.asks in
+          let size = length-drop start piece in
+          record {
+            onward = omega (arith, at);
+            within = omega (arith, at, low, size);
+            mark = TooLong;
+            asks = is ∙ sym (ap (λ (q : Place). asked_of buses q TooLong) place);
+            unsent = ap (λ (q : Place). q.unsent) place;
+            begun = ap (λ (q : Place). q.reader.begun) place;
+            few = λ h. let s = too_long_short buses p in let n = ap (λ (a : Asked). longest_answer a) is in omega (arith, s, n, at);
+          }
+      ends len low (Some bytes) w e =
+          let same = are_same stop (start + len + 1) asked (asked_of buses p (Line (without_cr bytes))) new (record p { reader = after_lf (Some bytes) }) e in
+          let place : new ≡ record p { reader = after_lf (Some bytes) } = same.place in
+          let at : stop ≡ start + len + 1 = same.stops in
+          let is : asked ≡ asked_of buses p (Line (without_cr bytes)) = same.asks in
+          let size = length-drop start piece in
+          record {
+            onward = omega (arith, at);
+            within = omega (arith, at, low, size);
+            mark = Line (without_cr bytes);
+            asks = is ∙ sym (ap (λ (q : Place). asked_of buses q (Line (without_cr bytes))) place);
+            unsent = ap (λ (q : Place). q.unsent) place;
+            begun = ap (λ (q : Place). q.reader.begun) place;
+            few = λ h. size_of len w at is h;
+          }
+        where
+          size_of : (len : ℕ) → extended p.reader.begun (take len (drop start piece)) ≡ Some bytes → stop ≡ start + len + 1 → asked ≡ asked_of buses p (Line (without_cr bytes))
+              → p.reader.begun ≡ Some [] → longest_answer asked ≤ 64 * (stop - start)
+          size_of zero w at is h =
+              let none : Some [] ≡ Some bytes = ap (λ b. extended b []) (sym h) ∙ w in
+              let empty : [] ≡ bytes = cc in
+              let n = ap (λ (a : Asked). longest_answer a) (is ∙ ap (λ bs. asked_of buses p (Line (without_cr bs))) (sym empty)) in
+              let s = empty_short buses p in
+              omega (arith, n, s, at)
+          size_of (suc len) w at is h = let m = answer_most asked in omega (arith, m, at)
+
+      by : (o : Option ℕ) → position is_lf (drop start piece) ≡ o → ◌≡◌ {A = Option (ℕ × Asked) × Place} (Some (stop, asked), new) (heard_from buses p (feed_at p.reader.begun start (drop start piece) o)) → IsFound buses p new piece start stop asked
+      by None f e = let bad : ◌≡◌ {A = Option (ℕ × Asked)} (Some (stop, asked)) None = ap (λ (r : Option (ℕ × Asked) × Place). r.0) e in absurd (let f : ⊥ = cc in f)
+      by (Some len) f e =
+          let s = position_some is_lf (drop start piece) len f in
+          ends len s.1 (extended p.reader.begun (take len (drop start piece))) refl e
+
+-- hearing leaves the session as it is
+pub heard_mild : (buses : List Bus) (piece : List ℕ) (start : ℕ) (p : Place) → IsMild p (heard buses piece start p).1
+heard_mild buses piece start p = by (position is_lf (drop start piece))
+  where
+    ends : (whole : Option (List ℕ)) (stop : ℕ) → IsMild p (heard_from buses p (fed_at whole stop, after_lf whole)).1
+    ends None stop = record { session = refl; ended = λ h. h }
+    ends (Some bytes) stop = record { session = refl; ended = λ h. h }
+
+    by : (o : Option ℕ) → IsMild p (heard_from buses p (feed_at p.reader.begun start (drop start piece) o)).1
+    by None = record { session = refl; ended = λ h. h }
+    by (Some len) = ends (extended p.reader.begun (take len (drop start piece))) (start + len + 1)
+
+-- and the core is as sound as before
+pub sound_heard : (key : ℕ) (piece : List ℕ) (start : ℕ) (held : Held) (p new : Place) → at held key ≡ Some p → new ≡ (heard held.buses piece start p).1 → IsSound held → IsSound (record held { places = slice_set held.places key (Some new) })
+sound_heard key piece start held p new there is s = sound_place key held p new there (subst (IsMild p) (sym is) (heard_mild held.buses piece start p)) s
+
+-- ---- in a piece
+
+-- a line of a connection was found
+pub record IsLineFound (key : ℕ) (piece : List ℕ) (start stop : ℕ) (asked : Asked) (old new : Held) : Type 0 where
+  pub onward : start < stop
+  pub within : stop ≤ length piece
+  pub place : Place
+  pub mark : Mark
+  pub here : at new key ≡ Some place
+  pub asks : asked ≡ asked_of new.buses place mark
+  pub unsent : unsent_at key new ≡ unsent_at key old
+  pub begun : begun_at key new ≡ Some []
+  pub few : begun_at key old ≡ Some [] → longest_answer asked ≤ 64 * (stop - start)
+
+pub line_found : (key : ℕ) (piece : List ℕ) (start stop : ℕ) (asked : Asked) (old new : Held) → ◌≡◌ {A = Option (ℕ × Asked) × Held} (Some (stop, asked), new) (heard_at key piece start old)
+    → IsLineFound key piece start stop asked old new
+line_found key piece start stop asked old new e = by (at old key) refl e
+  where
+    by : (o : Option Place) → at old key ≡ o → ◌≡◌ {A = Option (ℕ × Asked) × Held} (Some (stop, asked), new) (heard_in key piece start old o) → IsLineFound key piece start stop asked old new
+    by None there e = let bad : ◌≡◌ {A = Option (ℕ × Asked)} (Some (stop, asked)) None = ap (λ (r : Option (ℕ × Asked) × Held). r.0) e in absurd (let f : ⊥ = cc in f)
+    by (Some p) there e =
+        let after : Place = (heard old.buses piece start p).1 in
+        let answer : ◌≡◌ {A = Option (ℕ × Asked)} (Some (stop, asked)) (heard old.buses piece start p).0 = ap (λ (r : Option (ℕ × Asked) × Held). r.0) e in
+        let held : new ≡ record old { places = slice_set old.places key (Some after) } = ap (λ (r : Option (ℕ × Asked) × Held). r.1) e in
+        let f = found old.buses p after piece start stop asked (ap (λ (a : Option (ℕ × Asked)). let r : Option (ℕ × Asked) × Place = (a, after) in r) answer) in
+        let here : at new key ≡ Some after = ap (λ (h : Held). at h key) held ∙ place_set_here old.places key p (Some after) there in
+        record {
+          onward = f.onward;
+          within = f.within;
+          place = after;
+          mark = f.mark;
+          here = here;
+          asks = f.asks ∙ sym (ap (λ (h : Held). asked_of h.buses after f.mark) held);
+          unsent = ap unsent_of here ∙ f.unsent ∙ sym (ap unsent_of there);
+          begun = ap begun_of here ∙ f.begun;
+          few = λ h. f.few (sym (ap begun_of there) ∙ h);
+        }
+
+-- reading refuses nothing
+pub heard_denied : (key : ℕ) (piece : List ℕ) (from : ℕ) (held : Held) (o : Option Place) → (heard_in key piece from held o).1.denied ≡ held.denied
+heard_denied key piece from held None = refl
+heard_denied key piece from held (Some p) = refl
+
+-- whatever connection is at the place, the line asks for something of it
+pub line_asks : (key : ℕ) (piece : List ℕ) (start stop : ℕ) (asked : Asked) (old new : Held) → ◌≡◌ {A = Option (ℕ × Asked) × Held} (Some (stop, asked), new) (heard_at key piece start old)
+    → (p : Place) → at new key ≡ Some p → (mark : Mark) × (asked ≡ asked_of new.buses p mark)
+line_asks key piece start stop asked old new e p there =
+    let f = line_found key piece start stop asked old new e in
+    let both : Some f.place ≡ Some p = sym f.here ∙ there in
+    let same : f.place ≡ p = cc in
+    (f.mark, f.asks ∙ ap (λ (q : Place). asked_of new.buses q f.mark) same)
+
+-- ---- the lines of a piece
+
+pub nothing_begun : (key : ℕ) (piece : List ℕ) (held : Held) → unsent_at key held ≡ [] → HasRoom key piece 0 held
+nothing_begun key piece held idle =
+    let none : length (unsent_at key held) ≡ 0 = ap (λ (bs : List ℕ). length bs) idle in
+    record { far = omega arith; idle = λ e. none; room = omega (arith, none); begun = λ low. absurd (omega (arith, low)) }
+
+module _ (key : ℕ) (piece : List ℕ) (start stop : ℕ) (asked : Asked) (held mid : Held) (e : ◌≡◌ {A = Option (ℕ × Asked) × Held} (Some (stop, asked), mid) (heard_at key piece start held)) where
+  -- the line has room for its answer
+  pub line_room : length piece ≤ 256 → HasRoom key piece start held → length (unsent_at key mid) + longest_answer asked ≤ 16640
+  line_room few t =
+      let f = line_found key piece start stop asked held mid e in
+      let same = ap (λ (bs : List ℕ). length bs) f.unsent in
+      let m = answer_most asked in
+      let o = f.onward in
+      let w = f.within in
+      let r = t.room in
+      omega (arith, same, m, r, o, w, few)
+
+  room_after : (granted : Bool) → IsSound mid → HasRoom key piece start held → HasRoom key piece stop (answered granted key asked mid)
+  room_after granted s t =
+      let f = line_found key piece start stop asked held mid e in
+      let g = answered_gains granted key asked mid f.place f.mark f.here f.asks s in
+      let same = ap (λ (bs : List ℕ). length bs) f.unsent in
+      record {
+        far = f.within;
+        idle = λ z. absurd (let o = f.onward in omega (arith, z, o));
+        room = elim (where_is start 0) [
+          | Here z ↦ let i = t.idle z in let m = answer_most asked in let o = f.onward in let w = g.few in omega (arith, z, i, m, o, w, same)
+          | Away n ↦ let low : 0 < start = elim (cases_lt 0 start) [ inl h ↦ h | inr h ↦ absurd (n (omega (arith, h))) ] in
+              let l = f.few (t.begun low) in let o = f.onward in let w = g.few in let r = t.room in omega (arith, l, o, w, r, same)
+        ];
+        begun = λ low. g.begun ∙ f.begun;
+      }
+
+  -- and is answered
+  pub line_answered : (did : Answered) (new : Held) → new ≡ answered did.granted key asked mid → listed did.steps ≡ steps_answered did.granted key asked mid
+      → new.denied ≡ denied_by mid.denied (did.granted ∷ []) → IsSound mid → HasRoom key piece start held → IsLineTaken key piece start stop did held new
+  line_answered did new is steps counted s t = record {
+    onward = (line_found key piece start stop asked held mid e).onward;
+    room = subst (HasRoom key piece stop) (sym is) (room_after did.granted s t);
+    is = ap (λ (h : Held). let r : ℕ × Held = (stop, h) in r) is ∙ ap (λ (r : Option (ℕ × Asked) × Held). line_taken key did.granted (start, held) r) e;
+    steps = steps ∙ ap (λ (r : Option (ℕ × Asked) × Held). steps_of_line key did.granted r) e;
+    counted = counted ∙ ap (λ k. denied_by k (did.granted ∷ [])) (ap (λ (r : Option (ℕ × Asked) × Held). r.1.denied) e ∙ heard_denied key piece start held (at held key));
+  }
+
+-- the lines up to a place of the piece are answered
+pub record IsTaken (key : ℕ) (piece : List ℕ) (first : Held) (start : ℕ) (held : Held) : Type 0 where
+  pub room : HasRoom key piece start held
+  pub grants : List Bool
+  pub counted : CountsEach key piece (0, first) grants
+  pub is : ◌≡◌ {A = ℕ × Held} (start, held) (lines_taken key piece grants first)
+
+pub nothing_taken : (key : ℕ) (piece : List ℕ) (first : Held) → unsent_at key first ≡ [] → IsTaken key piece first 0 first
+nothing_taken key piece first idle = record { room = nothing_begun key piece first idle; grants = []; counted = tt; is = refl }
+
+counts_push : (key : ℕ) (piece : List ℕ) (grants : List Bool) (before : ℕ × Held) (granted : Bool) → CountsEach key piece before grants
+    → CountsEach key piece (fold (λ before granted. line_taken key granted before (heard_at key piece before.0 before.1)) before grants) (granted ∷ []) → CountsEach key piece before (grants ++ granted ∷ [])
+counts_push key piece [] before granted a e = e
+counts_push key piece (g ∷ grants) before granted a e = (a.0, counts_push key piece grants (line_taken key g before (heard_at key piece before.0 before.1)) granted a.1 e)
+
+pub line_added : (key : ℕ) (piece : List ℕ) (first : Held) (start stop : ℕ) (did : Answered) (held new : Held) → IsLineTaken key piece start stop did held new
+    → IsTaken key piece first start held → IsTaken key piece first stop new
+line_added key piece first start stop did held new l t = record {
+  room = l.room;
+  grants = t.grants ++ did.granted ∷ [];
+  counted = counts_push key piece t.grants (0, first) did.granted t.counted
+      (subst (λ (b : ℕ × Held). CountsEach key piece b (did.granted ∷ [])) t.is (sym (ap (λ (r : ℕ × Held). r.1.denied) l.is) ∙ l.counted, tt));
+  is =
+      l.is
+      ∙ ap (λ (b : ℕ × Held). line_taken key did.granted b (heard_at key piece b.0 b.1)) t.is
+      ∙ sym (fold-append (λ before granted. line_taken key granted before (heard_at key piece before.0 before.1)) (0, first) t.grants (did.granted ∷ []));
+}
+
+pub lines_end : (key : ℕ) (piece : List ℕ) (first : Held) (start : ℕ) (held new : Held) → ◌≡◌ {A = Option (ℕ × Asked) × Held} (None, new) (heard_at key piece start held) → IsTaken key piece first start held → IsReceived key piece first new
+lines_end key piece first start held new e t = record { grants = t.grants; counted = t.counted; rest = e ∙ ap (λ (b : ℕ × Held). heard_at key piece b.0 b.1) t.is }

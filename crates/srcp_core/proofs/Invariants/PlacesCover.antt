@@ -1,0 +1,144 @@
+-- Places whose connections come from those of other places, with the sessions that these have.
+use Rattle.std.proofs.Common.{◌≡◌, ◌≢◌, ℕ, zero, suc, ◌+◌, ◌<◌, ◌≤◌, true, false, cond, List, [], ◌∷◌, refl, ap, sym, ◌∙◌, subst, arith}
+use Rattle.std.specs.Option.{option_map}
+use Rattle.std.specs.Prelude.{◌&&◌, Option, Some, None, is_some, slice_set, count_by, if◌then◌else◌}
+use Rattle.srcp_info.specs.declared.change.Change.{Change}
+use Rattle.srcp_rules.specs.State.{State, session_device, is_there}
+use Rattle.srcp_feed.specs.Cursor.{concerns}
+use Rattle.srcp_feed.specs.Feed.{Feed, is_full, told}
+use Rattle.srcp_core.specs.Held.{Place, place_at, IsLive, AreSessions}
+use Rattle.srcp_core.specs.Machine.{told_feed, told_place, told_all, told_each}
+use Rattle.srcp_core.proofs.Invariants.EveryPlaceIsTold.{count_by_cons, told_all_count, told_all_at}
+
+-- the session is the same, and an end is not undone
+pub record IsMild (p q : Place) : Type 0 where
+  pub session : q.session ≡ p.session
+  pub ended : q.ended ≡ false → p.ended ≡ false
+
+pub mild_itself : (p : Place) → IsMild p p
+mild_itself p = record { session = refl; ended = λ h. h }
+
+pub mild_live : (p q : Place) → IsMild p q → IsLive q → IsLive p
+mild_live p q m l = record { began = subst (λ n. 0 < n) m.session l.began; not_ended = m.ended l.not_ended }
+
+-- where a connection comes from
+pub record Source (places : List (Option Place)) (key : ℕ) (q : Place) : Type 0 where
+  pub p : Place
+  pub there : place_at places key ≡ Some p
+  pub mild : IsMild p q
+
+abbrev pub Covers : List (Option Place) → List (Option Place) → Type 0
+Covers old new = (key : ℕ) (q : Place) → place_at new key ≡ Some q → Source old key q
+
+pub covers_itself : (places : List (Option Place)) → Covers places places
+covers_itself places key q e = record { p = q; there = e; mild = mild_itself q }
+
+pub covers_across : (a b c : List (Option Place)) → Covers a b → Covers b c → Covers a c
+covers_across a b c f g key q e =
+    let s = g key q e in
+    let t = f key s.p s.there in
+    record { p = t.p; there = t.there; mild = record { session = s.mild.session ∙ t.mild.session; ended = λ h. t.mild.ended (s.mild.ended h) } }
+
+-- ---- a place is set
+
+pub no_place : (key : ℕ) (p : Place) → place_at [] key ≡ Some p → ⊥
+no_place zero p e = cc
+no_place (suc key) p e = cc
+
+pub place_set : (places : List (Option Place)) (key m : ℕ) (slot : Option Place) → m ≢ key → place_at (slice_set places key slot) m ≡ place_at places m
+place_set [] key m slot h = refl
+place_set (x ∷ places) zero zero slot h = absurd (h refl)
+place_set (x ∷ places) zero (suc m) slot h = refl
+place_set (x ∷ places) (suc key) zero slot h = refl
+place_set (x ∷ places) (suc key) (suc m) slot h = place_set places key m slot (λ e. h (ap (λ n. suc n) e))
+
+pub place_set_here : (places : List (Option Place)) (key : ℕ) (p : Place) (slot : Option Place) → place_at places key ≡ Some p → place_at (slice_set places key slot) key ≡ slot
+place_set_here [] key p slot h = absurd (no_place key p h)
+place_set_here (x ∷ places) zero p slot h = refl
+place_set_here (x ∷ places) (suc key) p slot h = place_set_here places key p slot h
+
+pub data Where (m n : ℕ) : Type 0 where
+  Here : m ≡ n → Where m n
+  Away : m ≢ n → Where m n
+
+pub where_is : (m n : ℕ) → Where m n
+where_is zero zero = Here refl
+where_is zero (suc n) = Away (λ e. omega (arith, e))
+where_is (suc m) zero = Away (λ e. omega (arith, e))
+where_is (suc m) (suc n) = elim (where_is m n) [ Here e ↦ Here (ap (λ k. suc k) e) | Away f ↦ Away (λ e. f (omega (arith, e))) ]
+
+pub covers_set : (places : List (Option Place)) (key : ℕ) (p q : Place) → place_at places key ≡ Some p → IsMild p q → Covers places (slice_set places key (Some q))
+covers_set places key p q at mild m r e = by (where_is m key)
+  where
+    by : Where m key → Source places m r
+    by (Here s) =
+        let here : place_at (slice_set places key (Some q)) m ≡ Some q = subst (λ k. place_at (slice_set places key (Some q)) k ≡ Some q) (sym s) (place_set_here places key p (Some q) at) in
+        let same : q ≡ r = cc in
+        record { p = p; there = subst (λ k. place_at places k ≡ Some p) (sym s) at; mild = subst (IsMild p) same mild }
+    by (Away f) = record { p = r; there = sym (place_set places key m (Some q) f) ∙ e; mild = mild_itself r }
+
+pub covers_free : (places : List (Option Place)) (key : ℕ) (p : Place) → place_at places key ≡ Some p → Covers places (slice_set places key None)
+covers_free places key p at m r e = by (where_is m key)
+  where
+    by : Where m key → Source places m r
+    by (Here s) =
+        let here : place_at (slice_set places key None) m ≡ None = subst (λ k. place_at (slice_set places key None) k ≡ None) (sym s) (place_set_here places key p None at) in
+        let bad : Some r ≡ None = sym e ∙ here in
+        cc
+    by (Away f) = record { p = r; there = sym (place_set places key m None f) ∙ e; mild = mild_itself r }
+
+pub free_other : (places : List (Option Place)) (key : ℕ) (p : Place) → place_at places key ≡ Some p → (m : ℕ) (r : Place) → place_at (slice_set places key None) m ≡ Some r → m ≢ key
+free_other places key p at m r e s =
+    let here : place_at (slice_set places key None) m ≡ None = subst (λ k. place_at (slice_set places key None) k ≡ None) (sym s) (place_set_here places key p None at) in
+    let bad : Some r ≡ None = sym e ∙ here in
+    cc
+
+-- ---- a change is told
+
+pub told_mild : (change : Change) (p : Place) → IsMild p (told_place change p)
+told_mild change p = by p.feed
+  where
+    by : (feed : Option Feed) → IsMild p (told_feed change p feed)
+    by None = mild_itself p
+    by (Some feed) = elim (concerns feed.cursor change && is_full feed) as (λ t. IsMild p (cond t (record p { overran = true; unsent = []; feed = None }) (record p { feed = Some (told change feed) }))) [
+      | true ↦ record { session = refl; ended = λ h. h }
+      | false ↦ record { session = refl; ended = λ h. h }
+    ]
+
+pub covers_told : (change : Change) (places : List (Option Place)) → Covers places (told_all change places)
+covers_told change places key q e = by (place_at places key) refl (sym (told_all_at change places key) ∙ e)
+  where
+    by : (o : Option Place) → place_at places key ≡ o → option_map (told_place change) o ≡ Some q → Source places key q
+    by None at h = cc
+    by (Some p) at h = let same : told_place change p ≡ q = cc in record { p = p; there = at; mild = subst (IsMild p) same (told_mild change p) }
+
+pub covers_told_each : (changes : List Change) (places : List (Option Place)) → Covers places (told_each changes places)
+covers_told_each [] places = covers_itself places
+covers_told_each (change ∷ changes) places = covers_across places (told_all change places) (told_each changes (told_all change places)) (covers_told change places) (covers_told_each changes (told_all change places))
+
+pub told_each_count : (changes : List Change) (places : List (Option Place)) → count_by is_some (told_each changes places) ≡ count_by is_some places
+told_each_count [] places = refl
+told_each_count (change ∷ changes) places = told_each_count changes (told_all change places) ∙ told_all_count change places
+
+-- ---- how many are open
+
+pub set_count : (places : List (Option Place)) (key : ℕ) (p q : Place) → place_at places key ≡ Some p → count_by is_some (slice_set places key (Some q)) ≡ count_by is_some places
+set_count [] key p q h = refl
+set_count (None ∷ places) zero p q h = cc
+set_count (Some x ∷ places) zero p q h = count_by_cons is_some (Some q) places ∙ sym (count_by_cons is_some (Some x) places)
+set_count (x ∷ places) (suc key) p q h = count_by_cons is_some x (slice_set places key (Some q)) ∙ ap (λ n. (if is_some x then 1 else 0) + n) (set_count places key p q h) ∙ sym (count_by_cons is_some x places)
+
+-- ---- the sessions
+
+pub sessions_covered : (last : ℕ) (rows : State) (old new : List (Option Place)) → Covers old new → AreSessions last rows old → AreSessions last rows new
+sessions_covered last rows old new f a = record {
+  ids = λ key q e. let s = f key q e in subst (λ n. n ≤ last) (sym s.mild.session) (a.ids key s.p s.there);
+  apart = λ m n q r e g low same.
+      let s = f m q e in
+      let t = f n r g in
+      a.apart m n s.p t.p s.there t.there (subst (λ i. 0 < i) s.mild.session low) (sym s.mild.session ∙ same ∙ t.mild.session);
+  there = λ key q e live.
+      let s = f key q e in
+      ap (λ i. is_there (session_device i) rows) s.mild.session ∙ a.there key s.p s.there (mild_live s.p q s.mild live);
+  later = a.later;
+}
