@@ -6,18 +6,16 @@ use Rattle.srcp_info.specs.declared.value.Mode.{Mode}
 use Rattle.srcp_text.specs.Reading.{Reading}
 use Rattle.srcp_rules.specs.declared.layout.Bus.{Bus}
 use Rattle.srcp_rules.specs.State.{State, IsWhole, session_device, is_there}
-use Rattle.srcp_feed.specs.Feed.{Feed}
+use Rattle.srcp_core.specs.declared.connection.Panel.{Panel}
 
 -- what is held of a connection
 pub record Place : Type 0 where
   pub reader : Reading  -- what is known of the line that has begun
   pub mode : Mode  -- the mode that it chose last
   pub session : ℕ  -- its session's id, 0 before it begins
-  pub info : Bool  -- whether that is an information session
   pub ended : Bool  -- whether the session ended by its own command
-  pub overran : Bool  -- whether more changes came upon it than may wait
   pub unsent : List ℕ  -- the bytes that are to be sent
-  pub feed : Option Feed  -- what an information session is to be given
+  pub panel : Panel  -- what it is told of changes
 
 -- what is held of them all
 pub record Held : Type 0 where

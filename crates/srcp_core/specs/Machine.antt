@@ -28,13 +28,15 @@ use Rattle.srcp_feed.specs.Feed.{Feed, beginning, is_full, told, next_of, after_
 use Rattle.srcp_feed.specs.declared.next.Next.{Next}
 use Rattle.srcp_feed.specs.declared.next.Next.TheVariants.{Told, Listed, Settled}
 use Rattle.srcp_core.specs.Connection.{is_nil, line_of}
-use Rattle.srcp_core.specs.Course.{welcome, is_info, command_of}
+use Rattle.srcp_core.specs.Course.{welcome, command_of}
 use Rattle.srcp_core.specs.Handshake.{Greeting, Speaks, Chooses, Goes, Refuses, greets}
 use Rattle.srcp_core.specs.Held.{Place, Held, place_at, at, open_count}
 use Rattle.srcp_core.specs.Under.{denied_by, wants_memory}
 use Rattle.srcp_core.specs.declared.answered.Answered.{Answered}
 use Rattle.srcp_core.specs.declared.answered.LineSteps.{LineSteps}
 use Rattle.srcp_core.specs.declared.answered.LineSteps.TheVariants.{Nothing, One, Two}
+use Rattle.srcp_core.specs.declared.connection.Panel.{Panel}
+use Rattle.srcp_core.specs.declared.connection.Panel.TheVariants.{Absent, Listening, Overran}
 use Rattle.srcp_core.specs.declared.asked.Asked.{Asked}
 use Rattle.srcp_core.specs.declared.asked.Asked.TheVariants.{Dropped, Greets, Commands}
 use Rattle.srcp_core.specs.declared.record.Step.{Step}
@@ -48,7 +50,7 @@ use Rattle.srcp_core.specs.declared.record.CoreFault.TheVariants.{Full, Memory a
 
 -- a connection that was just opened
 abbrev pub fresh_place : Place
-fresh_place = record { reader = nothing_read; mode = CommandMode; session = 0; info = false; ended = false; overran = false; unsent = welcome; feed = None }
+fresh_place = record { reader = nothing_read; mode = CommandMode; session = 0; ended = false; unsent = welcome; panel = Absent }
 
 -- more bytes are to be sent
 abbrev pub with_unsent : List ℕ → Place → Place
@@ -58,33 +60,51 @@ with_unsent bytes p = record p { unsent = p.unsent ++ bytes }
 abbrev pub without_sent : ℕ → Place → Place
 without_sent count p = record p { unsent = drop count p.unsent }
 
--- what a session of the mode begins with
-abbrev pub feed_for : Mode → Option Feed
-feed_for CommandMode = None
-feed_for Info = Some beginning
+-- a session of the mode is told changes from its beginning on, where it is an information session
+abbrev pub panel_for : Mode → Panel
+panel_for CommandMode = Absent
+panel_for Info = Listening beginning
+
+-- it is an information session
+abbrev pub is_panel : Panel → Bool
+is_panel Absent = false
+is_panel (Listening feed) = true
+is_panel Overran = true
+
+-- more changes came upon it than may wait
+abbrev pub has_overrun : Panel → Bool
+has_overrun Absent = false
+has_overrun (Listening feed) = false
+has_overrun Overran = true
+
+-- the feed that gives to it
+abbrev pub feed_in : Panel → Option Feed
+feed_in Absent = None
+feed_in (Listening feed) = Some feed
+feed_in Overran = None
 
 -- the session begins under the id
-abbrev pub entered_place : ℕ → Mode → Place → Place
-entered_place id mode p = record p { session = id; info = is_info mode; feed = feed_for mode }
+abbrev pub entered_place : ℕ → Panel → Place → Place
+entered_place id panel p = record p { session = id; panel = panel }
 
 -- a change is told: what waits, the listing and the unsent bytes are given up where it would have to wait and can not
 abbrev pub told_feed : Change → Place → Option Feed → Place
 told_feed change p None = p
-told_feed change p (Some feed) = if concerns feed.cursor change && is_full feed then record p { overran = true; unsent = []; feed = None } else record p { feed = Some (told change feed) }
+told_feed change p (Some feed) = if concerns feed.cursor change && is_full feed then record p { unsent = []; panel = Overran } else record p { panel = Listening (told change feed) }
 
 -- and by the feed that the connection has
 abbrev pub told_place : Change → Place → Place
-told_place change p = told_feed change p p.feed
+told_place change p = told_feed change p (feed_in p.panel)
 
 -- the next line is put in, where nothing is unsent
 abbrev pub filled_from : List Shown → Place → List ℕ → Option Feed → Place
 filled_from rows p (byte ∷ bytes) feed = p
 filled_from rows p [] None = p
-filled_from rows p [] (Some feed) = record p { unsent = line_of (next_of rows feed); feed = Some (after_next rows feed) }
+filled_from rows p [] (Some feed) = record p { unsent = line_of (next_of rows feed); panel = Listening (after_next rows feed) }
 
 -- and by the unsent bytes and the feed that the connection has
 abbrev pub filled : List Shown → Place → Place
-filled rows p = filled_from rows p p.unsent p.feed
+filled rows p = filled_from rows p p.unsent (feed_in p.panel)
 
 -- what was put in, if anything was asked for
 abbrev pub item_from : List Shown → List ℕ → Option Feed → Option Next
@@ -93,9 +113,10 @@ item_from rows [] None = None
 item_from rows [] (Some feed) = Some (next_of rows feed)
 
 -- the changes that wait
-abbrev pub queue_of : Option Feed → List Change
-queue_of None = []
-queue_of (Some feed) = feed.queue
+abbrev pub queue_of : Panel → List Change
+queue_of Absent = []
+queue_of (Listening feed) = feed.queue
+queue_of Overran = []
 
 -- what is given can be told
 abbrev pub IsTellable : Next → Type 0
@@ -107,7 +128,7 @@ IsTellable Settled = ⊤
 
 -- what a line asks for, by how its connection stands; what comes to an information session or after the end is dropped
 abbrev pub asked_of : List Bus → Place → Mark → Asked
-asked_of buses p mark = if p.info || p.ended then Dropped else (if p.session == 0 then Greets (greets mark) else Commands (command_of buses mark))
+asked_of buses p mark = if is_panel p.panel || p.ended then Dropped else (if p.session == 0 then Greets (greets mark) else Commands (command_of buses mark))
 
 -- what the reader found: the place after the line and what it asks for, or nothing
 abbrev pub heard_from : List Bus → Place → Fed × Reading → Option (ℕ × Asked) × Place
@@ -186,7 +207,7 @@ denied_line key held = replied key (Refused C500) (one_denied held)
 
 -- a session begins under the id: its row is told to all, and then it is one of them
 abbrev pub begun : ℕ → ℕ → Mode → Held → Held
-begun key id mode held = changed_at key (entered_place id mode) (carried (began id held.moment mode ∷ []) (record held { last_id = id }))
+begun key id mode held = changed_at key (entered_place id (panel_for mode)) (carried (began id held.moment mode ∷ []) (record held { last_id = id }))
 
 -- GO, by whether memory was given to it
 abbrev pub goes : Bool → ℕ → Mode → Held → Held
@@ -303,7 +324,7 @@ IsNotAdmitted other old new = ⊥
 abbrev pub bytes_fault_from : List ℕ → Option Place → Option CoreFault
 bytes_fault_from piece None = Some NoSuch
 bytes_fault_from piece (Some p) =
-    if p.ended || p.overran then Some Closing
+    if p.ended || has_overrun p.panel then Some Closing
     else (if not (is_nil p.unsent) then Some Busy
     else (if nat_lt 256 (length piece) then Some PieceTooLong else None))
 
@@ -366,7 +387,7 @@ pub record IsReceived (key : ℕ) (piece : List ℕ) (old new : Held) : Type 0 w
 -- it overran, or it ended and all replies are taken
 abbrev pub is_closing_from : Option Place → Bool
 is_closing_from None = false
-is_closing_from (Some p) = p.overran || (p.ended && is_nil p.unsent)
+is_closing_from (Some p) = has_overrun p.panel || (p.ended && is_nil p.unsent)
 
 -- the same at a place of the core
 abbrev pub is_closing : ℕ → Held → Bool
@@ -384,7 +405,7 @@ live_session key held = live_session_of (at held key)
 -- how it stands
 abbrev pub finish_from : Option Place → Finish
 finish_from None = Shut
-finish_from (Some p) = if p.overran then Overrun else (if p.ended && is_nil p.unsent then Finishes else Live)
+finish_from (Some p) = if has_overrun p.panel then Overrun else (if p.ended && is_nil p.unsent then Finishes else Live)
 
 -- the same at a place of the core
 abbrev pub finish_at : ℕ → Held → Finish
@@ -397,7 +418,7 @@ let_out key held = changed_at key (filled (shown_rows held.rows)) held
 -- what is put in then, by the connection that is there
 abbrev pub item_of : List Shown → Option Place → Option Next
 item_of rows None = None
-item_of rows (Some p) = item_from rows p.unsent p.feed
+item_of rows (Some p) = item_from rows p.unsent (feed_in p.panel)
 
 -- what is put in then at a place of the core
 abbrev pub item_at : ℕ → Held → Option Next

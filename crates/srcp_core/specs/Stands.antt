@@ -10,14 +10,18 @@ use Rattle.srcp_core.specs.Connection.{Connection, History, cursor_at, untold, u
 use Rattle.srcp_core.specs.Course.{World, numbered, state, history}
 use Rattle.srcp_core.specs.Held.{Place, Held, place_at, open_count}
 use Rattle.srcp_core.specs.Recording.{key_of}
+use Rattle.srcp_core.specs.declared.connection.Panel.{Panel}
+use Rattle.srcp_core.specs.declared.connection.Panel.TheVariants.{Absent, Listening, Overran}
 
--- what is held of a connection, by its reader, its mode, its session, the unsent bytes, and the cursor and the queue of
--- its feed; where more wait than may, the bytes and the feed are given up
+-- what an information session is told of changes, by the cursor and the queue of its feed: nothing where more wait than may
+abbrev pub panel_at : (info : Bool) → Cursor → List Change → Panel
+panel_at false cursor queue = Absent
+panel_at true cursor queue = if nat_lt 256 (length queue) then Overran else Listening (record { cursor = cursor; queue = queue })
+
+-- what is held of a connection; where more changes wait than may, the unsent bytes are given up
 abbrev pub placed : Reading → Mode → ℕ → Bool → Bool → List ℕ → Cursor → List Change → Place
 placed reader mode session info ended bytes cursor queue =
-    if info && nat_lt 256 (length queue)
-    then record { reader = reader; mode = mode; session = session; info = info; ended = ended; overran = true; unsent = []; feed = None }
-    else record { reader = reader; mode = mode; session = session; info = info; ended = ended; overran = false; unsent = bytes; feed = if info then Some (record { cursor = cursor; queue = queue }) else None }
+    record { reader = reader; mode = mode; session = session; ended = ended; unsent = if info && nat_lt 256 (length queue) then [] else bytes; panel = panel_at info cursor queue }
 
 -- what is held of a connection of a course with that history
 abbrev pub place_of : Reading → History → Connection → Place

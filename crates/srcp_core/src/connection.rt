@@ -5,7 +5,7 @@ ghost use Rattle.std.specs.List.{AllByRecursion};
 ghost use Rattle.srcp_info.specs.WellFormed.{IsWellFormed, IsWellFormedShown};
 ghost use Rattle.srcp_text.specs.Marks.{Line, TooLong};
 ghost use Rattle.srcp_core.specs.Connection.{is_nil, line_of};
-ghost use Rattle.srcp_core.specs.Machine.{fresh_place, with_unsent, without_sent, entered_place, feed_for, told_place, filled, item_from, IsTellable, asked_of, heard, live_session_of};
+ghost use Rattle.srcp_core.specs.Machine.{queue_of, fresh_place, with_unsent, without_sent, entered_place, panel_for, feed_in, has_overrun, is_panel, told_place, filled, item_from, IsTellable, asked_of, heard, live_session_of};
 
 use crate::asked::Asked;
 use crate::greeting::Greeting;
@@ -24,19 +24,40 @@ pub(crate) const MOST_UNSENT: usize = 16_640;
 /// What the server says first: the welcome line of SRCP 0.8, with our own name and version.
 const WELCOME: &[u8] = b"srcp_server 1.0; SRCP 0.8.4; SRCPOTHER 0.8.3\n";
 
+/// What a connection is told of changes.
+#[derive(Drop)]
+pub(crate) enum Panel {
+    /// Nothing: it has no information session.
+    Absent,
+    /// What the feed of its information session gives.
+    Listening(InfoFeed),
+    /// Nothing any more: more changes came upon its information session than may wait.
+    Overran,
+}
+
+impl Panel {
+    /// Takes the memory of a feed for an information session, at its beginning; a command session has none.
+    pub(crate) fn of_mode<R: Rows>(alloc: Global, mode: Mode, rows: &R) -> Result<Panel, Memory>
+        ensures { IfOk result (λ panel. panel ≡ panel_for mode) }
+    {
+        match mode {
+            Mode::Command => Ok(Panel::Absent),
+            Mode::Info => Ok(Panel::Listening(InfoFeed::begin(alloc, rows)?)),
+        }
+    }
+}
+
 /// One connection.
 #[derive(Drop)]
 pub struct Connection {
     reader: LineReader,
     mode: Mode,
     session: u32,
-    info: bool,
     ended: bool,
-    overran: bool,
     // The bytes from `start` on are unsent.
     reply: Vec<u8>,
     start: usize,
-    feed: Option<InfoFeed>,
+    panel: Panel,
 }
 
 impl Model for Connection {
@@ -48,9 +69,9 @@ impl Model for Connection {
 
     ghost Value = { Place };
 
-    ghost view = { λ c. record { reader = c.reader; mode = c.mode; session = c.session; info = c.info; ended = c.ended; overran = c.overran; unsent = drop c.start c.reply.items; feed = c.feed } };
+    ghost view = { λ c. record { reader = c.reader; mode = c.mode; session = c.session; ended = c.ended; unsent = drop c.start c.reply.items; panel = c.panel } };
 
-    ghost invariant = { λ c. (c.start ≤ length c.reply.items) × (length c.reply.items ≤ 16640) × (16640 ≤ vec_capacity c.reply) × AllByRecursion IsWellFormed (queue_of c.feed) };
+    ghost invariant = { λ c. (c.start ≤ length c.reply.items) × (length c.reply.items ≤ 16640) × (16640 ≤ vec_capacity c.reply) × AllByRecursion IsWellFormed (queue_of c.panel) };
 }
 
 impl Connection {
@@ -64,27 +85,25 @@ impl Connection {
             reader: LineReader::new(),
             mode: Mode::Command,
             session: 0,
-            info: false,
             ended: false,
-            overran: false,
             reply,
             start: 0,
-            feed: None,
+            panel: Panel::Absent,
         })
     }
 
     /// Whether no more is taken of it: it ended, or it overran.
     pub(crate) fn is_over(&self) -> bool
-        ensures { result ≡ (self.now.ended || self.now.overran) }
+        ensures { result ≡ (self.now.ended || has_overrun self.now.panel) }
     {
-        self.ended || self.overran
+        self.ended || self.overran()
     }
 
     /// Whether more changes came upon it than may wait.
     pub(crate) fn overran(&self) -> bool
-        ensures { result ≡ self.now.overran }
+        ensures { result ≡ has_overrun self.now.panel }
     {
-        self.overran
+        matches!(self.panel, Panel::Overran)
     }
 
     /// Whether its session ended by its own command and all its replies are sent.
@@ -143,12 +162,11 @@ impl Connection {
         requires { IsWellFormed change.now }
         ensures { self.new ≡ told_place change.now self.old }
     {
-        let Some(feed) = &mut self.feed else {
+        let Panel::Listening(feed) = &mut self.panel else {
             return;
         };
         if let Told::Overrun = feed.tell(change) {
-            self.overran = true;
-            self.feed = None;
+            self.panel = Panel::Overran;
             self.reply.clear();
             self.start = 0;
         }
@@ -175,7 +193,7 @@ impl Connection {
     fn asked(&self, layout: &Layout) -> Asked
         ensures { result ≡ asked_of layout.now self.now (Line self.now.reader.line) }
     {
-        if self.info || self.ended {
+        if self.is_panel() || self.ended {
             return Asked::Dropped;
         }
         let line = self.reader.line();
@@ -190,7 +208,7 @@ impl Connection {
     fn asked_too_long(&self) -> Asked
         ensures { result ≡ asked_of [] self.now TooLong }
     {
-        if self.info || self.ended {
+        if self.is_panel() || self.ended {
             return Asked::Dropped;
         }
         if self.session == 0 {
@@ -198,6 +216,13 @@ impl Connection {
         } else {
             Asked::Commands(Err(Code::C418))
         }
+    }
+
+    /// Whether it has an information session.
+    fn is_panel(&self) -> bool
+        ensures { result ≡ is_panel self.now.panel }
+    {
+        !matches!(self.panel, Panel::Absent)
     }
 
     /// The mode of its session to come.
@@ -214,14 +239,13 @@ impl Connection {
         self.mode = mode;
     }
 
-    /// Its session begins under the id, with a feed where it is an information session.
-    pub(crate) fn enter(&mut self, id: u32, mode: Mode, feed: Option<InfoFeed>)
-        requires { feed ≡ feed_for mode }
-        ensures { self.new ≡ entered_place id mode self.old }
+    /// Its session begins under the id.
+    pub(crate) fn enter(&mut self, id: u32, panel: Panel)
+        requires { queue_of panel ≡ [] }
+        ensures { self.new ≡ entered_place id panel self.old }
     {
         self.session = id;
-        self.info = mode == Mode::Info;
-        self.feed = feed;
+        self.panel = panel;
     }
 
     /// Its session ended by its own command.
@@ -235,13 +259,13 @@ impl Connection {
     pub(crate) fn fill<R: Rows>(&mut self, rows: &R) -> Option<Next>
         requires { AllByRecursion IsWellFormedShown (shown_rows (R.state rows.now)) }
         ensures place { self.new ≡ filled (shown_rows (R.state rows.now)) self.old }
-        ensures item { result ≡ item_from (shown_rows (R.state rows.now)) self.old.unsent self.old.feed }
+        ensures item { result ≡ item_from (shown_rows (R.state rows.now)) self.old.unsent (feed_in self.old.panel) }
         ensures most { self.old.unsent ≡ [] → length self.new.unsent ≤ 126 }
     {
         if self.start < self.reply.len() {
             return None;
         }
-        let Some(feed) = &mut self.feed else {
+        let Panel::Listening(feed) = &mut self.panel else {
             return None;
         };
         let next = feed.next(rows);

@@ -13,7 +13,7 @@ use Rattle.srcp_core.specs.Agrees.{OfCourse, OfConnection, NamesNewest, CountsOp
 use Rattle.srcp_core.specs.Connection.{Connection, is_open, is_nil, overran, unsent, finish}
 use Rattle.srcp_core.specs.Course.{World, course, fault, absent_fault, history, open_connection}
 use Rattle.srcp_core.specs.Held.{Place, Held, at}
-use Rattle.srcp_core.specs.Machine.{IsAdmitted, IsNotAdmitted, bytes_fault, bytes_fault_from, is_closing, is_closing_from, unsent_at, unsent_of, let_out}
+use Rattle.srcp_core.specs.Machine.{IsAdmitted, IsNotAdmitted, bytes_fault, bytes_fault_from, is_closing, is_closing_from, unsent_at, unsent_of, let_out, has_overrun}
 use Rattle.srcp_core.specs.Recording.{key_of}
 use Rattle.srcp_core.specs.Stands.{StandsFor, place_of}
 use Rattle.srcp_core.specs.declared.record.CoreFault.{CoreFault}
@@ -23,7 +23,7 @@ use Rattle.srcp_core.proofs.Agreement.LinesAgree.{IsFine}
 use Rattle.srcp_core.proofs.Agreement.EventsAgree.{over_is, fault_same, full_fault, free_fault}
 use Rattle.srcp_core.proofs.Agreement.CallsFollowTheCourse.{out_stands}
 use Rattle.srcp_core.proofs.Agreement.NumbersAndKeys.{key_push_last, opens_cons}
-use Rattle.srcp_core.proofs.Agreement.PlacesChange.{is_over_place, place_ended, place_overran, place_unsent, place_given_up}
+use Rattle.srcp_core.proofs.Agreement.PlacesChange.{is_over_place, place_overran, place_unsent, place_given_up}
 use Rattle.srcp_core.proofs.CourseLaws.SessionsOfACourse.{anything, at_number, opening_in_order}
 use Rattle.srcp_core.proofs.Agreement.StandsAfterAChange.{Anything, Fine, Found, found_at}
 use Rattle.srcp_core.proofs.Invariants.EveryPlaceIsTold.{count_by_cons}
@@ -90,7 +90,7 @@ module _ (buses : List Bus) (layout : IsLayout buses) (events : List Event) (key
   is_there gone = none-some (place_of its.reader (history buses w) its.conn) (sym gone ∙ its.place)
 
   -- its place, by what is known of that
-  last_is : (p : Place) → at held key ≡ Some p → p.overran ≡ overran its.conn (history buses w) → p.ended ≡ its.conn.ended → (overran its.conn (history buses w) ≡ false → p.unsent ≡ unsent its.conn)
+  last_is : (p : Place) → at held key ≡ Some p → has_overrun p.panel ≡ overran its.conn (history buses w) → p.ended ≡ its.conn.ended → (overran its.conn (history buses w) ≡ false → p.unsent ≡ unsent its.conn)
       → is_closing key held ≡ (overran its.conn (history buses w) || (its.conn.ended && is_nil (unsent its.conn)))
   last_is p here over ended bytes =
       ap is_closing_from here ∙ ap (λ t. t || (p.ended && is_nil p.unsent)) over ∙ ap (λ t. overran its.conn (history buses w) || (t && is_nil p.unsent)) ended
@@ -103,7 +103,7 @@ module _ (buses : List Bus) (layout : IsLayout buses) (events : List Event) (key
   abbrev its_place : Place
   its_place = place_of its.reader (history buses w) its.conn
 
-  overran_is : its_place.overran ≡ overran its.conn (history buses w)
+  overran_is : has_overrun its_place.panel ≡ overran its.conn (history buses w)
   overran_is = place_overran its.reader (history buses w) its.conn ∙ sym its_over
 
   unsent_is : overran its.conn (history buses w) ≡ false → its_place.unsent ≡ unsent its.conn
@@ -111,7 +111,7 @@ module _ (buses : List Bus) (layout : IsLayout buses) (events : List Event) (key
 
   closing_is : is_closing key held ≡ closes buses w n
   closing_is =
-      last_is its_place its.place overran_is (place_ended its.reader (history buses w) its.conn) unsent_is
+      last_is its_place its.place overran_is refl unsent_is
       ∙ by (overran its.conn (history buses w)) (its.conn.ended && is_nil (unsent its.conn))
       ∙ ap (λ t. is_last (if t then (if overran its.conn (history buses w) then Overrun else (if its.conn.ended && is_nil (unsent its.conn) then Closing else Live)) else ShutFinish)) (sym its.up)
       ∙ ap (λ o. option_map_or (λ (conn : Connection). is_last (finish conn (history buses w))) o false) (sym its.opened)
@@ -152,7 +152,7 @@ takes_agrees key held accepts buses events keys n layout named s piece few =
   where
     from : (o : Option Place) → is_none (bytes_fault_from [] o) ≡ true → bytes_fault_from piece.bytes o ≡ None
     from None e = cc
-    from (Some p) e = by (p.ended || p.overran) (is_nil p.unsent) e
+    from (Some p) e = by (p.ended || has_overrun p.panel) (is_nil p.unsent) e
       where
         by : (over idle : Bool) → is_none (if over then Some ClosingFault else (if not idle then Some Busy else None)) ≡ true
             → (if over then Some ClosingFault else (if not idle then Some Busy else (if nat_lt 256 (length piece.bytes) then Some PieceTooLong else None))) ≡ None

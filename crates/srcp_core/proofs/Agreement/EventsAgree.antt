@@ -13,7 +13,7 @@ use Rattle.srcp_core.specs.Under.{Open, At, Shut, Moment, Ended}
 use Rattle.srcp_core.specs.Connection.{Connection, History, is_open, is_nil, overran, unsent, untold}
 use Rattle.srcp_core.specs.Course.{World, numbered, at_connection, open_connection, if_open, did, history, fresh, counted, fault, bytes_fault as course_fault, accepted, shut_as}
 use Rattle.srcp_core.specs.Held.{Place, Held, at, place_at, open_count}
-use Rattle.srcp_core.specs.Machine.{IsAdmitted, bytes_fault, bytes_fault_from, freed_place, freed_of, hung_up, hung_up_from, advanced}
+use Rattle.srcp_core.specs.Machine.{IsAdmitted, bytes_fault, bytes_fault_from, freed_place, freed_of, hung_up, hung_up_from, advanced, has_overrun}
 use Rattle.srcp_core.specs.Recording.{key_of, without_key}
 use Rattle.srcp_core.specs.Stands.{StandsBy, StandsFor, IsAt, IsOwned, place_of}
 use Rattle.srcp_core.specs.declared.record.CoreFault.TheVariants.{Full, Memory as MemoryFault, Busy, PieceTooLong, Closing}
@@ -21,7 +21,7 @@ use Rattle.srcp_core.specs.declared.record.Refusal.{Refusal}
 use Rattle.srcp_core.proofs.Agreement.LinesAgree.{IsFine}
 use Rattle.srcp_core.proofs.Invariants.PlacesCover.{Where, Here, Away, where_is, place_set, place_set_here, no_place}
 use Rattle.srcp_core.proofs.Agreement.NumbersAndKeys.{opens, one_if, opens_with, opens_push, length_with, length_without, without_here, without_other, key_within, key_push, key_push_last, key_push_is, numbered_push_is, numbered_within}
-use Rattle.srcp_core.proofs.Agreement.PlacesChange.{is_over_place, untold_shut, place_session, place_ended, place_overran, place_unsent}
+use Rattle.srcp_core.proofs.Agreement.PlacesChange.{is_over_place, untold_shut, place_overran, place_unsent}
 use Rattle.srcp_core.proofs.CourseLaws.ShownRegistry.{length_history}
 use Rattle.srcp_core.proofs.CourseLaws.SessionsOfACourse.{anything, at_number}
 use Rattle.srcp_core.proofs.CourseLaws.ClientHoldsPassedRows.{untold_by}
@@ -66,7 +66,7 @@ module _ (buses : List Bus) where
       let over = over_is buses (history buses w) h.conn h.shut f in
       let p = place_of h.reader (history buses w) h.conn in
       ap (bytes_fault_from piece) h.place
-      ∙ ap (λ t. if t || p.overran then Some Closing else (if not (is_nil p.unsent) then Some Busy else (if nat_lt 256 (length piece) then Some PieceTooLong else None))) (place_ended h.reader (history buses w) h.conn)
+      ∙ ap (λ t. if t || has_overrun p.panel then Some Closing else (if not (is_nil p.unsent) then Some Busy else (if nat_lt 256 (length piece) then Some PieceTooLong else None))) refl
       ∙ ap (λ t. if h.conn.ended || t then Some Closing else (if not (is_nil p.unsent) then Some Busy else (if nat_lt 256 (length piece) then Some PieceTooLong else None))) (place_overran h.reader (history buses w) h.conn)
       ∙ by h.conn.ended (is_over_place (history buses w) h.conn) (λ e. place_unsent h.reader (history buses w) h.conn e) refl
       ∙ ap (λ t. if h.conn.ended || t then Some Closing else (if not (is_nil (unsent h.conn)) then Some Busy else (if nat_lt 256 (length piece) then Some PieceTooLong else None))) (sym over)
@@ -253,7 +253,7 @@ module _ (buses : List Bus) where
       let p = place_of h.reader (history buses w) h.conn in
       subst (λ (o : Option Place). StandsFor buses (without_key n keys) (hung_up_from key held o) (accepted buses (Shut n) w)) (sym h.place)
       (subst (λ (o : Option Connection). StandsFor buses (without_key n keys) (hung_up_from key held (Some p)) (shut_as buses n o w)) (sym h.opened)
-      (by h.conn h.there h.shut p (h.conn.session == 0) h.conn.ended (ap (λ k. k == 0) (place_session h.reader (history buses w) h.conn)) (place_ended h.reader (history buses w) h.conn) (place_session h.reader (history buses w) h.conn) refl refl))
+      (by h.conn h.there h.shut p (h.conn.session == 0) h.conn.ended (ap (λ k. k == 0) refl) refl refl refl refl))
     where
       closed : World
       closed = at_connection n (λ c. record c { shut = Some (length w.steps) }) w

@@ -22,12 +22,12 @@ use Rattle.srcp_core.specs.Connection.{Connection, is_open, given, untold}
 use Rattle.srcp_core.specs.Course.{World, numbered, at_connection, did, is_info, state, history, command_of, ordered, replied as course_replied, entered, goes as course_goes, greeted as course_greeted, ended as course_ended, obeyed as course_obeyed, commanded as course_commanded, answered_as, answered as course_answered}
 use Rattle.srcp_core.specs.Handshake.{Greeting, Speaks, Chooses, Goes, Refuses, greets as greets_of}
 use Rattle.srcp_core.specs.Held.{Place, Held, at}
-use Rattle.srcp_core.specs.Machine.{with_unsent, entered_place, carried, changed_at, replied, begun, goes, greeted, freed_of, finished, obeyed, one_denied, denied_line, commanded, asked_of, answered, answered_from}
+use Rattle.srcp_core.specs.Machine.{with_unsent, entered_place, carried, changed_at, replied, begun, goes, greeted, freed_of, finished, obeyed, one_denied, denied_line, commanded, asked_of, answered, answered_from, is_panel, panel_for}
 use Rattle.srcp_core.specs.Recording.{key_of}
 use Rattle.srcp_core.specs.Stands.{StandsBy, place_of}
 use Rattle.srcp_core.specs.declared.asked.Asked.{Asked}
 use Rattle.srcp_core.specs.declared.asked.Asked.TheVariants.{Dropped, Greets, Commands}
-use Rattle.srcp_core.proofs.Agreement.PlacesChange.{replied_still, chosen_place, ended_place, entered_place_of, is_over_place, untold_shut, place_mode, place_session, place_info, place_ended}
+use Rattle.srcp_core.proofs.Agreement.PlacesChange.{replied_still, chosen_place, ended_place, entered_place_of, is_over_place, untold_shut, place_info}
 use Rattle.srcp_core.proofs.CourseLaws.SessionsOfACourse.{anything, at_number}
 use Rattle.srcp_core.proofs.CourseLaws.ClientHoldsPassedRows.{untold_by}
 use Rattle.srcp_core.proofs.Agreement.NumbersAndKeys.{numbered_with}
@@ -38,7 +38,7 @@ abbrev pub IsFine : (buses : List Bus) → IsRisingBy key_at (shown_rows (openin
 IsFine buses order w = IsSound buses order Anything (anything (shown_rows (opening buses 0))) w
 
 -- a line asks the same of a place and of a connection that are in the same state
-pub asked_alike : (buses held_buses : List Bus) (p : Place) (conn : Connection) (mark : Mark) → held_buses ≡ buses → p.info ≡ conn.info → p.ended ≡ conn.ended → p.session ≡ conn.session
+pub asked_alike : (buses held_buses : List Bus) (p : Place) (conn : Connection) (mark : Mark) → held_buses ≡ buses → is_panel p.panel ≡ conn.info → p.ended ≡ conn.ended → p.session ≡ conn.session
     → asked_of held_buses p mark ≡ (if conn.info || conn.ended then Dropped else (if conn.session == 0 then Greets (greets_of mark) else Commands (command_of buses mark)))
 asked_alike buses held_buses p conn mark same info ended session =
     ap (λ b. asked_of b p mark) same
@@ -102,7 +102,7 @@ module _ (buses : List Bus) (order : IsRisingBy key_at (shown_rows (opening buse
       let w2 = did (Began id held.moment conn.mode) (record (timed held w) { last_id = id }) in
       let d : StandsBy buses read keys (carried (updates held) (record held { last_id = id })) w2 = stands_did buses read keys (record held { last_id = id }) (record (timed held w) { last_id = id }) (Began id held.moment conn.mode) (fine_of w a) (stands_last held (timed held w) id (stands_timed held w s)) in
       let e : StandsBy buses read keys (begun key id conn.mode held) (entered buses n id w2) =
-      stands_of (carried (updates held) (record held { last_id = id })) w2 conn (λ conn. record conn { session = id; info = is_info conn.mode; go_step = length w2.steps }) (entered_place id conn.mode) d there refl refl
+      stands_of (carried (updates held) (record held { last_id = id })) w2 conn (λ conn. record conn { session = id; info = is_info conn.mode; go_step = length w2.steps }) (entered_place id (panel_for conn.mode)) d there refl refl
       (λ reader up. entered_place_of reader (history buses w2) conn id (length w2.steps) shut plain p.0 p.1) in
       let begins : Connection = record conn { session = id; info = is_info conn.mode; go_step = length w2.steps } in
       let nothing : untold begins (history buses w2) ≡ [] =
@@ -226,10 +226,10 @@ module _ (buses : List Bus) (order : IsRisingBy key_at (shown_rows (opening buse
       let h = found_at buses read keys held w n key s named in
       let q : Place = place_of h.reader (history buses w) h.conn in
       let same : q ≡ p = let both : Some q ≡ Some p = sym h.place ∙ here in cc in
-      let i : p.info ≡ h.conn.info = ap (λ (p : Place). p.info) (sym same) ∙ place_info h.reader (history buses w) h.conn in
-      let e : p.ended ≡ h.conn.ended = ap (λ (p : Place). p.ended) (sym same) ∙ place_ended h.reader (history buses w) h.conn in
-      let z : p.session ≡ h.conn.session = ap (λ (p : Place). p.session) (sym same) ∙ place_session h.reader (history buses w) h.conn in
-      let m : p.mode ≡ h.conn.mode = ap (λ (p : Place). p.mode) (sym same) ∙ place_mode h.reader (history buses w) h.conn in
+      let i : is_panel p.panel ≡ h.conn.info = ap (λ (p : Place). is_panel p.panel) (sym same) ∙ place_info h.reader (history buses w) h.conn in
+      let e : p.ended ≡ h.conn.ended = ap (λ (p : Place). p.ended) (sym same) in
+      let z : p.session ≡ h.conn.session = ap (λ (p : Place). p.session) (sym same) in
+      let m : p.mode ≡ h.conn.mode = ap (λ (p : Place). p.mode) (sym same) in
       let asks = asked_alike buses held.buses p h.conn mark s.layout i e z in
       subst (λ (o : Option Connection). StandsBy buses read keys (answered granted key (asked_of held.buses p mark) held) (answered_as buses n o (record { mark = mark; granted = granted }) w)) (sym h.opened)
       (subst (λ (asked : Asked). StandsBy buses read keys (answered granted key asked held) (answered_as buses n (Some h.conn) (record { mark = mark; granted = granted }) w)) (sym asks)

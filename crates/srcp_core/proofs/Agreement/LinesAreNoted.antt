@@ -23,7 +23,7 @@ use Rattle.srcp_core.specs.Connection.{Connection, given, sent}
 use Rattle.srcp_core.specs.Course.{World, numbered, with_numbered, at_connection, did, is_info, state, history, command_of, ordered, replied, entered, goes, greeted, ended, obeyed, commanded, answered_as, answered}
 use Rattle.srcp_core.specs.Handshake.{Greeting, Speaks, Chooses, Goes, Refuses, greets as greets_of}
 use Rattle.srcp_core.specs.Held.{Place, Held, at}
-use Rattle.srcp_core.specs.Machine.{asked_of, steps_gone, steps_greeted, steps_commanded, steps_answered_from}
+use Rattle.srcp_core.specs.Machine.{asked_of, steps_gone, steps_greeted, steps_commanded, steps_answered_from, is_panel}
 use Rattle.srcp_core.specs.Recording.{Recording, key_of, told_of, changed_record, changed_in, noted, stepped}
 pub use Rattle.srcp_core.specs.Run.{Tells}
 use Rattle.srcp_core.specs.Stands.{StandsBy, place_of}
@@ -31,7 +31,7 @@ use Rattle.srcp_core.specs.declared.asked.Asked.{Asked}
 use Rattle.srcp_core.specs.declared.asked.Asked.TheVariants.{Dropped, Greets, Commands}
 use Rattle.srcp_core.specs.declared.record.ConnRecord.{ConnRecord}
 use Rattle.srcp_core.proofs.Agreement.LinesAgree.{IsFine, asked_alike}
-use Rattle.srcp_core.proofs.Agreement.PlacesChange.{place_mode, place_session, place_info, place_ended, given_reply}
+use Rattle.srcp_core.proofs.Agreement.PlacesChange.{place_info, given_reply}
 use Rattle.srcp_core.proofs.CourseLaws.SessionsOfACourse.{at_number}
 use Rattle.srcp_core.proofs.Agreement.NumbersAndKeys.{numbered_with}
 use Rattle.srcp_core.proofs.Agreement.StandsAfterAChange.{Fine, found_at}
@@ -182,10 +182,10 @@ tells_answered buses order read keys n key r held w granted mark p a s named her
     let h = found_at buses read keys held w n key s named in
     let q : Place = place_of h.reader (history buses w) h.conn in
     let same : q ≡ p = let both : Some q ≡ Some p = sym h.place ∙ here in cc in
-    let i : p.info ≡ h.conn.info = ap (λ (p : Place). p.info) (sym same) ∙ place_info h.reader (history buses w) h.conn in
-    let e : p.ended ≡ h.conn.ended = ap (λ (p : Place). p.ended) (sym same) ∙ place_ended h.reader (history buses w) h.conn in
-    let z : p.session ≡ h.conn.session = ap (λ (p : Place). p.session) (sym same) ∙ place_session h.reader (history buses w) h.conn in
-    let m : p.mode ≡ h.conn.mode = ap (λ (p : Place). p.mode) (sym same) ∙ place_mode h.reader (history buses w) h.conn in
+    let i : is_panel p.panel ≡ h.conn.info = ap (λ (p : Place). is_panel p.panel) (sym same) ∙ place_info h.reader (history buses w) h.conn in
+    let e : p.ended ≡ h.conn.ended = ap (λ (p : Place). p.ended) (sym same) in
+    let z : p.session ≡ h.conn.session = ap (λ (p : Place). p.session) (sym same) in
+    let m : p.mode ≡ h.conn.mode = ap (λ (p : Place). p.mode) (sym same) in
     let f : Fine buses (history buses w) h.conn = at_number (Fine buses (history buses w)) n w.connections h.conn a h.there in
     let asks = asked_alike buses held.buses p h.conn mark s.layout i e z in
     subst (λ (o : Option Connection). Tells (noted n (steps_answered_from granted (asked_of held.buses p mark) held (Some p)) r) (answered_as buses n o (record { mark = mark; granted = granted }) w)) (sym h.opened)

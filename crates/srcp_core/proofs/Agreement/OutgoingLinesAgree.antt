@@ -22,7 +22,8 @@ use Rattle.srcp_info.proofs.ClientLaws.{key_at}
 use Rattle.srcp_info.specs.Client.{IsRisingBy}
 use Rattle.srcp_core.specs.Connection.{Connection, History, cursor_at, untold, unsent, sent, given, text, line_of, is_nil, is_open, owed, front, fitting, available, exhausts, items_of, took, given_room, overran}
 use Rattle.srcp_core.specs.Held.{Place}
-use Rattle.srcp_core.specs.Machine.{filled, item_from}
+use Rattle.srcp_core.specs.Machine.{filled, item_from, feed_in}
+use Rattle.srcp_core.specs.declared.connection.Panel.TheVariants.{Absent, Listening, Overran}
 use Rattle.srcp_core.specs.Recording.{told_of, with_item}
 use Rattle.srcp_core.specs.Stands.{placed, place_of}
 use Rattle.srcp_core.specs.declared.record.ConnRecord.{ConnRecord}
@@ -36,7 +37,7 @@ use Rattle.srcp_core.proofs.CourseLaws.ClientHoldsPassedRows.{Fits, untold_by, o
 -- ---- an information session that did not overrun
 
 abbrev info_place : Reading → Mode → ℕ → Bool → List ℕ → Cursor → List Change → Place
-info_place reader mode session ended bytes cursor queue = record { reader = reader; mode = mode; session = session; info = true; ended = ended; overran = false; unsent = bytes; feed = Some (record { cursor = cursor; queue = queue }) }
+info_place reader mode session ended bytes cursor queue = record { reader = reader; mode = mode; session = session; ended = ended; unsent = bytes; panel = Listening (record { cursor = cursor; queue = queue }) }
 
 info_is : (reader : Reading) (history : History) (conn : Connection) → conn.info ≡ true → nat_lt 256 (length (untold conn history)) ≡ false
     → place_of reader history conn ≡ info_place reader conn.mode conn.session conn.ended (unsent conn) (cursor_at conn (length history)) (untold conn history)
@@ -157,7 +158,7 @@ module _ (first : List Shown) (history : History) (conn : Connection) (shut : co
   -- a room for no bytes puts in what the code puts in
   pub record IsFilled (reader : Reading) (later : Connection) : Type 0 where
     pub place : filled rows_now (place_of reader history conn) ≡ place_of reader history later
-    pub told : told_of later ≡ with_given n (item_from rows_now (place_of reader history conn).unsent (place_of reader history conn).feed) (told_of conn)
+    pub told : told_of later ≡ with_given n (item_from rows_now (place_of reader history conn).unsent (feed_in (place_of reader history conn).panel)) (told_of conn)
 
   fills_info : (reader : Reading) → conn.info ≡ true → nat_lt 256 (length (untold conn history)) ≡ false → (bytes : List ℕ) → unsent conn ≡ bytes → IsFilled reader (took 0 n (owed conn history rows_now) conn)
   fills_info reader info still (byte ∷ bytes) e =
@@ -167,7 +168,7 @@ module _ (first : List Shown) (history : History) (conn : Connection) (shut : co
             ∙ ap (λ left. filled rows_now (info_place reader conn.mode conn.session conn.ended left (cursor_at conn n) (untold conn history))) e
             ∙ ap (λ left. info_place reader conn.mode conn.session conn.ended left (cursor_at conn n) (untold conn history)) (sym e)
             ∙ sym (info_is reader history conn info still);
-        told = sym (ap (λ (p : Place). with_given n (item_from rows_now p.unsent p.feed) (told_of conn)) (info_is reader history conn info still)
+        told = sym (ap (λ (p : Place). with_given n (item_from rows_now p.unsent (feed_in p.panel)) (told_of conn)) (info_is reader history conn info still)
             ∙ ap (λ left. with_given n (item_from rows_now left (Some feed_now)) (told_of conn)) e);
       })
   fills_info reader info still [] e =
@@ -184,7 +185,7 @@ module _ (first : List Shown) (history : History) (conn : Connection) (shut : co
             ∙ ap (λ c. info_place reader conn.mode conn.session conn.ended (unsent later) c (drop 1 (untold conn history))) (sym g.cursor_is)
             ∙ ap (λ q. info_place reader conn.mode conn.session conn.ended (unsent later) (cursor_at later n) q) (sym g.untold_is)
             ∙ sym (info_is reader history later info (ap (λ q. nat_lt 256 (length q)) g.untold_is ∙ fewer (untold conn history) still));
-        told = g.told_is ∙ sym (ap (λ (p : Place). with_given n (item_from rows_now p.unsent p.feed) (told_of conn)) (info_is reader history conn info still)
+        told = g.told_is ∙ sym (ap (λ (p : Place). with_given n (item_from rows_now p.unsent (feed_in p.panel)) (told_of conn)) (info_is reader history conn info still)
             ∙ ap (λ left. with_given n (item_from rows_now left (Some feed_now)) (told_of conn)) e);
       })
     where
@@ -211,7 +212,7 @@ module _ (first : List Shown) (history : History) (conn : Connection) (shut : co
         ∙ same bytes
         ∙ ap (λ left. plain_place reader conn.mode conn.session conn.ended left) (sym e)
         ∙ sym (plain_is reader history conn plain);
-    told = sym (ap (λ (p : Place). with_given n (item_from rows_now p.unsent p.feed) (told_of conn)) (plain_is reader history conn plain)
+    told = sym (ap (λ (p : Place). with_given n (item_from rows_now p.unsent (feed_in p.panel)) (told_of conn)) (plain_is reader history conn plain)
         ∙ ap (λ left. with_given n (item_from rows_now left None) (told_of conn)) e ∙ nothing bytes);
   }
     where
@@ -228,11 +229,11 @@ module _ (first : List Shown) (history : History) (conn : Connection) (shut : co
       let is = over_is reader info over in
       record {
         place = ap (filled rows_now) is ∙ sym is;
-        told = sym (ap (λ (p : Place). with_given n (item_from rows_now p.unsent p.feed) (told_of conn)) is);
+        told = sym (ap (λ (p : Place). with_given n (item_from rows_now p.unsent (feed_in p.panel)) (told_of conn)) is);
       }
     where
       over_is : (reader : Reading) → conn.info ≡ true → nat_lt 256 (length (untold conn history)) ≡ true
-          → place_of reader history conn ≡ record { reader = reader; mode = conn.mode; session = conn.session; info = true; ended = conn.ended; overran = true; unsent = []; feed = None }
+          → place_of reader history conn ≡ record { reader = reader; mode = conn.mode; session = conn.session; ended = conn.ended; unsent = []; panel = Overran }
       over_is reader info over = ap (λ i. placed reader conn.mode conn.session i conn.ended (unsent conn) (cursor_at conn (length history)) (untold conn history)) info ∙ rw over refl
 
   pub fills : (reader : Reading) → overran conn history ≡ is_over_place history conn → IsFilled reader (given_room 0 history rows_now conn)

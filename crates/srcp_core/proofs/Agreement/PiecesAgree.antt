@@ -30,7 +30,7 @@ use Rattle.srcp_core.specs.Connection.{Connection}
 use Rattle.srcp_core.specs.Course.{World, numbered, at_connection, did, is_info, state, history, order_of, replied, entered, goes, greeted, ended, obeyed, commanded, answered_as, answered as course_answered, open_connection, new_marks, wants_as, denied_lines}
 use Rattle.srcp_core.specs.Handshake.{Greeting, Speaks, Chooses, Goes, Refuses}
 use Rattle.srcp_core.specs.Held.{Place, Held, at, place_at}
-use Rattle.srcp_core.specs.Machine.{asked_of, heard_from, heard_in, heard_at, line_taken, steps_of_line, answered, steps_answered, steps_answered_from}
+use Rattle.srcp_core.specs.Machine.{asked_of, heard_from, heard_in, heard_at, line_taken, steps_of_line, answered, steps_answered, steps_answered_from, feed_in}
 use Rattle.srcp_core.specs.Recording.{Recording, key_of, noted}
 use Rattle.srcp_core.specs.Stands.{StandsBy, StandsFor, place_of}
 use Rattle.srcp_core.specs.declared.asked.Asked.{Asked}
@@ -39,7 +39,6 @@ use Rattle.srcp_core.proofs.Agreement.RefusalsAreCounted.{after, denied_answered
 use Rattle.srcp_core.proofs.Invariants.PlacesCover.{Where, Here, Away, where_is, place_set_here}
 use Rattle.srcp_core.proofs.Agreement.MemoryAnswers.{lines_push}
 use Rattle.srcp_core.proofs.Agreement.LinesAreNoted.{Tells, tells_answered}
-use Rattle.srcp_core.proofs.Agreement.PlacesChange.{place_reader, place_read}
 use Rattle.srcp_core.proofs.CourseLaws.SessionsOfACourse.{anything}
 use Rattle.srcp_core.proofs.Agreement.NumbersAndKeys.{numbered_with, with_itself}
 use Rattle.srcp_core.proofs.Agreement.StandsAfterAChange.{Anything, found_at, stands_changed}
@@ -76,7 +75,7 @@ module _ (buses : List Bus) (keys : List (Option ℕ)) (n key : ℕ) (named : ke
       let same : place_of h.reader (history buses w) h.conn ≡ p = let both : Some (place_of h.reader (history buses w) h.conn) ≡ Some p = sym h.place ∙ here in cc in
       subst (λ (conns : List Connection). StandsBy buses later keys (record held { places = slice_set held.places key (Some (record p { reader = reader })) }) (record w { connections = conns })) (with_itself n w.connections)
       (stands_changed buses read later keys held w n key h.conn (λ c. c) (record p { reader = reader }) reader s named h.there h.up h.up
-      (ap (λ (q : Place). record q { reader = reader }) (sym same) ∙ place_read h.reader (history buses w) h.conn reader) (reads h.conn h.there) others)
+      (ap (λ (q : Place). record q { reader = reader }) (sym same)) (reads h.conn h.there) others)
 
 -- ---- the accepted bytes stay while lines are answered
 
@@ -155,7 +154,7 @@ module _ (buses : List Bus) (order : IsRisingBy key_at (shown_rows (opening buse
   line_answered grants granted start stop mark held p reader r onward here adds moves u t =
       let h = found_at buses (partly n (fed ++ take start piece)) keys held (world_upto grants start) n key u.stands named in
       let same : place_of h.reader (history buses (world_upto grants start)) h.conn ≡ p = let both : Some (place_of h.reader (history buses (world_upto grants start)) h.conn) ≡ Some p = sym h.place ∙ here in cc in
-      let its : h.reader ≡ p.reader = sym (place_reader h.reader (history buses (world_upto grants start)) h.conn) ∙ ap (λ (q : Place). q.reader) same in
+      let its : h.reader ≡ p.reader = sym refl ∙ ap (λ (q : Place). q.reader) same in
       let stood : StandsAt (fed ++ take start piece) p.reader = subst (λ r. StandsAt (fed ++ take start piece) r) its (subst (λ bytes. StandsAt bytes h.reader) (partly_here n (fed ++ take start piece) h.conn.fed) h.reads) in
       let le : start ≤ stop = omega (arith, onward) in
       let both = fed_to_stop fed piece start stop (mark ∷ []) p.reader reader le adds moves stood in
@@ -270,7 +269,7 @@ module _ (buses : List Bus) (order : IsRisingBy key_at (shown_rows (opening buse
       let h = found_at buses (partly n (fed ++ take start piece)) keys held (world_upto grants start) n key u.stands named in
       let p = place_of h.reader (history buses (world_upto grants start)) h.conn in
       let stood : StandsAt (fed ++ take start piece) p.reader =
-      subst (λ r. StandsAt (fed ++ take start piece) r) (sym (place_reader h.reader (history buses (world_upto grants start)) h.conn)) (subst (λ bytes. StandsAt bytes h.reader) (partly_here n (fed ++ take start piece) h.conn.fed) h.reads) in
+      subst (λ bytes. StandsAt bytes h.reader) (partly_here n (fed ++ take start piece) h.conn.fed) h.reads in
       from p h.place stood (feed_of p.reader piece start).0 (feed_of p.reader piece start).1 refl
     where
       from : (p : Place) → at held key ≡ Some p → StandsAt (fed ++ take start piece) p.reader → (result : Fed) (reading : Reading) → ◌≡◌ {A = Fed × Reading} (feed_of p.reader piece start) (result, reading) → IsEnded grants new (world_upto grants start)

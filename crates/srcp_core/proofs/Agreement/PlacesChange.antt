@@ -16,8 +16,9 @@ use Rattle.srcp_feed.specs.Cursor.{concerns}
 use Rattle.srcp_core.specs.Connection.{Connection, History, cursor_at, untold, unsent, heard, text, given}
 use Rattle.srcp_core.specs.Course.{is_info}
 use Rattle.srcp_core.specs.Held.{Place, place_at}
-use Rattle.srcp_core.specs.Machine.{told_place, told_all, told_each, with_unsent, entered_place}
-use Rattle.srcp_core.specs.Stands.{placed, place_of}
+use Rattle.srcp_core.specs.Machine.{told_place, told_all, told_each, with_unsent, entered_place, panel_for, has_overrun, is_panel}
+use Rattle.srcp_core.specs.declared.connection.Panel.TheVariants.{Absent, Listening, Overran}
+use Rattle.srcp_core.specs.Stands.{placed, place_of, panel_at}
 use Rattle.srcp_core.proofs.CourseLaws.Histories.{concerning_by, concerning_push, cursor_by, cursor_later}
 use Rattle.srcp_core.proofs.CourseLaws.ClientHoldsPassedRows.{Fits, tolds, untold_by}
 use Rattle.srcp_core.proofs.Invariants.EveryPlaceIsTold.{told_all_at}
@@ -105,7 +106,7 @@ told_place_of first reader conn history changes shut f =
 
 -- what is held of it
 abbrev pub plain_place : Reading → Mode → ℕ → Bool → List ℕ → Place
-plain_place reader mode session ended bytes = record { reader = reader; mode = mode; session = session; info = false; ended = ended; overran = false; unsent = bytes; feed = None }
+plain_place reader mode session ended bytes = record { reader = reader; mode = mode; session = session; ended = ended; unsent = bytes; panel = Absent }
 
 pub plain_is : (reader : Reading) (history : History) (conn : Connection) → conn.info ≡ false → place_of reader history conn ≡ plain_place reader conn.mode conn.session conn.ended (unsent conn)
 plain_is reader history conn e = ap (λ i. placed reader conn.mode conn.session i conn.ended (unsent conn) (cursor_at conn (length history)) (untold conn history)) e
@@ -139,14 +140,14 @@ ended_place reader history conn plain =
     ∙ sym (plain_is reader history (record conn { ended = true }) plain)
 
 -- a session begins
-entered_plain : (reader : Reading) (mode : Mode) (session id : ℕ) (ended : Bool) (bytes : List ℕ) → entered_place id mode (plain_place reader mode session ended bytes) ≡ placed reader mode id (is_info mode) ended bytes Start []
+entered_plain : (reader : Reading) (mode : Mode) (session id : ℕ) (ended : Bool) (bytes : List ℕ) → entered_place id (panel_for mode) (plain_place reader mode session ended bytes) ≡ placed reader mode id (is_info mode) ended bytes Start []
 entered_plain reader CommandMode session id ended bytes = refl
 entered_plain reader Info session id ended bytes = refl
 
 pub entered_place_of : (reader : Reading) (history : History) (conn : Connection) (id go : ℕ) → conn.shut ≡ None → conn.info ≡ false → conn.items ≡ [] → conn.done ≡ None
-    → entered_place id conn.mode (place_of reader history conn) ≡ place_of reader history (record conn { session = id; info = is_info conn.mode; go_step = go })
+    → entered_place id (panel_for conn.mode) (place_of reader history conn) ≡ place_of reader history (record conn { session = id; info = is_info conn.mode; go_step = go })
 entered_place_of reader history conn id go shut plain none undone =
-    ap (entered_place id conn.mode) (plain_is reader history conn plain)
+    ap (entered_place id (panel_for conn.mode)) (plain_is reader history conn plain)
     ∙ entered_plain reader conn.mode conn.session id conn.ended (unsent conn)
     ∙ ap (λ c. placed reader conn.mode id (is_info conn.mode) conn.ended (unsent conn) c []) (sym (ap (λ d. cursor_by d conn.items (length history)) undone ∙ ap (λ is. cursor_by None is (length history)) none))
     ∙ ap (placed reader conn.mode id (is_info conn.mode) conn.ended (unsent conn) (cursor_at conn (length history))) (sym nothing)
@@ -164,42 +165,24 @@ abbrev pub is_over_place : History → Connection → Bool
 is_over_place history conn = conn.info && nat_lt 256 (length (untold conn history))
 
 module _ (reader : Reading) (history : History) (conn : Connection) where
-  part_of : (A : Type 0) (part : Place → A) (t : Bool) → (other : A)
-      → part (record { reader = reader; mode = conn.mode; session = conn.session; info = conn.info; ended = conn.ended; overran = true; unsent = []; feed = None }) ≡ other
-      → part (record { reader = reader; mode = conn.mode; session = conn.session; info = conn.info; ended = conn.ended; overran = false; unsent = unsent conn; feed = if conn.info then Some (record { cursor = cursor_at conn (length history); queue = untold conn history }) else None }) ≡ other
-      → part (cond t (record { reader = reader; mode = conn.mode; session = conn.session; info = conn.info; ended = conn.ended; overran = true; unsent = []; feed = None })
-      (record { reader = reader; mode = conn.mode; session = conn.session; info = conn.info; ended = conn.ended; overran = false; unsent = unsent conn; feed = if conn.info then Some (record { cursor = cursor_at conn (length history); queue = untold conn history }) else None })) ≡ other
-  part_of A part true other a b = a
-  part_of A part false other a b = b
+  abbrev over : Bool
+  over = nat_lt 256 (length (untold conn history))
 
-  pub place_mode : (place_of reader history conn).mode ≡ conn.mode
-  place_mode = part_of Mode (λ p. p.mode) (is_over_place history conn) conn.mode refl refl
-
-  pub place_session : (place_of reader history conn).session ≡ conn.session
-  place_session = part_of ℕ (λ p. p.session) (is_over_place history conn) conn.session refl refl
-
-  pub place_info : (place_of reader history conn).info ≡ conn.info
-  place_info = part_of Bool (λ p. p.info) (is_over_place history conn) conn.info refl refl
-
-  pub place_ended : (place_of reader history conn).ended ≡ conn.ended
-  place_ended = part_of Bool (λ p. p.ended) (is_over_place history conn) conn.ended refl refl
-
-  pub place_reader : (place_of reader history conn).reader ≡ reader
-  place_reader = part_of Reading (λ p. p.reader) (is_over_place history conn) reader refl refl
-
-  pub place_read : (other : Reading) → record (place_of reader history conn) { reader = other } ≡ place_of other history conn
-  place_read other = by (is_over_place history conn) refl
+  pub place_info : is_panel (place_of reader history conn).panel ≡ conn.info
+  place_info = by conn.info over refl refl
     where
-      by : (t : Bool) → is_over_place history conn ≡ t → record (place_of reader history conn) { reader = other } ≡ place_of other history conn
-      by true e = rw e refl
-      by false e = rw e refl
+      by : (info o : Bool) → conn.info ≡ info → over ≡ o → is_panel (panel_at conn.info (cursor_at conn (length history)) (untold conn history)) ≡ conn.info
+      by false o i e = rw i refl
+      by true true i e = rw (i, e) refl
+      by true false i e = rw (i, e) refl
 
-  pub place_overran : (place_of reader history conn).overran ≡ is_over_place history conn
-  place_overran = by (is_over_place history conn) refl
+  pub place_overran : has_overrun (place_of reader history conn).panel ≡ is_over_place history conn
+  place_overran = by conn.info over refl refl
     where
-      by : (t : Bool) → is_over_place history conn ≡ t → (place_of reader history conn).overran ≡ is_over_place history conn
-      by true e = rw e refl
-      by false e = rw e refl
+      by : (info o : Bool) → conn.info ≡ info → over ≡ o → has_overrun (panel_at conn.info (cursor_at conn (length history)) (untold conn history)) ≡ conn.info && over
+      by false o i e = rw i refl
+      by true true i e = rw (i, e) refl
+      by true false i e = rw (i, e) refl
 
   pub place_unsent : is_over_place history conn ≡ false → (place_of reader history conn).unsent ≡ unsent conn
   place_unsent e = rw e refl
@@ -210,8 +193,7 @@ module _ (reader : Reading) (history : History) (conn : Connection) where
   -- a reply to one that did not overrun
   pub replied_still : (line : List ℕ) → is_over_place history conn ≡ false → conn.items ≡ [] → conn.taken ≤ length (given conn)
       → with_unsent line (place_of reader history conn) ≡ place_of reader history (record conn { out = conn.out ++ line })
-  replied_still line still none within = still_placed (unsent conn ++ line) refl still ∙ ap (λ bytes. placed reader conn.mode conn.session conn.info conn.ended bytes (cursor_at conn (length history)) (untold conn history)) (sym (unsent_reply conn line none within))
-    where
-      still_placed : (bytes : List ℕ) → unsent conn ++ line ≡ bytes → is_over_place history conn ≡ false
-          → with_unsent line (place_of reader history conn) ≡ placed reader conn.mode conn.session conn.info conn.ended bytes (cursor_at conn (length history)) (untold conn history)
-      still_placed bytes b e = rw e (ap (λ bytes. record { reader = reader; mode = conn.mode; session = conn.session; info = conn.info; ended = conn.ended; overran = false; unsent = bytes; feed = if conn.info then Some (record { cursor = cursor_at conn (length history); queue = untold conn history }) else None }) b)
+  replied_still line still none within =
+      ap (λ t. record (place_of reader history conn) { unsent = (if t then [] else unsent conn) ++ line }) still
+      ∙ ap (λ bytes. record (place_of reader history conn) { unsent = bytes }) (sym (unsent_reply conn line none within))
+      ∙ ap (λ t. record (place_of reader history conn) { unsent = if t then [] else unsent (record conn { out = conn.out ++ line }) }) (sym still)

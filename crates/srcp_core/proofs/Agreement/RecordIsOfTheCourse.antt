@@ -19,7 +19,7 @@ use Rattle.srcp_core.specs.Course.{World, start, numbered, at_connection, did, s
 use Rattle.srcp_core.specs.Handshake.{Greeting, Speaks, Chooses, Goes, Refuses}
 use Rattle.srcp_core.specs.Held.{Place, Held, at}
 use Rattle.srcp_core.specs.Laws.{IsRecordOf}
-use Rattle.srcp_core.specs.Machine.{opening_held, finish_at, finish_from}
+use Rattle.srcp_core.specs.Machine.{opening_held, finish_at, finish_from, has_overrun}
 use Rattle.srcp_core.specs.Recording.{Recording, key_of, told_of, changed_record, changed_in, finished, finished_by, with_refusal, nothing_told}
 use Rattle.srcp_core.specs.Run.{Runs, Happened, HappensAs, FollowsAs, RunsUnder}
 use Rattle.srcp_core.proofs.Agreement.RefusalsAreCounted.{denied_over_push}
@@ -31,7 +31,7 @@ use Rattle.srcp_core.specs.declared.record.Finish.{Finish}
 use Rattle.srcp_core.specs.declared.record.Finish.TheVariants.{Live, Closing, Overrun, Shut as ShutFinish}
 use Rattle.srcp_core.specs.declared.record.Record.{Record}
 use Rattle.srcp_core.proofs.Agreement.EventsAgree.{over_is}
-use Rattle.srcp_core.proofs.Agreement.PlacesChange.{place_ended, place_overran, place_unsent}
+use Rattle.srcp_core.proofs.Agreement.PlacesChange.{place_overran, place_unsent}
 use Rattle.srcp_core.proofs.CourseLaws.SessionsOfACourse.{anything, at_number, opening_in_order, open_shut}
 use Rattle.srcp_core.proofs.Agreement.StandsAfterAChange.{Anything, Fine}
 use Rattle.srcp_core.proofs.CourseLaws.SessionsAreKept.{sound}
@@ -104,7 +104,7 @@ module _ (buses : List Bus) (layout : IsLayout buses) (keys : List (Option ℕ))
   abbrev w : World
   w = course buses events
 
-  stands_as : (key : ℕ) (conn : Connection) (p : Place) → at held key ≡ Some p → p.overran ≡ overran conn (history buses w) → p.ended ≡ conn.ended → (overran conn (history buses w) ≡ false → p.unsent ≡ unsent conn)
+  stands_as : (key : ℕ) (conn : Connection) (p : Place) → at held key ≡ Some p → has_overrun p.panel ≡ overran conn (history buses w) → p.ended ≡ conn.ended → (overran conn (history buses w) ≡ false → p.unsent ≡ unsent conn)
       → finish_at key held ≡ (if overran conn (history buses w) then Overrun else (if conn.ended && is_nil (unsent conn) then Closing else Live))
   stands_as key conn p here over ended bytes =
       ap finish_from here
@@ -130,7 +130,7 @@ module _ (buses : List Bus) (layout : IsLayout buses) (keys : List (Option ℕ))
           let over = over_is buses (history buses w) conn (open_shut conn.shut o) f in
           ap (λ k. finished_by held k (told_of conn)) a.named
           ∙ ap (λ (finish : Finish). record (told_of conn) { finish = finish })
-          (stands_as a.key conn (place_of a.reader (history buses w) conn) a.place (place_overran a.reader (history buses w) conn ∙ sym over) (place_ended a.reader (history buses w) conn) (λ still. place_unsent a.reader (history buses w) conn (sym over ∙ still)))
+          (stands_as a.key conn (place_of a.reader (history buses w) conn) a.place (place_overran a.reader (history buses w) conn ∙ sym over) refl (λ still. place_unsent a.reader (history buses w) conn (sym over ∙ still)))
           ∙ ap (λ t. record (told_of conn) { finish = if t then (if overran conn (history buses w) then Overrun else (if conn.ended && is_nil (unsent conn) then Closing else Live)) else ShutFinish }) (sym o)
 
   pub all_finished : finished held keys (map told_of w.connections) ≡ map (recorded (history buses w)) w.connections

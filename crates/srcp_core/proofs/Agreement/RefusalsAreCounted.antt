@@ -15,7 +15,7 @@ use Rattle.srcp_core.specs.Connection.{Connection}
 use Rattle.srcp_core.specs.Course.{World, history, open_connection, command_of, counted, fault, answered as course_answered, happens, new_marks, at_connection, wants_as, denied_lines, denied_fed, denied_in, denied_over}
 use Rattle.srcp_core.specs.Handshake.{Greeting, Speaks, Chooses, Goes, Refuses, greets as greets_of}
 use Rattle.srcp_core.specs.Held.{Place, Held, at}
-use Rattle.srcp_core.specs.Machine.{obeyed, freed_of, changed_at, carried, replied, goes, greeted, begun, denied_line, commanded, answered_from, answered, asked_of}
+use Rattle.srcp_core.specs.Machine.{obeyed, freed_of, changed_at, carried, replied, goes, greeted, begun, denied_line, commanded, answered_from, answered, asked_of, is_panel}
 use Rattle.srcp_core.specs.Recording.{key_of}
 use Rattle.srcp_core.specs.Stands.{StandsBy, place_of}
 use Rattle.srcp_core.specs.Under.{Event, Heard, lines_under, under, denied_by, wants_memory, greeting_wants, reading_wants}
@@ -25,7 +25,7 @@ use Rattle.srcp_core.specs.declared.event.Event.{Event as PlainEvent}
 use Rattle.srcp_core.specs.declared.event.Event.TheVariants as plain
 use Rattle.srcp_core.specs.declared.record.CoreFault.{CoreFault}
 use Rattle.srcp_core.proofs.Agreement.LinesAgree.{asked_alike}
-use Rattle.srcp_core.proofs.Agreement.PlacesChange.{place_info, place_ended, place_session}
+use Rattle.srcp_core.proofs.Agreement.PlacesChange.{place_info}
 use Rattle.srcp_core.proofs.Agreement.StandsAfterAChange.{found_at}
 
 -- the count after a line that wants memory or not
@@ -83,9 +83,9 @@ denied_answered buses read keys n key named held w granted mark p s here =
     let h = found_at buses read keys held w n key s named in
     let q : Place = place_of h.reader (history buses w) h.conn in
     let same : q ≡ p = let both : Some q ≡ Some p = sym h.place ∙ here in cc in
-    let i : p.info ≡ h.conn.info = ap (λ (p : Place). p.info) (sym same) ∙ place_info h.reader (history buses w) h.conn in
-    let e : p.ended ≡ h.conn.ended = ap (λ (p : Place). p.ended) (sym same) ∙ place_ended h.reader (history buses w) h.conn in
-    let z : p.session ≡ h.conn.session = ap (λ (p : Place). p.session) (sym same) ∙ place_session h.reader (history buses w) h.conn in
+    let i : is_panel p.panel ≡ h.conn.info = ap (λ (p : Place). is_panel p.panel) (sym same) ∙ place_info h.reader (history buses w) h.conn in
+    let e : p.ended ≡ h.conn.ended = ap (λ (p : Place). p.ended) (sym same) in
+    let z : p.session ≡ h.conn.session = ap (λ (p : Place). p.session) (sym same) in
     let over : Bool = h.conn.info || h.conn.ended in
     let first : Bool = h.conn.session == 0 in
     ap (λ (o : Option Place). (answered_from granted key (asked_of held.buses p mark) held o).denied) here

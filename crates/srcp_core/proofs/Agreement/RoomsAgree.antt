@@ -19,7 +19,7 @@ use Rattle.srcp_core.specs.Connection.{Connection, History, cursor_at, untold, u
 use Rattle.srcp_core.specs.Course.{World, numbered, with_numbered, at_connection, history, rows}
 use Rattle.srcp_core.specs.Held.{Place, Held}
 use Rattle.srcp_core.specs.Laws.{AddsUp}
-use Rattle.srcp_core.specs.Machine.{filled, item_from, item_of, item_at, let_out, without_sent, changed_at, changed_in, unsent_of, unsent_at}
+use Rattle.srcp_core.specs.Machine.{filled, item_from, item_of, item_at, let_out, without_sent, changed_at, changed_in, unsent_of, unsent_at, feed_in}
 use Rattle.srcp_core.specs.Recording.{Recording, key_of, told_of, with_item, gave, took}
 use Rattle.srcp_core.specs.Stands.{StandsFor, place_of}
 use Rattle.srcp_core.specs.declared.record.Item.{Item}
@@ -92,7 +92,7 @@ room_unsent count history rows conn still some few =
 
 taken_place : (reader : Reading) (history : History) (conn : Connection) (count : ℕ) → is_over_place history conn ≡ false → without_sent count (place_of reader history conn) ≡ place_of reader history (with_taken count conn)
 taken_place reader history conn count still =
-    rw still (ap (λ bytes. record { reader = reader; mode = conn.mode; session = conn.session; info = conn.info; ended = conn.ended; overran = false; unsent = bytes; feed = if conn.info then Some (record { cursor = cursor_at conn (length history); queue = untold conn history }) else None }) (drop-drop count conn.taken (given conn)))
+    rw still (ap (λ bytes. record (place_of reader history conn) { unsent = bytes }) (drop-drop count conn.taken (given conn)))
 
 taken_told : (conn : Connection) (count : ℕ) → told_of (with_taken count conn) ≡ record (told_of conn) { sent = sent conn ++ take count (unsent conn) }
 taken_told conn count = ap (λ bytes. record (told_of conn) { sent = bytes }) (take_plus conn.taken count (given conn))
@@ -141,7 +141,7 @@ module _ (buses : List Bus) (layout : IsLayout buses) (order : IsRisingBy key_at
       let held_rows : shown_rows held.rows ≡ rows buses w = ap shown_rows s.rows in
       let told : told_of (given_room 0 (history buses w) (rows buses w) h.conn) ≡ with_given (length (history buses w)) (item_at key held) (told_of h.conn) =
       ap (λ rs. told_of (given_room 0 (history buses w) rs h.conn)) (sym same_rows) ∙ (fill h.reader).told
-      ∙ ap (λ rs. with_given (length (history buses w)) (item_from rs (place_of h.reader (history buses w) h.conn).unsent (place_of h.reader (history buses w) h.conn).feed) (told_of h.conn)) (same_rows ∙ sym held_rows)
+      ∙ ap (λ rs. with_given (length (history buses w)) (item_from rs (place_of h.reader (history buses w) h.conn).unsent (feed_in (place_of h.reader (history buses w) h.conn).panel)) (told_of h.conn)) (same_rows ∙ sym held_rows)
       ∙ ap (λ (o : Option Place). with_given (length (history buses w)) (item_of (shown_rows held.rows) o) (told_of h.conn)) (sym h.place) in
       let steps : length (history buses w) ≡ length r.steps = length_history (opening buses 0) w.steps ∙ sym (length-map w.steps step_told) ∙ ap length (sym k.tells.steps) in
       record {

@@ -19,7 +19,7 @@ use Rattle.srcp_core.specs.declared.record.Step.TheVariants as told
 use Rattle.srcp_core.specs.Connection.{Connection, is_nil}
 use Rattle.srcp_core.specs.Course.{World, numbered, at_connection, open_connection, did, history, fresh, counted, fault, absent_fault, bytes_fault as course_fault, accepted, fed_to, shut_as, answered as course_answered, new_marks, course, denied_fed}
 use Rattle.srcp_core.specs.Held.{Place, Held, at, open_count}
-use Rattle.srcp_core.specs.Machine.{IsAdmitted, IsNotAdmitted, one_denied, HasRoom, bytes_fault, bytes_fault_from, heard_at, line_taken, steps_of_line, freed_place, freed_of, hung_up, hung_up_from, advanced, live_session, live_session_of, let_out, without_sent, changed_at, changed_in as changed_places_in, filled, unsent_of, unsent_at, item_of, item_at}
+use Rattle.srcp_core.specs.Machine.{IsAdmitted, IsNotAdmitted, one_denied, HasRoom, bytes_fault, bytes_fault_from, heard_at, line_taken, steps_of_line, freed_place, freed_of, hung_up, hung_up_from, advanced, live_session, live_session_of, let_out, without_sent, changed_at, changed_in as changed_places_in, filled, unsent_of, unsent_at, item_of, item_at, has_overrun}
 use Rattle.srcp_core.specs.Recording.{Recording, key_of, told_of, opened, shut, stepped, noted, gave, took, without_key, changed_record, changed_in}
 use Rattle.srcp_core.specs.Run.{Tells, Runs, Happened, HappensAs, CountsAsked, count_at, taken_at, taking}
 use Rattle.srcp_core.specs.Stands.{StandsFor, place_of}
@@ -35,7 +35,6 @@ use Rattle.srcp_core.proofs.Agreement.MemoryAnswers.{counted_more}
 use Rattle.srcp_core.proofs.Invariants.LinesAreFound.{nothing_begun, heard_denied}
 use Rattle.srcp_core.proofs.Agreement.LinesAreNoted.{tells_same, tells_did, tells_changed}
 use Rattle.srcp_core.proofs.Agreement.PiecesAgree.{accepting, IsUpTo, world_upto, lined, lines_ended, piece_begun}
-use Rattle.srcp_core.proofs.Agreement.PlacesChange.{place_session, place_ended}
 use Rattle.srcp_core.proofs.CourseLaws.SessionsOfACourse.{anything, at_number, opening_in_order}
 use Rattle.srcp_core.proofs.Agreement.StandsAfterAChange.{Anything, Fine, AllFine, found_at}
 use Rattle.srcp_core.proofs.Agreement.RoomsAgree.{Kept, IsRooming, room_goes_on, room_taken, room_empty}
@@ -221,8 +220,8 @@ shut_happens n key r old new now named is now_is = record {
       let told = shut_told buses n r w h.conn now (h.conn.session == 0) h.conn.ended h.there refl refl (now_is ∙ ap (λ (x : Held). x.moment) is ∙ hung_up_moment key old (at old key) ∙ c.stands.moment) c.tells in
       let live : live_session key old ≡ (if (h.conn.session == 0) || h.conn.ended then None else Some h.conn.session) =
       ap live_session_of h.place
-      ∙ ap (λ k. if (k == 0) || p.ended then None else Some k) (place_session h.reader (history buses w) h.conn)
-      ∙ ap (λ t. if (h.conn.session == 0) || t then None else Some h.conn.session) (place_ended h.reader (history buses w) h.conn) in
+      ∙ ap (λ k. if (k == 0) || p.ended then None else Some k) refl
+      ∙ ap (λ t. if (h.conn.session == 0) || t then None else Some h.conn.session) refl in
       let tells : Tells (with_end (live_session key old) now (shut n r)) (accepted buses (Shut n) w) =
       subst (λ (o : Option ℕ). Tells (with_end o now (shut n r)) (accepted buses (Shut n) w)) (sym live)
       (subst (λ (o : Option Connection). Tells (with_end (if (h.conn.session == 0) || h.conn.ended then None else Some h.conn.session) now (shut n r)) (shut_as buses n o w)) (sym h.opened) told) in
@@ -280,7 +279,7 @@ bytes_room key piece held e = by (at held key) refl e
 
     by : (o : Option Place) → at held key ≡ o → bytes_fault_from piece o ≡ None → (length piece ≤ 256) × HasRoom key piece 0 held
     by None h e = absurd (some_none NoSuch e)
-    by (Some p) h e = with p (p.ended || p.overran) (is_nil p.unsent) (nat_lt 256 (length piece)) h refl refl e
+    by (Some p) h e = with p (p.ended || has_overrun p.panel) (is_nil p.unsent) (nat_lt 256 (length piece)) h refl refl e
 
 -- the piece was read up to a place
 pub record IsReading (n key : ℕ) (piece : List ℕ) (grants : List Bool) (first_r : Recording) (first : Held) (start : ℕ) (r : Recording) (held : Held) (buses : List Bus) (layout : IsLayout buses) (w : World) : Type 0 where

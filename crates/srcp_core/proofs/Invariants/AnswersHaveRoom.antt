@@ -21,7 +21,8 @@ use Rattle.srcp_feed.specs.Feed.{Feed, is_full, told}
 use Rattle.srcp_core.specs.Handshake.{Greeting, Speaks, Chooses, Goes, Refuses}
 use Rattle.srcp_core.specs.Held.{Place, Held, place_at, at, IsSound}
 use Rattle.srcp_core.specs.Under.{wants_memory}
-use Rattle.srcp_core.specs.Machine.{told_feed, told_place, told_all, told_each, carried, unsent_of, begun_of, changed_in, changed_places, changed_at, with_unsent, replied, longest, longest_answer, entered_place, begun, goes, greeted, denied_line, one_denied, finished, obeyed, answered_from, answered, asked_of}
+use Rattle.srcp_core.specs.Machine.{told_feed, told_place, told_all, told_each, carried, unsent_of, begun_of, changed_in, changed_places, changed_at, with_unsent, replied, longest, longest_answer, entered_place, begun, goes, greeted, denied_line, one_denied, finished, obeyed, answered_from, answered, asked_of, feed_in, panel_for}
+use Rattle.srcp_core.specs.declared.connection.Panel.TheVariants.{Listening, Overran}
 use Rattle.srcp_core.specs.declared.asked.Asked.{Asked}
 use Rattle.srcp_core.specs.declared.asked.Asked.TheVariants.{Dropped, Greets, Commands}
 use Rattle.srcp_core.proofs.Invariants.EveryPlaceIsTold.{told_all_at}
@@ -45,11 +46,11 @@ most : (m n : ℕ) (a b : Option Place) → m ≤ n → Gains m a b → Gains n 
 most m n a b le g = record { few = omega (arith, le, g.few); begun = g.begun }
 
 told_begun : (change : Change) (p : Place) → (told_place change p).reader.begun ≡ p.reader.begun
-told_begun change p = by p.feed
+told_begun change p = by (feed_in p.panel)
   where
     by : (feed : Option Feed) → (told_feed change p feed).reader.begun ≡ p.reader.begun
     by None = refl
-    by (Some feed) = elim (concerns feed.cursor change && is_full feed) as (λ t. (cond t (record p { overran = true; unsent = []; feed = None }) (record p { feed = Some (told change feed) })).reader.begun ≡ p.reader.begun) [
+    by (Some feed) = elim (concerns feed.cursor change && is_full feed) as (λ t. (cond t (record p { unsent = []; panel = Overran }) (record p { panel = Listening (told change feed) })).reader.begun ≡ p.reader.begun) [
       | true ↦ refl
       | false ↦ refl
     ]
@@ -95,7 +96,7 @@ begun_gains : (key id : ℕ) (mode : Mode) (held : Held) → Gains 0 (at held ke
 begun_gains key id mode held =
     let mid = carried (began id held.moment mode ∷ []) (record held { last_id = id }) in
     both 0 0 (at held key) (at mid key) (at (begun key id mode held) key) (told_gains key (map change_in (began id held.moment mode ∷ [])) held.places)
-    (changed_gains 0 key (entered_place id mode) mid.places (λ p. record { few = omega arith; begun = refl }))
+    (changed_gains 0 key (entered_place id (panel_for mode)) mid.places (λ p. record { few = omega arith; begun = refl }))
 
 goes_gains : (granted : Bool) (key : ℕ) (mode : Mode) (held : Held) → IsMoment held.moment → Gains 64 (at held key) (at (goes granted key mode held) key)
 goes_gains granted key mode held now = by (nat_lt held.last_id 4294967295) refl granted

@@ -23,7 +23,8 @@ use Rattle.srcp_rules.proofs.StateLaws.{row_at-put_same, row_at-put_other}
 use Rattle.srcp_rules.proofs.KeyLaws.{same_key, same_key-true}
 use Rattle.std.proofs.lemmas.Bool.{le-leb, eqb-false}
 use Rattle.std.proofs.Math.Nat.{pos_of_ne-zero}
-use Rattle.srcp_core.specs.Machine.{changed_at, changed_in, changed_places, carried, told_all, told_each, freed_of, freed_place, entered_place, begun, filled, filled_from, live_session_of}
+use Rattle.srcp_core.specs.declared.connection.Panel.{Panel}
+use Rattle.srcp_core.specs.Machine.{changed_at, changed_in, changed_places, carried, told_all, told_each, freed_of, freed_place, entered_place, begun, filled, filled_from, live_session_of, feed_in, panel_for}
 use Rattle.srcp_info.specs.declared.change.Shown.{Shown}
 use Rattle.srcp_feed.specs.Feed.{Feed}
 use Rattle.srcp_core.proofs.Invariants.ChangesOneByOne.{change_in}
@@ -148,19 +149,19 @@ other_row id other moment mode rows apart =
 abbrev IsOneOf : List (Option Place) → ℕ → ℕ → ℕ → Place → Type 0
 IsOneOf places key id m q = ((m ≡ key) × (q.session ≡ id)) ⊎ (place_at places m ≡ Some q)
 
-entered_from : (places : List (Option Place)) (key id : ℕ) (mode : Mode) (m : ℕ) (q : Place) → place_at (changed_places key (entered_place id mode) places) m ≡ Some q → IsOneOf places key id m q
+entered_from : (places : List (Option Place)) (key id : ℕ) (mode : Mode) (m : ℕ) (q : Place) → place_at (changed_places key (entered_place id (panel_for mode)) places) m ≡ Some q → IsOneOf places key id m q
 entered_from places key id mode m q e = by (place_at places key) refl e
   where
-    by : (o : Option Place) → place_at places key ≡ o → place_at (changed_in key (entered_place id mode) places o) m ≡ Some q → IsOneOf places key id m q
+    by : (o : Option Place) → place_at places key ≡ o → place_at (changed_in key (entered_place id (panel_for mode)) places o) m ≡ Some q → IsOneOf places key id m q
     by None at e = inr e
     by (Some p) at e = place (where_is m key)
       where
         place : Where m key → IsOneOf places key id m q
         place (Here s) =
-            let here : place_at (slice_set places key (Some (entered_place id mode p))) m ≡ Some (entered_place id mode p) = subst (λ k. place_at (slice_set places key (Some (entered_place id mode p))) k ≡ Some (entered_place id mode p)) (sym s) (place_set_here places key p (Some (entered_place id mode p)) at) in
-            let same : entered_place id mode p ≡ q = cc in
+            let here : place_at (slice_set places key (Some (entered_place id (panel_for mode) p))) m ≡ Some (entered_place id (panel_for mode) p) = subst (λ k. place_at (slice_set places key (Some (entered_place id (panel_for mode) p))) k ≡ Some (entered_place id (panel_for mode) p)) (sym s) (place_set_here places key p (Some (entered_place id (panel_for mode) p)) at) in
+            let same : entered_place id (panel_for mode) p ≡ q = cc in
             inl (s, sym (ap (λ (r : Place). r.session) same))
-        place (Away f) = inr (sym (place_set places key m (Some (entered_place id mode p)) f) ∙ e)
+        place (Away f) = inr (sym (place_set places key m (Some (entered_place id (panel_for mode) p)) f) ∙ e)
 
 sessions_begun : (last id key : ℕ) (rows new : State) (old places : List (Option Place)) → id ≡ last + 1 → ((other : ℕ) → other ≢ id → is_there (session_device other) new ≡ is_there (session_device other) rows) → is_there (session_device id) new ≡ true
     → ((m : ℕ) (q : Place) → place_at places m ≡ Some q → IsOneOf old key id m q) → AreSessions last rows old → AreSessions id new places
@@ -197,12 +198,12 @@ sound_begun key id mode held now next high s =
     let mid : Held = carried (update ∷ []) (record held { last_id = id }) in
     let covered = sessions_covered held.last_id held.rows held.places mid.places (covers_told_each (map change_in (update ∷ [])) held.places) s.sessions in
     let told = told_each_count (map change_in (update ∷ [])) held.places in
-    let count = changed_count key (entered_place id mode) mid.places in
+    let count = changed_count key (entered_place id (panel_for mode)) mid.places in
     record {
       moment = s.moment;
       few = omega (arith, s.few, told, count);
       whole = began_kept held.buses held.moment now id mode held.rows (session_place held.buses id (omega (arith, next)) high) s.whole;
-      sessions = sessions_begun held.last_id id key held.rows mid.rows mid.places (changed_places key (entered_place id mode) mid.places) next (λ other apart. other_row id other held.moment mode held.rows apart) (own_row id held.moment mode held.rows) (entered_from mid.places key id mode) covered;
+      sessions = sessions_begun held.last_id id key held.rows mid.rows mid.places (changed_places key (entered_place id (panel_for mode)) mid.places) next (λ other apart. other_row id other held.moment mode held.rows apart) (own_row id held.moment mode held.rows) (entered_from mid.places key id mode) covered;
     }
 
 -- ---- the end of a connection
@@ -232,12 +233,12 @@ over_ended key held p e began ended s m q f live same =
 pub sound_set : (held : Held) (places : List (Option Place)) (key : ℕ) (change : Place → Place) → ((p : Place) → IsMild p (change p)) → places ≡ changed_places key change held.places → IsSound held → IsSound (record held { places = places })
 sound_set held places key change mild is s = subst (λ (ps : List (Option Place)). IsSound (record held { places = ps })) (sym is) (sound_changed_at key change held mild s)
 
-pub begun_is : (held : Held) (key id : ℕ) (mode : Mode) (rows : State) (change : Change) (told places : List (Option Place)) → rows ≡ updated (began id held.moment mode) held.rows → change ≡ (began id held.moment mode).change
-    → told ≡ told_all change held.places → places ≡ changed_places key (entered_place id mode) told → record held { rows = rows; last_id = id; places = places } ≡ begun key id mode held
-begun_is held key id mode rows change told places r c t p =
+pub begun_is : (held : Held) (key id : ℕ) (mode : Mode) (panel : Panel) (rows : State) (change : Change) (told places : List (Option Place)) → panel ≡ panel_for mode → rows ≡ updated (began id held.moment mode) held.rows → change ≡ (began id held.moment mode).change
+    → told ≡ told_all change held.places → places ≡ changed_places key (entered_place id panel) told → record held { rows = rows; last_id = id; places = places } ≡ begun key id mode held
+begun_is held key id mode panel rows change told places e r c t p =
     ap (λ (s : State). let h : Held = record held { rows = s; last_id = id; places = places } in h) r
     ∙ ap (λ (ps : List (Option Place)). let h : Held = record held { rows = updated (began id held.moment mode) held.rows; last_id = id; places = ps } in h)
-    (p ∙ ap (changed_places key (entered_place id mode)) (t ∙ ap (λ (d : Change). told_all d held.places) c))
+    (p ∙ ap (λ panel. changed_places key (entered_place id panel) told) e ∙ ap (changed_places key (entered_place id (panel_for mode))) (t ∙ ap (λ (d : Change). told_all d held.places) c))
 
 pub sound_carried_as : (held : Held) (updates : List Update) (rows : State) (places : List (Option Place)) → rows ≡ updated_all updates held.rows → places ≡ told_each (map change_in updates) held.places → IsSound (carried updates held)
     → IsSound (record held { rows = rows; places = places })
@@ -279,7 +280,7 @@ sound_hung_up key held p session e own began fewer s =
     (sound_free key held p e fewer s)
 
 pub filled_mild : (rows : List Shown) (p : Place) → IsMild p (filled rows p)
-filled_mild rows p = by p.unsent p.feed
+filled_mild rows p = by p.unsent (feed_in p.panel)
   where
     by : (bytes : List ℕ) (feed : Option Feed) → IsMild p (filled_from rows p bytes feed)
     by (byte ∷ bytes) feed = mild_itself p

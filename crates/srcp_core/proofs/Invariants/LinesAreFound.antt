@@ -12,7 +12,7 @@ use Rattle.std.proofs.lemmas.List.{length-drop}
 use Rattle.std.proofs.lemmas.List.Sums.{fold-append}
 use Rattle.srcp_core.specs.Handshake.{greets}
 use Rattle.srcp_core.specs.Held.{Place, Held, IsSound, at}
-use Rattle.srcp_core.specs.Machine.{asked_of, heard_from, heard, heard_in, heard_at, longest_answer, unsent_of, unsent_at, begun_of, begun_at, answered, line_taken, lines_taken, steps_answered, steps_of_line, listed, HasRoom, IsLineTaken, CountsEach, IsReceived}
+use Rattle.srcp_core.specs.Machine.{asked_of, heard_from, heard, heard_in, heard_at, longest_answer, unsent_of, unsent_at, begun_of, begun_at, answered, line_taken, lines_taken, steps_answered, steps_of_line, listed, HasRoom, IsLineTaken, CountsEach, IsReceived, is_panel}
 use Rattle.srcp_core.specs.Under.{denied_by}
 use Rattle.srcp_core.specs.declared.answered.Answered.{Answered}
 use Rattle.srcp_core.specs.declared.asked.Asked.{Asked}
@@ -36,10 +36,10 @@ short false true mark code = omega arith
 short false false mark code = omega arith
 
 too_long_short : (buses : List Bus) (p : Place) → longest_answer (asked_of buses p TooLong) ≤ 64
-too_long_short buses p = short (p.info || p.ended) (p.session == 0) TooLong _
+too_long_short buses p = short (is_panel p.panel || p.ended) (p.session == 0) TooLong _
 
 empty_short : (buses : List Bus) (p : Place) → longest_answer (asked_of buses p (Line [])) ≤ 64
-empty_short buses p = short (p.info || p.ended) (p.session == 0) (Line []) _
+empty_short buses p = short (is_panel p.panel || p.ended) (p.session == 0) (Line []) _
 
 -- ---- a line that was found
 

@@ -13,7 +13,7 @@ use Rattle.srcp_text.specs.Marks.{Mark, Line, TooLong}
 use Rattle.srcp_core.specs.Course.{command_of}
 use Rattle.srcp_core.specs.Handshake.{greets}
 use Rattle.srcp_core.specs.Held.{Place, IsLive}
-use Rattle.srcp_core.specs.Machine.{asked_of}
+use Rattle.srcp_core.specs.Machine.{asked_of, is_panel}
 use Rattle.srcp_core.specs.declared.asked.Asked.TheVariants.{Dropped, Greets, Commands}
 
 fits : (buses : List Bus) → IsLayout buses → (mark : Mark) → IfOk (command_of buses mark) (IsCommandOf buses)
@@ -26,7 +26,7 @@ pub record IsAskedBy (buses : List Bus) (p : Place) (command : Result Command Co
   pub of : IfOk command (IsCommandOf buses)
 
 pub asked_by : (buses : List Bus) → IsLayout buses → (p : Place) (mark : Mark) (command : Result Command Code) → Commands command ≡ asked_of buses p mark → IsAskedBy buses p command
-asked_by buses layout p mark command e = by p.info p.ended refl (p.session == 0) refl e
+asked_by buses layout p mark command e = by (is_panel p.panel) p.ended refl (p.session == 0) refl e
   where
     by : (i n : Bool) → p.ended ≡ n → (z : Bool) → (p.session == 0) ≡ z → Commands command ≡ (if i || n then Dropped else (if z then Greets (greets mark) else Commands (command_of buses mark))) → IsAskedBy buses p command
     by true n h z q e = cc

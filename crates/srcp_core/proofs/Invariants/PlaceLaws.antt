@@ -9,13 +9,13 @@ use Rattle.srcp_info.specs.declared.change.Cursor.{Cursor}
 use Rattle.srcp_info.specs.declared.change.Shown.{Shown}
 use Rattle.srcp_feed.specs.Feed.{Feed, next_of}
 use Rattle.srcp_core.specs.Held.{Place}
-use Rattle.srcp_core.specs.Machine.{filled, filled_from, item_from, IsTellable}
+use Rattle.srcp_core.specs.Machine.{filled, filled_from, item_from, IsTellable, feed_in}
 
 -- nothing is put in where something is unsent
 pub filled_still : (rows : List Shown) (p : Place) → 0 < length p.unsent → filled rows p ≡ p
 filled_still rows p h = from p.unsent h
   where
-    from : (bytes : List ℕ) → 0 < length bytes → filled_from rows p bytes p.feed ≡ p
+    from : (bytes : List ℕ) → 0 < length bytes → filled_from rows p bytes (feed_in p.panel) ≡ p
     from [] h = absurd (omega arith)
     from (byte ∷ bytes) h = refl
 

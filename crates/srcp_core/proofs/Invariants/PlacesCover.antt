@@ -7,7 +7,8 @@ use Rattle.srcp_rules.specs.State.{State, session_device, is_there}
 use Rattle.srcp_feed.specs.Cursor.{concerns}
 use Rattle.srcp_feed.specs.Feed.{Feed, is_full, told}
 use Rattle.srcp_core.specs.Held.{Place, place_at, IsLive, AreSessions}
-use Rattle.srcp_core.specs.Machine.{told_feed, told_place, told_all, told_each}
+use Rattle.srcp_core.specs.Machine.{told_feed, told_place, told_all, told_each, feed_in}
+use Rattle.srcp_core.specs.declared.connection.Panel.TheVariants.{Listening, Overran}
 use Rattle.srcp_core.proofs.Invariants.EveryPlaceIsTold.{count_by_cons, told_all_count, told_all_at}
 
 -- the session is the same, and an end is not undone
@@ -96,11 +97,11 @@ free_other places key p at m r e s =
 -- ---- a change is told
 
 pub told_mild : (change : Change) (p : Place) → IsMild p (told_place change p)
-told_mild change p = by p.feed
+told_mild change p = by (feed_in p.panel)
   where
     by : (feed : Option Feed) → IsMild p (told_feed change p feed)
     by None = mild_itself p
-    by (Some feed) = elim (concerns feed.cursor change && is_full feed) as (λ t. IsMild p (cond t (record p { overran = true; unsent = []; feed = None }) (record p { feed = Some (told change feed) }))) [
+    by (Some feed) = elim (concerns feed.cursor change && is_full feed) as (λ t. IsMild p (cond t (record p { unsent = []; panel = Overran }) (record p { panel = Listening (told change feed) }))) [
       | true ↦ record { session = refl; ended = λ h. h }
       | false ↦ record { session = refl; ended = λ h. h }
     ]

@@ -13,7 +13,8 @@ use Rattle.srcp_rules.specs.State.{Update, is_there, session_device}
 use Rattle.srcp_feed.specs.Cursor.{concerns}
 use Rattle.srcp_feed.specs.Feed.{Feed, is_full, told}
 use Rattle.srcp_core.specs.Held.{Place, Held, place_at, IsLive, IsSound, IsSessionAt}
-use Rattle.srcp_core.specs.Machine.{told_feed, told_place, told_all, told_each, carried, unsent_of, changed_in, changed_places, with_unsent, replied, longest, entered_place, begun, goes}
+use Rattle.srcp_core.specs.Machine.{told_feed, told_place, told_all, told_each, carried, unsent_of, changed_in, changed_places, with_unsent, replied, longest, entered_place, begun, goes, feed_in, panel_for}
+use Rattle.srcp_core.specs.declared.connection.Panel.TheVariants.{Listening, Overran}
 use Rattle.srcp_core.proofs.Invariants.EveryPlaceIsTold.{told_all_at}
 use Rattle.srcp_core.proofs.Invariants.ChangesOneByOne.{change_in}
 use Rattle.srcp_core.proofs.Invariants.PlacesCover.{place_set_here}
@@ -21,11 +22,11 @@ use Rattle.srcp_core.proofs.Invariants.PlacesCover.{place_set_here}
 -- ---- what is unsent
 
 pub told_shorter : (change : Change) (p : Place) → length (told_place change p).unsent ≤ length p.unsent
-told_shorter change p = by p.feed
+told_shorter change p = by (feed_in p.panel)
   where
     by : (feed : Option Feed) → length (told_feed change p feed).unsent ≤ length p.unsent
     by None = omega arith
-    by (Some feed) = elim (concerns feed.cursor change && is_full feed) as (λ t. length (cond t (record p { overran = true; unsent = []; feed = None }) (record p { feed = Some (told change feed) })).unsent ≤ length p.unsent) [
+    by (Some feed) = elim (concerns feed.cursor change && is_full feed) as (λ t. length (cond t (record p { unsent = []; panel = Overran }) (record p { panel = Listening (told change feed) })).unsent ≤ length p.unsent) [
       | true ↦ omega arith
       | false ↦ omega arith
     ]
@@ -43,12 +44,12 @@ told_each_shorter (change ∷ changes) places key =
     omega (arith, rest, one, is)
 
 -- a session's beginning puts in nothing
-pub entered_shorter : (key id : ℕ) (mode : Mode) (places : List (Option Place)) → length (unsent_of (place_at (changed_places key (entered_place id mode) places) key)) ≤ length (unsent_of (place_at places key))
+pub entered_shorter : (key id : ℕ) (mode : Mode) (places : List (Option Place)) → length (unsent_of (place_at (changed_places key (entered_place id (panel_for mode)) places) key)) ≤ length (unsent_of (place_at places key))
 entered_shorter key id mode places = by (place_at places key) refl
   where
-    by : (o : Option Place) → place_at places key ≡ o → length (unsent_of (place_at (changed_in key (entered_place id mode) places o) key)) ≤ length (unsent_of o)
+    by : (o : Option Place) → place_at places key ≡ o → length (unsent_of (place_at (changed_in key (entered_place id (panel_for mode)) places o) key)) ≤ length (unsent_of o)
     by None e = let h = ap (λ (o : Option Place). length (unsent_of o)) e in omega (arith, h)
-    by (Some p) e = let h = ap (λ (o : Option Place). length (unsent_of o)) (place_set_here places key p (Some (entered_place id mode p)) e) in omega (arith, h)
+    by (Some p) e = let h = ap (λ (o : Option Place). length (unsent_of o)) (place_set_here places key p (Some (entered_place id (panel_for mode) p)) e) in omega (arith, h)
 
 -- neither does the choice of a mode
 pub chosen_shorter : (key : ℕ) (mode : Mode) (places : List (Option Place)) → length (unsent_of (place_at (changed_places key (λ p. record p { mode = mode }) places) key)) ≤ length (unsent_of (place_at places key))
@@ -69,11 +70,11 @@ longest_most (Refused code) = omega arith
 -- ---- the session that goes on
 
 told_live : (change : Change) (p : Place) → ((told_place change p).session ≡ p.session) × ((told_place change p).ended ≡ p.ended)
-told_live change p = by p.feed
+told_live change p = by (feed_in p.panel)
   where
     by : (feed : Option Feed) → ((told_feed change p feed).session ≡ p.session) × ((told_feed change p feed).ended ≡ p.ended)
     by None = (refl, refl)
-    by (Some feed) = elim (concerns feed.cursor change && is_full feed) as (λ t. ((cond t (record p { overran = true; unsent = []; feed = None }) (record p { feed = Some (told change feed) })).session ≡ p.session) × ((cond t (record p { overran = true; unsent = []; feed = None }) (record p { feed = Some (told change feed) })).ended ≡ p.ended)) [
+    by (Some feed) = elim (concerns feed.cursor change && is_full feed) as (λ t. ((cond t (record p { unsent = []; panel = Overran }) (record p { panel = Listening (told change feed) })).session ≡ p.session) × ((cond t (record p { unsent = []; panel = Overran }) (record p { panel = Listening (told change feed) })).ended ≡ p.ended)) [
       | true ↦ (refl, refl)
       | false ↦ (refl, refl)
     ]

@@ -8,18 +8,17 @@ ghost use Rattle.srcp_rules.specs.Effect.{effect};
 ghost use Rattle.srcp_rules.specs.State.{session_device, is_there};
 ghost use Rattle.srcp_core.specs.Held.{IsSessionAt};
 ghost use Rattle.srcp_core.specs.Under.{denied_by, wants_memory};
-ghost use Rattle.srcp_core.specs.Machine.{feed_for, changed_at, unsent_at, one_denied, replied, denied_line, begun, goes, greeted, carried, freed_of, commanded, longest, steps_gone, steps_greeted, steps_commanded, listed};
+ghost use Rattle.srcp_core.specs.Machine.{changed_at, unsent_at, one_denied, replied, denied_line, begun, goes, greeted, carried, freed_of, commanded, longest, steps_gone, steps_greeted, steps_commanded, listed};
 
 use super::walk::{free_all, tell_all, tell_each};
 use super::{Core, place};
 use crate::answered::{Answered, LineSteps};
+use crate::connection::Panel;
 use crate::greeting::Greeting;
 use crate::record::Step;
-use srcp_feed::InfoFeed;
 use srcp_info::{Code, Mode, Reply, write_reply};
 use srcp_rules::{Command, Memory, Obeyed, Rows, begin_session, obey};
 use srcp_text::LineBuf;
-use std::alloc::Global;
 
 /// The greatest session id: our own choice, the greatest of 32 bits.
 const LAST_ID: u32 = 4_294_967_295;
@@ -74,11 +73,11 @@ impl<'a, R: Rows> Core<'a, R> {
         ensures ok { OnOk result (self.new ≡ begun conn id mode self.old) }
         ensures err { OnErr result (self.new ≡ self.old) }
     {
-        let feed = feed_for(self.alloc, mode, &self.rows)?;
+        let panel = Panel::of_mode(self.alloc, mode, &self.rows)?;
         let change = begin_session(&mut self.rows, id, self.moment, mode)?;
         self.last_id = id;
         tell_all(&mut self.connections, &change);
-        place::enter(&mut self.connections, conn, id, mode, feed);
+        place::enter(&mut self.connections, conn, id, panel);
         Ok(())
     }
 
@@ -200,14 +199,4 @@ fn is_denied(reply: &Reply) -> bool
     ensures given { result ≡ false → reply.now ≢ Refused C500 }
 {
     matches!(reply, Reply::Refused(Code::C500))
-}
-
-/// What a session of the mode begins with.
-fn feed_for<R: Rows>(alloc: Global, mode: Mode, rows: &R) -> Result<Option<InfoFeed>, Memory>
-    ensures { IfOk result (λ feed. feed ≡ feed_for mode) }
-{
-    match mode {
-        Mode::Command => Ok(None),
-        Mode::Info => Ok(Some(InfoFeed::begin(alloc, rows)?)),
-    }
 }

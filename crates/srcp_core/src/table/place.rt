@@ -1,11 +1,10 @@
 //! Changes of the connection at one place, where there is one.
-ghost use Rattle.std.specs.Prelude.{◌≡◌, ◌+◌, ◌≤◌, true, length};
+ghost use Rattle.std.specs.Prelude.{◌≡◌, ◌+◌, ◌≤◌, true, length, []};
 ghost use Rattle.srcp_core.specs.Held.{place_at};
-ghost use Rattle.srcp_core.specs.Machine.{changed_places, entered_place, feed_for, unsent_of, with_unsent, without_sent};
+ghost use Rattle.srcp_core.specs.Machine.{changed_places, entered_place, queue_of, unsent_of, with_unsent, without_sent};
 
-use crate::connection::Connection;
+use crate::connection::{Connection, Panel};
 use slab::Slab;
-use srcp_feed::InfoFeed;
 use srcp_info::Mode;
 
 /// Puts bytes at the end of what is to be sent.
@@ -29,20 +28,14 @@ pub(super) fn choose(connections: &mut Slab<Connection>, conn: usize, mode: Mode
     }
 }
 
-/// Begins a session of the mode under the id.
-pub(super) fn enter(
-    connections: &mut Slab<Connection>,
-    conn: usize,
-    id: u32,
-    mode: Mode,
-    feed: Option<InfoFeed>,
-)
-    requires { feed ≡ feed_for mode }
-    ensures slots { connections.new.slots ≡ changed_places conn (entered_place id mode) connections.old.slots }
+/// Begins a session under the id.
+pub(super) fn enter(connections: &mut Slab<Connection>, conn: usize, id: u32, panel: Panel)
+    requires { queue_of panel ≡ [] }
+    ensures slots { connections.new.slots ≡ changed_places conn (entered_place id panel) connections.old.slots }
     ensures capacity { connections.new.capacity ≡ connections.old.capacity }
 {
     if let Some(connection) = connections.get_mut(conn) {
-        connection.enter(id, mode, feed);
+        connection.enter(id, panel);
     }
 }
 

@@ -9,7 +9,7 @@ invariant_of-self-2 g c =
     let held : Held = record { buses = c.self.inside.layout.now; rows = g.R.Rows.state c.self.inside.rows; moment = c.self.inside.moment; last_id = c.self.inside.last_id; places = c.self.inside.connections.slots; denied = c.self.inside.denied } in
     let last = ap (λ (h : Held). h.last_id) c.self.view_is in
     let next : c.args.id ≡ held.last_id + 1 = c.requires ∙ ap (λ n. n + 1) (sym last) in (
-      subst IsSound (sym (begun_is held c.args.conn c.args.id c.args.mode _ _ _ _ c.in_ok-change.ensures.rows c.in_ok-change.ensures.change c.tell_all.ensures.slots c.enter.ensures.slots))
+      subst IsSound (sym (begun_is held c.args.conn c.args.id c.args.mode _ _ _ _ _ c.in_ok-panel.ensures c.in_ok-change.ensures.rows c.in_ok-change.ensures.change c.tell_all.ensures.slots c.enter.ensures.slots))
           (sound_begun c.args.conn c.args.id c.args.mode held c.self.invariant.0.moment next (omega arith) c.self.invariant.0),
       c.in_ok-change.ensures.layout ∙ c.self.invariant.1,
       subst (λ n. 64 ≤ n) (sym (c.enter.ensures.capacity ∙ c.tell_all.ensures.capacity)) c.self.invariant.2,
@@ -18,5 +18,5 @@ invariant_of-self-2 g c =
 pub returns-clause-ok : goal.returns-clause-ok
 returns-clause-ok g c =
     let held : Held = record { buses = c.self.inside.layout.now; rows = g.R.Rows.state c.self.inside.rows; moment = c.self.inside.moment; last_id = c.self.inside.last_id; places = c.self.inside.connections.slots; denied = c.self.inside.denied } in
-    begun_is held c.args.conn c.args.id c.args.mode _ _ _ _ c.in_ok-change.ensures.rows c.in_ok-change.ensures.change c.tell_all.ensures.slots c.enter.ensures.slots
+    begun_is held c.args.conn c.args.id c.args.mode _ _ _ _ _ c.in_ok-panel.ensures c.in_ok-change.ensures.rows c.in_ok-change.ensures.change c.tell_all.ensures.slots c.enter.ensures.slots
     ∙ ap (begun c.args.conn c.args.id c.args.mode) c.self.view_is
