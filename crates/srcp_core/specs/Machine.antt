@@ -1,7 +1,7 @@
 -- What each call makes of what is held.
 -- It models the code: the calls of a core cite it, and what `run` promises and the laws of courses do not.
 use Rattle.std.specs.Prelude.{⊤, ◌≡◌, ◌≢◌, ℕ, zero, suc, ◌+◌, ◌*◌, ◌<◌, ◌≤◌, min, max, Bool, true, false, not, ◌&&◌, ◌||◌, ◌==◌, if◌then◌else◌, List, [], ◌∷◌, ◌++◌, map, drop, length, fold, nat_lt, slice_set, Option, Some, None, Result, Ok, Err}
-use Rattle.std.specs.Option.{option_map}
+use Rattle.std.specs.Option.{option_map, option_to_list}
 use Rattle.srcp_info.specs.Line.{reply_line}
 use Rattle.srcp_info.specs.WellFormed.{IsWellFormed}
 use Rattle.srcp_info.specs.declared.change.Change.{Change}
@@ -32,13 +32,11 @@ use Rattle.srcp_core.specs.Course.{welcome, command_of}
 use Rattle.srcp_core.specs.Handshake.{Greeting, Speaks, Chooses, Goes, Refuses, greets}
 use Rattle.srcp_core.specs.Held.{Place, Held, place_at, at, open_count}
 use Rattle.srcp_core.specs.Under.{denied_by, wants_memory}
-use Rattle.srcp_core.specs.declared.answered.Answered.{Answered}
-use Rattle.srcp_core.specs.declared.answered.LineSteps.{LineSteps}
-use Rattle.srcp_core.specs.declared.answered.LineSteps.TheVariants.{Nothing, One, Two}
 use Rattle.srcp_core.specs.declared.connection.Panel.{Panel}
 use Rattle.srcp_core.specs.declared.connection.Panel.TheVariants.{Absent, Listening, Overran}
-use Rattle.srcp_core.specs.declared.asked.Asked.{Asked}
-use Rattle.srcp_core.specs.declared.asked.Asked.TheVariants.{Dropped, Greets, Commands}
+use Rattle.srcp_core.specs.declared.line.Asked.{Asked}
+use Rattle.srcp_core.specs.declared.line.Asked.TheVariants.{Dropped, Greets, Commands}
+use Rattle.srcp_core.specs.declared.line.LineRecord.{LineRecord}
 use Rattle.srcp_core.specs.declared.record.Step.{Step}
 use Rattle.srcp_core.specs.declared.record.Step.TheVariants.{Obeyed, Began, Ended}
 use Rattle.srcp_core.specs.declared.record.Finish.{Finish}
@@ -128,7 +126,7 @@ IsTellable Settled = ⊤
 
 -- what a line asks for, by how its connection stands; what comes to an information session or after the end is dropped
 abbrev pub asked_of : List Bus → Place → Mark → Asked
-asked_of buses p mark = if is_panel p.panel || p.ended then Dropped else (if p.session == 0 then Greets (greets mark) else Commands (command_of buses mark))
+asked_of buses p mark = if is_panel p.panel || p.ended then Dropped else (if p.session == 0 then Greets p.mode (greets mark) else Commands p.session (command_of buses mark))
 
 -- what the reader found: the place after the line and what it asks for, or nothing
 abbrev pub heard_from : List Bus → Place → Fed × Reading → Option (ℕ × Asked) × Place
@@ -241,24 +239,17 @@ commanded granted key session (Err code) held = replied key (Refused code) held
 commanded granted key session (Ok command) held =
     if granted || not (wants_memory held.rows session held.moment command) then obeyed key session (effect held.rows session held.moment command) held else denied_line key held
 
--- a line is answered, by the connection that is there
-abbrev pub answered_from : Bool → ℕ → Asked → Held → Option Place → Held
-answered_from granted key asked held None = held
-answered_from granted key Dropped held (Some p) = held
-answered_from granted key (Greets greeting) held (Some p) = greeted granted key p.mode greeting held
-answered_from granted key (Commands command) held (Some p) = commanded granted key p.session command held
-
--- a line is answered
+-- a line is answered, by whether memory was given to it
 abbrev pub answered : Bool → ℕ → Asked → Held → Held
-answered granted key asked held = answered_from granted key asked held (at held key)
+answered granted key Dropped held = held
+answered granted key (Greets mode greeting) held = greeted granted key mode greeting held
+answered granted key (Commands session command) held = commanded granted key session command held
 
 -- ---- the steps of the registry that the answer to a line is
 
--- the steps in a list
-abbrev pub listed : LineSteps → List Step
-listed Nothing = []
-listed (One step) = step ∷ []
-listed (Two step next) = step ∷ next ∷ []
+-- the steps that a recorded run is told of
+abbrev pub steps_in : LineRecord → List Step
+steps_in line = option_to_list line.step ++ option_to_list line.end
 
 -- the steps of GO: the beginning of a session, where an id is left and memory was given
 abbrev pub steps_gone : Bool → Mode → Held → List Step
@@ -277,16 +268,11 @@ steps_commanded granted session (Err code) held = []
 steps_commanded granted session (Ok command) held =
     Obeyed session held.moment command ∷ (if (granted || not (wants_memory held.rows session held.moment command)) && (effect held.rows session held.moment command).ends then Ended session held.moment ∷ [] else [])
 
--- the steps of a line, by the connection that is there
-abbrev pub steps_answered_from : Bool → Asked → Held → Option Place → List Step
-steps_answered_from granted asked held None = []
-steps_answered_from granted Dropped held (Some p) = []
-steps_answered_from granted (Greets greeting) held (Some p) = steps_greeted granted p.mode greeting held
-steps_answered_from granted (Commands command) held (Some p) = steps_commanded granted p.session command held
-
--- the steps of a line at a place of the core
-abbrev pub steps_answered : Bool → ℕ → Asked → Held → List Step
-steps_answered granted key asked held = steps_answered_from granted asked held (at held key)
+-- the steps of a line
+abbrev pub steps_answered : Bool → Asked → Held → List Step
+steps_answered granted Dropped held = []
+steps_answered granted (Greets mode greeting) held = steps_greeted granted mode greeting held
+steps_answered granted (Commands session command) held = steps_commanded granted session command held
 
 -- how many bytes a reply has at most
 abbrev pub longest : Reply → ℕ
@@ -295,7 +281,7 @@ longest other = 64
 
 -- how many bytes the answer to a line has at most
 abbrev pub longest_answer : Asked → ℕ
-longest_answer (Commands (Ok command)) = 126
+longest_answer (Commands session (Ok command)) = 126
 longest_answer other = 64
 
 -- ---- calls
@@ -332,6 +318,13 @@ bytes_fault_from piece (Some p) =
 abbrev pub bytes_fault : ℕ → List ℕ → Held → Option CoreFault
 bytes_fault key piece held = bytes_fault_from piece (at held key)
 
+-- the line was found on the connection of that key
+pub record IsAsked (key : ℕ) (asked : Asked) (held : Held) : Type 0 where
+  pub place : Place
+  pub mark : Mark
+  pub here : at held key ≡ Some place
+  pub is : asked ≡ asked_of held.buses place mark
+
 -- a piece is read on from there: the place after the next line with what that asks for, or nothing where none ends
 abbrev pub heard_in : ℕ → List ℕ → ℕ → Held → Option Place → Option (ℕ × Asked) × Held
 heard_in key piece start held None = (None, held)
@@ -348,9 +341,9 @@ line_taken key granted before (None, held) = before
 line_taken key granted before (Some (stop, asked), held) = (stop, answered granted key asked held)
 
 -- the steps that the answer is
-abbrev pub steps_of_line : ℕ → Bool → Option (ℕ × Asked) × Held → List Step
-steps_of_line key granted (None, held) = []
-steps_of_line key granted (Some (stop, asked), held) = steps_answered granted key asked held
+abbrev pub steps_of_line : Bool → Option (ℕ × Asked) × Held → List Step
+steps_of_line granted (None, held) = []
+steps_of_line granted (Some (stop, asked), held) = steps_answered granted asked held
 
 -- lines of the piece are answered in turn, each by whether memory was given to it
 abbrev pub lines_taken : ℕ → List ℕ → List Bool → Held → ℕ × Held
@@ -364,11 +357,11 @@ pub record HasRoom (key : ℕ) (piece : List ℕ) (start : ℕ) (held : Held) : 
   pub begun : 0 < start → begun_at key held ≡ Some []
 
 -- the next line of the piece is answered
-pub record IsLineTaken (key : ℕ) (piece : List ℕ) (start stop : ℕ) (did : Answered) (old new : Held) : Type 0 where
+pub record IsLineTaken (key : ℕ) (piece : List ℕ) (start stop : ℕ) (did : LineRecord) (old new : Held) : Type 0 where
   pub onward : start < stop
   pub room : HasRoom key piece stop new
   pub is : (stop, new) ≡ line_taken key did.granted (start, old) (heard_at key piece start old)
-  pub steps : listed did.steps ≡ steps_of_line key did.granted (heard_at key piece start old)
+  pub steps : steps_in did ≡ steps_of_line did.granted (heard_at key piece start old)
   pub counted : new.denied ≡ denied_by old.denied (did.granted ∷ [])
 
 -- each answer to the lines that follow is counted where it refuses

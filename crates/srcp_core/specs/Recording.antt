@@ -1,6 +1,6 @@
 -- What a run has told so far.
 -- It models the code: the calls of a core cite it, and what `run` promises and the laws of courses do not.
-use Rattle.std.specs.Prelude.{ℕ, zero, suc, false, if◌then◌else◌, List, [], ◌∷◌, ◌++◌, length, Option, Some, None}
+use Rattle.std.specs.Prelude.{ℕ, zero, suc, false, if◌then◌else◌, List, [], ◌∷◌, ◌++◌, length, Option, Some, None, fold}
 use Rattle.std.specs.Prelude.{slice_get, slice_set, slice_index_or}
 use Rattle.srcp_feed.specs.declared.next.Next.{Next}
 use Rattle.srcp_feed.specs.declared.next.Next.TheVariants.{Told, Listed, Settled}
@@ -75,9 +75,7 @@ began n (Ended session moment) r = r
 
 -- a line was answered by these steps
 abbrev pub noted : ℕ → List Step → Recording → Recording
-noted n [] r = r
-noted n (step ∷ []) r = began n step (stepped (step ∷ []) r)
-noted n (step ∷ next ∷ steps) r = stepped (step ∷ next ∷ steps) r
+noted n steps r = fold (λ told step. began n step (stepped (step ∷ []) told)) r steps
 
 -- a line was given, after so many steps
 abbrev pub with_item : ℕ → Next → ConnRecord → ConnRecord

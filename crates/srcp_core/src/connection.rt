@@ -2,16 +2,16 @@
 ghost use Rattle.std.specs.Prelude.{◌≡◌, ◌≤◌, ◌+◌, [], length, drop, true, ◌&&◌, ◌||◌, IfOk, Some, vec_capacity};
 ghost use Rattle.srcp_rules.specs.State.{shown_rows};
 ghost use Rattle.std.specs.List.{AllByRecursion};
-ghost use Rattle.srcp_info.specs.WellFormed.{IsWellFormed, IsWellFormedShown};
+ghost use Rattle.srcp_info.specs.Line.{reply_line};
+ghost use Rattle.srcp_info.specs.WellFormed.{IsWellFormed, IsWellFormedReply, IsWellFormedShown};
 ghost use Rattle.srcp_text.specs.Marks.{Line, TooLong};
 ghost use Rattle.srcp_core.specs.Connection.{is_nil, line_of};
-ghost use Rattle.srcp_core.specs.Machine.{queue_of, fresh_place, with_unsent, without_sent, entered_place, panel_for, feed_in, has_overrun, is_panel, told_place, filled, item_from, IsTellable, asked_of, heard, live_session_of};
+ghost use Rattle.srcp_core.specs.Machine.{queue_of, fresh_place, with_unsent, without_sent, entered_place, panel_for, feed_in, has_overrun, is_panel, told_place, filled, item_from, IsTellable, asked_of, heard, live_session_of, longest};
 
-use crate::asked::Asked;
-use crate::greeting::Greeting;
-use crate::handshake::greet;
+use crate::handshake::{Greeting, greet};
+use crate::line::Asked;
 use srcp_feed::{InfoFeed, Next, Told};
-use srcp_info::{Change, Code, Mode, write_change};
+use srcp_info::{Change, Code, Mode, Reply, write_change, write_reply};
 use srcp_rules::{Layout, Memory, Rows, parse_command};
 use srcp_text::{Fed, LineBuf, LineReader};
 use std::alloc::Global;
@@ -123,13 +123,6 @@ impl Connection {
         Some(self.session)
     }
 
-    /// Its session's id, 0 before it begins.
-    pub(crate) fn session(&self) -> u32
-        ensures { result ≡ self.now.session }
-    {
-        self.session
-    }
-
     /// The bytes that are to be sent.
     pub(crate) fn unsent(&self) -> &[u8]
         ensures bytes { result.now ≡ self.now.unsent }
@@ -146,6 +139,17 @@ impl Connection {
         compact(&mut self.reply, self.start);
         self.start = 0;
         self.reply.extend_from_slice(line).unwrap();
+    }
+
+    /// Puts a reply at the end of what is to be sent, stamped with the moment.
+    pub(crate) fn reply(&mut self, moment: u64, reply: &Reply)
+        requires well_formed { IsWellFormedReply reply.now }
+        requires room { length self.old.unsent + longest reply.now ≤ 16640 }
+        ensures { self.new ≡ with_unsent (reply_line moment reply.now) self.old }
+    {
+        let mut line = LineBuf::new();
+        write_reply(moment, reply, &mut line);
+        self.put(line.as_slice());
     }
 
     /// Drops so many of the unsent bytes, which were sent.
@@ -198,9 +202,15 @@ impl Connection {
         }
         let line = self.reader.line();
         if self.session == 0 {
-            Asked::Greets(greet(line))
+            Asked::Greets {
+                mode: self.mode,
+                greeting: greet(line),
+            }
         } else {
-            Asked::Commands(parse_command(line, layout))
+            Asked::Commands {
+                session: self.session,
+                command: parse_command(line, layout),
+            }
         }
     }
 
@@ -212,9 +222,15 @@ impl Connection {
             return Asked::Dropped;
         }
         if self.session == 0 {
-            Asked::Greets(Greeting::Refuses(Code::C418))
+            Asked::Greets {
+                mode: self.mode,
+                greeting: Greeting::Refuses(Code::C418),
+            }
         } else {
-            Asked::Commands(Err(Code::C418))
+            Asked::Commands {
+                session: self.session,
+                command: Err(Code::C418),
+            }
         }
     }
 
@@ -223,13 +239,6 @@ impl Connection {
         ensures { result ≡ is_panel self.now.panel }
     {
         !matches!(self.panel, Panel::Absent)
-    }
-
-    /// The mode of its session to come.
-    pub(crate) fn mode(&self) -> Mode
-        ensures { result ≡ self.now.mode }
-    {
-        self.mode
     }
 
     /// Chooses the mode of its session to come.

@@ -6,9 +6,21 @@ ghost use Rattle.srcp_text.specs.Marks.{Line};
 ghost use Rattle.srcp_text.specs.Words.{is_keyword};
 ghost use Rattle.srcp_core.specs.Handshake.{is_version, greets_protocol, greets_mode, greets};
 
-use crate::greeting::Greeting;
 use srcp_info::{Code, Mode};
 use srcp_text::{Words, words};
+
+/// What a line before the session asks for.
+#[derive(Clone, Copy)]
+pub(crate) enum Greeting {
+    /// It names the protocol that is spoken.
+    Speaks,
+    /// It chooses the mode of the session to come.
+    Chooses(Mode),
+    /// It begins the session.
+    Goes,
+    /// It is refused.
+    Refuses(Code),
+}
 
 /// What the line asks for, or the refusal that answers it. The lines and their codes are of SRCP 0.8; that they may
 /// come in any order, and which refusal comes first, is our own choice.

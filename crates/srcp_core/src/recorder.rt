@@ -3,11 +3,11 @@ ghost use Rattle.std.specs.Prelude.{◌≡◌, ◌∷◌, ◌++◌, [], OnOk, If
 ghost use Rattle.std.specs.List.{AllByRecursion};
 ghost use Rattle.srcp_info.specs.WellFormed.{IsWellFormedShown};
 ghost use Rattle.srcp_core.specs.Course.{is_info};
-ghost use Rattle.srcp_core.specs.Machine.{listed};
+ghost use Rattle.srcp_core.specs.Machine.{steps_in};
 ghost use Rattle.srcp_core.specs.Recording.{key_of, nothing_told, opened, shut, began, noted, gave, took, with_item, without_key, changed_record, finished};
 
-use crate::answered::LineSteps;
 use crate::entries::Entries;
+use crate::line::LineRecord;
 use crate::record::{ConnRecord, CoreFault, Finish, Item, Record, Refusal, Step};
 use crate::table::Core;
 use srcp_feed::Next;
@@ -95,19 +95,26 @@ impl Recorder {
         Ok(self.steps.extend_from_slice(&[*step])?)
     }
 
-    /// A line of a connection was answered by these steps.
-    pub(crate) fn answered(&mut self, conn: usize, steps: LineSteps) -> Result<(), Memory>
-        ensures { OnOk result (self.new ≡ noted conn (listed steps) self.old) }
+    /// A line of a connection was answered.
+    pub(crate) fn answered(&mut self, conn: usize, line: &LineRecord) -> Result<(), Memory>
+        ensures { OnOk result (self.new ≡ noted conn (steps_in line.now) self.old) }
     {
-        match steps {
-            LineSteps::Nothing => Ok(()),
-            LineSteps::One(step) => {
-                self.step(&step)?;
-                self.began(conn, &step);
-                Ok(())
-            }
-            LineSteps::Two(step, next) => Ok(self.steps.extend_from_slice(&[step, next])?),
+        if let Some(step) = &line.step {
+            self.note(conn, step)?;
         }
+        if let Some(end) = &line.end {
+            self.note(conn, end)?;
+        }
+        Ok(())
+    }
+
+    /// The registry took a step at a line of a connection.
+    fn note(&mut self, conn: usize, step: &Step) -> Result<(), Memory>
+        ensures { OnOk result (self.new ≡ noted conn (step.now ∷ []) self.old) }
+    {
+        self.step(step)?;
+        self.began(conn, step);
+        Ok(())
     }
 
     /// A session began, where the step was that.

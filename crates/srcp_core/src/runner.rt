@@ -133,8 +133,8 @@ fn bytes<R: Rows>(
         return Ok(Some(fault));
     }
     let mut start = 0;
-    while let Some((stop, answered)) = core.take_line(key, piece, start) {
-        recorder.answered(conn, answered.steps)?;
+    while let Some((stop, line)) = core.take_line(key, piece, start) {
+        recorder.answered(conn, &line)?;
         start = stop;
     }
     Ok(None)

@@ -6,7 +6,6 @@ mod answer;
 mod calls;
 mod finish;
 mod outgoing;
-mod place;
 mod receive;
 mod stamp;
 mod walk;

@@ -19,14 +19,14 @@ use Rattle.srcp_info.proofs.ClientLaws.{key_at}
 use Rattle.srcp_info.specs.Client.{IsRisingBy}
 use Rattle.srcp_core.specs.Under.{Obeyed, Began, Ended, Order, effect, greeting_under, wants_memory}
 use Rattle.srcp_core.specs.Connection.{Connection, is_open, given, untold}
-use Rattle.srcp_core.specs.Course.{World, numbered, at_connection, did, is_info, state, history, command_of, ordered, replied as course_replied, entered, goes as course_goes, greeted as course_greeted, ended as course_ended, obeyed as course_obeyed, commanded as course_commanded, answered_as, answered as course_answered}
+use Rattle.srcp_core.specs.Course.{World, numbered, at_connection, did, is_info, state, history, command_of, ordered, replied as course_replied, entered, goes as course_goes, greeted as course_greeted, ended as course_ended, obeyed as course_obeyed, commanded as course_commanded, answered_as, answered as course_answered, open_connection}
 use Rattle.srcp_core.specs.Handshake.{Greeting, Speaks, Chooses, Goes, Refuses, greets as greets_of}
 use Rattle.srcp_core.specs.Held.{Place, Held, at}
-use Rattle.srcp_core.specs.Machine.{with_unsent, entered_place, carried, changed_at, replied, begun, goes, greeted, freed_of, finished, obeyed, one_denied, denied_line, commanded, asked_of, answered, answered_from, is_panel, panel_for}
+use Rattle.srcp_core.specs.Machine.{with_unsent, entered_place, carried, changed_at, replied, begun, goes, greeted, freed_of, finished, obeyed, one_denied, denied_line, commanded, asked_of, answered, is_panel, panel_for}
 use Rattle.srcp_core.specs.Recording.{key_of}
 use Rattle.srcp_core.specs.Stands.{StandsBy, place_of}
-use Rattle.srcp_core.specs.declared.asked.Asked.{Asked}
-use Rattle.srcp_core.specs.declared.asked.Asked.TheVariants.{Dropped, Greets, Commands}
+use Rattle.srcp_core.specs.declared.line.Asked.{Asked}
+use Rattle.srcp_core.specs.declared.line.Asked.TheVariants.{Dropped, Greets, Commands}
 use Rattle.srcp_core.proofs.Agreement.PlacesChange.{replied_still, chosen_place, ended_place, entered_place_of, is_over_place, untold_shut, place_info}
 use Rattle.srcp_core.proofs.CourseLaws.SessionsOfACourse.{anything, at_number}
 use Rattle.srcp_core.proofs.CourseLaws.ClientHoldsPassedRows.{untold_by}
@@ -37,14 +37,32 @@ use Rattle.srcp_core.proofs.CourseLaws.SessionsAreKept.{IsSound, sound_did, soun
 abbrev pub IsFine : (buses : List Bus) → IsRisingBy key_at (shown_rows (opening buses 0)) → World → Type 0
 IsFine buses order w = IsSound buses order Anything (anything (shown_rows (opening buses 0))) w
 
--- a line asks the same of a place and of a connection that are in the same state
-pub asked_alike : (buses held_buses : List Bus) (p : Place) (conn : Connection) (mark : Mark) → held_buses ≡ buses → is_panel p.panel ≡ conn.info → p.ended ≡ conn.ended → p.session ≡ conn.session
-    → asked_of held_buses p mark ≡ (if conn.info || conn.ended then Dropped else (if conn.session == 0 then Greets (greets_of mark) else Commands (command_of buses mark)))
-asked_alike buses held_buses p conn mark same info ended session =
-    ap (λ b. asked_of b p mark) same
-    ∙ ap (λ t. if t || p.ended then Dropped else (if p.session == 0 then Greets (greets_of mark) else Commands (command_of buses mark))) info
-    ∙ ap (λ t. if conn.info || t then Dropped else (if p.session == 0 then Greets (greets_of mark) else Commands (command_of buses mark))) ended
-    ∙ ap (λ n. if conn.info || conn.ended then Dropped else (if n == 0 then Greets (greets_of mark) else Commands (command_of buses mark))) session
+-- what a line asks for, by how its connection stands
+abbrev pub asked_as : List Bus → Connection → Mark → Asked
+asked_as buses conn mark = if conn.info || conn.ended then Dropped else (if conn.session == 0 then Greets conn.mode (greets_of mark) else Commands conn.session (command_of buses mark))
+
+-- the open connection of the number has the place, and a line asks the same of both
+pub record AsksOf (buses held_buses : List Bus) (w : World) (n : ℕ) (p : Place) (mark : Mark) : Type 0 where
+  pub conn : Connection
+  pub there : numbered n w.connections ≡ Some conn
+  pub shut : conn.shut ≡ None
+  pub opened : open_connection w n ≡ Some conn
+  pub asks : asked_of held_buses p mark ≡ asked_as buses conn mark
+
+pub asks_of : (buses : List Bus) (read : ℕ → List ℕ → List ℕ) (keys : List (Option ℕ)) (held : Held) (w : World) (n key : ℕ) (mark : Mark) (p : Place) → StandsBy buses read keys held w → key_of n keys ≡ Some key → at held key ≡ Some p
+    → AsksOf buses held.buses w n p mark
+asks_of buses read keys held w n key mark p s named here =
+    let h = found_at buses read keys held w n key s named in
+    let q : Place = place_of h.reader (history buses w) h.conn in
+    let same : q ≡ p = let both : Some q ≡ Some p = sym h.place ∙ here in cc in
+    record {
+      conn = h.conn;
+      there = h.there;
+      shut = h.shut;
+      opened = h.opened;
+      asks = sym (ap (λ (p : Place). asked_of held.buses p mark) same) ∙ ap (λ b. asked_of b q mark) s.layout
+          ∙ ap (λ t. if t || h.conn.ended then Dropped else (if h.conn.session == 0 then Greets h.conn.mode (greets_of mark) else Commands h.conn.session (command_of buses mark))) (place_info h.reader (history buses w) h.conn);
+    }
 
 module _ (buses : List Bus) (order : IsRisingBy key_at (shown_rows (opening buses 0))) (read : ℕ → List ℕ → List ℕ) (keys : List (Option ℕ)) (n key : ℕ) (named : key_of n keys ≡ Some key) where
   pub fine_of : (w : World) → IsFine buses order w → AllFine buses w
@@ -208,30 +226,19 @@ module _ (buses : List Bus) (order : IsRisingBy key_at (shown_rows (opening buse
 
   -- ---- any line
 
-  stands_asked : (held : Held) (w : World) (conn : Connection) (granted : Bool) (mark : Mark) (p : Place) (info ended first : Bool) → IsFine buses order w → StandsBy buses read keys held w → numbered n w.connections ≡ Some conn → conn.shut ≡ None
-      → conn.info ≡ info → p.mode ≡ conn.mode → p.session ≡ conn.session
-      → StandsBy buses read keys (answered_from granted key (if info || ended then Dropped else (if first then Greets (greets_of mark) else Commands (command_of buses mark))) held (Some p))
+  stands_asked : (held : Held) (w : World) (conn : Connection) (granted : Bool) (mark : Mark) (info ended first : Bool) → IsFine buses order w → StandsBy buses read keys held w → numbered n w.connections ≡ Some conn → conn.shut ≡ None → conn.info ≡ info
+      → StandsBy buses read keys (answered granted key (if info || ended then Dropped else (if first then Greets conn.mode (greets_of mark) else Commands conn.session (command_of buses mark))) held)
       (if info || ended then w else (if first then course_greeted buses n conn.mode (greeting_under granted (greets_of mark)) w else course_commanded buses n conn.session (ordered buses granted (command_of buses mark)) w))
-  stands_asked held w conn granted mark p true ended first a s there shut i m z = s
-  stands_asked held w conn granted mark p false true first a s there shut i m z = s
-  stands_asked held w conn granted mark p false false true a s there shut i m z =
-      subst (λ mode. StandsBy buses read keys (greeted granted key mode (greets_of mark) held) (course_greeted buses n conn.mode (greeting_under granted (greets_of mark)) w)) (sym m) (stands_greeted_under granted held w conn (greets_of mark) a s there shut i)
-  stands_asked held w conn granted mark p false false false a s there shut i m z =
-      subst (λ session. StandsBy buses read keys (commanded granted key session (command_of buses mark) held) (course_commanded buses n conn.session (ordered buses granted (command_of buses mark)) w)) (sym z) (stands_commanded granted held w conn conn.session (command_of buses mark) a s there i)
+  stands_asked held w conn granted mark true ended first a s there shut i = s
+  stands_asked held w conn granted mark false true first a s there shut i = s
+  stands_asked held w conn granted mark false false true a s there shut i = stands_greeted_under granted held w conn (greets_of mark) a s there shut i
+  stands_asked held w conn granted mark false false false a s there shut i = stands_commanded granted held w conn conn.session (command_of buses mark) a s there i
 
   -- what a line asks for is answered as in the course
   pub stands_answered : (held : Held) (w : World) (granted : Bool) (mark : Mark) (p : Place) → IsFine buses order w → StandsBy buses read keys held w → at held key ≡ Some p
       → StandsBy buses read keys (answered granted key (asked_of held.buses p mark) held) (course_answered buses n w (record { mark = mark; granted = granted }))
   stands_answered held w granted mark p a s here =
-      let h = found_at buses read keys held w n key s named in
-      let q : Place = place_of h.reader (history buses w) h.conn in
-      let same : q ≡ p = let both : Some q ≡ Some p = sym h.place ∙ here in cc in
-      let i : is_panel p.panel ≡ h.conn.info = ap (λ (p : Place). is_panel p.panel) (sym same) ∙ place_info h.reader (history buses w) h.conn in
-      let e : p.ended ≡ h.conn.ended = ap (λ (p : Place). p.ended) (sym same) in
-      let z : p.session ≡ h.conn.session = ap (λ (p : Place). p.session) (sym same) in
-      let m : p.mode ≡ h.conn.mode = ap (λ (p : Place). p.mode) (sym same) in
-      let asks = asked_alike buses held.buses p h.conn mark s.layout i e z in
+      let h = asks_of buses read keys held w n key mark p s named here in
       subst (λ (o : Option Connection). StandsBy buses read keys (answered granted key (asked_of held.buses p mark) held) (answered_as buses n o (record { mark = mark; granted = granted }) w)) (sym h.opened)
-      (subst (λ (asked : Asked). StandsBy buses read keys (answered granted key asked held) (answered_as buses n (Some h.conn) (record { mark = mark; granted = granted }) w)) (sym asks)
-      (subst (λ (o : Option Place). StandsBy buses read keys (answered_from granted key (if h.conn.info || h.conn.ended then Dropped else (if h.conn.session == 0 then Greets (greets_of mark) else Commands (command_of buses mark))) held o) (answered_as buses n (Some h.conn) (record { mark = mark; granted = granted }) w)) (sym here)
-      (stands_asked held w h.conn granted mark p h.conn.info h.conn.ended (h.conn.session == 0) a s h.there h.shut refl m z)))
+      (subst (λ (asked : Asked). StandsBy buses read keys (answered granted key asked held) (answered_as buses n (Some h.conn) (record { mark = mark; granted = granted }) w)) (sym h.asks)
+      (stands_asked held w h.conn granted mark h.conn.info h.conn.ended (h.conn.session == 0) a s h.there h.shut refl))

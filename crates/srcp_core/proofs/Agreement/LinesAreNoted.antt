@@ -23,18 +23,18 @@ use Rattle.srcp_core.specs.Connection.{Connection, given, sent}
 use Rattle.srcp_core.specs.Course.{World, numbered, with_numbered, at_connection, did, is_info, state, history, command_of, ordered, replied, entered, goes, greeted, ended, obeyed, commanded, answered_as, answered}
 use Rattle.srcp_core.specs.Handshake.{Greeting, Speaks, Chooses, Goes, Refuses, greets as greets_of}
 use Rattle.srcp_core.specs.Held.{Place, Held, at}
-use Rattle.srcp_core.specs.Machine.{asked_of, steps_gone, steps_greeted, steps_commanded, steps_answered_from, is_panel}
+use Rattle.srcp_core.specs.Machine.{asked_of, steps_gone, steps_greeted, steps_commanded, is_panel, steps_answered}
 use Rattle.srcp_core.specs.Recording.{Recording, key_of, told_of, changed_record, changed_in, noted, stepped}
 pub use Rattle.srcp_core.specs.Run.{Tells}
 use Rattle.srcp_core.specs.Stands.{StandsBy, place_of}
-use Rattle.srcp_core.specs.declared.asked.Asked.{Asked}
-use Rattle.srcp_core.specs.declared.asked.Asked.TheVariants.{Dropped, Greets, Commands}
+use Rattle.srcp_core.specs.declared.line.Asked.{Asked}
+use Rattle.srcp_core.specs.declared.line.Asked.TheVariants.{Dropped, Greets, Commands}
 use Rattle.srcp_core.specs.declared.record.ConnRecord.{ConnRecord}
-use Rattle.srcp_core.proofs.Agreement.LinesAgree.{IsFine, asked_alike}
-use Rattle.srcp_core.proofs.Agreement.PlacesChange.{place_info, given_reply}
+use Rattle.srcp_core.proofs.Agreement.LinesAgree.{IsFine, asks_of}
+use Rattle.srcp_core.proofs.Agreement.PlacesChange.{given_reply}
 use Rattle.srcp_core.proofs.CourseLaws.SessionsOfACourse.{at_number}
 use Rattle.srcp_core.proofs.Agreement.NumbersAndKeys.{numbered_with}
-use Rattle.srcp_core.proofs.Agreement.StandsAfterAChange.{Fine, found_at}
+use Rattle.srcp_core.proofs.Agreement.StandsAfterAChange.{Fine}
 
 -- ---- the records of connections
 
@@ -154,40 +154,29 @@ module _ (buses : List Bus) (n : ℕ) (r : Recording) where
           (if b then ended buses n session (replied n result.reply (did (Obeyed session w.moment ordering) w)) else replied n result.reply (did (Obeyed session w.moment ordering) w))
       by result false = one result
       by result true =
-          let two = tells_did (stepped (told.Obeyed session w.moment command ∷ []) r) (at_connection n (λ c. record c { ended = true }) (replied n result.reply (did (Obeyed session w.moment ordering) w))) (Ended session w.moment)
-          (tells_same (stepped (told.Obeyed session w.moment command ∷ []) r) (replied n result.reply (did (Obeyed session w.moment ordering) w)) n (λ c. record c { ended = true }) (λ c e. refl) (one result)) in
-          record { steps = sym (append_assoc r.steps (told.Obeyed session w.moment command ∷ []) (told.Ended session w.moment ∷ [])) ∙ two.steps; refused = two.refused; connections = two.connections }
+          tells_did (stepped (told.Obeyed session w.moment command ∷ []) r) (at_connection n (λ c. record c { ended = true }) (replied n result.reply (did (Obeyed session w.moment ordering) w))) (Ended session w.moment)
+          (tells_same (stepped (told.Obeyed session w.moment command ∷ []) r) (replied n result.reply (did (Obeyed session w.moment ordering) w)) n (λ c. record c { ended = true }) (λ c e. refl) (one result))
 
       split : (g : Bool) → Tells (noted n (told.Obeyed session w.moment command ∷ (if g && (effect_of (state buses w) session w.moment command).ends then told.Ended session w.moment ∷ [] else [])) r)
           (obeyed buses n session ordering (if g then effect_of (state buses w) session w.moment command else refused C500) w)
       split true = by (effect_of (state buses w) session w.moment command) (effect_of (state buses w) session w.moment command).ends
       split false = by (refused C500) false
 
-  tells_asked : (w : World) (conn : Connection) (held : Held) (granted : Bool) (mark : Mark) (p : Place) (info over first : Bool) → held.moment ≡ w.moment → held.last_id ≡ w.last_id → held.rows ≡ state buses w → (info ≡ false → IsPlain w conn) → Tells r w
-      → p.mode ≡ conn.mode → p.session ≡ conn.session
-      → Tells (noted n (steps_answered_from granted (if info || over then Dropped else (if first then Greets (greets_of mark) else Commands (command_of buses mark))) held (Some p)) r)
+  tells_asked : (w : World) (conn : Connection) (held : Held) (granted : Bool) (mark : Mark) (info over first : Bool) → held.moment ≡ w.moment → held.last_id ≡ w.last_id → held.rows ≡ state buses w → (info ≡ false → IsPlain w conn) → Tells r w
+      → Tells (noted n (steps_answered granted (if info || over then Dropped else (if first then Greets conn.mode (greets_of mark) else Commands conn.session (command_of buses mark))) held) r)
       (if info || over then w else (if first then greeted buses n conn.mode (greeting_under granted (greets_of mark)) w else commanded buses n conn.session (ordered buses granted (command_of buses mark)) w))
-  tells_asked w conn held granted mark p true over first m l s plain t mode session = t
-  tells_asked w conn held granted mark p false true first m l s plain t mode session = t
-  tells_asked w conn held granted mark p false false true m l s plain t mode session =
-      subst (λ k. Tells (noted n (steps_greeted granted k (greets_of mark) held) r) (greeted buses n conn.mode (greeting_under granted (greets_of mark)) w)) (sym mode) (tells_greeted_under granted w conn held (greets_of mark) m l (plain refl) t)
-  tells_asked w conn held granted mark p false false false m l s plain t mode session =
-      subst (λ k. Tells (noted n (steps_commanded granted k (command_of buses mark) held) r) (commanded buses n conn.session (ordered buses granted (command_of buses mark)) w)) (sym session) (tells_commanded granted w conn held conn.session (command_of buses mark) m s (plain refl) t)
+  tells_asked w conn held granted mark true over first m l s plain t = t
+  tells_asked w conn held granted mark false true first m l s plain t = t
+  tells_asked w conn held granted mark false false true m l s plain t = tells_greeted_under granted w conn held (greets_of mark) m l (plain refl) t
+  tells_asked w conn held granted mark false false false m l s plain t = tells_commanded granted w conn held conn.session (command_of buses mark) m s (plain refl) t
 
 -- what is noted of the answer to a line
 pub tells_answered : (buses : List Bus) (order : IsRisingBy key_at (shown_rows (opening buses 0))) (read : ℕ → List ℕ → List ℕ) (keys : List (Option ℕ)) (n key : ℕ) (r : Recording) (held : Held) (w : World) (granted : Bool) (mark : Mark) (p : Place)
     → IsFine buses order w → StandsBy buses read keys held w → key_of n keys ≡ Some key → at held key ≡ Some p → Tells r w
-    → Tells (noted n (steps_answered_from granted (asked_of held.buses p mark) held (Some p)) r) (answered buses n w (record { mark = mark; granted = granted }))
+    → Tells (noted n (steps_answered granted (asked_of held.buses p mark) held) r) (answered buses n w (record { mark = mark; granted = granted }))
 tells_answered buses order read keys n key r held w granted mark p a s named here t =
-    let h = found_at buses read keys held w n key s named in
-    let q : Place = place_of h.reader (history buses w) h.conn in
-    let same : q ≡ p = let both : Some q ≡ Some p = sym h.place ∙ here in cc in
-    let i : is_panel p.panel ≡ h.conn.info = ap (λ (p : Place). is_panel p.panel) (sym same) ∙ place_info h.reader (history buses w) h.conn in
-    let e : p.ended ≡ h.conn.ended = ap (λ (p : Place). p.ended) (sym same) in
-    let z : p.session ≡ h.conn.session = ap (λ (p : Place). p.session) (sym same) in
-    let m : p.mode ≡ h.conn.mode = ap (λ (p : Place). p.mode) (sym same) in
+    let h = asks_of buses read keys held w n key mark p s named here in
     let f : Fine buses (history buses w) h.conn = at_number (Fine buses (history buses w)) n w.connections h.conn a h.there in
-    let asks = asked_alike buses held.buses p h.conn mark s.layout i e z in
-    subst (λ (o : Option Connection). Tells (noted n (steps_answered_from granted (asked_of held.buses p mark) held (Some p)) r) (answered_as buses n o (record { mark = mark; granted = granted }) w)) (sym h.opened)
-    (subst (λ (asked : Asked). Tells (noted n (steps_answered_from granted asked held (Some p)) r) (answered_as buses n (Some h.conn) (record { mark = mark; granted = granted }) w)) (sym asks)
-    (tells_asked buses n r w h.conn held granted mark p h.conn.info h.conn.ended (h.conn.session == 0) s.moment s.last_id s.rows (λ plain. (h.there, ((f.plain plain).0, f.within))) t m z))
+    subst (λ (o : Option Connection). Tells (noted n (steps_answered granted (asked_of held.buses p mark) held) r) (answered_as buses n o (record { mark = mark; granted = granted }) w)) (sym h.opened)
+    (subst (λ (asked : Asked). Tells (noted n (steps_answered granted asked held) r) (answered_as buses n (Some h.conn) (record { mark = mark; granted = granted }) w)) (sym h.asks)
+    (tells_asked buses n r w h.conn held granted mark h.conn.info h.conn.ended (h.conn.session == 0) s.moment s.last_id s.rows (λ plain. (h.there, ((f.plain plain).0, f.within))) t))

@@ -30,10 +30,10 @@ use Rattle.srcp_core.specs.Connection.{Connection}
 use Rattle.srcp_core.specs.Course.{World, numbered, at_connection, did, is_info, state, history, order_of, replied, entered, goes, greeted, ended, obeyed, commanded, answered_as, answered as course_answered, open_connection, new_marks, wants_as, denied_lines}
 use Rattle.srcp_core.specs.Handshake.{Greeting, Speaks, Chooses, Goes, Refuses}
 use Rattle.srcp_core.specs.Held.{Place, Held, at, place_at}
-use Rattle.srcp_core.specs.Machine.{asked_of, heard_from, heard_in, heard_at, line_taken, steps_of_line, answered, steps_answered, steps_answered_from, feed_in}
+use Rattle.srcp_core.specs.Machine.{asked_of, heard_from, heard_in, heard_at, line_taken, steps_of_line, answered, steps_answered, feed_in}
 use Rattle.srcp_core.specs.Recording.{Recording, key_of, noted}
 use Rattle.srcp_core.specs.Stands.{StandsBy, StandsFor, place_of}
-use Rattle.srcp_core.specs.declared.asked.Asked.{Asked}
+use Rattle.srcp_core.specs.declared.line.Asked.{Asked}
 use Rattle.srcp_core.proofs.Agreement.LinesAgree.{IsFine, stands_answered}
 use Rattle.srcp_core.proofs.Agreement.RefusalsAreCounted.{after, denied_answered, denied_push, denied_none}
 use Rattle.srcp_core.proofs.Invariants.PlacesCover.{Where, Here, Away, where_is, place_set_here}
@@ -150,11 +150,11 @@ module _ (buses : List Bus) (order : IsRisingBy key_at (shown_rows (opening buse
       → ((bytes : List ℕ) → StandsAt bytes p.reader → StandsAt (bytes ++ slice_range piece start stop) reader)
       → IsUpTo grants start held → Tells r (world_upto grants start)
       → IsUpTo (grants ++ granted ∷ []) stop (answered granted key (asked_of held.buses p mark) (record held { places = slice_set held.places key (Some (record p { reader = reader })) }))
-      × Tells (noted n (steps_answered granted key (asked_of held.buses p mark) (record held { places = slice_set held.places key (Some (record p { reader = reader })) })) r) (world_upto (grants ++ granted ∷ []) stop)
+      × Tells (noted n (steps_answered granted (asked_of held.buses p mark) (record held { places = slice_set held.places key (Some (record p { reader = reader })) })) r) (world_upto (grants ++ granted ∷ []) stop)
   line_answered grants granted start stop mark held p reader r onward here adds moves u t =
       let h = found_at buses (partly n (fed ++ take start piece)) keys held (world_upto grants start) n key u.stands named in
       let same : place_of h.reader (history buses (world_upto grants start)) h.conn ≡ p = let both : Some (place_of h.reader (history buses (world_upto grants start)) h.conn) ≡ Some p = sym h.place ∙ here in cc in
-      let its : h.reader ≡ p.reader = sym refl ∙ ap (λ (q : Place). q.reader) same in
+      let its : h.reader ≡ p.reader = ap (λ (q : Place). q.reader) same in
       let stood : StandsAt (fed ++ take start piece) p.reader = subst (λ r. StandsAt (fed ++ take start piece) r) its (subst (λ bytes. StandsAt bytes h.reader) (partly_here n (fed ++ take start piece) h.conn.fed) h.reads) in
       let le : start ≤ stop = omega (arith, onward) in
       let both = fed_to_stop fed piece start stop (mark ∷ []) p.reader reader le adds moves stood in
@@ -179,15 +179,14 @@ module _ (buses : List Bus) (order : IsRisingBy key_at (shown_rows (opening buse
               ∙ ap (λ k. after k granted (wants_as buses (world_upto grants start) (open_connection (world_upto grants start) n) mark)) u.counts
               ∙ sym (ap (denied_lines buses n w before) lines ∙ denied_push buses n w before (lines_under grants (marks_upto start)) line);
         },
-        subst (λ (v : World). Tells (noted n (steps_answered granted key (asked_of held.buses p mark) mid) r) v) (sym next)
-            (subst (λ (o : Option Place). Tells (noted n (steps_answered_from granted (asked_of held.buses p mark) mid o) r) (course_answered buses n (world_upto grants start) line)) (sym here_now)
-            (tells_answered buses order (partly n (fed ++ take stop piece)) keys n key r mid (world_upto grants start) granted mark (record p { reader = reader }) u.fine reads named here_now t)),
+        subst (λ (v : World). Tells (noted n (steps_answered granted (asked_of held.buses p mark) mid) r) v) (sym next)
+            (tells_answered buses order (partly n (fed ++ take stop piece)) keys n key r mid (world_upto grants start) granted mark (record p { reader = reader }) u.fine reads named here_now t),
       )
 
   -- after one more line of the piece
   pub record IsLined (grants : List Bool) (start stop : ℕ) (granted : Bool) (held new : Held) (r : Recording) : Type 0 where
     pub upto : IsUpTo (grants ++ granted ∷ []) stop new
-    pub tells : Tells (noted n (steps_of_line key granted (heard_at key piece start held)) r) (world_upto (grants ++ granted ∷ []) stop)
+    pub tells : Tells (noted n (steps_of_line granted (heard_at key piece start held)) r) (world_upto (grants ++ granted ∷ []) stop)
 
   -- what the reader finds
   abbrev finds : Held → Place → Fed → Reading → Option (ℕ × Asked) × Held
@@ -203,8 +202,8 @@ module _ (buses : List Bus) (order : IsRisingBy key_at (shown_rows (opening buse
       let both = line_answered grants granted start s mark held p reading r (subst (λ k. start < k) stop_is onward) here adds moves u t in
       record {
         upto = subst (λ k. IsUpTo (grants ++ granted ∷ []) k new) (sym stop_is) (subst (λ (x : Held). IsUpTo (grants ++ granted ∷ []) s x) (sym (ap (λ (x : ℕ × Held). x.1) is)) both.0);
-        tells = subst (λ k. Tells (noted n (steps_of_line key granted (heard_at key piece start held)) r) (world_upto (grants ++ granted ∷ []) k)) (sym stop_is)
-            (subst (λ steps. Tells (noted n steps r) (world_upto (grants ++ granted ∷ []) s)) (sym (ap (steps_of_line key granted) finding)) both.1);
+        tells = subst (λ k. Tells (noted n (steps_of_line granted (heard_at key piece start held)) r) (world_upto (grants ++ granted ∷ []) k)) (sym stop_is)
+            (subst (λ steps. Tells (noted n steps r) (world_upto (grants ++ granted ∷ []) s)) (sym (ap (steps_of_line granted) finding)) both.1);
       }
     where
       stop_is : stop ≡ s

@@ -9,7 +9,7 @@ use Rattle.srcp_core.specs.Machine.{IsReceived, CountsEach, bytes_fault, heard_a
 use Rattle.srcp_core.specs.Recording.{Recording, key_of, noted}
 use Rattle.srcp_core.specs.Run.{LeadsOn}
 use Rattle.srcp_core.specs.Stands.{StandsFor}
-use Rattle.srcp_core.specs.declared.asked.Asked.{Asked}
+use Rattle.srcp_core.specs.declared.line.Asked.{Asked}
 use Rattle.srcp_core.specs.declared.record.CoreFault.{CoreFault}
 use Rattle.srcp_core.proofs.Invariants.LinesAreFound.{line_found, heard_denied}
 use Rattle.srcp_core.proofs.Agreement.CallsFollowTheCourse.{telling, runs_telling}
@@ -44,7 +44,7 @@ line_read key piece first before granted counted a = by (heard_at key piece befo
     by (Some (stop, asked)) mid e =
         let new : Held = answered granted key asked mid in
         let is : ◌≡◌ {A = ℕ × Held} (stop, new) (line_on key piece before granted) = sym (ap (line_taken key granted before) e) in
-        let steps = steps_of_line key granted (heard_at key piece before.0 before.1) in
+        let steps = steps_of_line granted (heard_at key piece before.0 before.1) in
         subst (λ (reached : ℕ × Held). AreRead key piece first reached) is
         (record {
           grants = a.grants ++ granted ∷ [];

@@ -15,18 +15,16 @@ use Rattle.srcp_core.specs.Connection.{Connection}
 use Rattle.srcp_core.specs.Course.{World, history, open_connection, command_of, counted, fault, answered as course_answered, happens, new_marks, at_connection, wants_as, denied_lines, denied_fed, denied_in, denied_over}
 use Rattle.srcp_core.specs.Handshake.{Greeting, Speaks, Chooses, Goes, Refuses, greets as greets_of}
 use Rattle.srcp_core.specs.Held.{Place, Held, at}
-use Rattle.srcp_core.specs.Machine.{obeyed, freed_of, changed_at, carried, replied, goes, greeted, begun, denied_line, commanded, answered_from, answered, asked_of, is_panel}
+use Rattle.srcp_core.specs.Machine.{obeyed, freed_of, changed_at, carried, replied, goes, greeted, begun, denied_line, commanded, answered, asked_of, is_panel}
 use Rattle.srcp_core.specs.Recording.{key_of}
 use Rattle.srcp_core.specs.Stands.{StandsBy, place_of}
 use Rattle.srcp_core.specs.Under.{Event, Heard, lines_under, under, denied_by, wants_memory, greeting_wants, reading_wants}
-use Rattle.srcp_core.specs.declared.asked.Asked.{Asked}
-use Rattle.srcp_core.specs.declared.asked.Asked.TheVariants.{Dropped, Greets, Commands}
+use Rattle.srcp_core.specs.declared.line.Asked.{Asked}
+use Rattle.srcp_core.specs.declared.line.Asked.TheVariants.{Dropped, Greets, Commands}
 use Rattle.srcp_core.specs.declared.event.Event.{Event as PlainEvent}
 use Rattle.srcp_core.specs.declared.event.Event.TheVariants as plain
 use Rattle.srcp_core.specs.declared.record.CoreFault.{CoreFault}
-use Rattle.srcp_core.proofs.Agreement.LinesAgree.{asked_alike}
-use Rattle.srcp_core.proofs.Agreement.PlacesChange.{place_info}
-use Rattle.srcp_core.proofs.Agreement.StandsAfterAChange.{found_at}
+use Rattle.srcp_core.proofs.Agreement.LinesAgree.{asks_of}
 
 -- the count after a line that wants memory or not
 abbrev pub after : ℕ → Bool → Bool → ℕ
@@ -67,30 +65,23 @@ denied_greeted granted key mode (Chooses chosen) held = unwanted held.denied gra
 denied_greeted granted key mode Goes held = denied_goes granted key mode held
 denied_greeted granted key mode (Refuses code) held = unwanted held.denied granted
 
-denied_asked : (buses : List Bus) (granted : Bool) (key session : ℕ) (mark : Mark) (held : Held) (p : Place) (over first : Bool) → p.session ≡ session
-    → (answered_from granted key (if over then Dropped else (if first then Greets (greets_of mark) else Commands (command_of buses mark))) held (Some p)).denied
-    ≡ after held.denied granted (if over then false else (if first then greeting_wants held.last_id (greets_of mark) else reading_wants held.rows session held.moment (command_of buses mark)))
-denied_asked buses granted key session mark held p true first e = unwanted held.denied granted
-denied_asked buses granted key session mark held p false true e = denied_greeted granted key p.mode (greets_of mark) held
-denied_asked buses granted key session mark held p false false e =
-    denied_commanded granted key p.session (command_of buses mark) held ∙ ap (λ k. after held.denied granted (reading_wants held.rows k held.moment (command_of buses mark))) e
+denied_asked : (buses : List Bus) (granted : Bool) (key : ℕ) (mark : Mark) (held : Held) (conn : Connection) (over first : Bool)
+    → (answered granted key (if over then Dropped else (if first then Greets conn.mode (greets_of mark) else Commands conn.session (command_of buses mark))) held).denied
+    ≡ after held.denied granted (if over then false else (if first then greeting_wants held.last_id (greets_of mark) else reading_wants held.rows conn.session held.moment (command_of buses mark)))
+denied_asked buses granted key mark held conn true first = unwanted held.denied granted
+denied_asked buses granted key mark held conn false true = denied_greeted granted key conn.mode (greets_of mark) held
+denied_asked buses granted key mark held conn false false = denied_commanded granted key conn.session (command_of buses mark) held
 
 -- a line is refused memory in the core where it is in the course
 pub denied_answered : (buses : List Bus) (read : ℕ → List ℕ → List ℕ) (keys : List (Option ℕ)) (n key : ℕ) (named : key_of n keys ≡ Some key) (held : Held) (w : World) (granted : Bool) (mark : Mark) (p : Place)
     → StandsBy buses read keys held w → at held key ≡ Some p
     → (answered granted key (asked_of held.buses p mark) held).denied ≡ after held.denied granted (wants_as buses w (open_connection w n) mark)
 denied_answered buses read keys n key named held w granted mark p s here =
-    let h = found_at buses read keys held w n key s named in
-    let q : Place = place_of h.reader (history buses w) h.conn in
-    let same : q ≡ p = let both : Some q ≡ Some p = sym h.place ∙ here in cc in
-    let i : is_panel p.panel ≡ h.conn.info = ap (λ (p : Place). is_panel p.panel) (sym same) ∙ place_info h.reader (history buses w) h.conn in
-    let e : p.ended ≡ h.conn.ended = ap (λ (p : Place). p.ended) (sym same) in
-    let z : p.session ≡ h.conn.session = ap (λ (p : Place). p.session) (sym same) in
+    let h = asks_of buses read keys held w n key mark p s named here in
     let over : Bool = h.conn.info || h.conn.ended in
     let first : Bool = h.conn.session == 0 in
-    ap (λ (o : Option Place). (answered_from granted key (asked_of held.buses p mark) held o).denied) here
-    ∙ ap (λ (asked : Asked). (answered_from granted key asked held (Some p)).denied) (asked_alike buses held.buses p h.conn mark s.layout i e z)
-    ∙ denied_asked buses granted key h.conn.session mark held p over first z
+    ap (λ (asked : Asked). (answered granted key asked held).denied) h.asks
+    ∙ denied_asked buses granted key mark held h.conn over first
     ∙ ap (λ k. after held.denied granted (if over then false else (if first then greeting_wants k (greets_of mark) else reading_wants held.rows h.conn.session held.moment (command_of buses mark)))) s.last_id
     ∙ ap (λ k. after held.denied granted (if over then false else (if first then greeting_wants w.last_id (greets_of mark) else reading_wants held.rows h.conn.session k (command_of buses mark)))) s.moment
     ∙ ap (λ (k : State). after held.denied granted (if over then false else (if first then greeting_wants w.last_id (greets_of mark) else reading_wants k h.conn.session w.moment (command_of buses mark)))) s.rows

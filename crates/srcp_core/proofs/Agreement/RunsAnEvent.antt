@@ -23,7 +23,7 @@ use Rattle.srcp_core.specs.Machine.{IsAdmitted, IsNotAdmitted, one_denied, HasRo
 use Rattle.srcp_core.specs.Recording.{Recording, key_of, told_of, opened, shut, stepped, noted, gave, took, without_key, changed_record, changed_in}
 use Rattle.srcp_core.specs.Run.{Tells, Runs, Happened, HappensAs, CountsAsked, count_at, taken_at, taking}
 use Rattle.srcp_core.specs.Stands.{StandsFor, place_of}
-use Rattle.srcp_core.specs.declared.asked.Asked.{Asked}
+use Rattle.srcp_core.specs.declared.line.Asked.{Asked}
 use Rattle.srcp_core.specs.declared.record.ConnRecord.{ConnRecord}
 use Rattle.srcp_core.specs.declared.record.CoreFault.{CoreFault}
 use Rattle.srcp_core.specs.declared.record.CoreFault.TheVariants.{Full, Memory as MemoryFault, NoSuch, Busy, PieceTooLong, Closing}
@@ -325,14 +325,13 @@ reads_first n key piece r held named free = record { grants = []; counted = refl
 
 pub noted_keys : (n : ℕ) (steps : List PlainStep) (r : Recording) → (noted n steps r).keys ≡ r.keys
 noted_keys n [] r = refl
-noted_keys n (told.Obeyed session moment command ∷ []) r = refl
-noted_keys n (told.Began session moment mode ∷ []) r = refl
-noted_keys n (told.Moment moment ∷ []) r = refl
-noted_keys n (told.Ended session moment ∷ []) r = refl
-noted_keys n (step ∷ next ∷ steps) r = refl
+noted_keys n (told.Obeyed session moment command ∷ steps) r = noted_keys n steps _
+noted_keys n (told.Began session moment mode ∷ steps) r = noted_keys n steps _
+noted_keys n (told.Moment moment ∷ steps) r = noted_keys n steps _
+noted_keys n (told.Ended session moment ∷ steps) r = noted_keys n steps _
 
 pub reads_with_more : (grants : List Bool) (n key : ℕ) (piece : List ℕ) (first_r : Recording) (first : Held) (start stop : ℕ) (granted : Bool) (steps : List PlainStep) (r : Recording) (held new : Held) → start < stop
-    → ◌≡◌ {A = ℕ × Held} (stop, new) (line_taken key granted (start, held) (heard_at key piece start held)) → steps ≡ steps_of_line key granted (heard_at key piece start held)
+    → ◌≡◌ {A = ℕ × Held} (stop, new) (line_taken key granted (start, held) (heard_at key piece start held)) → steps ≡ steps_of_line granted (heard_at key piece start held)
     → ReadsWith grants n key piece first_r first start r held → ReadsWith (grants ++ granted ∷ []) n key piece first_r first stop (noted n steps r) new
 reads_with_more grants n key piece first_r first start stop granted steps r held new onward is steps_are reads buses events layout s =
     let i = reads buses events layout s in
@@ -350,7 +349,7 @@ reads_with_more grants n key piece first_r first start stop granted steps r held
     }
 
 pub reads_more : (n key : ℕ) (piece : List ℕ) (first_r : Recording) (first : Held) (start stop : ℕ) (granted : Bool) (steps : List PlainStep) (r : Recording) (held new : Held) → start < stop
-    → ◌≡◌ {A = ℕ × Held} (stop, new) (line_taken key granted (start, held) (heard_at key piece start held)) → steps ≡ steps_of_line key granted (heard_at key piece start held)
+    → ◌≡◌ {A = ℕ × Held} (stop, new) (line_taken key granted (start, held) (heard_at key piece start held)) → steps ≡ steps_of_line granted (heard_at key piece start held)
     → new.denied ≡ denied_by held.denied (granted ∷ []) → ReadsOn n key piece first_r first start r held → ReadsOn n key piece first_r first stop (noted n steps r) new
 reads_more n key piece first_r first start stop granted steps r held new onward is steps_are counted reads = record {
   grants = reads.grants ++ granted ∷ [];

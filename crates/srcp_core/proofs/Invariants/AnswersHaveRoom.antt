@@ -21,10 +21,10 @@ use Rattle.srcp_feed.specs.Feed.{Feed, is_full, told}
 use Rattle.srcp_core.specs.Handshake.{Greeting, Speaks, Chooses, Goes, Refuses}
 use Rattle.srcp_core.specs.Held.{Place, Held, place_at, at, IsSound}
 use Rattle.srcp_core.specs.Under.{wants_memory}
-use Rattle.srcp_core.specs.Machine.{told_feed, told_place, told_all, told_each, carried, unsent_of, begun_of, changed_in, changed_places, changed_at, with_unsent, replied, longest, longest_answer, entered_place, begun, goes, greeted, denied_line, one_denied, finished, obeyed, answered_from, answered, asked_of, feed_in, panel_for}
+use Rattle.srcp_core.specs.Machine.{told_feed, told_place, told_all, told_each, carried, unsent_of, begun_of, changed_in, changed_places, changed_at, with_unsent, replied, longest, longest_answer, entered_place, begun, goes, greeted, denied_line, one_denied, finished, obeyed, answered, asked_of, feed_in, panel_for}
 use Rattle.srcp_core.specs.declared.connection.Panel.TheVariants.{Listening, Overran}
-use Rattle.srcp_core.specs.declared.asked.Asked.{Asked}
-use Rattle.srcp_core.specs.declared.asked.Asked.TheVariants.{Dropped, Greets, Commands}
+use Rattle.srcp_core.specs.declared.line.Asked.{Asked}
+use Rattle.srcp_core.specs.declared.line.Asked.TheVariants.{Dropped, Greets, Commands}
 use Rattle.srcp_core.proofs.Invariants.EveryPlaceIsTold.{told_all_at}
 use Rattle.srcp_core.proofs.Invariants.ChangesOneByOne.{change_in}
 use Rattle.srcp_core.proofs.Invariants.PlacesCover.{place_set_here}
@@ -137,21 +137,18 @@ obeyed_gains key session did held now h =
 -- an answer adds no more than its longest, and leaves what is begun
 pub answered_gains : (granted : Bool) (key : ℕ) (asked : Asked) (held : Held) (p : Place) (mark : Mark) → at held key ≡ Some p → asked ≡ asked_of held.buses p mark → IsSound held
     → Gains (longest_answer asked) (at held key) (at (answered granted key asked held) key)
-answered_gains granted key asked held p mark there is s = by asked is granted (at held key) there
+answered_gains granted key asked held p mark there is s = by asked is
   where
-    by : (asked : Asked) → asked ≡ asked_of held.buses p mark → (granted : Bool) → (o : Option Place) → o ≡ Some p → Gains (longest_answer asked) (at held key) (at (answered_from granted key asked held o) key)
-    by asked is granted None e = let bad : ◌≡◌ {A = Option Place} None (Some p) = e in absurd (let f : ⊥ = cc in f)
-    by Dropped is granted (Some q) e = most 0 64 (at held key) (at held key) (omega arith) (nothing (at held key))
-    by (Greets greeting) is granted (Some q) e = greeted_gains granted key q.mode greeting held s.moment
-    by (Commands (Err code)) is granted (Some q) e = replied_gains key (Refused code) held s.moment tt
-    by (Commands (Ok command)) is granted (Some q) e = given (granted || not (wants_memory held.rows q.session held.moment command))
+    by : (asked : Asked) → asked ≡ asked_of held.buses p mark → Gains (longest_answer asked) (at held key) (at (answered granted key asked held) key)
+    by Dropped is = most 0 64 (at held key) (at held key) (omega arith) (nothing (at held key))
+    by (Greets mode greeting) is = greeted_gains granted key mode greeting held s.moment
+    by (Commands session (Err code)) is = replied_gains key (Refused code) held s.moment tt
+    by (Commands session (Ok command)) is = given (granted || not (wants_memory held.rows session held.moment command))
       where
-        given : (t : Bool) → Gains 126 (at held key) (at (cond t (obeyed key q.session (effect held.rows q.session held.moment command) held) (denied_line key held)) key)
+        given : (t : Bool) → Gains 126 (at held key) (at (cond t (obeyed key session (effect held.rows session held.moment command) held) (denied_line key held)) key)
         given false = most 64 126 (at held key) (at (denied_line key held) key) (omega arith) (denied_gains key held s.moment)
         given true =
-            let same : q ≡ p = cc in
-            let a = asked_by held.buses s.whole.laid_out p mark (Ok command) is in
-            let own : p.session ≡ q.session = sym (ap (λ (r : Place). r.session) same) in
-            let row : is_there (session_device q.session) held.rows ≡ true = subst (λ n. is_there (session_device n) held.rows ≡ true) own (s.sessions.there key p there a.live) in
-            obeyed_gains key q.session (effect held.rows q.session held.moment command) held s.moment
-            (reply_told held.buses held.rows s.whole q.session held.moment row s.moment command)
+            let a = asked_by held.buses s.whole.laid_out p mark session (Ok command) is in
+            let row : is_there (session_device session) held.rows ≡ true = subst (λ n. is_there (session_device n) held.rows ≡ true) a.own (s.sessions.there key p there a.live) in
+            obeyed_gains key session (effect held.rows session held.moment command) held s.moment
+            (reply_told held.buses held.rows s.whole session held.moment row s.moment command)

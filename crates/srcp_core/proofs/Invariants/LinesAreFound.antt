@@ -12,11 +12,11 @@ use Rattle.std.proofs.lemmas.List.{length-drop}
 use Rattle.std.proofs.lemmas.List.Sums.{fold-append}
 use Rattle.srcp_core.specs.Handshake.{greets}
 use Rattle.srcp_core.specs.Held.{Place, Held, IsSound, at}
-use Rattle.srcp_core.specs.Machine.{asked_of, heard_from, heard, heard_in, heard_at, longest_answer, unsent_of, unsent_at, begun_of, begun_at, answered, line_taken, lines_taken, steps_answered, steps_of_line, listed, HasRoom, IsLineTaken, CountsEach, IsReceived, is_panel}
+use Rattle.srcp_core.specs.Machine.{asked_of, heard_from, heard, heard_in, heard_at, longest_answer, unsent_of, unsent_at, begun_of, begun_at, answered, line_taken, lines_taken, steps_answered, steps_of_line, steps_in, HasRoom, IsAsked, IsLineTaken, CountsEach, IsReceived, is_panel}
 use Rattle.srcp_core.specs.Under.{denied_by}
-use Rattle.srcp_core.specs.declared.answered.Answered.{Answered}
-use Rattle.srcp_core.specs.declared.asked.Asked.{Asked}
-use Rattle.srcp_core.specs.declared.asked.Asked.TheVariants.{Dropped, Greets, Commands}
+use Rattle.srcp_core.specs.declared.line.LineRecord.{LineRecord}
+use Rattle.srcp_core.specs.declared.line.Asked.{Asked}
+use Rattle.srcp_core.specs.declared.line.Asked.TheVariants.{Dropped, Greets, Commands}
 use Rattle.srcp_core.proofs.Invariants.PlacesCover.{IsMild, place_set_here, where_is, Here, Away}
 use Rattle.srcp_core.proofs.Invariants.AnswersHaveRoom.{answered_gains}
 use Rattle.srcp_core.proofs.Invariants.CoreStaysSound.{sound_place}
@@ -25,21 +25,21 @@ use Rattle.srcp_core.proofs.Invariants.CoreStaysSound.{sound_place}
 
 pub answer_most : (asked : Asked) → longest_answer asked ≤ 126
 answer_most Dropped = omega arith
-answer_most (Greets greeting) = omega arith
-answer_most (Commands (Ok command)) = omega arith
-answer_most (Commands (Err code)) = omega arith
+answer_most (Greets mode greeting) = omega arith
+answer_most (Commands session (Ok command)) = omega arith
+answer_most (Commands session (Err code)) = omega arith
 
 -- a line that is refused as a command has a short answer however its connection stands
-short : (i z : Bool) (mark : Mark) (code : Code) → longest_answer (if i then Dropped else (if z then Greets (greets mark) else Commands (Err code))) ≤ 64
-short true z mark code = omega arith
-short false true mark code = omega arith
-short false false mark code = omega arith
+short : (i z : Bool) (p : Place) (mark : Mark) (code : Code) → longest_answer (if i then Dropped else (if z then Greets p.mode (greets mark) else Commands p.session (Err code))) ≤ 64
+short true z p mark code = omega arith
+short false true p mark code = omega arith
+short false false p mark code = omega arith
 
 too_long_short : (buses : List Bus) (p : Place) → longest_answer (asked_of buses p TooLong) ≤ 64
-too_long_short buses p = short (is_panel p.panel || p.ended) (p.session == 0) TooLong _
+too_long_short buses p = short (is_panel p.panel || p.ended) (p.session == 0) p TooLong _
 
 empty_short : (buses : List Bus) (p : Place) → longest_answer (asked_of buses p (Line [])) ≤ 64
-empty_short buses p = short (is_panel p.panel || p.ended) (p.session == 0) (Line []) _
+empty_short buses p = short (is_panel p.panel || p.ended) (p.session == 0) p (Line []) _
 
 -- ---- a line that was found
 
@@ -176,14 +176,11 @@ pub heard_denied : (key : ℕ) (piece : List ℕ) (from : ℕ) (held : Held) (o 
 heard_denied key piece from held None = refl
 heard_denied key piece from held (Some p) = refl
 
--- whatever connection is at the place, the line asks for something of it
-pub line_asks : (key : ℕ) (piece : List ℕ) (start stop : ℕ) (asked : Asked) (old new : Held) → ◌≡◌ {A = Option (ℕ × Asked) × Held} (Some (stop, asked), new) (heard_at key piece start old)
-    → (p : Place) → at new key ≡ Some p → (mark : Mark) × (asked ≡ asked_of new.buses p mark)
-line_asks key piece start stop asked old new e p there =
+-- the line was found on the connection of that key
+pub line_asks : (key : ℕ) (piece : List ℕ) (start stop : ℕ) (asked : Asked) (old new : Held) → ◌≡◌ {A = Option (ℕ × Asked) × Held} (Some (stop, asked), new) (heard_at key piece start old) → IsAsked key asked new
+line_asks key piece start stop asked old new e =
     let f = line_found key piece start stop asked old new e in
-    let both : Some f.place ≡ Some p = sym f.here ∙ there in
-    let same : f.place ≡ p = cc in
-    (f.mark, f.asks ∙ ap (λ (q : Place). asked_of new.buses q f.mark) same)
+    record { place = f.place; mark = f.mark; here = f.here; is = f.asks }
 
 -- ---- the lines of a piece
 
@@ -221,13 +218,13 @@ module _ (key : ℕ) (piece : List ℕ) (start stop : ℕ) (asked : Asked) (held
       }
 
   -- and is answered
-  pub line_answered : (did : Answered) (new : Held) → new ≡ answered did.granted key asked mid → listed did.steps ≡ steps_answered did.granted key asked mid
+  pub line_answered : (did : LineRecord) (new : Held) → new ≡ answered did.granted key asked mid → steps_in did ≡ steps_answered did.granted asked mid
       → new.denied ≡ denied_by mid.denied (did.granted ∷ []) → IsSound mid → HasRoom key piece start held → IsLineTaken key piece start stop did held new
   line_answered did new is steps counted s t = record {
     onward = (line_found key piece start stop asked held mid e).onward;
     room = subst (HasRoom key piece stop) (sym is) (room_after did.granted s t);
     is = ap (λ (h : Held). let r : ℕ × Held = (stop, h) in r) is ∙ ap (λ (r : Option (ℕ × Asked) × Held). line_taken key did.granted (start, held) r) e;
-    steps = steps ∙ ap (λ (r : Option (ℕ × Asked) × Held). steps_of_line key did.granted r) e;
+    steps = steps ∙ ap (λ (r : Option (ℕ × Asked) × Held). steps_of_line did.granted r) e;
     counted = counted ∙ ap (λ k. denied_by k (did.granted ∷ [])) (ap (λ (r : Option (ℕ × Asked) × Held). r.1.denied) e ∙ heard_denied key piece start held (at held key));
   }
 
@@ -246,7 +243,7 @@ counts_push : (key : ℕ) (piece : List ℕ) (grants : List Bool) (before : ℕ 
 counts_push key piece [] before granted a e = e
 counts_push key piece (g ∷ grants) before granted a e = (a.0, counts_push key piece grants (line_taken key g before (heard_at key piece before.0 before.1)) granted a.1 e)
 
-pub line_added : (key : ℕ) (piece : List ℕ) (first : Held) (start stop : ℕ) (did : Answered) (held new : Held) → IsLineTaken key piece start stop did held new
+pub line_added : (key : ℕ) (piece : List ℕ) (first : Held) (start stop : ℕ) (did : LineRecord) (held new : Held) → IsLineTaken key piece start stop did held new
     → IsTaken key piece first start held → IsTaken key piece first stop new
 line_added key piece first start stop did held new l t = record {
   room = l.room;

@@ -7,7 +7,7 @@ use Rattle.srcp_rules.specs.State.{State, session_device, is_there}
 use Rattle.srcp_feed.specs.Cursor.{concerns}
 use Rattle.srcp_feed.specs.Feed.{Feed, is_full, told}
 use Rattle.srcp_core.specs.Held.{Place, place_at, IsLive, AreSessions}
-use Rattle.srcp_core.specs.Machine.{told_feed, told_place, told_all, told_each, feed_in}
+use Rattle.srcp_core.specs.Machine.{told_feed, told_place, told_all, told_each, feed_in, changed_in, changed_places}
 use Rattle.srcp_core.specs.declared.connection.Panel.TheVariants.{Listening, Overran}
 use Rattle.srcp_core.proofs.Invariants.EveryPlaceIsTold.{count_by_cons, told_all_count, told_all_at}
 
@@ -143,3 +143,13 @@ sessions_covered last rows old new f a = record {
       ap (λ i. is_there (session_device i) rows) s.mild.session ∙ a.there key s.p s.there (mild_live s.p q s.mild live);
   later = a.later;
 }
+
+-- ---- the connection at one place is changed
+
+-- by the connection that was found there
+pub set_as : (places : List (Option Place)) (key : ℕ) (change : Place → Place) (p q : Place) → place_at places key ≡ Some p → q ≡ change p → slice_set places key (Some q) ≡ changed_places key change places
+set_as places key change p q there is = ap (λ (q : Place). slice_set places key (Some q)) is ∙ sym (ap (changed_in key change places) there)
+
+-- nothing, where there is none
+pub none_as : (places : List (Option Place)) (key : ℕ) (change : Place → Place) → place_at places key ≡ None → places ≡ changed_places key change places
+none_as places key change none = sym (ap (changed_in key change places) none)

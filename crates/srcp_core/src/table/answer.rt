@@ -1,4 +1,4 @@
-//! How the lines of a connection are answered.
+//! What answers a line: the handshake before the session, and commands after it.
 ghost use Rattle.std.specs.Prelude.{◌≡◌, ◌≢◌, ◌+◌, ◌≤◌, [], ◌∷◌, true, false, length, Ok, OnOk, OnErr, OnSome, IfNone, IfSome, IfOk};
 ghost use Rattle.srcp_info.specs.WellFormed.{IsWellFormedReply};
 ghost use Rattle.srcp_info.specs.declared.change.Code.TheVariants.{C500};
@@ -6,64 +6,95 @@ ghost use Rattle.srcp_info.specs.declared.change.Reply.TheVariants.{Refused};
 ghost use Rattle.srcp_rules.specs.Command.{IsCommandOf};
 ghost use Rattle.srcp_rules.specs.Effect.{effect};
 ghost use Rattle.srcp_rules.specs.State.{session_device, is_there};
-ghost use Rattle.srcp_core.specs.Held.{IsSessionAt};
+ghost use Rattle.srcp_core.specs.Held.{IsSessionAt, IsSound};
 ghost use Rattle.srcp_core.specs.Under.{denied_by, wants_memory};
-ghost use Rattle.srcp_core.specs.Machine.{changed_at, unsent_at, one_denied, replied, denied_line, begun, goes, greeted, carried, freed_of, commanded, longest, steps_gone, steps_greeted, steps_commanded, listed};
+ghost use Rattle.srcp_core.specs.Machine.{changed_at, unsent_at, one_denied, replied, denied_line, begun, goes, greeted, carried, freed_of, answered, commanded, longest, longest_answer, steps_answered, steps_gone, steps_greeted, steps_commanded, steps_in, IsAsked};
 
+use super::Core;
 use super::walk::{free_all, tell_all, tell_each};
-use super::{Core, place};
-use crate::answered::{Answered, LineSteps};
 use crate::connection::Panel;
-use crate::greeting::Greeting;
+use crate::handshake::Greeting;
+use crate::line::{Asked, LineRecord};
 use crate::record::Step;
-use srcp_info::{Code, Mode, Reply, write_reply};
+use srcp_info::{Code, Mode, Reply};
 use srcp_rules::{Command, Memory, Obeyed, Rows, begin_session, obey};
-use srcp_text::LineBuf;
 
 /// The greatest session id: our own choice, the greatest of 32 bits.
 const LAST_ID: u32 = 4_294_967_295;
 
 impl<'a, R: Rows> Core<'a, R> {
-    /// One more growth was refused.
-    pub(super) fn count_denied(&mut self)
-        ensures { self.new ≡ one_denied self.old }
+    /// Answers what a line asks for.
+    pub(super) fn answer(&mut self, conn: usize, asked: Asked) -> LineRecord
+        requires sound { IsSound self.old }
+        requires asked { IsAsked conn asked self.old }
+        requires room { length (unsent_at conn self.old) + longest_answer asked ≤ 16640 }
+        ensures core { self.new ≡ answered result.granted conn asked self.old }
+        ensures steps { steps_in result ≡ steps_answered result.granted asked self.old }
+        ensures counted { self.new.denied ≡ denied_by self.old.denied (result.granted ∷ []) }
     {
-        self.denied = self.denied.saturating_add(1);
+        match asked {
+            Asked::Dropped => LineRecord::nothing(),
+            Asked::Greets { mode, greeting } => self.greet(conn, mode, greeting),
+            Asked::Commands { session, command } => self.command(conn, session, command),
+        }
     }
 
-    /// Puts a reply at the end of what is to be sent.
-    fn reply(&mut self, conn: usize, reply: &Reply)
-        requires well_formed { IsWellFormedReply reply.now }
-        requires room { length (unsent_at conn self.old) + longest reply.now ≤ 16640 }
-        ensures { self.new ≡ replied conn reply.now self.old }
-    {
-        let mut line = LineBuf::new();
-        write_reply(self.moment, reply, &mut line);
-        place::put(&mut self.connections, conn, line.as_slice());
-    }
-
-    /// Memory was refused to a line.
-    fn deny(&mut self, conn: usize)
+    /// Answers a line before the session.
+    fn greet(&mut self, conn: usize, mode: Mode, greeting: Greeting) -> LineRecord
         requires { length (unsent_at conn self.old) + 64 ≤ 16640 }
-        ensures { self.new ≡ denied_line conn self.old }
+        ensures core { self.new ≡ greeted result.granted conn mode greeting self.old }
+        ensures steps { steps_in result ≡ steps_greeted result.granted mode greeting self.old }
+        ensures counted { self.new.denied ≡ denied_by self.old.denied (result.granted ∷ []) }
     {
-        self.count_denied();
-        self.reply(conn, &Reply::Refused(Code::C500));
-    }
-
-    /// Answers a line that is refused.
-    pub(super) fn refuse(&mut self, conn: usize, code: Code)
-        requires { length (unsent_at conn self.old) + 64 ≤ 16640 }
-        ensures { self.new ≡ replied conn (Refused code) self.old }
-    {
-        self.reply(conn, &Reply::Refused(code));
+        match greeting {
+            Greeting::Speaks => self.reply(conn, &Reply::Protocol),
+            Greeting::Chooses(chosen) => {
+                self.choose(conn, chosen);
+                self.reply(conn, &Reply::Mode);
+            }
+            Greeting::Goes => return self.go(conn, mode),
+            Greeting::Refuses(code) => self.reply(conn, &Reply::Refused(code)),
+        }
+        LineRecord::nothing()
     }
 
     /// Chooses the mode of the session to come.
     fn choose(&mut self, conn: usize, mode: Mode)
         ensures { self.new ≡ changed_at conn (λ p. record p { mode = mode }) self.old }
     {
-        place::choose(&mut self.connections, conn, mode);
+        let Some(connection) = self.connections.get_mut(conn) else {
+            return;
+        };
+        connection.choose(mode);
+    }
+
+    /// Answers `GO`.
+    fn go(&mut self, conn: usize, mode: Mode) -> LineRecord
+        requires { length (unsent_at conn self.old) + 64 ≤ 16640 }
+        ensures core { self.new ≡ goes result.granted conn mode self.old }
+        ensures steps { steps_in result ≡ steps_gone result.granted mode self.old }
+        ensures counted { self.new.denied ≡ denied_by self.old.denied (result.granted ∷ []) }
+    {
+        if self.last_id >= LAST_ID {
+            self.reply(conn, &Reply::Refused(Code::C500));
+            return LineRecord::nothing();
+        }
+        let session = self.last_id + 1;
+        let moment = self.moment;
+        match self.begin(conn, session, mode) {
+            Ok(()) => {
+                self.reply(conn, &Reply::Go(session));
+                LineRecord::of(Step::Began {
+                    session,
+                    moment,
+                    mode,
+                })
+            }
+            Err(Memory) => {
+                self.deny(conn);
+                LineRecord::denied()
+            }
+        }
     }
 
     /// Begins a session under the next id. The memory is taken first, that of the feed and then that of the
@@ -77,56 +108,64 @@ impl<'a, R: Rows> Core<'a, R> {
         let change = begin_session(&mut self.rows, id, self.moment, mode)?;
         self.last_id = id;
         tell_all(&mut self.connections, &change);
-        place::enter(&mut self.connections, conn, id, panel);
+        let Some(connection) = self.connections.get_mut(conn) else {
+            return Ok(());
+        };
+        connection.enter(id, panel);
         Ok(())
     }
 
-    /// Answers `GO`.
-    fn go(&mut self, conn: usize, mode: Mode) -> Answered
-        requires { length (unsent_at conn self.old) + 64 ≤ 16640 }
-        ensures core { self.new ≡ goes result.granted conn mode self.old }
-        ensures steps { listed result.steps ≡ steps_gone result.granted mode self.old }
+    /// Answers a line of a command session.
+    fn command(&mut self, conn: usize, session: u32, command: Result<Command, Code>) -> LineRecord
+        requires session { IsSessionAt session conn self.old }
+        requires row { is_there (session_device session) self.old.rows ≡ true }
+        requires command { IfOk command (IsCommandOf self.old.buses) }
+        requires room { length (unsent_at conn self.old) + longest_answer (Asked.Commands session command) ≤ 16640 }
+        ensures core { self.new ≡ commanded result.granted conn session command self.old }
+        ensures steps { steps_in result ≡ steps_commanded result.granted session command self.old }
         ensures counted { self.new.denied ≡ denied_by self.old.denied (result.granted ∷ []) }
     {
-        if self.last_id >= LAST_ID {
-            self.reply(conn, &Reply::Refused(Code::C500));
-            return Answered::nothing();
-        }
-        let session = self.last_id + 1;
-        let moment = self.moment;
-        match self.begin(conn, session, mode) {
-            Ok(()) => {
-                self.reply(conn, &Reply::Go(session));
-                Answered::granted(Step::Began {
-                    session,
-                    moment,
-                    mode,
-                })
-            }
-            Err(Memory) => {
-                self.deny(conn);
-                Answered::denied()
+        match command {
+            Ok(command) => self.obey(conn, session, &command),
+            Err(code) => {
+                self.reply(conn, &Reply::Refused(code));
+                LineRecord::nothing()
             }
         }
     }
 
-    /// Answers a line before the session.
-    pub(crate) fn greet(&mut self, conn: usize, mode: Mode, greeting: Greeting) -> Answered
-        requires { length (unsent_at conn self.old) + 64 ≤ 16640 }
-        ensures core { self.new ≡ greeted result.granted conn mode greeting self.old }
-        ensures steps { listed result.steps ≡ steps_greeted result.granted mode greeting self.old }
+    /// Answers a command.
+    fn obey(&mut self, conn: usize, session: u32, command: &Command) -> LineRecord
+        requires session { IsSessionAt session conn self.old }
+        requires row { is_there (session_device session) self.old.rows ≡ true }
+        requires command { IsCommandOf self.old.buses command.now }
+        requires room { length (unsent_at conn self.old) + 126 ≤ 16640 }
+        ensures core { self.new ≡ commanded result.granted conn session (Ok command.now) self.old }
+        ensures steps { steps_in result ≡ steps_commanded result.granted session (Ok command.now) self.old }
         ensures counted { self.new.denied ≡ denied_by self.old.denied (result.granted ∷ []) }
     {
-        match greeting {
-            Greeting::Speaks => self.reply(conn, &Reply::Protocol),
-            Greeting::Chooses(chosen) => {
-                self.choose(conn, chosen);
-                self.reply(conn, &Reply::Mode);
-            }
-            Greeting::Goes => return self.go(conn, mode),
-            Greeting::Refuses(code) => self.reply(conn, &Reply::Refused(code)),
+        let moment = self.moment;
+        let step = Step::Obeyed {
+            session,
+            moment,
+            command: *command,
+        };
+        let Some(obeyed) = self.carry_out(session, command) else {
+            self.deny(conn);
+            return LineRecord {
+                granted: false,
+                ..LineRecord::of(step)
+            };
+        };
+        self.reply(conn, &obeyed.reply);
+        if !obeyed.ends {
+            return LineRecord::of(step);
         }
-        Answered::nothing()
+        self.end(conn, session);
+        LineRecord {
+            end: Some(Step::Ended { session, moment }),
+            ..LineRecord::of(step)
+        }
     }
 
     /// Carries out a command, and tells every connection its changes. `None` where a growth was refused, and then
@@ -149,47 +188,44 @@ impl<'a, R: Rows> Core<'a, R> {
         Some(obeyed)
     }
 
-    /// A session ends by its own command.
+    /// Ends a session by its own command: its locks are taken out, and its own row.
     fn end(&mut self, conn: usize, session: u32)
         requires { IsSessionAt session conn self.old }
         ensures { self.new ≡ freed_of session (changed_at conn (λ p. record p { ended = true }) self.old) }
     {
-        place::end(&mut self.connections, conn);
+        let Some(connection) = self.connections.get_mut(conn) else {
+            return;
+        };
+        connection.end();
         free_all(&mut self.rows, &mut self.connections, session, self.moment);
     }
 
-    /// Answers a command.
-    pub(crate) fn obey(&mut self, conn: usize, session: u32, command: &Command) -> Answered
-        requires session { IsSessionAt session conn self.old }
-        requires row { is_there (session_device session) self.old.rows ≡ true }
-        requires command { IsCommandOf self.old.buses command.now }
-        requires room { length (unsent_at conn self.old) + 126 ≤ 16640 }
-        ensures core { self.new ≡ commanded result.granted conn session (Ok command.now) self.old }
-        ensures steps { listed result.steps ≡ steps_commanded result.granted session (Ok command.now) self.old }
-        ensures counted { self.new.denied ≡ denied_by self.old.denied (result.granted ∷ []) }
+    /// Puts a reply at the end of what is to be sent.
+    fn reply(&mut self, conn: usize, reply: &Reply)
+        requires well_formed { IsWellFormedReply reply.now }
+        requires room { length (unsent_at conn self.old) + longest reply.now ≤ 16640 }
+        ensures { self.new ≡ replied conn reply.now self.old }
     {
-        let moment = self.moment;
-        let step = Step::Obeyed {
-            session,
-            moment,
-            command: *command,
+        let Some(connection) = self.connections.get_mut(conn) else {
+            return;
         };
-        let Some(obeyed) = self.carry_out(session, command) else {
-            self.deny(conn);
-            return Answered {
-                granted: false,
-                steps: LineSteps::One(step),
-            };
-        };
-        self.reply(conn, &obeyed.reply);
-        if !obeyed.ends {
-            return Answered::granted(step);
-        }
-        self.end(conn, session);
-        Answered {
-            granted: true,
-            steps: LineSteps::Two(step, Step::Ended { session, moment }),
-        }
+        connection.reply(self.moment, reply);
+    }
+
+    /// Answers a line to which memory was refused.
+    fn deny(&mut self, conn: usize)
+        requires { length (unsent_at conn self.old) + 64 ≤ 16640 }
+        ensures { self.new ≡ denied_line conn self.old }
+    {
+        self.count_denied();
+        self.reply(conn, &Reply::Refused(Code::C500));
+    }
+
+    /// Counts one more growth that was refused.
+    pub(super) fn count_denied(&mut self)
+        ensures { self.new ≡ one_denied self.old }
+    {
+        self.denied = self.denied.saturating_add(1);
     }
 }
 

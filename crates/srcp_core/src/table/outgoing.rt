@@ -3,7 +3,7 @@ ghost use Rattle.std.specs.Prelude.{◌≡◌, ◌≤◌, [], length, None, IsEr
 ghost use Rattle.srcp_core.specs.Held.{at};
 ghost use Rattle.srcp_core.specs.Machine.{changed_at, without_sent, unsent_at, let_out, item_at};
 
-use super::{Core, place};
+use super::Core;
 use crate::record::CoreFault;
 use srcp_feed::Next;
 use srcp_rules::Rows;
@@ -59,6 +59,9 @@ impl<'a, R: Rows> Core<'a, R> {
         requires unsent { count ≤ length (unsent_at conn self.old) }
         ensures { self.new ≡ changed_at conn (without_sent count) self.old }
     {
-        place::took(&mut self.connections, conn, count);
+        let Some(connection) = self.connections.get_mut(conn) else {
+            return;
+        };
+        connection.took(count);
     }
 }

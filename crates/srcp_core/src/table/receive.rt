@@ -1,18 +1,12 @@
-//! Bytes that come in, and what their lines ask for.
-ghost use Rattle.std.specs.Prelude.{◌≡◌, ◌+◌, ◌≤◌, [], ◌∷◌, true, length, Some, None, IfOk, IfNone, IfSome, OnOk, OnErr, MatchResult};
-ghost use Rattle.srcp_rules.specs.Command.{IsCommandOf};
-ghost use Rattle.srcp_rules.specs.State.{is_there, session_device};
-ghost use Rattle.srcp_text.specs.Marks.{Mark};
-ghost use Rattle.srcp_core.specs.Under.{denied_by};
-ghost use Rattle.srcp_core.specs.Held.{Place, IsSessionAt, IsSound, at};
-ghost use Rattle.srcp_core.specs.Machine.{asked_of, answered, commanded, longest_answer, unsent_at, bytes_fault, heard_at, IsReceived, HasRoom, IsLineTaken, steps_commanded, steps_answered, listed};
+//! Bytes that come in: the lines that end in them, and what each of them asks for.
+ghost use Rattle.std.specs.Prelude.{◌≡◌, ◌≤◌, [], length, Some, None, IfNone, IfSome, OnOk, OnErr, MatchResult};
+ghost use Rattle.srcp_core.specs.Held.{IsSound};
+ghost use Rattle.srcp_core.specs.Machine.{unsent_at, bytes_fault, heard_at, IsReceived, HasRoom, IsLineTaken};
 
 use super::{Core, MOST_IN_PIECE};
-use crate::answered::Answered;
-use crate::asked::Asked;
+use crate::line::{Asked, LineRecord};
 use crate::record::CoreFault;
-use srcp_info::Code;
-use srcp_rules::{Command, Rows};
+use srcp_rules::Rows;
 
 impl<'a, R: Rows> Core<'a, R> {
     /// Takes bytes that came in on a connection, of any line's front, middle or end, and answers each line that ends
@@ -64,13 +58,13 @@ impl<'a, R: Rows> Core<'a, R> {
         }
     }
 
-    /// Reads the piece on from `start` and answers its next line: the place after that, and what came of it.
+    /// Reads the piece on from `start` and answers its next line: the offset after that, and what came of it.
     pub(crate) fn take_line(
         &mut self,
         conn: usize,
         piece: &[u8],
         start: usize,
-    ) -> Option<(usize, Answered)>
+    ) -> Option<(usize, LineRecord)>
         requires few { length piece.now ≤ 256 }
         requires room { HasRoom conn piece.now start self.old }
         ensures none { IfNone result ((None, self.new) ≡ heard_at conn piece.now start self.old) }
@@ -80,7 +74,7 @@ impl<'a, R: Rows> Core<'a, R> {
         Some((stop, self.answer(conn, asked)))
     }
 
-    /// Reads the piece on from `start`: what its next line asks for, and the place after it.
+    /// Reads the piece on from `start`: what its next line asks for, and the offset after it.
     fn hear(&mut self, conn: usize, piece: &[u8], start: usize) -> Option<(usize, Asked)>
         requires { start ≤ length piece.now }
         ensures heard { (result, self.new) ≡ heard_at conn piece.now start self.old }
@@ -88,44 +82,5 @@ impl<'a, R: Rows> Core<'a, R> {
     {
         let connection = self.connections.get_mut(conn)?;
         connection.hear(piece, start, self.layout)
-    }
-
-    /// Answers what a line asks for.
-    fn answer(&mut self, conn: usize, asked: Asked) -> Answered
-        requires asked { (p : Place) → at self.old conn ≡ Some p → (mark : Mark) × (asked ≡ asked_of self.old.buses p mark) }
-        requires room { length (unsent_at conn self.old) + longest_answer asked ≤ 16640 }
-        ensures core { self.new ≡ answered result.granted conn asked self.old }
-        ensures steps { listed result.steps ≡ steps_answered result.granted conn asked self.old }
-        ensures counted { self.new.denied ≡ denied_by self.old.denied (result.granted ∷ []) }
-    {
-        let Some(connection) = self.connections.get(conn) else {
-            return Answered::nothing();
-        };
-        let mode = connection.mode();
-        let session = connection.session();
-        match asked {
-            Asked::Dropped => Answered::nothing(),
-            Asked::Greets(greeting) => self.greet(conn, mode, greeting),
-            Asked::Commands(command) => self.command(conn, session, command),
-        }
-    }
-
-    /// Answers a line of a command session.
-    fn command(&mut self, conn: usize, session: u32, command: Result<Command, Code>) -> Answered
-        requires session { IsSessionAt session conn self.old }
-        requires row { is_there (session_device session) self.old.rows ≡ true }
-        requires command { IfOk command (IsCommandOf self.old.buses) }
-        requires room { length (unsent_at conn self.old) + longest_answer (Asked.Commands command) ≤ 16640 }
-        ensures core { self.new ≡ commanded result.granted conn session command self.old }
-        ensures steps { listed result.steps ≡ steps_commanded result.granted session command self.old }
-        ensures counted { self.new.denied ≡ denied_by self.old.denied (result.granted ∷ []) }
-    {
-        match command {
-            Ok(command) => self.obey(conn, session, &command),
-            Err(code) => {
-                self.refuse(conn, code);
-                Answered::nothing()
-            }
-        }
     }
 }

@@ -1,5 +1,5 @@
 use Rattle.std.proofs.Common.{sym, ◌∙◌, subst, [], ◌∷◌}
-use Rattle.srcp_core.specs.Machine.{listed}
+use Rattle.srcp_core.specs.Machine.{steps_in}
 use Rattle.srcp_core.specs.Recording.{Recording}
 use Rattle.srcp_core.proofs.Agreement.MemoryAnswers.{none_denied}
 use Rattle.srcp_core.proofs.Agreement.RunsAnEvent.{no_bytes_happens, bytes_refused, bytes_room, reads_first, reads_more, bytes_happens, ReadsOn}
@@ -20,7 +20,7 @@ loop-stop-init g c =
 
 pub returns-in_err-answered-clause-denied : goal.returns-in_err-answered-clause-denied
 returns-in_err-answered-clause-denied g c = λ d.
-    c.loop-stop.invariant.denied (none_denied (c.in-Some-take_line.answered.granted ∷ []) c.loop-stop.core.denied (sym c.in-Some-take_line.ensures.line.counted ∙ d)).0
+    c.loop-stop.invariant.denied (none_denied (c.in-Some-take_line.line.granted ∷ []) c.loop-stop.core.denied (sym c.in-Some-take_line.ensures.line.counted ∙ d)).0
 
 pub loop-stop-preserved : goal.loop-stop-preserved
 loop-stop-preserved g c =
@@ -29,9 +29,9 @@ loop-stop-preserved g c =
       few = c.loop-stop.invariant.few;
       room = line.room;
       reads = subst (λ (r : Recording). ReadsOn c.args.conn c.in-Some.key c.args.piece.now c.args.recorder.now c.args.core.now c.in-Some-take_line.stop r c.take_line.new.self) (sym c.in_ok-answered.ensures)
-          (reads_more c.args.conn c.in-Some.key c.args.piece.now c.args.recorder.now c.args.core.now c.loop-stop.start c.in-Some-take_line.stop c.in-Some-take_line.answered.granted (listed c.in-Some-take_line.answered.steps) c.loop-stop.recorder c.loop-stop.core c.take_line.new.self
+          (reads_more c.args.conn c.in-Some.key c.args.piece.now c.args.recorder.now c.args.core.now c.loop-stop.start c.in-Some-take_line.stop c.in-Some-take_line.line.granted (steps_in c.in-Some-take_line.line) c.loop-stop.recorder c.loop-stop.core c.take_line.new.self
           line.onward line.is line.steps line.counted c.loop-stop.invariant.reads);
-      denied = λ d. c.loop-stop.invariant.denied (none_denied (c.in-Some-take_line.answered.granted ∷ []) c.loop-stop.core.denied (sym line.counted ∙ d)).0;
+      denied = λ d. c.loop-stop.invariant.denied (none_denied (c.in-Some-take_line.line.granted ∷ []) c.loop-stop.core.denied (sym line.counted ∙ d)).0;
     }
 
 pub returns-clause-course : goal.returns-clause-course

@@ -1,10 +1,15 @@
-use Rattle.std.proofs.Common.{◌≤◌, refl, sym, subst}
-use Rattle.srcp_core.proofs.Invariants.CoreStaysSound.{sound_set}
+use Rattle.std.proofs.Common.{◌≡◌, Some, refl, sym, ap, ◌∙◌, subst}
+use Rattle.std.specs.Option.{option_copied_mut}
+use Rattle.srcp_core.specs.Held.{Held, at}
+use Rattle.srcp_core.proofs.Invariants.PlacesCover.{IsMild}
+use Rattle.srcp_core.proofs.Invariants.CoreStaysSound.{sound_place}
 use Rattle.srcp_core.proofs.table.Core.choose.Goals as goal
 
-pub invariant_of-self : goal.invariant_of-self
-invariant_of-self g c = (
-  sound_set _ _ _ _ (λ p. record { session = refl; ended = λ h. h }) c.choose.ensures.slots c.self.invariant.0,
-  c.self.invariant.1,
-  subst (λ n. 64 ≤ n) (sym c.choose.ensures.capacity) c.self.invariant.2,
-)
+pub invariant_of-self-2 : goal.invariant_of-self-2
+invariant_of-self-2 g c =
+    let held : Held = record { buses = c.self.inside.layout.now; rows = g.R.Rows.state c.self.inside.rows; moment = c.self.inside.moment; last_id = c.self.inside.last_id; places = c.self.inside.connections.slots; denied = c.self.inside.denied } in
+    let there : at held c.args.conn ≡ Some c.in-Some.connection.now = sym c.get_mut.ensures.value ∙ ap option_copied_mut c.in-Some.is in (
+      sound_place c.args.conn held c.in-Some.connection.now c.choose.new.self there (subst (IsMild c.in-Some.connection.now) (sym c.choose.ensures) (record { session = refl; ended = λ h. h })) c.self.invariant.0,
+      c.self.invariant.1,
+      c.self.invariant.2,
+    )
