@@ -17,7 +17,7 @@ from contextlib import ExitStack, contextmanager
 from pathlib import Path
 from queue import Empty, Queue
 
-from serving import SECONDS, Client, free_port, served, wait_for
+from serving import SECONDS, Client, free_ports, served, wait_for
 
 TOP = Path(__file__).resolve().parent.parent
 STAND_INS = Path(__file__).resolve().parent / "stand_ins"
@@ -98,21 +98,32 @@ class Reader:
             if self.programs and (fault := self.finds(self.programs[-1], wanted, line.startswith("$"))):
                 return fault
             wanted = []
-            self.steps(line)
+            if fault := self.steps(line):
+                return fault
         return None
 
     def steps(self, line):
+        """Does what a line asks for. Why it cannot be done, or None."""
         if line.startswith("$ "):
             self.programs.append(Program(line[2:], self.folder, self.environment))
             for start, port in LISTENS.items():
-                if line.startswith(f"$ {start}"):
-                    wait_for(self.ports[port], self.programs[-1].process)
+                if line.startswith(f"$ {start}") and not self.finds_port(self.ports[port]):
+                    return f"nobody listens at {port}"
         elif line.startswith("> "):
             self.programs[-1].types(line[2:])
         elif line == "^C":
             program = self.programs.pop()
             program.signals(signal.SIGINT)
             program.process.wait(SECONDS)
+        return None
+
+    def finds_port(self, port):
+        """Whether somebody listens at the port, once the newest program runs."""
+        try:
+            wait_for(port, self.programs[-1].process)
+            return True
+        except RuntimeError:
+            return False
 
     def finds(self, program, wanted, is_last):
         """Why the program does not print these lines next, and all of them where it ends by itself, or None."""
@@ -148,7 +159,7 @@ class Reader:
 @contextmanager
 def reader_of_a_page(program):
     """One who has a copy of the repository with the program built, and a machine with other ports."""
-    ports = {"4303": free_port(), "5303": free_port()}
+    ports = dict(zip(("4303", "5303"), free_ports(2)))
     with tempfile.TemporaryDirectory() as folder, ExitStack() as stack:
         top = Path(folder)
         shutil.copytree(TOP / "examples", top / "examples")
@@ -226,5 +237,19 @@ def commands_of_the_protocol_page(program):
     return follow("docs/protocol.md", program)
 
 
+def clauses_of_the_proofs_page(_):
+    """Each name of the table of promises stands in the crate that it is said of."""
+    table = (TOP / "docs" / "proofs.md").read_text().partition("| Promise |")[2].partition("\n\n")[0]
+    rows = [line.split(" | ") for line in table.splitlines()[2:]]
+    for promise, where, clauses in rows:
+        names = set(re.findall(r"\w+", " ".join(re.findall(r"`([^`]*)`", where + clauses)))) - {"laws"}
+        crates = [TOP / "crates" / name for name in names if (TOP / "crates" / name).is_dir()]
+        files = [file for crate in crates for part in ("src", "specs") for file in (crate / part).rglob("*.*t*")]
+        words = set(re.findall(r"\w+", "".join(file.read_text() for file in files))) | {crate.name for crate in crates}
+        if missing := names - words:
+            return f"{promise}: no {sorted(missing)}"
+    return None if rows else "no promises"
+
+
 PAGE_CASES = (commands_of_the_readme, commands_of_the_protocol_page, choices_before_go, choices_in_a_session,
-              choices_that_cases_show)
+              choices_that_cases_show, clauses_of_the_proofs_page)
