@@ -21,9 +21,11 @@ from serving import SECONDS, Client, free_ports, served, wait_for
 
 TOP = Path(__file__).resolve().parent.parent
 STAND_INS = Path(__file__).resolve().parent / "stand_ins"
+# Programs that run until they are ended, and those of them that others then connect to.
 STAYS = ("./run serve", "nc ", "ssh ", "python3 examples/panel.py")
 LISTENS = {"./run serve": "4303", "ssh ": "5303"}
 BLOCK = re.compile(r"^```(\w*)\n(.*?)^```$", re.M | re.S)
+ENDED, SILENT = "(the end)", "(nothing more)"
 STAMP = re.compile(r"^\d{9,}\.\d{3} (?=\d{3} )")
 
 
@@ -51,7 +53,7 @@ class Program:
     def collect(self):
         for line in self.process.stdout:
             self.lines.put(line.decode("latin-1").rstrip("\n"))
-        self.lines.put(None)
+        self.lines.put(ENDED)
 
     def types(self, text):
         self.process.stdin.write(text.encode() + b"\n")
@@ -61,12 +63,11 @@ class Program:
         self.process.stdin.close()
 
     def line(self):
-        """The next line that is printed, its stamp aside, or None at the end or where none comes."""
+        """The next line that is printed, its stamp aside; ENDED once the program ended, SILENT if it prints none."""
         try:
-            line = self.lines.get(timeout=SECONDS)
+            return STAMP.sub("NOW ", self.lines.get(timeout=SECONDS))
         except Empty:
-            return None
-        return line if line is None else STAMP.sub("NOW ", line)
+            return SILENT
 
     def signals(self, number):
         try:
@@ -83,9 +84,7 @@ class Reader:
         self.programs = []
 
     def at_ports(self, text):
-        for named, port in self.ports.items():
-            text = text.replace(named, str(port))
-        return text
+        return re.sub("|".join(self.ports), lambda named: str(self.ports[named[0]]), text)
 
     def follows(self, block):
         """What of a block is not as the page says, or None."""
@@ -95,6 +94,8 @@ class Reader:
             if not is_step:
                 wanted.append(line)
                 continue
+            if wanted and not self.programs:
+                return f"no program runs that prints {wanted}"
             if self.programs and (fault := self.finds(self.programs[-1], wanted, line.startswith("$"))):
                 return fault
             wanted = []
@@ -131,14 +132,14 @@ class Reader:
         stays = program.command.startswith(STAYS)
         if is_last and not stays:
             program.ends_input()
-            wanted = [*wanted, None]
+            wanted = [*wanted, ENDED]
         for want in wanted:
             if want == "..":
                 may_skip = True
                 continue
-            want = want and STAMP.sub("NOW ", want)
+            want = STAMP.sub("NOW ", want)
             got = program.line()
-            while may_skip and got != want and got is not None:
+            while may_skip and got not in (want, ENDED, SILENT):
                 got = program.line()
             if got != want:
                 return f"`{program.command}` prints {got!r}, want {want!r}"
