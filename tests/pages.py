@@ -26,6 +26,7 @@ STAYS = ("./run serve", "nc ", "ssh ", "python3 examples/panel.py")
 LISTENS = {"./run serve": "4303", "ssh ": "5303"}
 BLOCK = re.compile(r"^```(\w*)\n(.*?)^```$", re.M | re.S)
 ENDED, SILENT = "(the end)", "(nothing more)"
+PAUSE = re.compile(r"-- \d+ rows$")  # what a panel prints after a pause, of which a busy machine may make more
 STAMP = re.compile(r"^\d{9,}\.\d{3} (?=\d{3} )")
 
 
@@ -139,7 +140,7 @@ class Reader:
                 continue
             want = STAMP.sub("NOW ", want)
             got = program.line()
-            while may_skip and got not in (want, ENDED, SILENT):
+            while got not in (want, ENDED, SILENT) and (may_skip or PAUSE.match(got)):
                 got = program.line()
             if got != want:
                 return f"`{program.command}` prints {got!r}, want {want!r}"
@@ -252,5 +253,29 @@ def clauses_of_the_proofs_page(_):
     return None if rows else "no promises"
 
 
+def contracts_that_the_proofs_page_quotes(_):
+    """Each contract that the page shows stands in the code as it is shown, lines parted as they may be."""
+    code = " ".join(" ".join(file.read_text().split()) for file in (TOP / "crates").glob("*/src/**/*.rt"))
+    quoted = [text for kind, text in BLOCK.findall((TOP / "docs" / "proofs.md").read_text()) if kind == "rust"]
+    return next((f"not in the code: {text}" for text in quoted if " ".join(text.split()) not in code), None)
+
+
+def anchors_of(page):
+    """The names by which links reach the headings of a page."""
+    headings = re.findall(r"^#+ (.*)$", page.read_text(), re.M)
+    return {re.sub(r"[^\w -]", "", heading.lower()).replace(" ", "-") for heading in headings}
+
+
+def links_between_pages(_):
+    """Each link of a page to a file of the repository reaches it, and its heading."""
+    for page in [TOP / "README.md", *(TOP / "docs").glob("*.md")]:
+        for path, anchor in re.findall(r"\]\((?!http)([^)#]*)#?([^)]*)\)", page.read_text()):
+            file = page.parent / path if path else page
+            if not file.exists() or anchor and anchor not in anchors_of(file):
+                return f"{page.name}: {path}#{anchor}"
+    return None
+
+
 PAGE_CASES = (commands_of_the_readme, commands_of_the_protocol_page, choices_before_go, choices_in_a_session,
-              choices_that_cases_show, clauses_of_the_proofs_page)
+              choices_that_cases_show, clauses_of_the_proofs_page, contracts_that_the_proofs_page_quotes,
+              links_between_pages)
