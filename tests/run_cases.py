@@ -1,6 +1,7 @@
 #!/usr/bin/env python3
 """run_cases.py PROGRAM [NAME ..]: runs the built program over every case of cases/, over the failures of its streams, over
-tables of inputs, over inputs that are cut or large, and serving; or over the cases that are named.
+tables of inputs, over inputs that are cut or large, serving, and over the commands of the pages; or over the cases that
+are named.
 
 A case is a folder: `args` (one word a line), `stdin`, or in `stdin.from` the path of a file to read in its place,
 `config.toml` where it needs one, `status`, and what is expected: `stdout` and `stderr` to the byte, or in `expect.json`
@@ -20,6 +21,8 @@ from pathlib import Path
 
 from clients import CLIENT_CASES
 from inputs import INPUT_CASES
+from pages import PAGE_CASES
+from run_script import RUN_SCRIPT_CASES
 from serving import SERVING_CASES
 from tables import TABLE_CASES
 
@@ -218,7 +221,8 @@ STREAM_CASES = (input_past_its_limit, input_at_its_limit, input_that_cannot_be_r
                 words_that_are_unknown, word_that_is_no_text, configuration_at_its_limit, configuration_past_its_limit,
                 script_past_its_limit, script_at_its_limit, script_that_cannot_be_read, run_that_cannot_be_written,
                 run_in_little_memory, full_bus_that_stalls_nobody)
-ALL_CASES = STREAM_CASES + TABLE_CASES + INPUT_CASES + SERVING_CASES + CLIENT_CASES
+ALL_CASES = (STREAM_CASES + TABLE_CASES + INPUT_CASES + SERVING_CASES + CLIENT_CASES + PAGE_CASES
+             + RUN_SCRIPT_CASES)
 
 
 def cases_by_name():

@@ -6,7 +6,7 @@ import subprocess
 import tempfile
 import time
 from collections import Counter
-from contextlib import contextmanager
+from contextlib import ExitStack, contextmanager
 from pathlib import Path
 
 LAYOUT = """port = {port}
@@ -21,17 +21,23 @@ WELCOME = b"srcp_server 1.0; SRCP 0.8.4; SRCPOTHER 0.8.3\n"
 SECONDS = 20
 
 
+def free_ports(count):
+    """So many ports that nobody listens at, each another."""
+    with ExitStack() as stack:
+        listeners = [stack.enter_context(socket.create_server(("127.0.0.1", 0))) for _ in range(count)]
+        return [listener.getsockname()[1] for listener in listeners]
+
+
 def free_port():
-    with socket.socket() as listener:
-        listener.bind(("127.0.0.1", 0))
-        return listener.getsockname()[1]
+    return free_ports(1)[0]
 
 
 class Client:
     """A connection to a server, with the lines that came of it."""
 
     def __init__(self, port, mode, receives=None):
-        """`receives` is how many bytes the socket is to keep that were not read, where the system is not to choose."""
+        """In the handshake still where the mode is None. `receives` is how many bytes the socket is to keep that were not
+        read, where the system is not to choose."""
         self.socket = socket.socket()
         self.socket.settimeout(SECONDS)
         if receives:
@@ -40,7 +46,8 @@ class Client:
         self.begun = b""
         self.lines = []
         assert self.line() == WELCOME
-        self.session = int(self.asks(f"SET CONNECTIONMODE SRCP {mode}", "GO").split()[-1])
+        if mode:
+            self.session = int(self.asks(f"SET CONNECTIONMODE SRCP {mode}", "GO").split()[-1])
 
     def line(self):
         while b"\n" not in self.begun:
@@ -174,6 +181,40 @@ def peers_that_harm_nobody(program):
     return None if len(told) < 100_000 else f"a panel that never reads was told all {len(told)} lines"
 
 
+def panel_that_overruns_though_it_reads(program):
+    """The end of a session with 255 locks is 256 changes, of which a panel is told all. With one lock more the panel is
+    closed, and it comes back by connecting again."""
+    with served(program) as (port, _):
+        throttle = Client(port, "COMMAND")
+        throttle.asks_many([f"INIT 1 GL {address} N 1 28 0" for address in range(1, 257)])
+        for locks in (255, 256):
+            holder, panel = Client(port, "COMMAND"), Client(port, "INFO")
+            panel.hears_until(b" 100 INFO 1 FB 8 0\n")
+            for address in range(1, locks + 1):
+                holder.asks(f"SET 1 LOCK GL {address} 0")
+                panel.hears_until(b" 100 INFO 1 LOCK GL %d 0 %d\n" % (address, holder.session))
+            holder.close()
+            if locks == 255:
+                panel.hears_until(b" 102 INFO 0 SESSION %d\n" % holder.session)
+            elif b" SESSION " in panel.hears_to_the_end():
+                return "257 changes do not overrun a panel"
+        listed = Client(port, "INFO").hears_until(b" 100 INFO 1 FB 8 0\n")
+    return "a lock outlives its session" if b" LOCK " in listed else None
+
+
+def client_that_half_closes(program):
+    """All whole lines that came before the end are answered; then the session is gone."""
+    with served(program) as (port, _):
+        throttle, leaver = Client(port, "COMMAND"), Client(port, "COMMAND")
+        leaver.socket.sendall(b"GET 1 FB 1\n" * 1000 + b"SET 1 POWER ON\nSET 1 POWER OFF")
+        leaver.socket.shutdown(socket.SHUT_WR)
+        told = leaver.hears_to_the_end()
+        left = throttle.asks(f"GET 0 SESSION {leaver.session}"), throttle.asks("GET 1 POWER")
+    got = told.count(b" 100 INFO 1 FB 1 0\n"), told.endswith(b" 200 OK\n"), left
+    want = 1000, True, ("416 ERROR no data", "100 INFO 1 POWER ON")
+    return None if got == want else f"got {got!r}, want {want!r}"
+
+
 def limit_memory(server, more):
     """Leaves a server so many bytes of address space more than it has."""
     pages = int(Path(f"/proc/{server.pid}/statm").read_text().split()[0])
@@ -238,5 +279,5 @@ def port_that_is_taken(program):
     return None if is_told else f"got {done!r}"
 
 
-SERVING_CASES = (panels_hold_the_registry, peer_65_is_turned_away, peers_that_harm_nobody, memory_that_runs_out,
-                 turns_are_counted, port_that_is_taken)
+SERVING_CASES = (panels_hold_the_registry, peer_65_is_turned_away, peers_that_harm_nobody, client_that_half_closes,
+                 panel_that_overruns_though_it_reads, memory_that_runs_out, turns_are_counted, port_that_is_taken)

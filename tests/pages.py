@@ -1,0 +1,281 @@
+"""The commands of the pages, run as they stand there: each prints what the page says, stamps aside.
+
+Every block ```console of a page is run, from the top of the page to its end, in a copy of the repository around the built
+program. In such a block `$` stands before a command, `>` before what is typed then, `^C` for Ctrl-C, and `..` for any
+lines. What else stands there is printed. A block without a command goes on with the program that runs still. Programs
+that tests cannot count on are stood in for by those of stand_ins/. `./test` is not run: it runs this.
+"""
+import os
+import re
+import shutil
+import signal
+import subprocess
+import sys
+import tempfile
+import threading
+from contextlib import ExitStack, contextmanager
+from pathlib import Path
+from queue import Empty, Queue
+
+from serving import SECONDS, Client, free_ports, served, wait_for
+
+TOP = Path(__file__).resolve().parent.parent
+STAND_INS = Path(__file__).resolve().parent / "stand_ins"
+# Programs that run until they are ended, and those of them that others then connect to.
+STAYS = ("./run serve", "nc ", "ssh ", "python3 examples/panel.py")
+LISTENS = {"./run serve": "4303", "ssh ": "5303"}
+BLOCK = re.compile(r"^```(\w*)\n(.*?)^```$", re.M | re.S)
+ENDED, SILENT = "(the end)", "(nothing more)"
+PAUSE = re.compile(r"-- \d+ rows$")  # what a panel prints after a pause, of which a busy machine may make more
+STAMP = re.compile(r"^\d{9,}\.\d{3} (?=\d{3} )")
+
+
+def console_blocks(page):
+    """The lines of each block that is to be run, and why the page is not one that can be run, or None."""
+    blocks = BLOCK.findall((TOP / page).read_text())
+    stray = [line for kind, text in blocks if kind != "console" for line in text.splitlines() if line.startswith("$ ")]
+    stray += re.findall(r"^    \$ .*", (TOP / page).read_text(), re.M)
+    fault = f"not run: {stray}" if stray else None if any(kind == "console" for kind, _ in blocks) else "nothing to run"
+    return [text.splitlines() for kind, text in blocks if kind == "console"], fault
+
+
+class Program:
+    """A program that was started by a command of a page."""
+
+    def __init__(self, command, folder, environment):
+        self.command = command
+        self.process = subprocess.Popen(
+            ["bash", "-c", command], cwd=folder, env=environment, stdin=subprocess.PIPE, stdout=subprocess.PIPE,
+            stderr=subprocess.STDOUT, start_new_session=True,
+            preexec_fn=lambda: signal.signal(signal.SIGINT, signal.SIG_DFL))
+        self.lines = Queue()
+        threading.Thread(target=self.collect, daemon=True).start()
+
+    def collect(self):
+        for line in self.process.stdout:
+            self.lines.put(line.decode("latin-1").rstrip("\n"))
+        self.lines.put(ENDED)
+
+    def types(self, text):
+        self.process.stdin.write(text.encode() + b"\n")
+        self.process.stdin.flush()
+
+    def ends_input(self):
+        self.process.stdin.close()
+
+    def line(self):
+        """The next line that is printed, its stamp aside; ENDED once the program ended, SILENT if it prints none."""
+        try:
+            return STAMP.sub("NOW ", self.lines.get(timeout=SECONDS))
+        except Empty:
+            return SILENT
+
+    def signals(self, number):
+        try:
+            os.killpg(self.process.pid, number)
+        except ProcessLookupError:
+            pass
+
+
+class Reader:
+    """One who goes through a page, and does what it says."""
+
+    def __init__(self, folder, environment, ports):
+        self.folder, self.environment, self.ports = folder, environment, ports
+        self.programs = []
+
+    def at_ports(self, text):
+        return re.sub("|".join(self.ports), lambda named: str(self.ports[named[0]]), text)
+
+    def follows(self, block):
+        """What of a block is not as the page says, or None."""
+        wanted = []
+        for line in [self.at_ports(line) for line in block] + ["$"]:
+            is_step = line == "$" or line == "^C" or line.startswith(("$ ", "> "))
+            if not is_step:
+                wanted.append(line)
+                continue
+            if wanted and not self.programs:
+                return f"no program runs that prints {wanted}"
+            if self.programs and (fault := self.finds(self.programs[-1], wanted, line.startswith("$"))):
+                return fault
+            wanted = []
+            if fault := self.steps(line):
+                return fault
+        return None
+
+    def steps(self, line):
+        """Does what a line asks for. Why it cannot be done, or None."""
+        if line.startswith("$ "):
+            self.programs.append(Program(line[2:], self.folder, self.environment))
+            for start, port in LISTENS.items():
+                if line.startswith(f"$ {start}") and not self.finds_port(self.ports[port]):
+                    return f"nobody listens at {port}"
+        elif line.startswith("> "):
+            self.programs[-1].types(line[2:])
+        elif line == "^C":
+            program = self.programs.pop()
+            program.signals(signal.SIGINT)
+            program.process.wait(SECONDS)
+        return None
+
+    def finds_port(self, port):
+        """Whether somebody listens at the port, once the newest program runs."""
+        try:
+            wait_for(port, self.programs[-1].process)
+            return True
+        except RuntimeError:
+            return False
+
+    def finds(self, program, wanted, is_last):
+        """Why the program does not print these lines next, and all of them where it ends by itself, or None."""
+        may_skip = False
+        stays = program.command.startswith(STAYS)
+        if is_last and not stays:
+            program.ends_input()
+            wanted = [*wanted, ENDED]
+        for want in wanted:
+            if want == "..":
+                may_skip = True
+                continue
+            want = STAMP.sub("NOW ", want)
+            got = program.line()
+            while got not in (want, ENDED, SILENT) and (may_skip or PAUSE.match(got)):
+                got = program.line()
+            if got != want:
+                return f"`{program.command}` prints {got!r}, want {want!r}"
+            may_skip = False
+        if is_last and not stays:
+            self.programs.pop()
+        return None
+
+    def leaves(self):
+        for program in self.programs:
+            program.signals(signal.SIGKILL)
+            program.process.wait()
+        service = Path(self.environment["ROOT"]) / "pid"
+        if service.exists():
+            os.kill(int(service.read_text()), signal.SIGKILL)
+
+
+@contextmanager
+def reader_of_a_page(program):
+    """One who has a copy of the repository with the program built, and a machine with other ports."""
+    ports = dict(zip(("4303", "5303"), free_ports(2)))
+    with tempfile.TemporaryDirectory() as folder, ExitStack() as stack:
+        top = Path(folder)
+        shutil.copytree(TOP / "examples", top / "examples")
+        shutil.copy(TOP / "run", top / "run")
+        built = top / "crates" / "srcp_server" / "out"
+        built.mkdir(parents=True)
+        (top / "crates.txt").write_text("")
+        shutil.copyfile(program, built / "srcp_server")
+        (built / "srcp_server").chmod(0o755)
+        for example in (top / "examples").iterdir():
+            if example.is_file():
+                example.write_text(example.read_text().replace("4303", str(ports["4303"])))
+        path = os.pathsep.join([str(STAND_INS), str(Path(sys.executable).parent), os.environ["PATH"]])
+        reader = Reader(top, os.environ | {"PATH": path, "ROOT": str(top / "root")}, ports)
+        stack.callback(reader.leaves)
+        yield reader
+
+
+def follow(page, program):
+    """What of a page is not as it says, or None."""
+    blocks, fault = console_blocks(page)
+    if fault:
+        return fault
+    with reader_of_a_page(program) as reader:
+        return next((fault for block in blocks if (fault := reader.follows(block))), None)
+
+
+def rows_of_tables(page, first):
+    """The rows of the tables of a page with that first heading: what is sent, line by line, and the last answer."""
+    tables = re.findall(rf"^\| {first} \|.*\n\|[-|]*\n((?:\|.*\n)*)", (TOP / page).read_text(), re.M)
+    rows = [line.split(" | ") for table in tables for line in table.splitlines()]
+    return [(re.findall(r"`([^`]*)`", row[0]), re.findall(r"`([^`]*)`", row[1])[0]) for row in rows]
+
+
+def unlike_the_table(rows, client_of):
+    """The first row whose last answer is another than the table says, or None where there are rows and none is."""
+    for sent, want in rows:
+        got = client_of().asks(*sent)
+        if not (got.startswith(want[:-2]) if want.endswith(" ..") else got == want):
+            return f"{sent} is answered {got!r}, want {want!r}"
+    return None if rows else "no rows"
+
+
+def choices_before_go(program):
+    rows = rows_of_tables("docs/protocol.md", "Sent before `GO`")
+    with served(program) as (port, _):
+        return unlike_the_table(rows, lambda: Client(port, None))
+
+
+def choices_in_a_session(program):
+    rows = rows_of_tables("docs/protocol.md", "Sent")
+    with reader_of_a_page(program) as reader:
+        if fault := reader.follows(["$ ./run serve --config examples/layout.toml"]):
+            return fault
+        first = Client(reader.ports["4303"], "COMMAND")
+        first.asks("INIT 1 GL 7 N 1 28 5", "SET 1 LOCK GL 7 0")
+        second = Client(reader.ports["4303"], "COMMAND")
+        return unlike_the_table(rows, lambda: second)
+
+
+def choices_that_cases_show(_):
+    """Each case that the page names is there, and runs with the others."""
+    named = re.findall(r"^\|.* \| `([a-z0-9-]+)` \|$", (TOP / "docs" / "protocol.md").read_text(), re.M)
+    functions = "".join(file.read_text() for file in (TOP / "tests").glob("*.py"))
+    missing = [name for name in named if not (TOP / "tests" / "cases" / name).is_dir()
+               and f"def {name.replace('-', '_')}(program)" not in functions]
+    return f"no such case: {missing}" if missing else None if named else "no case is named"
+
+
+def commands_of_the_readme(program):
+    return follow("README.md", program)
+
+
+def commands_of_the_protocol_page(program):
+    return follow("docs/protocol.md", program)
+
+
+def clauses_of_the_proofs_page(_):
+    """Each name of the table of promises stands in the crate that it is said of."""
+    table = (TOP / "docs" / "proofs.md").read_text().partition("| Promise |")[2].partition("\n\n")[0]
+    rows = [line.split(" | ") for line in table.splitlines()[2:]]
+    for promise, where, clauses in rows:
+        names = set(re.findall(r"\w+", " ".join(re.findall(r"`([^`]*)`", where + clauses)))) - {"laws"}
+        crates = [TOP / "crates" / name for name in names if (TOP / "crates" / name).is_dir()]
+        files = [file for crate in crates for part in ("src", "specs") for file in (crate / part).rglob("*.*t*")]
+        words = set(re.findall(r"\w+", "".join(file.read_text() for file in files))) | {crate.name for crate in crates}
+        if missing := names - words:
+            return f"{promise}: no {sorted(missing)}"
+    return None if rows else "no promises"
+
+
+def contracts_that_the_proofs_page_quotes(_):
+    """Each contract that the page shows stands in the code as it is shown, lines parted as they may be."""
+    code = " ".join(" ".join(file.read_text().split()) for file in (TOP / "crates").glob("*/src/**/*.rt"))
+    quoted = [text for kind, text in BLOCK.findall((TOP / "docs" / "proofs.md").read_text()) if kind == "rust"]
+    return next((f"not in the code: {text}" for text in quoted if " ".join(text.split()) not in code), None)
+
+
+def anchors_of(page):
+    """The names by which links reach the headings of a page."""
+    headings = re.findall(r"^#+ (.*)$", page.read_text(), re.M)
+    return {re.sub(r"[^\w -]", "", heading.lower()).replace(" ", "-") for heading in headings}
+
+
+def links_between_pages(_):
+    """Each link of a page to a file of the repository reaches it, and its heading."""
+    for page in [TOP / "README.md", *(TOP / "docs").glob("*.md")]:
+        for path, anchor in re.findall(r"\]\((?!http)([^)#]*)#?([^)]*)\)", page.read_text()):
+            file = page.parent / path if path else page
+            if not file.exists() or anchor and anchor not in anchors_of(file):
+                return f"{page.name}: {path}#{anchor}"
+    return None
+
+
+PAGE_CASES = (commands_of_the_readme, commands_of_the_protocol_page, choices_before_go, choices_in_a_session,
+              choices_that_cases_show, clauses_of_the_proofs_page, contracts_that_the_proofs_page_quotes,
+              links_between_pages)
