@@ -1,12 +1,12 @@
 -- What memory answers: each line and each order has its answer, and what a denied order does is nothing.
 use Rattle.std.proofs.Common.{◌≡◌, ℕ, suc, ◌+◌, min, Bool, true, false, List, [], ◌∷◌, ◌++◌, length, refl, ap, sym, ◌∙◌, arith}
 use Rattle.std.proofs.lemmas.List.Sums.{fold-append}
-use Rattle.std.specs.Prelude.{not, ◌||◌, if◌then◌else◌, IsTrue, Option, Some, None, Result, Ok, Err, IfOk}
+use Rattle.std.specs.Prelude.{not, ◌&&◌, ◌||◌, if◌then◌else◌, IsTrue, Option, Some, None, Result, Ok, Err, IfOk}
 use Rattle.std.specs.List.{AllByRecursion, fold}
 use Rattle.srcp_info.specs.declared.change.Code.{Code}
 use Rattle.srcp_info.specs.declared.change.Code.TheVariants.{C500}
 use Rattle.srcp_rules.specs.declared.command.Command.{Command}
-use Rattle.srcp_rules.specs.Effect.{Effect, effect as effect_of, refused}
+use Rattle.srcp_rules.specs.Effect.{Effect, effect as effect_of, adds_rows, refused}
 use Rattle.srcp_rules.specs.State.{State}
 use Rattle.srcp_core.specs.Connection.{Connection}
 use Rattle.srcp_core.specs.Course.{World, start, at_connection, open_connection, counted, ordered, new_marks, fed_to, answered, bytes_fault, or_refused, happens, course, replied, goes, greeted}
@@ -15,7 +15,7 @@ use Rattle.srcp_core.specs.Run.{HasPlainMoment, PlainMoments}
 use Rattle.srcp_core.specs.declared.event.Event.TheVariants as plain
 use Rattle.srcp_core.specs.declared.record.CoreFault.{CoreFault}
 use Rattle.srcp_text.specs.Marks.{Mark}
-use Rattle.srcp_core.specs.Under.{Order, Heard, greets, effect, wants_memory, Open, lines_under, under, all_under, first_of, giving, denied_by}
+use Rattle.srcp_core.specs.Under.{Order, Heard, greets, effect, wants_memory, is_accepted, Open, lines_under, under, all_under, first_of, giving, denied_by}
 use Rattle.srcp_core.specs.declared.event.Event.{Event as PlainEvent}
 use Rattle.srcp_rules.specs.declared.layout.Bus.{Bus}
 use Rattle.srcp_info.specs.declared.change.Reply.TheVariants.{Protocol, Mode as ModeReply, Refused}
@@ -28,6 +28,16 @@ effect_law P state session moment order e r =
     elim (order.granted || not (wants_memory state session moment order.command)) as (λ t. P (if t then effect_of state session moment order.command else refused C500)) [ true ↦ e | false ↦ r ]
 
 -- what holds of the command holds of the order
+-- a command that another rule refuses has that refusal
+pub refusals_stand : (state : State) (session moment : ℕ) (order : Order) (code : Code) → (effect_of state session moment order.command).reply ≡ Refused code → effect state session moment order ≡ effect_of state session moment order.command
+refusals_stand state session moment order code e = by order.granted (adds_rows state order.command) (is_accepted (effect_of state session moment order.command).reply) (ap is_accepted e)
+  where
+    by : (granted adds accepted : Bool) → accepted ≡ false → (if granted || not (adds && accepted) then effect_of state session moment order.command else refused C500) ≡ effect_of state session moment order.command
+    by true adds accepted h = refl
+    by false false accepted h = refl
+    by false true true h = cc
+    by false true false h = refl
+
 pub ordered_law : (buses : List Bus) (P : Command → Type 0) (granted : Bool) (command : Result Command Code) → IfOk command P → IfOk (ordered buses granted command) (λ order. P order.command)
 ordered_law buses P granted (Ok command) h = h
 ordered_law buses P granted (Err code) h = tt

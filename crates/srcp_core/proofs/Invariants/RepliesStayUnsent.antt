@@ -43,22 +43,6 @@ told_each_shorter (change ∷ changes) places key =
     let is = ap (λ (o : Option Place). length (unsent_of o)) (told_all_at change places key) in
     omega (arith, rest, one, is)
 
--- a session's beginning puts in nothing
-pub entered_shorter : (key id : ℕ) (mode : Mode) (places : List (Option Place)) → length (unsent_of (place_at (changed_places key (entered_place id (panel_for mode)) places) key)) ≤ length (unsent_of (place_at places key))
-entered_shorter key id mode places = by (place_at places key) refl
-  where
-    by : (o : Option Place) → place_at places key ≡ o → length (unsent_of (place_at (changed_in key (entered_place id (panel_for mode)) places o) key)) ≤ length (unsent_of o)
-    by None e = let h = ap (λ (o : Option Place). length (unsent_of o)) e in omega (arith, h)
-    by (Some p) e = let h = ap (λ (o : Option Place). length (unsent_of o)) (place_set_here places key p (Some (entered_place id (panel_for mode) p)) e) in omega (arith, h)
-
--- neither does the choice of a mode
-pub chosen_shorter : (key : ℕ) (mode : Mode) (places : List (Option Place)) → length (unsent_of (place_at (changed_places key (λ p. record p { mode = mode }) places) key)) ≤ length (unsent_of (place_at places key))
-chosen_shorter key mode places = by (place_at places key) refl
-  where
-    by : (o : Option Place) → place_at places key ≡ o → length (unsent_of (place_at (changed_in key (λ p. record p { mode = mode }) places o) key)) ≤ length (unsent_of o)
-    by None e = let h = ap (λ (o : Option Place). length (unsent_of o)) e in omega (arith, h)
-    by (Some p) e = let h = ap (λ (o : Option Place). length (unsent_of o)) (place_set_here places key p (Some (record p { mode = mode })) e) in omega (arith, h)
-
 pub longest_most : (reply : Reply) → longest reply ≤ 126
 longest_most Accepted = omega arith
 longest_most Protocol = omega arith
