@@ -11,6 +11,7 @@ pub mod EventsAgree
 pub mod OutgoingLinesAgree
 pub mod RoomsAgree
 pub mod RunsAnEvent
+pub mod RunsBytes
 pub mod RecordIsOfTheCourse
 pub mod RunPromises
 pub mod CallsFollowTheCourse

@@ -1,4 +1,4 @@
--- What is seen of a core: the registry, and a place for each connection.
+-- What is seen of a core: the registry, and a place for each connection. The key of a connection is the index of its place.
 -- It models the code: the calls of a core cite it, and what `run` promises and the laws of courses do not.
 use Rattle.std.specs.Prelude.{◌≡◌, ℕ, ◌<◌, ◌≤◌, Bool, true, false, List, Option, Some, None, is_some, count_by, slice_index_or}
 use Rattle.srcp_info.specs.WellFormed.{IsMoment}
@@ -21,16 +21,16 @@ pub record Place : Type 0 where
 pub record Held : Type 0 where
   pub buses : List Bus
   pub rows : State
-  pub moment : ℕ  -- the moment taken last
+  pub moment : ℕ  -- the moment that was told last
   pub last_id : ℕ  -- the session id that was given last
   pub places : List (Option Place)
   pub denied : ℕ  -- how many growths were refused
 
--- the connection at a place
+-- the place of that key
 abbrev pub place_at : List (Option Place) → ℕ → Option Place
 place_at places key = slice_index_or places key None
 
--- the connection at a place of the core
+-- the place of that key in the core
 abbrev pub at : Held → ℕ → Option Place
 at held key = place_at held.places key
 
@@ -59,7 +59,7 @@ pub record IsSound (held : Held) : Type 0 where
   pub whole : IsWhole held.buses held.rows
   pub sessions : AreSessions held.last_id held.rows held.places
 
--- the connection at the place has that session, which goes on
+-- the connection of that key has that session, which goes on
 pub record IsSessionAt (session key : ℕ) (held : Held) : Type 0 where
   pub place : Place
   pub here : at held key ≡ Some place

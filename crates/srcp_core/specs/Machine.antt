@@ -128,7 +128,7 @@ IsTellable Settled = ⊤
 abbrev pub asked_of : List Bus → Place → Mark → Asked
 asked_of buses p mark = if is_panel p.panel || p.ended then Dropped else (if p.session == 0 then Greets p.mode (greets mark) else Commands p.session (command_of buses mark))
 
--- what the reader found: the place after the line and what it asks for, or nothing
+-- what the reader found: the offset after the line and what it asks for, or nothing
 abbrev pub heard_from : List Bus → Place → Fed × Reading → Option (ℕ × Asked) × Place
 heard_from buses p (More, reading) = (None, record p { reader = reading })
 heard_from buses p (FoundLine stop, reading) = (Some (stop, asked_of buses p (Line reading.line)), record p { reader = reading })
@@ -139,17 +139,17 @@ abbrev pub heard : List Bus → List ℕ → ℕ → Place → Option (ℕ × As
 heard buses piece start p = heard_from buses p (feed_of p.reader piece start)
 
 -- what is known of the line that has begun
-abbrev pub begun_of : Option Place → Option (List ℕ)
-begun_of None = Some []
-begun_of (Some p) = p.reader.begun
+abbrev pub line_begun_of : Option Place → Option (List ℕ)
+line_begun_of None = Some []
+line_begun_of (Some p) = p.reader.begun
 
--- what is known of the line that has begun at a place of the core
-abbrev pub begun_at : ℕ → Held → Option (List ℕ)
-begun_at key held = begun_of (at held key)
+-- what is known of the line that has begun on the connection of that key
+abbrev pub line_begun_at : ℕ → Held → Option (List ℕ)
+line_begun_at key held = line_begun_of (at held key)
 
 -- ---- all places
 
--- the connection at the place is changed, where there is one
+-- the connection of that key is changed, where there is one
 abbrev pub changed_in : ℕ → (Place → Place) → List (Option Place) → Option Place → List (Option Place)
 changed_in key change places None = places
 changed_in key change places (Some p) = slice_set places key (Some (change p))
@@ -166,7 +166,7 @@ changed_at key change held = record held { places = changed_places key change he
 abbrev pub told_all : Change → List (Option Place) → List (Option Place)
 told_all change places = map (option_map (told_place change)) places
 
--- those before that place are told it
+-- those before that key are told it
 abbrev pub told_upto : Change → ℕ → List (Option Place) → List (Option Place)
 told_upto change zero places = places
 told_upto change (suc key) [] = []
@@ -185,7 +185,7 @@ abbrev pub unsent_of : Option Place → List ℕ
 unsent_of None = []
 unsent_of (Some place) = place.unsent
 
--- the bytes to be sent of a place of the core
+-- the bytes to be sent of the connection of that key
 abbrev pub unsent_at : ℕ → Held → List ℕ
 unsent_at key held = unsent_of (at held key)
 
@@ -204,14 +204,14 @@ abbrev pub denied_line : ℕ → Held → Held
 denied_line key held = replied key (Refused C500) (one_denied held)
 
 -- a session begins under the id: its row is told to all, and then it is one of them
-abbrev pub begun : ℕ → ℕ → Mode → Held → Held
-begun key id mode held = changed_at key (entered_place id (panel_for mode)) (carried (began id held.moment mode ∷ []) (record held { last_id = id }))
+abbrev pub session_begun : ℕ → ℕ → Mode → Held → Held
+session_begun key id mode held = changed_at key (entered_place id (panel_for mode)) (carried (began id held.moment mode ∷ []) (record held { last_id = id }))
 
 -- GO, by whether memory was given to it
 abbrev pub goes : Bool → ℕ → Mode → Held → Held
 goes granted key mode held =
     if nat_lt held.last_id 4294967295
-    then (if granted then replied key (Go (held.last_id + 1)) (begun key (held.last_id + 1) mode held) else denied_line key held)
+    then (if granted then replied key (Go (held.last_id + 1)) (session_begun key (held.last_id + 1) mode held) else denied_line key held)
     else replied key (Refused C500) held
 
 -- a line before the session, by whether memory was given to it
@@ -291,7 +291,7 @@ abbrev pub opening_held : List Bus → (moment last_id : ℕ) → Held
 opening_held buses moment last_id =
     record { buses = buses; rows = opening buses moment; moment = moment; last_id = last_id; places = []; denied = 0 }
 
--- there was a place free, and the connection has it
+-- there was room for one more, and it has the key
 pub record IsAdmitted (key : ℕ) (old new : Held) : Type 0 where
   pub room : open_count old < 64
   pub was_free : at old key ≡ None
@@ -314,7 +314,7 @@ bytes_fault_from piece (Some p) =
     else (if not (is_nil p.unsent) then Some Busy
     else (if nat_lt 256 (length piece) then Some PieceTooLong else None))
 
--- the same at a place of the core
+-- the same of the connection of that key
 abbrev pub bytes_fault : ℕ → List ℕ → Held → Option CoreFault
 bytes_fault key piece held = bytes_fault_from piece (at held key)
 
@@ -325,7 +325,7 @@ pub record IsAsked (key : ℕ) (asked : Asked) (held : Held) : Type 0 where
   pub here : at held key ≡ Some place
   pub is : asked ≡ asked_of held.buses place mark
 
--- a piece is read on from there: the place after the next line with what that asks for, or nothing where none ends
+-- a piece is read on from that offset: the offset after the next line with what that asks for, or nothing where none ends
 abbrev pub heard_in : ℕ → List ℕ → ℕ → Held → Option Place → Option (ℕ × Asked) × Held
 heard_in key piece start held None = (None, held)
 heard_in key piece start held (Some p) =
@@ -335,10 +335,10 @@ heard_in key piece start held (Some p) =
 abbrev pub heard_at : ℕ → List ℕ → ℕ → Held → Option (ℕ × Asked) × Held
 heard_at key piece start held = heard_in key piece start held (at held key)
 
--- the next line is answered, by whether memory was given to it, and the place after it is where to go on; nothing where none ends
-abbrev pub line_taken : ℕ → Bool → ℕ × Held → Option (ℕ × Asked) × Held → ℕ × Held
-line_taken key granted before (None, held) = before
-line_taken key granted before (Some (stop, asked), held) = (stop, answered granted key asked held)
+-- the next line is answered, by whether memory was given to it, and the offset after it is where to go on; nothing where none ends
+abbrev pub line_answered : ℕ → Bool → ℕ × Held → Option (ℕ × Asked) × Held → ℕ × Held
+line_answered key granted before (None, held) = before
+line_answered key granted before (Some (stop, asked), held) = (stop, answered granted key asked held)
 
 -- the steps that the answer is
 abbrev pub steps_of_line : Bool → Option (ℕ × Asked) × Held → List Step
@@ -346,21 +346,21 @@ steps_of_line granted (None, held) = []
 steps_of_line granted (Some (stop, asked), held) = steps_answered granted asked held
 
 -- lines of the piece are answered in turn, each by whether memory was given to it
-abbrev pub lines_taken : ℕ → List ℕ → List Bool → Held → ℕ × Held
-lines_taken key piece grants held = fold (λ before granted. line_taken key granted before (heard_at key piece before.0 before.1)) (0, held) grants
+abbrev pub lines_answered : ℕ → List ℕ → List Bool → Held → ℕ × Held
+lines_answered key piece grants held = fold (λ before granted. line_answered key granted before (heard_at key piece before.0 before.1)) (0, held) grants
 
--- the lines up to a place of the piece are answered: how many bytes are unsent then, and that no line has begun
+-- the lines up to an offset in the piece are answered: how many bytes are unsent then, and that no line has begun
 pub record HasRoom (key : ℕ) (piece : List ℕ) (start : ℕ) (held : Held) : Type 0 where
   pub far : start ≤ length piece
   pub idle : start ≡ 0 → length (unsent_at key held) ≡ 0
   pub room : length (unsent_at key held) ≤ 62 + 64 * start
-  pub begun : 0 < start → begun_at key held ≡ Some []
+  pub begun : 0 < start → line_begun_at key held ≡ Some []
 
 -- the next line of the piece is answered
-pub record IsLineTaken (key : ℕ) (piece : List ℕ) (start stop : ℕ) (did : LineRecord) (old new : Held) : Type 0 where
+pub record IsLineAnswered (key : ℕ) (piece : List ℕ) (start stop : ℕ) (did : LineRecord) (old new : Held) : Type 0 where
   pub onward : start < stop
   pub room : HasRoom key piece stop new
-  pub is : (stop, new) ≡ line_taken key did.granted (start, old) (heard_at key piece start old)
+  pub is : (stop, new) ≡ line_answered key did.granted (start, old) (heard_at key piece start old)
   pub steps : steps_in did ≡ steps_of_line did.granted (heard_at key piece start old)
   pub counted : new.denied ≡ denied_by old.denied (did.granted ∷ [])
 
@@ -368,21 +368,21 @@ pub record IsLineTaken (key : ℕ) (piece : List ℕ) (start stop : ℕ) (did : 
 abbrev pub CountsEach : ℕ → List ℕ → ℕ × Held → List Bool → Type 0
 CountsEach key piece before [] = ⊤
 CountsEach key piece before (granted ∷ grants) =
-    ((line_taken key granted before (heard_at key piece before.0 before.1)).1.denied ≡ denied_by before.1.denied (granted ∷ []))
-    × CountsEach key piece (line_taken key granted before (heard_at key piece before.0 before.1)) grants
+    ((line_answered key granted before (heard_at key piece before.0 before.1)).1.denied ≡ denied_by before.1.denied (granted ∷ []))
+    × CountsEach key piece (line_answered key granted before (heard_at key piece before.0 before.1)) grants
 
 -- each line that ends in the piece is answered in turn, by whether memory was given to it, and then the front of a line is left
 pub record IsReceived (key : ℕ) (piece : List ℕ) (old new : Held) : Type 0 where
   pub grants : List Bool
   pub counted : CountsEach key piece (0, old) grants
-  pub rest : (None, new) ≡ heard_at key piece (lines_taken key piece grants old).0 (lines_taken key piece grants old).1
+  pub rest : (None, new) ≡ heard_at key piece (lines_answered key piece grants old).0 (lines_answered key piece grants old).1
 
 -- it overran, or it ended and all replies are taken
 abbrev pub is_closing_from : Option Place → Bool
 is_closing_from None = false
 is_closing_from (Some p) = has_overrun p.panel || (p.ended && is_nil p.unsent)
 
--- the same at a place of the core
+-- the same of the connection of that key
 abbrev pub is_closing : ℕ → Held → Bool
 is_closing key held = is_closing_from (at held key)
 
@@ -391,7 +391,7 @@ abbrev pub live_session_of : Option Place → Option ℕ
 live_session_of None = None
 live_session_of (Some p) = if (p.session == 0) || p.ended then None else Some p.session
 
--- the same at a place of the core
+-- the same of the connection of that key
 abbrev pub live_session : ℕ → Held → Option ℕ
 live_session key held = live_session_of (at held key)
 
@@ -400,11 +400,11 @@ abbrev pub finish_from : Option Place → Finish
 finish_from None = Shut
 finish_from (Some p) = if has_overrun p.panel then Overrun else (if p.ended && is_nil p.unsent then Finishes else Live)
 
--- the same at a place of the core
+-- the same of the connection of that key
 abbrev pub finish_at : ℕ → Held → Finish
 finish_at key held = finish_from (at held key)
 
--- the next line is put in at that place
+-- the next line is put in for the connection of that key
 abbrev pub let_out : ℕ → Held → Held
 let_out key held = changed_at key (filled (shown_rows held.rows)) held
 
@@ -413,7 +413,7 @@ abbrev pub item_of : List Shown → Option Place → Option Next
 item_of rows None = None
 item_of rows (Some p) = item_from rows p.unsent (feed_in p.panel)
 
--- what is put in then at a place of the core
+-- what is put in then for the connection of that key
 abbrev pub item_at : ℕ → Held → Option Next
 item_at key held = item_of (shown_rows held.rows) (at held key)
 
@@ -426,7 +426,7 @@ abbrev pub hung_up_from : ℕ → Held → Option Place → Held
 hung_up_from key held None = held
 hung_up_from key held (Some p) = if (p.session == 0) || p.ended then freed_place key held else freed_of p.session (freed_place key held)
 
--- the connection at a place of the core is hung up
+-- the connection of that key is hung up
 abbrev pub hung_up : ℕ → Held → Held
 hung_up key held = hung_up_from key held (at held key)
 

@@ -17,9 +17,9 @@ use Rattle.srcp_core.specs.declared.record.ConnRecord.{ConnRecord}
 use Rattle.srcp_core.specs.declared.record.Record.{Record}
 
 -- what is told of the connection of that number, the first being 1
-abbrev pub told_at : ℕ → List ConnRecord → Option ConnRecord
-told_at zero tolds = None
-told_at (suc n) tolds = slice_get tolds n
+abbrev pub record_at : ℕ → List ConnRecord → Option ConnRecord
+record_at zero tolds = None
+record_at (suc n) tolds = slice_get tolds n
 
 module _ (buses : List Bus) where
   -- what is told of an information session is what came of a connection of the course, however its writes were cut:
@@ -30,7 +30,7 @@ module _ (buses : List Bus) where
   -- has passed;
   -- rows are listed in the order of their keys and as the registry held them, and what was sent after the replies are
   -- whole lines and a line that has begun
-  pub record IsToldSession (events : List Event) (number : ℕ) (told : ConnRecord) : Type 0 where
+  pub record IsRecordedSession (events : List Event) (number : ℕ) (told : ConnRecord) : Type 0 where
     pub conn : Connection
     pub session : IsSession buses events number conn
     pub is : told ≡ recorded (history buses (course buses events)) conn
@@ -49,15 +49,15 @@ module _ (buses : List Bus) where
     pub lines : SendsLines buses conn
 
   -- so it is of each
-  abbrev pub ToldSessions : List Event → Record → Type 0
-  ToldSessions events told = (number : ℕ) (one : ConnRecord) → told_at number told.connections ≡ Some one → one.info ≡ true
-      → IsToldSession events number one
+  abbrev pub RecordedSessions : List Event → Record → Type 0
+  RecordedSessions events told = (number : ℕ) (one : ConnRecord) → record_at number told.connections ≡ Some one → one.info ≡ true
+      → IsRecordedSession events number one
 
   -- ---- handshakes and command sessions
 
   -- what is told of a connection that is no information session: it was given no line of one and was sent a front of its replies,
   -- and exactly its replies right after it had room for as many bytes as were unsent
-  pub record IsToldReplies (events : List Event) (number : ℕ) (told : ConnRecord) : Type 0 where
+  pub record IsRecordedReplies (events : List Event) (number : ℕ) (told : ConnRecord) : Type 0 where
     pub conn : Connection
     pub there : numbered number (course buses events).connections ≡ Some conn
     pub is : told ≡ recorded (history buses (course buses events)) conn
@@ -68,9 +68,9 @@ module _ (buses : List Bus) where
         → length (unsent early) ≤ bytes → told.sent ≡ conn.out
 
   -- so it is of each
-  abbrev pub ToldReplies : List Event → Record → Type 0
-  ToldReplies events told = (number : ℕ) (one : ConnRecord) → told_at number told.connections ≡ Some one → one.info ≡ false
-      → IsToldReplies events number one
+  abbrev pub RecordedReplies : List Event → Record → Type 0
+  RecordedReplies events told = (number : ℕ) (one : ConnRecord) → record_at number told.connections ≡ Some one → one.info ≡ false
+      → IsRecordedReplies events number one
 
   -- ---- rooms and overruns
 
@@ -78,7 +78,7 @@ module _ (buses : List Bus) where
   -- front of what it was owed, and settled it where it was for all there is; rooms add up, however they are cut; an
   -- information session overruns exactly where a change finds 256 waiting; and nothing was sent after an overrun or a
   -- shut
-  pub record IsToldRooms (events : List Event) (number : ℕ) (told : ConnRecord) : Type 0 where
+  pub record IsRecordedRooms (events : List Event) (number : ℕ) (told : ConnRecord) : Type 0 where
     pub conn : Connection
     pub there : numbered number (course buses events).connections ≡ Some conn
     pub is : told ≡ recorded (history buses (course buses events)) conn
@@ -98,15 +98,15 @@ module _ (buses : List Bus) where
         → (told.items ≡ early.items) × (told.sent ≡ sent early)
 
   -- so it is of each
-  abbrev pub ToldRooms : List Event → Record → Type 0
-  ToldRooms events told = (number : ℕ) (one : ConnRecord) → told_at number told.connections ≡ Some one
-      → IsToldRooms events number one
+  abbrev pub RecordedRooms : List Event → Record → Type 0
+  RecordedRooms events told = (number : ℕ) (one : ConnRecord) → record_at number told.connections ≡ Some one
+      → IsRecordedRooms events number one
 
   -- ---- the registry
 
   -- the rows that are told are a whole registry, as it was after each step, and no step gave a device that was there a
   -- key that it had not
-  pub record IsToldRegistry (events : List Event) (told : Record) : Type 0 where
+  pub record IsRecordedRegistry (events : List Event) (told : Record) : Type 0 where
     pub rows_whole : IsWhole buses told.rows
     pub world : IsWholeWorld buses (course buses events)
     pub keys : KeepsKeys buses (course buses events)
@@ -123,7 +123,7 @@ pub record IsPromised (buses : List Bus) (events : List PlainEvent) (told : Reco
   pub asked : told.denied ≡ denied_over buses 0 start (all_under grants events)
   pub given : told.denied ≡ 0 → AllByRecursion (AllByRecursion IsTrue) grants
   pub is : IsRecordOf buses (all_under grants events) told
-  pub sessions : ToldSessions buses (all_under grants events) told
-  pub replies : ToldReplies buses (all_under grants events) told
-  pub rooms : ToldRooms buses (all_under grants events) told
-  pub registry : IsToldRegistry buses (all_under grants events) told
+  pub sessions : RecordedSessions buses (all_under grants events) told
+  pub replies : RecordedReplies buses (all_under grants events) told
+  pub rooms : RecordedRooms buses (all_under grants events) told
+  pub registry : IsRecordedRegistry buses (all_under grants events) told

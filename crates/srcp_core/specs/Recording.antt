@@ -17,12 +17,12 @@ use Rattle.srcp_core.specs.declared.record.Step.TheVariants.{Obeyed, Began, Mome
 
 -- what was told so far
 pub record Recording : Type 0 where
-  pub keys : List (Option ℕ)  -- the place of each connection, while it is open
+  pub keys : List (Option ℕ)  -- the key of each connection, while it is open
   pub steps : List Step
   pub connections : List ConnRecord
   pub refused : List Refusal
 
--- the place of the connection of that number, the first being 1
+-- the key of the connection of that number, the first being 1
 abbrev pub key_of : ℕ → List (Option ℕ) → Option ℕ
 key_of zero keys = None
 key_of (suc conn) keys = slice_index_or keys conn None
@@ -33,8 +33,8 @@ without_key zero keys = keys
 without_key (suc n) keys = slice_set keys n None
 
 -- what is told of a connection before the end
-abbrev pub told_of : Connection → ConnRecord
-told_of conn = record { session = conn.session; info = conn.info; go_step = conn.go_step; sent = sent conn; items = conn.items; finish = if is_open conn then Live else Shut }
+abbrev pub record_of : Connection → ConnRecord
+record_of conn = record { session = conn.session; info = conn.info; go_step = conn.go_step; sent = sent conn; items = conn.items; finish = if is_open conn then Live else Shut }
 
 -- what is told of the connection of that number is changed, where there is one
 abbrev pub changed_in : ℕ → (ConnRecord → ConnRecord) → List ConnRecord → Option ConnRecord → List ConnRecord
@@ -51,10 +51,10 @@ abbrev pub changed : ℕ → (ConnRecord → ConnRecord) → Recording → Recor
 changed n change r = record r { connections = changed_record n change r.connections }
 
 -- nothing yet
-abbrev pub nothing_told : Recording
-nothing_told = record { keys = []; steps = []; connections = []; refused = [] }
+abbrev pub nothing_recorded : Recording
+nothing_recorded = record { keys = []; steps = []; connections = []; refused = [] }
 
--- a connection was opened at a place
+-- a connection was opened under a key
 abbrev pub opened : ℕ → Recording → Recording
 opened key r = record r { keys = r.keys ++ Some key ∷ []; connections = r.connections ++ record { session = 0; info = false; go_step = 0; sent = []; items = []; finish = Live } ∷ [] }
 

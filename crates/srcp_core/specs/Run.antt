@@ -7,7 +7,7 @@ use Rattle.srcp_rules.specs.Layout.{IsLayout}
 use Rattle.srcp_core.specs.Course.{World, start, counted, fault, accepted, course, denied_in, denied_over}
 use Rattle.srcp_core.specs.Held.{Held}
 use Rattle.srcp_core.specs.Machine.{let_out, item_at, unsent_at, changed_at, without_sent}
-use Rattle.srcp_core.specs.Recording.{Recording, key_of, without_key, told_of, gave, took}
+use Rattle.srcp_core.specs.Recording.{Recording, key_of, without_key, record_of, gave, took}
 use Rattle.srcp_core.specs.Laws.{HasMoment, IsRecordOf}
 use Rattle.srcp_core.specs.Stands.{StandsFor}
 use Rattle.srcp_core.specs.declared.record.Record.{Record}
@@ -31,7 +31,7 @@ taking n key most held r = took n (take (count_at key most held) (unsent_at key 
 pub record Tells (r : Recording) (w : World) : Type 0 where
   pub steps : r.steps ≡ map step_told w.steps
   pub refused : r.refused ≡ w.refused
-  pub connections : r.connections ≡ map told_of w.connections
+  pub connections : r.connections ≡ map record_of w.connections
 
 module _ (buses : List Bus) where
   -- the core stands for the course, under the keys that the recording has, and the recording tells of it
@@ -75,7 +75,7 @@ LeadsTo event old new =
     (buses : List Bus) (events : List Event) (keys : List (Option ℕ)) → IsLayout buses
     → StandsFor buses keys old (course buses events) → StandsFor buses keys new (course buses (events ++ event ∷ []))
 
--- the same of a call of the connection at a place, which may leave that free
+-- the same of a call for the connection of a key, which may leave that free
 abbrev pub LeadsAt : ℕ → (ℕ → Event) → Held → Held → Type 0
 LeadsAt key event old new =
     (buses : List Bus) (events : List Event) (keys : List (Option ℕ)) (n : ℕ) → IsLayout buses
@@ -89,14 +89,14 @@ pub record LeadsOn (key : ℕ) (piece : List ℕ) (old new : Held) : Type 0 wher
   pub given : GivesAll grants new
   pub leads : LeadsAt key (λ n. Bytes n (record { bytes = piece; grants = grants })) old new
 
--- the same of a hang-up, which leaves the place free
+-- the same of a hang-up, which leaves the key free
 abbrev pub LeadsToFree : ℕ → Held → Held → Type 0
 LeadsToFree key old new =
     (buses : List Bus) (events : List Event) (keys : List (Option ℕ)) (n : ℕ) → IsLayout buses
     → key_of n keys ≡ Some key → StandsFor buses keys old (course buses events)
     → StandsFor buses (without_key n keys) new (course buses (events ++ Shut n ∷ []))
 
--- and of one that opens a connection at a place
+-- and of one that opens a connection under a key
 abbrev pub LeadsToOpen : ℕ → Held → Held → Type 0
 LeadsToOpen key old new =
     (buses : List Bus) (events : List Event) (keys : List (Option ℕ)) → IsLayout buses

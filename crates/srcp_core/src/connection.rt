@@ -176,7 +176,7 @@ impl Connection {
         }
     }
 
-    /// What the next line of a piece asks for, from `start` on, and the place after it.
+    /// Reads a piece on from `start`: the offset after its next line, and what that asks for.
     pub(crate) fn hear(
         &mut self,
         piece: &[u8],

@@ -4,7 +4,7 @@ ghost use Rattle.std.specs.List.{AllByRecursion};
 ghost use Rattle.srcp_info.specs.WellFormed.{IsWellFormedShown};
 ghost use Rattle.srcp_core.specs.Course.{is_info};
 ghost use Rattle.srcp_core.specs.Machine.{steps_in};
-ghost use Rattle.srcp_core.specs.Recording.{key_of, nothing_told, opened, shut, began, noted, gave, took, with_item, without_key, changed_record, finished};
+ghost use Rattle.srcp_core.specs.Recording.{key_of, nothing_recorded, opened, shut, began, noted, gave, took, with_item, without_key, changed_record, finished};
 
 use crate::entries::Entries;
 use crate::line::LineRecord;
@@ -20,7 +20,7 @@ use std::marker::Model;
 #[derive(Drop)]
 pub(crate) struct Recorder {
     alloc: Global,
-    // The place of each connection, while it is open.
+    // The key of each connection, while it is open.
     keys: Vec<Option<usize>>,
     steps: Vec<Step>,
     connections: Vec<ConnRecord>,
@@ -38,7 +38,7 @@ impl Model for Recorder {
 impl Recorder {
     /// Nothing yet.
     pub(crate) fn new(alloc: Global) -> Recorder
-        ensures { result ≡ nothing_told }
+        ensures { result ≡ nothing_recorded }
     {
         Recorder {
             alloc,
@@ -49,7 +49,7 @@ impl Recorder {
         }
     }
 
-    /// The place of a connection, while it is open.
+    /// The key of a connection, while it is open.
     pub(crate) fn key(&self, conn: usize) -> Option<usize>
         ensures { result ≡ key_of conn self.now.keys }
     {
@@ -57,7 +57,7 @@ impl Recorder {
         *self.keys.get(index)?
     }
 
-    /// A connection was opened at a place.
+    /// A connection was opened under a key.
     pub(crate) fn opened(&mut self, key: usize) -> Result<(), Memory>
         ensures { OnOk result (self.new ≡ opened key self.old) }
     {
@@ -179,7 +179,7 @@ fn finish_all<R: Rows>(
     }
 }
 
-/// The connection of the number has no place any more.
+/// The connection of the number has no key any more.
 fn free(keys: &mut Vec<Option<usize>>, conn: usize)
     ensures { keys.new.items ≡ without_key conn keys.old.items }
 {

@@ -133,7 +133,7 @@ fn bytes<R: Rows>(
         return Ok(Some(fault));
     }
     let mut start = 0;
-    while let Some((stop, line)) = core.take_line(key, piece, start) {
+    while let Some((stop, line)) = core.answer_line(key, piece, start) {
         recorder.answered(conn, &line)?;
         start = stop;
     }

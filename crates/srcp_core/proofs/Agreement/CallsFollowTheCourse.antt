@@ -8,7 +8,7 @@ use Rattle.srcp_core.specs.declared.record.Step.TheVariants as told
 use Rattle.srcp_core.specs.Course.{World, counted, fault, absent_fault, accepted, course}
 use Rattle.srcp_core.specs.Held.{Place, Held, at, open_count}
 use Rattle.srcp_core.specs.Machine.{IsAdmitted, IsNotAdmitted, opening_held, one_denied, advanced, hung_up, let_out, unsent_at, changed_at, changed_in, without_sent, live_session}
-use Rattle.srcp_core.specs.Recording.{Recording, nothing_told, key_of, told_of, opened, stepped, shut}
+use Rattle.srcp_core.specs.Recording.{Recording, nothing_recorded, key_of, record_of, opened, stepped, shut}
 use Rattle.srcp_core.specs.Run.{Runs, count_at, taken_at, taking, LeadsTo, LeadsAt, LeadsToFree, LeadsToOpen}
 use Rattle.srcp_core.specs.Stands.{StandsFor}
 use Rattle.srcp_core.specs.declared.record.CoreFault.{CoreFault}
@@ -23,7 +23,7 @@ use Rattle.srcp_core.proofs.Agreement.RoomsAgree.{filled_kept, taken_kept, Kept}
 
 -- what a run would have told of the course
 abbrev pub telling : List (Option ℕ) → World → Recording
-telling keys w = record { keys = keys; steps = map step_told w.steps; connections = map told_of w.connections; refused = w.refused }
+telling keys w = record { keys = keys; steps = map step_told w.steps; connections = map record_of w.connections; refused = w.refused }
 
 pub runs_telling : (buses : List Bus) (keys : List (Option ℕ)) (held : Held) (w : World) → StandsFor buses keys held w → Runs buses (telling keys w) held w
 runs_telling buses keys held w s = record { stands = s; tells = record { steps = refl; refused = refl; connections = refl } }
@@ -42,7 +42,7 @@ open_leads key old new a buses events keys layout s =
 
 -- before all events
 pub first_stands : (buses : List Bus) (held : Held) → held ≡ opening_held buses 0 0 → StandsFor buses [] held (course buses [])
-first_stands buses held first = (runs_start buses nothing_told held refl first).stands
+first_stands buses held first = (runs_start buses nothing_recorded held refl first).stands
 
 full_leads : (old new : Held) → open_count old ≡ 64 → new ≡ old → LeadsTo (Open false) old new
 full_leads old new full same buses events keys layout s =

@@ -22,7 +22,7 @@ use Rattle.srcp_core.specs.Connection.{Connection, is_open, given, untold}
 use Rattle.srcp_core.specs.Course.{World, numbered, at_connection, did, is_info, state, history, command_of, ordered, replied as course_replied, entered, goes as course_goes, greeted as course_greeted, ended as course_ended, obeyed as course_obeyed, commanded as course_commanded, answered_as, answered as course_answered, open_connection}
 use Rattle.srcp_core.specs.Handshake.{Greeting, Speaks, Chooses, Goes, Refuses, greets as greets_of}
 use Rattle.srcp_core.specs.Held.{Place, Held, at}
-use Rattle.srcp_core.specs.Machine.{with_unsent, entered_place, carried, changed_at, replied, begun, goes, greeted, freed_of, finished, obeyed, one_denied, denied_line, commanded, asked_of, answered, is_panel, panel_for}
+use Rattle.srcp_core.specs.Machine.{with_unsent, entered_place, carried, changed_at, replied, session_begun, goes, greeted, freed_of, finished, obeyed, one_denied, denied_line, commanded, asked_of, answered, is_panel, panel_for}
 use Rattle.srcp_core.specs.Recording.{key_of}
 use Rattle.srcp_core.specs.Stands.{StandsBy, place_of}
 use Rattle.srcp_core.specs.declared.line.Asked.{Asked}
@@ -113,19 +113,19 @@ module _ (buses : List Bus) (order : IsRisingBy key_at (shown_rows (opening buse
   stands_timed held w s = record { layout = s.layout; rows = s.rows; moment = refl; last_id = refl; count = s.count; long = s.long; opens = s.opens; closed = s.closed; apart = s.apart; owned = s.owned }
 
   stands_begun : (held : Held) (w : World) (conn : Connection) (id : ℕ) → IsFine buses order w → StandsBy buses read keys held w → numbered n w.connections ≡ Some conn → conn.shut ≡ None → conn.info ≡ false
-      → StandsBy buses read keys (replied key (Go id) (begun key id conn.mode held)) (course_replied n (Go id) (entered buses n id (did (Began id held.moment conn.mode) (record (timed held w) { last_id = id }))))
+      → StandsBy buses read keys (replied key (Go id) (session_begun key id conn.mode held)) (course_replied n (Go id) (entered buses n id (did (Began id held.moment conn.mode) (record (timed held w) { last_id = id }))))
   stands_begun held w conn id a s there shut plain =
       let f = fine_of w a n conn there in
       let p = f.plain plain in
       let w2 = did (Began id held.moment conn.mode) (record (timed held w) { last_id = id }) in
       let d : StandsBy buses read keys (carried (updates held) (record held { last_id = id })) w2 = stands_did buses read keys (record held { last_id = id }) (record (timed held w) { last_id = id }) (Began id held.moment conn.mode) (fine_of w a) (stands_last held (timed held w) id (stands_timed held w s)) in
-      let e : StandsBy buses read keys (begun key id conn.mode held) (entered buses n id w2) =
+      let e : StandsBy buses read keys (session_begun key id conn.mode held) (entered buses n id w2) =
       stands_of (carried (updates held) (record held { last_id = id })) w2 conn (λ conn. record conn { session = id; info = is_info conn.mode; go_step = length w2.steps }) (entered_place id (panel_for conn.mode)) d there refl refl
       (λ reader up. entered_place_of reader (history buses w2) conn id (length w2.steps) shut plain p.0 p.1) in
       let begins : Connection = record conn { session = id; info = is_info conn.mode; go_step = length w2.steps } in
       let nothing : untold begins (history buses w2) ≡ [] =
       untold_shut begins (history buses w2) shut ∙ ap (λ d. untold_by (length w2.steps) conn.items d (history buses w2)) p.1 ∙ ap (λ is. untold_by (length w2.steps) is None (history buses w2)) p.0 ∙ concerning_start (length w2.steps) 0 (history buses w2) in
-      stands_replied (begun key id conn.mode held) (entered buses n id w2) begins (Go id) e (numbered_at w2 conn (λ conn. record conn { session = id; info = is_info conn.mode; go_step = length w2.steps }) there) p.0
+      stands_replied (session_begun key id conn.mode held) (entered buses n id w2) begins (Go id) e (numbered_at w2 conn (λ conn. record conn { session = id; info = is_info conn.mode; go_step = length w2.steps }) there) p.0
       (ap (λ cs. is_info conn.mode && nat_lt 256 (length cs)) nothing ∙ and-false (is_info conn.mode)) f.within
     where
       updates : Held → List Update
@@ -135,7 +135,7 @@ module _ (buses : List Bus) (order : IsRisingBy key_at (shown_rows (opening buse
       → StandsBy buses read keys (goes true key conn.mode held) (course_goes buses n conn.mode w)
   stands_goes held w conn a s there shut plain =
       subst (λ (v : World). StandsBy buses read keys (goes true key conn.mode held) (course_goes buses n conn.mode v)) (timed_is held w s)
-      (elim (nat_lt held.last_id 4294967295) as (λ t. StandsBy buses read keys (if t then replied key (Go (held.last_id + 1)) (begun key (held.last_id + 1) conn.mode held) else replied key (Refused C500) held)
+      (elim (nat_lt held.last_id 4294967295) as (λ t. StandsBy buses read keys (if t then replied key (Go (held.last_id + 1)) (session_begun key (held.last_id + 1) conn.mode held) else replied key (Refused C500) held)
       (if t then course_replied n (Go (held.last_id + 1)) (entered buses n (held.last_id + 1) (did (Began (held.last_id + 1) held.moment conn.mode) (record (timed held w) { last_id = held.last_id + 1 }))) else course_replied n (Refused C500) (timed held w))) [
         | true ↦ stands_begun held w conn (held.last_id + 1) a s there shut plain
         | false ↦ stands_plainly held (timed held w) conn (Refused C500) a (stands_timed held w s) there plain

@@ -24,7 +24,7 @@ use Rattle.srcp_core.specs.Course.{World, numbered, with_numbered, at_connection
 use Rattle.srcp_core.specs.Handshake.{Greeting, Speaks, Chooses, Goes, Refuses, greets as greets_of}
 use Rattle.srcp_core.specs.Held.{Place, Held, at}
 use Rattle.srcp_core.specs.Machine.{asked_of, steps_gone, steps_greeted, steps_commanded, is_panel, steps_answered}
-use Rattle.srcp_core.specs.Recording.{Recording, key_of, told_of, changed_record, changed_in, noted, stepped}
+use Rattle.srcp_core.specs.Recording.{Recording, key_of, record_of, changed_record, changed_in, noted, stepped}
 pub use Rattle.srcp_core.specs.Run.{Tells}
 use Rattle.srcp_core.specs.Stands.{StandsBy, place_of}
 use Rattle.srcp_core.specs.declared.line.Asked.{Asked}
@@ -38,41 +38,41 @@ use Rattle.srcp_core.proofs.Agreement.StandsAfterAChange.{Fine}
 
 -- ---- the records of connections
 
-pub told_with : (n : ℕ) (f : Connection → Connection) (g : ConnRecord → ConnRecord) (xs : List Connection) (conn : Connection) → numbered n xs ≡ Some conn → told_of (f conn) ≡ g (told_of conn)
-    → map told_of (with_numbered n f xs) ≡ changed_record n g (map told_of xs)
+pub told_with : (n : ℕ) (f : Connection → Connection) (g : ConnRecord → ConnRecord) (xs : List Connection) (conn : Connection) → numbered n xs ≡ Some conn → record_of (f conn) ≡ g (record_of conn)
+    → map record_of (with_numbered n f xs) ≡ changed_record n g (map record_of xs)
 told_with zero f g xs conn e h = cc
 told_with (suc n) f g [] conn e h = cc
 told_with (suc zero) f g (x ∷ xs) conn e h =
     let same : conn ≡ x = cc in
-    ap (λ t. t ∷ map told_of xs) (subst (λ (c : Connection). told_of (f c) ≡ g (told_of c)) same h)
-told_with (suc (suc n)) f g (x ∷ xs) conn e h = ap (λ ts. told_of x ∷ ts) (told_with (suc n) f g xs conn e h) ∙ front (slice_get (map told_of xs) n)
+    ap (λ t. t ∷ map record_of xs) (subst (λ (c : Connection). record_of (f c) ≡ g (record_of c)) same h)
+told_with (suc (suc n)) f g (x ∷ xs) conn e h = ap (λ ts. record_of x ∷ ts) (told_with (suc n) f g xs conn e h) ∙ front (slice_get (map record_of xs) n)
   where
-    front : (o : Option ConnRecord) → told_of x ∷ changed_in n g (map told_of xs) o ≡ changed_in (suc n) g (map told_of (x ∷ xs)) o
+    front : (o : Option ConnRecord) → record_of x ∷ changed_in n g (map record_of xs) o ≡ changed_in (suc n) g (map record_of (x ∷ xs)) o
     front None = refl
     front (Some told) = refl
 
-pub told_same : (n : ℕ) (f : Connection → Connection) (xs : List Connection) → ((conn : Connection) → numbered n xs ≡ Some conn → told_of (f conn) ≡ told_of conn) → map told_of (with_numbered n f xs) ≡ map told_of xs
+pub told_same : (n : ℕ) (f : Connection → Connection) (xs : List Connection) → ((conn : Connection) → numbered n xs ≡ Some conn → record_of (f conn) ≡ record_of conn) → map record_of (with_numbered n f xs) ≡ map record_of xs
 told_same n f [] h = refl
 told_same zero f (x ∷ xs) h = refl
-told_same (suc zero) f (x ∷ xs) h = ap (λ t. t ∷ map told_of xs) (h x refl)
-told_same (suc (suc n)) f (x ∷ xs) h = ap (λ ts. told_of x ∷ ts) (told_same (suc n) f xs h)
+told_same (suc zero) f (x ∷ xs) h = ap (λ t. t ∷ map record_of xs) (h x refl)
+told_same (suc (suc n)) f (x ∷ xs) h = ap (λ ts. record_of x ∷ ts) (told_same (suc n) f xs h)
 
 -- a reply does not change what was sent
 pub sent_reply : (conn : Connection) (line : List ℕ) → conn.items ≡ [] → conn.taken ≤ length (given conn) → sent (record conn { out = conn.out ++ line }) ≡ sent conn
 sent_reply conn line none within = ap (take conn.taken) (given_reply conn line none) ∙ take-append-le conn.taken (given conn) line within
 
-told_reply : (conn : Connection) (line : List ℕ) → conn.items ≡ [] → conn.taken ≤ length (given conn) → told_of (record conn { out = conn.out ++ line }) ≡ told_of conn
-told_reply conn line none within = ap (λ bytes. record (told_of conn) { sent = bytes }) (sent_reply conn line none within)
+told_reply : (conn : Connection) (line : List ℕ) → conn.items ≡ [] → conn.taken ≤ length (given conn) → record_of (record conn { out = conn.out ++ line }) ≡ record_of conn
+told_reply conn line none within = ap (λ bytes. record (record_of conn) { sent = bytes }) (sent_reply conn line none within)
 
 -- ---- what a run has told of a course
 
-pub tells_same : (r : Recording) (w : World) (n : ℕ) (f : Connection → Connection) → ((conn : Connection) → numbered n w.connections ≡ Some conn → told_of (f conn) ≡ told_of conn) → Tells r w → Tells r (at_connection n f w)
+pub tells_same : (r : Recording) (w : World) (n : ℕ) (f : Connection → Connection) → ((conn : Connection) → numbered n w.connections ≡ Some conn → record_of (f conn) ≡ record_of conn) → Tells r w → Tells r (at_connection n f w)
 tells_same r w n f h t = record { steps = t.steps; refused = t.refused; connections = t.connections ∙ sym (told_same n f w.connections h) }
 
 pub tells_did : (r : Recording) (w : World) (step : Step) → Tells r w → Tells (stepped (step_told step ∷ []) r) (did step w)
 tells_did r w step t = record { steps = ap (λ steps. steps ++ step_told step ∷ []) t.steps ∙ sym (map-append step_told w.steps (step ∷ [])); refused = t.refused; connections = t.connections }
 
-pub tells_changed : (r : Recording) (w : World) (n : ℕ) (conn : Connection) (f : Connection → Connection) (g : ConnRecord → ConnRecord) → numbered n w.connections ≡ Some conn → told_of (f conn) ≡ g (told_of conn) → Tells r w
+pub tells_changed : (r : Recording) (w : World) (n : ℕ) (conn : Connection) (f : Connection → Connection) (g : ConnRecord → ConnRecord) → numbered n w.connections ≡ Some conn → record_of (f conn) ≡ g (record_of conn) → Tells r w
     → Tells (record r { connections = changed_record n g r.connections }) (at_connection n f w)
 tells_changed r w n conn f g e h t = record { steps = t.steps; refused = t.refused; connections = ap (changed_record n g) t.connections ∙ sym (told_with n f g w.connections conn e h) }
 
@@ -101,7 +101,7 @@ module _ (buses : List Bus) (n : ℕ) (r : Recording) where
       let there_after = numbered_with n f w.connections ∙ ap (option_map f) p.0 in
       tells_replied (noted n (step_told step ∷ []) r) (entered buses n id (did step w)) (Go id) (plain_at (entered buses n id (did step w)) (f conn) (there_after, p.1))
       (tells_changed (stepped (step_told step ∷ []) r) (did step w) n conn f (λ told. record told { session = id; info = is_info conn.mode; go_step = length (r.steps ++ step_told step ∷ []) }) p.0
-      (ap (λ k. record (told_of conn) { session = id; info = is_info conn.mode; go_step = k }) (sym (length-map (w.steps ++ step ∷ []) step_told) ∙ sym (ap length d.steps))) d)
+      (ap (λ k. record (record_of conn) { session = id; info = is_info conn.mode; go_step = k }) (sym (length-map (w.steps ++ step ∷ []) step_told) ∙ sym (ap length d.steps))) d)
 
   tells_goes : (w : World) (conn : Connection) (held : Held) → held.moment ≡ w.moment → held.last_id ≡ w.last_id → IsPlain w conn → Tells r w → Tells (noted n (steps_gone true conn.mode held) r) (goes buses n conn.mode w)
   tells_goes w conn held m l p t =

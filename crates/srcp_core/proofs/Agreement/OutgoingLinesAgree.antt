@@ -24,7 +24,7 @@ use Rattle.srcp_core.specs.Connection.{Connection, History, cursor_at, untold, u
 use Rattle.srcp_core.specs.Held.{Place}
 use Rattle.srcp_core.specs.Machine.{filled, item_from, feed_in}
 use Rattle.srcp_core.specs.declared.connection.Panel.TheVariants.{Absent, Listening, Overran}
-use Rattle.srcp_core.specs.Recording.{told_of, with_item}
+use Rattle.srcp_core.specs.Recording.{record_of, with_item}
 use Rattle.srcp_core.specs.Stands.{placed, place_of}
 use Rattle.srcp_core.specs.declared.record.ConnRecord.{ConnRecord}
 use Rattle.srcp_core.specs.declared.record.Item.{Item}
@@ -97,7 +97,7 @@ record Gave (history : History) (conn later : Connection) (what : Next) : Type 0
   unsent_is : unsent later ≡ line_of what
   cursor_is : cursor_at later (length history) ≡ moved (cursor_at conn (length history)) what
   untold_is : untold later history ≡ drop 1 (untold conn history)
-  told_is : told_of later ≡ with_given (length history) (Some what) (told_of conn)
+  told_is : record_of later ≡ with_given (length history) (Some what) (record_of conn)
 
 module _ (first : List Shown) (history : History) (conn : Connection) (shut : conn.shut ≡ None) (order : IsRisingBy key_at (rows_after first history)) (fits : Fits first history conn.go_step conn.items conn.done) (within : conn.taken ≤ length (given conn)) where
   abbrev rows_now : List Shown
@@ -124,7 +124,7 @@ module _ (first : List Shown) (history : History) (conn : Connection) (shut : co
         unsent_is = unsent_more conn n (Told change ∷ []) conn.done within ∙ ap (λ bytes. bytes ++ flat_map line_of (Told change ∷ [])) none ∙ append-nil (line_of (Told change));
         cursor_is = cursor_told history conn.items conn.done change fits.numbers;
         untold_is = untold_shut later history shut ∙ one.waiting ∙ ap (drop 1) (sym u);
-        told_is = ap (λ bytes. record (told_of conn) { sent = bytes; items = conn.items ++ items_of n (Told change ∷ []) }) (sent_more conn n (Told change ∷ []) conn.done within);
+        told_is = ap (λ bytes. record (record_of conn) { sent = bytes; items = conn.items ++ items_of n (Told change ∷ []) }) (sent_more conn n (Told change ∷ []) conn.done within);
       })
   gave_one info none [] u (row ∷ left) e =
       let bare = sym (untold_shut conn history shut) ∙ u in
@@ -136,7 +136,7 @@ module _ (first : List Shown) (history : History) (conn : Connection) (shut : co
         unsent_is = unsent_more conn n (Listed row ∷ []) conn.done within ∙ ap (λ bytes. bytes ++ flat_map line_of (Listed row ∷ [])) none ∙ append-nil (line_of (Listed row));
         cursor_is = ap (λ d. cursor_by d (conn.items ++ items_of n (Listed row ∷ [])) n) undone ∙ cursor_item history conn.items (Listed row) fits.numbers ∙ ap (λ d. moved (cursor_by d conn.items n) (Listed row)) (sym undone);
         untold_is = untold_shut later history shut ∙ one.waiting ∙ ap (drop 1) (sym u);
-        told_is = ap (λ bytes. record (told_of conn) { sent = bytes; items = conn.items ++ items_of n (Listed row ∷ []) }) (sent_more conn n (Listed row ∷ []) conn.done within);
+        told_is = ap (λ bytes. record (record_of conn) { sent = bytes; items = conn.items ++ items_of n (Listed row ∷ []) }) (sent_more conn n (Listed row ∷ []) conn.done within);
       })
   gave_one info none [] u [] e =
       let bare : untold_by conn.go_step conn.items conn.done history ≡ [] = sym (untold_shut conn history shut) ∙ u in
@@ -158,7 +158,7 @@ module _ (first : List Shown) (history : History) (conn : Connection) (shut : co
   -- a room for no bytes puts in what the code puts in
   pub record IsFilled (reader : Reading) (later : Connection) : Type 0 where
     pub place : filled rows_now (place_of reader history conn) ≡ place_of reader history later
-    pub told : told_of later ≡ with_given n (item_from rows_now (place_of reader history conn).unsent (feed_in (place_of reader history conn).panel)) (told_of conn)
+    pub told : record_of later ≡ with_given n (item_from rows_now (place_of reader history conn).unsent (feed_in (place_of reader history conn).panel)) (record_of conn)
 
   fills_info : (reader : Reading) → conn.info ≡ true → nat_lt 256 (length (untold conn history)) ≡ false → (bytes : List ℕ) → unsent conn ≡ bytes → IsFilled reader (took 0 n (owed conn history rows_now) conn)
   fills_info reader info still (byte ∷ bytes) e =
@@ -168,8 +168,8 @@ module _ (first : List Shown) (history : History) (conn : Connection) (shut : co
             ∙ ap (λ left. filled rows_now (info_place reader conn.mode conn.session conn.ended left (cursor_at conn n) (untold conn history))) e
             ∙ ap (λ left. info_place reader conn.mode conn.session conn.ended left (cursor_at conn n) (untold conn history)) (sym e)
             ∙ sym (info_is reader history conn info still);
-        told = sym (ap (λ (p : Place). with_given n (item_from rows_now p.unsent (feed_in p.panel)) (told_of conn)) (info_is reader history conn info still)
-            ∙ ap (λ left. with_given n (item_from rows_now left (Some feed_now)) (told_of conn)) e);
+        told = sym (ap (λ (p : Place). with_given n (item_from rows_now p.unsent (feed_in p.panel)) (record_of conn)) (info_is reader history conn info still)
+            ∙ ap (λ left. with_given n (item_from rows_now left (Some feed_now)) (record_of conn)) e);
       })
   fills_info reader info still [] e =
       let what : Next = next_of rows_now feed_now in
@@ -185,8 +185,8 @@ module _ (first : List Shown) (history : History) (conn : Connection) (shut : co
             ∙ ap (λ c. info_place reader conn.mode conn.session conn.ended (unsent later) c (drop 1 (untold conn history))) (sym g.cursor_is)
             ∙ ap (λ q. info_place reader conn.mode conn.session conn.ended (unsent later) (cursor_at later n) q) (sym g.untold_is)
             ∙ sym (info_is reader history later info (ap (λ q. nat_lt 256 (length q)) g.untold_is ∙ fewer (untold conn history) still));
-        told = g.told_is ∙ sym (ap (λ (p : Place). with_given n (item_from rows_now p.unsent (feed_in p.panel)) (told_of conn)) (info_is reader history conn info still)
-            ∙ ap (λ left. with_given n (item_from rows_now left (Some feed_now)) (told_of conn)) e);
+        told = g.told_is ∙ sym (ap (λ (p : Place). with_given n (item_from rows_now p.unsent (feed_in p.panel)) (record_of conn)) (info_is reader history conn info still)
+            ∙ ap (λ left. with_given n (item_from rows_now left (Some feed_now)) (record_of conn)) e);
       })
     where
       fewer : (q : List Change) → nat_lt 256 (length q) ≡ false → nat_lt 256 (length (drop 1 q)) ≡ false
@@ -212,15 +212,15 @@ module _ (first : List Shown) (history : History) (conn : Connection) (shut : co
         ∙ same bytes
         ∙ ap (λ left. plain_place reader conn.mode conn.session conn.ended left) (sym e)
         ∙ sym (plain_is reader history conn plain);
-    told = sym (ap (λ (p : Place). with_given n (item_from rows_now p.unsent (feed_in p.panel)) (told_of conn)) (plain_is reader history conn plain)
-        ∙ ap (λ left. with_given n (item_from rows_now left None) (told_of conn)) e ∙ nothing bytes);
+    told = sym (ap (λ (p : Place). with_given n (item_from rows_now p.unsent (feed_in p.panel)) (record_of conn)) (plain_is reader history conn plain)
+        ∙ ap (λ left. with_given n (item_from rows_now left None) (record_of conn)) e ∙ nothing bytes);
   }
     where
       same : (bytes : List ℕ) → filled rows_now (plain_place reader conn.mode conn.session conn.ended bytes) ≡ plain_place reader conn.mode conn.session conn.ended bytes
       same [] = refl
       same (byte ∷ bytes) = refl
 
-      nothing : (bytes : List ℕ) → with_given n (item_from rows_now bytes None) (told_of conn) ≡ told_of conn
+      nothing : (bytes : List ℕ) → with_given n (item_from rows_now bytes None) (record_of conn) ≡ record_of conn
       nothing [] = refl
       nothing (byte ∷ bytes) = refl
 
@@ -229,7 +229,7 @@ module _ (first : List Shown) (history : History) (conn : Connection) (shut : co
       let is = over_is reader info over in
       record {
         place = ap (filled rows_now) is ∙ sym is;
-        told = sym (ap (λ (p : Place). with_given n (item_from rows_now p.unsent (feed_in p.panel)) (told_of conn)) is);
+        told = sym (ap (λ (p : Place). with_given n (item_from rows_now p.unsent (feed_in p.panel)) (record_of conn)) is);
       }
     where
       over_is : (reader : Reading) → conn.info ≡ true → nat_lt 256 (length (untold conn history)) ≡ true

@@ -30,7 +30,7 @@ use Rattle.srcp_core.specs.Connection.{Connection}
 use Rattle.srcp_core.specs.Course.{World, numbered, at_connection, did, is_info, state, history, order_of, replied, entered, goes, greeted, ended, obeyed, commanded, answered_as, answered as course_answered, open_connection, new_marks, wants_as, denied_lines}
 use Rattle.srcp_core.specs.Handshake.{Greeting, Speaks, Chooses, Goes, Refuses}
 use Rattle.srcp_core.specs.Held.{Place, Held, at, place_at}
-use Rattle.srcp_core.specs.Machine.{asked_of, heard_from, heard_in, heard_at, line_taken, steps_of_line, answered, steps_answered, feed_in}
+use Rattle.srcp_core.specs.Machine.{asked_of, heard_from, heard_in, heard_at, line_answered, steps_of_line, answered, steps_answered, feed_in}
 use Rattle.srcp_core.specs.Recording.{Recording, key_of, noted}
 use Rattle.srcp_core.specs.Stands.{StandsBy, StandsFor, place_of}
 use Rattle.srcp_core.specs.declared.line.Asked.{Asked}
@@ -145,13 +145,13 @@ module _ (buses : List Bus) (order : IsRisingBy key_at (shown_rows (opening buse
     pub counts : held.denied ≡ denied_lines buses n w before (lines_under grants (marks_upto start))
 
   -- one line more
-  line_answered : (grants : List Bool) (granted : Bool) (start stop : ℕ) (mark : Mark) (held : Held) (p : Place) (reader : Reading) (r : Recording) → start < stop → at held key ≡ Some p
+  line_is_answered : (grants : List Bool) (granted : Bool) (start stop : ℕ) (mark : Mark) (held : Held) (p : Place) (reader : Reading) (r : Recording) → start < stop → at held key ≡ Some p
       → ((bytes : List ℕ) → StandsAt bytes p.reader → marks (bytes ++ slice_range piece start stop) ≡ marks bytes ++ mark ∷ [])
       → ((bytes : List ℕ) → StandsAt bytes p.reader → StandsAt (bytes ++ slice_range piece start stop) reader)
       → IsUpTo grants start held → Tells r (world_upto grants start)
       → IsUpTo (grants ++ granted ∷ []) stop (answered granted key (asked_of held.buses p mark) (record held { places = slice_set held.places key (Some (record p { reader = reader })) }))
       × Tells (noted n (steps_answered granted (asked_of held.buses p mark) (record held { places = slice_set held.places key (Some (record p { reader = reader })) })) r) (world_upto (grants ++ granted ∷ []) stop)
-  line_answered grants granted start stop mark held p reader r onward here adds moves u t =
+  line_is_answered grants granted start stop mark held p reader r onward here adds moves u t =
       let h = found_at buses (partly n (fed ++ take start piece)) keys held (world_upto grants start) n key u.stands named in
       let same : place_of h.reader (history buses (world_upto grants start)) h.conn ≡ p = let both : Some (place_of h.reader (history buses (world_upto grants start)) h.conn) ≡ Some p = sym h.place ∙ here in cc in
       let its : h.reader ≡ p.reader = ap (λ (q : Place). q.reader) same in
@@ -199,7 +199,7 @@ module _ (buses : List Bus) (order : IsRisingBy key_at (shown_rows (opening buse
       → ◌≡◌ {A = Option (ℕ × Asked) × Held} (heard_at key piece start held) (Some (s, asked_of held.buses p mark), record held { places = slice_set held.places key (Some (record p { reader = reading })) })
       → IsUpTo grants start held → Tells r (world_upto grants start) → IsLined grants start stop granted held new r
   lined_at grants start stop granted held new r p mark s reading onward here adds moves is finding u t =
-      let both = line_answered grants granted start s mark held p reading r (subst (λ k. start < k) stop_is onward) here adds moves u t in
+      let both = line_is_answered grants granted start s mark held p reading r (subst (λ k. start < k) stop_is onward) here adds moves u t in
       record {
         upto = subst (λ k. IsUpTo (grants ++ granted ∷ []) k new) (sym stop_is) (subst (λ (x : Held). IsUpTo (grants ++ granted ∷ []) s x) (sym (ap (λ (x : ℕ × Held). x.1) is)) both.0);
         tells = subst (λ k. Tells (noted n (steps_of_line granted (heard_at key piece start held)) r) (world_upto (grants ++ granted ∷ []) k)) (sym stop_is)
@@ -209,7 +209,7 @@ module _ (buses : List Bus) (order : IsRisingBy key_at (shown_rows (opening buse
       stop_is : stop ≡ s
       stop_is = ap (λ (x : ℕ × Held). x.0) is
 
-  pub lined : (grants : List Bool) (start stop : ℕ) (granted : Bool) (held new : Held) (r : Recording) → start < stop → ◌≡◌ {A = ℕ × Held} (stop, new) (line_taken key granted (start, held) (heard_at key piece start held))
+  pub lined : (grants : List Bool) (start stop : ℕ) (granted : Bool) (held new : Held) (r : Recording) → start < stop → ◌≡◌ {A = ℕ × Held} (stop, new) (line_answered key granted (start, held) (heard_at key piece start held))
       → IsUpTo grants start held → Tells r (world_upto grants start) → IsLined grants start stop granted held new r
   lined grants start stop granted held new r onward is u t =
       let h = found_at buses (partly n (fed ++ take start piece)) keys held (world_upto grants start) n key u.stands named in
@@ -221,17 +221,17 @@ module _ (buses : List Bus) (order : IsRisingBy key_at (shown_rows (opening buse
         where
           by : (result : Fed) (reading : Reading) → ◌≡◌ {A = Fed × Reading} (feed_of p.reader piece start) (result, reading) → ◌≡◌ {A = Option (ℕ × Asked) × Held} (heard_at key piece start held) (finds held p result reading) → IsLined grants start stop granted held new r
           by More reading e finding =
-              let both : ◌≡◌ {A = ℕ × Held} (stop, new) (start, held) = is ∙ ap (line_taken key granted (start, held)) finding in
+              let both : ◌≡◌ {A = ℕ × Held} (stop, new) (start, held) = is ∙ ap (line_answered key granted (start, held)) finding in
               let same : stop ≡ start = ap (λ (x : ℕ × Held). x.0) both in
               absurd (omega (arith, onward, same))
           by (FoundLine s) reading e finding =
               lined_at grants start stop granted held new r p (Line reading.line) s reading onward here
               (λ bytes stood. marks-fed bytes p.reader reading piece start (FoundLine s) (sym e) stood) (λ bytes stood. stands-fed bytes p.reader reading piece start (FoundLine s) (sym e) stood)
-              (is ∙ ap (line_taken key granted (start, held)) finding) finding u t
+              (is ∙ ap (line_answered key granted (start, held)) finding) finding u t
           by (FoundTooLong s) reading e finding =
               lined_at grants start stop granted held new r p TooLong s reading onward here
               (λ bytes stood. marks-fed bytes p.reader reading piece start (FoundTooLong s) (sym e) stood) (λ bytes stood. stands-fed bytes p.reader reading piece start (FoundTooLong s) (sym e) stood)
-              (is ∙ ap (line_taken key granted (start, held)) finding) finding u t
+              (is ∙ ap (line_answered key granted (start, held)) finding) finding u t
 
   -- ---- the end of a piece
 

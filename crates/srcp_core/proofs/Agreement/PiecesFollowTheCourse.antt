@@ -5,7 +5,7 @@ use Rattle.std.specs.Prelude.{Option, Some, None}
 use Rattle.srcp_core.specs.Under.{Bytes, Piece, giving, denied_by}
 use Rattle.srcp_core.specs.Course.{course}
 use Rattle.srcp_core.specs.Held.{Held, at}
-use Rattle.srcp_core.specs.Machine.{IsReceived, CountsEach, bytes_fault, heard_at, line_taken, lines_taken, steps_of_line, answered}
+use Rattle.srcp_core.specs.Machine.{IsReceived, CountsEach, bytes_fault, heard_at, line_answered, lines_answered, steps_of_line, answered}
 use Rattle.srcp_core.specs.Recording.{Recording, key_of, noted}
 use Rattle.srcp_core.specs.Run.{LeadsOn}
 use Rattle.srcp_core.specs.Stands.{StandsFor}
@@ -15,11 +15,11 @@ use Rattle.srcp_core.proofs.Invariants.LinesAreFound.{line_found, heard_denied}
 use Rattle.srcp_core.proofs.Agreement.CallsFollowTheCourse.{telling, runs_telling}
 use Rattle.srcp_core.proofs.Agreement.RecordIsOfTheCourse.{runs_on}
 use Rattle.srcp_core.proofs.Agreement.MemoryAnswers.{counted_more, none_denied}
-use Rattle.srcp_core.proofs.Agreement.RunsAnEvent.{ReadsWith, reads_with_none, reads_with_more, bytes_with, bytes_refused, noted_keys}
+use Rattle.srcp_core.proofs.Agreement.RunsBytes.{ReadsWith, reads_with_none, reads_with_more, bytes_with, bytes_refused, noted_keys}
 
 -- a line of a piece, taken at a place of it
 abbrev line_on : ℕ → List ℕ → ℕ × Held → Bool → ℕ × Held
-line_on key piece before granted = line_taken key granted before (heard_at key piece before.0 before.1)
+line_on key piece before granted = line_answered key granted before (heard_at key piece before.0 before.1)
 
 -- ---- the lines of a piece, with what a run would have told of them
 
@@ -39,11 +39,11 @@ line_read key piece first before granted counted a = by (heard_at key piece befo
   where
     by : (found : Option (ℕ × Asked)) (mid : Held) → ◌≡◌ {A = Option (ℕ × Asked) × Held} (heard_at key piece before.0 before.1) (found, mid) → AreRead key piece first (line_on key piece before granted)
     by None mid e =
-        let same : ◌≡◌ {A = ℕ × Held} (line_on key piece before granted) before = ap (line_taken key granted before) e in
+        let same : ◌≡◌ {A = ℕ × Held} (line_on key piece before granted) before = ap (line_answered key granted before) e in
         subst (λ (reached : ℕ × Held). AreRead key piece first reached) (sym same) a
     by (Some (stop, asked)) mid e =
         let new : Held = answered granted key asked mid in
-        let is : ◌≡◌ {A = ℕ × Held} (stop, new) (line_on key piece before granted) = sym (ap (line_taken key granted before) e) in
+        let is : ◌≡◌ {A = ℕ × Held} (stop, new) (line_on key piece before granted) = sym (ap (line_answered key granted before) e) in
         let steps = steps_of_line granted (heard_at key piece before.0 before.1) in
         subst (λ (reached : ℕ × Held). AreRead key piece first reached) is
         (record {
@@ -67,7 +67,7 @@ lines_read key piece first (granted ∷ grants) before counted a = lines_read ke
 pub taken_leads : (key : ℕ) (piece : List ℕ) (old new : Held) → bytes_fault key piece old ≡ None → IsReceived key piece old new
     → LeadsOn key piece old new
 taken_leads key piece old new free received =
-    let reached = lines_taken key piece received.grants old in
+    let reached = lines_answered key piece received.grants old in
     let a = lines_read key piece old received.grants (0, old) received.counted (record { grants = []; counted = refl; is = λ n first_r named. record { told = first_r; keys = refl; reads = reads_with_none n key piece first_r old named free } }) in
     let counted : new.denied ≡ denied_by old.denied a.grants = ap (λ (x : Option (ℕ × Asked) × Held). x.1.denied) received.rest ∙ heard_denied key piece reached.0 reached.1 (at reached.1 key) ∙ a.counted in
     record {

@@ -20,7 +20,7 @@ use Rattle.srcp_core.specs.Handshake.{Greeting, Speaks, Chooses, Goes, Refuses}
 use Rattle.srcp_core.specs.Held.{Place, Held, at}
 use Rattle.srcp_core.specs.Laws.{IsRecordOf}
 use Rattle.srcp_core.specs.Machine.{opening_held, finish_at, finish_from, has_overrun}
-use Rattle.srcp_core.specs.Recording.{Recording, key_of, told_of, changed_record, changed_in, finished, finished_by, with_refusal, nothing_told}
+use Rattle.srcp_core.specs.Recording.{Recording, key_of, record_of, changed_record, changed_in, finished, finished_by, with_refusal, nothing_recorded}
 use Rattle.srcp_core.specs.Run.{Runs, Happened, HappensAs, FollowsAs, RunsUnder}
 use Rattle.srcp_core.proofs.Agreement.RefusalsAreCounted.{denied_over_push}
 use Rattle.srcp_core.proofs.Agreement.MemoryAnswers.{under_push, under_length}
@@ -92,13 +92,13 @@ finish_noted held i key keys tolds now later ends e f is step =
     finish_some held i key keys tolds now later (get_some keys i key e) is (step ∙ ap (λ (x : Finish). changed_record (i + 1) (λ told. record told { finish = x }) now) f)
 
 finished_is : (history : History) (held : Held) (keys : List (Option ℕ)) (conns : List Connection) → length keys ≡ length conns
-    → ((k : ℕ) (conn : Connection) → slice_get conns k ≡ Some conn → finished_by held (slice_index_or keys k None) (told_of conn) ≡ recorded history conn) → finished held keys (map told_of conns) ≡ map (recorded history) conns
+    → ((k : ℕ) (conn : Connection) → slice_get conns k ≡ Some conn → finished_by held (slice_index_or keys k None) (record_of conn) ≡ recorded history conn) → finished held keys (map record_of conns) ≡ map (recorded history) conns
 finished_is history held [] [] l law = refl
 finished_is history held [] (conn ∷ conns) l law = absurd (omega (arith, l))
 finished_is history held (key ∷ keys) [] l law = absurd (omega (arith, l))
 finished_is history held (key ∷ keys) (conn ∷ conns) l law =
     let less : length keys ≡ length conns = omega (arith, l) in
-    ap (λ t. t ∷ finished held keys (map told_of conns)) (law 0 conn refl) ∙ ap (λ ts. recorded history conn ∷ ts) (finished_is history held keys conns less (λ k other e. law (suc k) other e))
+    ap (λ t. t ∷ finished held keys (map record_of conns)) (law 0 conn refl) ∙ ap (λ ts. recorded history conn ∷ ts) (finished_is history held keys conns less (λ k other e. law (suc k) other e))
 
 module _ (buses : List Bus) (layout : IsLayout buses) (keys : List (Option ℕ)) (held : Held) (events : List Event) (s : StandsFor buses keys held (course buses events)) where
   abbrev w : World
@@ -116,24 +116,24 @@ module _ (buses : List Bus) (layout : IsLayout buses) (keys : List (Option ℕ))
       by true h = refl
       by false h = ap (λ bytes. if conn.ended && is_nil bytes then Closing else Live) (h refl)
 
-  one_finished : (n : ℕ) (conn : Connection) → numbered n w.connections ≡ Some conn → finished_by held (key_of n keys) (told_of conn) ≡ recorded (history buses w) conn
+  one_finished : (n : ℕ) (conn : Connection) → numbered n w.connections ≡ Some conn → finished_by held (key_of n keys) (record_of conn) ≡ recorded (history buses w) conn
   one_finished n conn e = by (is_open conn) refl
     where
-      by : (o : Bool) → is_open conn ≡ o → finished_by held (key_of n keys) (told_of conn) ≡ recorded (history buses w) conn
+      by : (o : Bool) → is_open conn ≡ o → finished_by held (key_of n keys) (record_of conn) ≡ recorded (history buses w) conn
       by false o =
-          ap (λ k. finished_by held k (told_of conn)) (s.closed n conn e o)
-          ∙ ap (λ t. record (told_of conn) { finish = if t then Live else ShutFinish }) o
-          ∙ ap (λ t. record (told_of conn) { finish = if t then (if overran conn (history buses w) then Overrun else (if conn.ended && is_nil (unsent conn) then Closing else Live)) else ShutFinish }) (sym o)
+          ap (λ k. finished_by held k (record_of conn)) (s.closed n conn e o)
+          ∙ ap (λ t. record (record_of conn) { finish = if t then Live else ShutFinish }) o
+          ∙ ap (λ t. record (record_of conn) { finish = if t then (if overran conn (history buses w) then Overrun else (if conn.ended && is_nil (unsent conn) then Closing else Live)) else ShutFinish }) (sym o)
       by true o =
           let a = s.opens n conn e o in
           let f : Fine buses (history buses w) conn = at_number (Fine buses (history buses w)) n w.connections conn (sound buses (opening_in_order buses layout) Anything (anything (shown_rows (opening buses 0))) events) e in
           let over = over_is buses (history buses w) conn (open_shut conn.shut o) f in
-          ap (λ k. finished_by held k (told_of conn)) a.named
-          ∙ ap (λ (finish : Finish). record (told_of conn) { finish = finish })
+          ap (λ k. finished_by held k (record_of conn)) a.named
+          ∙ ap (λ (finish : Finish). record (record_of conn) { finish = finish })
           (stands_as a.key conn (place_of a.reader (history buses w) conn) a.place (place_overran a.reader (history buses w) conn ∙ sym over) refl (λ still. place_unsent a.reader (history buses w) conn (sym over ∙ still)))
-          ∙ ap (λ t. record (told_of conn) { finish = if t then (if overran conn (history buses w) then Overrun else (if conn.ended && is_nil (unsent conn) then Closing else Live)) else ShutFinish }) (sym o)
+          ∙ ap (λ t. record (record_of conn) { finish = if t then (if overran conn (history buses w) then Overrun else (if conn.ended && is_nil (unsent conn) then Closing else Live)) else ShutFinish }) (sym o)
 
-  pub all_finished : finished held keys (map told_of w.connections) ≡ map (recorded (history buses w)) w.connections
+  pub all_finished : finished held keys (map record_of w.connections) ≡ map (recorded (history buses w)) w.connections
   all_finished = finished_is (history buses w) held keys w.connections s.long (λ k conn e. one_finished (suc k) conn e)
 
 -- ---- how many events there were
@@ -267,11 +267,11 @@ follows_more buses events index event r later_r held later layout at f u =
     })
 
 -- before all events
-pub runs_start : (buses : List Bus) (r : Recording) (held : Held) → r ≡ nothing_told → held ≡ opening_held buses 0 0
+pub runs_start : (buses : List Bus) (r : Recording) (held : Held) → r ≡ nothing_recorded → held ≡ opening_held buses 0 0
     → Runs buses r held (course buses [])
 runs_start buses r held e h =
     subst (λ (x : Recording). Runs buses x held start) (sym e)
-    (subst (λ (x : Held). Runs buses nothing_told x start) (sym h) (record {
+    (subst (λ (x : Held). Runs buses nothing_recorded x start) (sym h) (record {
       stands = record {
         layout = refl;
         rows = refl;
@@ -287,7 +287,7 @@ runs_start buses r held e h =
       tells = record { steps = refl; refused = refl; connections = refl };
     }))
 
-pub runs_none : (buses : List Bus) (events : List PlainEvent) (r : Recording) (held : Held) → r ≡ nothing_told → held ≡ opening_held buses 0 0
+pub runs_none : (buses : List Bus) (events : List PlainEvent) (r : Recording) (held : Held) → r ≡ nothing_recorded → held ≡ opening_held buses 0 0
     → RunsUnder buses (take 0 events) r held
 runs_none buses events r held e h = record { grants = []; count = refl; counted = ap (λ (x : Held). x.denied) h; asked = ap (λ (x : Held). x.denied) h; runs = runs_start buses r held e h }
 

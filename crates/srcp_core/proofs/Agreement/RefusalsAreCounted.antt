@@ -15,7 +15,7 @@ use Rattle.srcp_core.specs.Connection.{Connection}
 use Rattle.srcp_core.specs.Course.{World, history, open_connection, command_of, counted, fault, answered as course_answered, happens, new_marks, at_connection, wants_as, denied_lines, denied_fed, denied_in, denied_over}
 use Rattle.srcp_core.specs.Handshake.{Greeting, Speaks, Chooses, Goes, Refuses, greets as greets_of}
 use Rattle.srcp_core.specs.Held.{Place, Held, at}
-use Rattle.srcp_core.specs.Machine.{obeyed, freed_of, changed_at, carried, replied, goes, greeted, begun, denied_line, commanded, answered, asked_of, is_panel}
+use Rattle.srcp_core.specs.Machine.{obeyed, freed_of, changed_at, carried, replied, goes, greeted, session_begun, denied_line, commanded, answered, asked_of, is_panel}
 use Rattle.srcp_core.specs.Recording.{key_of}
 use Rattle.srcp_core.specs.Stands.{StandsBy, place_of}
 use Rattle.srcp_core.specs.Under.{Event, Heard, lines_under, under, denied_by, wants_memory, greeting_wants, reading_wants}
@@ -55,7 +55,7 @@ denied_commanded granted key session (Ok command) held = by granted (wants_memor
 
 denied_goes : (granted : Bool) (key : ℕ) (mode : Mode) (held : Held) → (goes granted key mode held).denied ≡ after held.denied granted (nat_lt held.last_id 4294967295)
 denied_goes true key mode held =
-    elim (nat_lt held.last_id 4294967295) as (λ t. (if t then replied key (Go (held.last_id + 1)) (begun key (held.last_id + 1) mode held) else replied key (Refused C500) held).denied ≡ after held.denied true t) [ true ↦ refl | false ↦ refl ]
+    elim (nat_lt held.last_id 4294967295) as (λ t. (if t then replied key (Go (held.last_id + 1)) (session_begun key (held.last_id + 1) mode held) else replied key (Refused C500) held).denied ≡ after held.denied true t) [ true ↦ refl | false ↦ refl ]
 denied_goes false key mode held =
     elim (nat_lt held.last_id 4294967295) as (λ t. (if t then denied_line key held else replied key (Refused C500) held).denied ≡ after held.denied false t) [ true ↦ refl | false ↦ refl ]
 

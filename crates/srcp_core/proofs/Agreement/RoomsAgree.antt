@@ -20,7 +20,7 @@ use Rattle.srcp_core.specs.Course.{World, numbered, with_numbered, at_connection
 use Rattle.srcp_core.specs.Held.{Place, Held}
 use Rattle.srcp_core.specs.Laws.{AddsUp}
 use Rattle.srcp_core.specs.Machine.{filled, item_from, item_of, item_at, let_out, without_sent, changed_at, changed_in, unsent_of, unsent_at, feed_in}
-use Rattle.srcp_core.specs.Recording.{Recording, key_of, told_of, with_item, gave, took}
+use Rattle.srcp_core.specs.Recording.{Recording, key_of, record_of, with_item, gave, took}
 use Rattle.srcp_core.specs.Stands.{StandsFor, place_of}
 use Rattle.srcp_core.specs.declared.record.Item.{Item}
 use Rattle.srcp_core.proofs.CourseLaws.RoomsAddUp.{adds_up, with_twice, shut_after}
@@ -94,8 +94,8 @@ taken_place : (reader : Reading) (history : History) (conn : Connection) (count 
 taken_place reader history conn count still =
     rw still (ap (λ bytes. record (place_of reader history conn) { unsent = bytes }) (drop-drop count conn.taken (given conn)))
 
-taken_told : (conn : Connection) (count : ℕ) → told_of (with_taken count conn) ≡ record (told_of conn) { sent = sent conn ++ take count (unsent conn) }
-taken_told conn count = ap (λ bytes. record (told_of conn) { sent = bytes }) (take_plus conn.taken count (given conn))
+taken_told : (conn : Connection) (count : ℕ) → record_of (with_taken count conn) ≡ record (record_of conn) { sent = sent conn ++ take count (unsent conn) }
+taken_told conn count = ap (λ bytes. record (record_of conn) { sent = bytes }) (take_plus conn.taken count (given conn))
 
 -- room leaves the bytes that were accepted
 fed_room : (bytes : ℕ) (history : History) (rows : List Shown) (conn : Connection) → (given_room bytes history rows conn).fed ≡ conn.fed
@@ -139,10 +139,10 @@ module _ (buses : List Bus) (layout : IsLayout buses) (order : IsRisingBy key_at
       (given_room 0 (history buses w) (rows_after (shown_rows (opening buses 0)) (history buses w)) h.conn) =
       λ reader. fills (shown_rows (opening buses 0)) (history buses w) h.conn h.shut (in_order_after (shown_rows (opening buses 0)) (history buses w) order) fits f.within reader (over_is buses (history buses w) h.conn h.shut f) in
       let held_rows : shown_rows held.rows ≡ rows buses w = ap shown_rows s.rows in
-      let told : told_of (given_room 0 (history buses w) (rows buses w) h.conn) ≡ with_given (length (history buses w)) (item_at key held) (told_of h.conn) =
-      ap (λ rs. told_of (given_room 0 (history buses w) rs h.conn)) (sym same_rows) ∙ (fill h.reader).told
-      ∙ ap (λ rs. with_given (length (history buses w)) (item_from rs (place_of h.reader (history buses w) h.conn).unsent (feed_in (place_of h.reader (history buses w) h.conn).panel)) (told_of h.conn)) (same_rows ∙ sym held_rows)
-      ∙ ap (λ (o : Option Place). with_given (length (history buses w)) (item_of (shown_rows held.rows) o) (told_of h.conn)) (sym h.place) in
+      let told : record_of (given_room 0 (history buses w) (rows buses w) h.conn) ≡ with_given (length (history buses w)) (item_at key held) (record_of h.conn) =
+      ap (λ rs. record_of (given_room 0 (history buses w) rs h.conn)) (sym same_rows) ∙ (fill h.reader).told
+      ∙ ap (λ rs. with_given (length (history buses w)) (item_from rs (place_of h.reader (history buses w) h.conn).unsent (feed_in (place_of h.reader (history buses w) h.conn).panel)) (record_of h.conn)) (same_rows ∙ sym held_rows)
+      ∙ ap (λ (o : Option Place). with_given (length (history buses w)) (item_of (shown_rows held.rows) o) (record_of h.conn)) (sym h.place) in
       let steps : length (history buses w) ≡ length r.steps = length_history (opening buses 0) w.steps ∙ sym (length-map w.steps step_told) ∙ ap length (sym k.tells.steps) in
       record {
         fine = fine_roomed 0 w h.conn k.fine h.there h.shut;
@@ -152,15 +152,15 @@ module _ (buses : List Bus) (layout : IsLayout buses) (order : IsRisingBy key_at
             ap (λ rs. filled rs (place_of reader (history buses w) h.conn)) (held_rows ∙ sym same_rows)
             ∙ (fill reader).place
             ∙ ap (λ rs. place_of reader (history buses w) (given_room 0 (history buses w) rs h.conn)) same_rows);
-        tells = noted_item (item_at key held) h.conn h.there (told ∙ ap (λ m. with_given m (item_at key held) (told_of h.conn)) steps) k.tells;
+        tells = noted_item (item_at key held) h.conn h.there (told ∙ ap (λ m. with_given m (item_at key held) (record_of h.conn)) steps) k.tells;
       }
     where
-      nothing_noted : (conn : Connection) → numbered n w.connections ≡ Some conn → told_of (given_room 0 (history buses w) (rows buses w) conn) ≡ told_of conn → Tells r w → Tells r (roomed 0 w)
+      nothing_noted : (conn : Connection) → numbered n w.connections ≡ Some conn → record_of (given_room 0 (history buses w) (rows buses w) conn) ≡ record_of conn → Tells r w → Tells r (roomed 0 w)
       nothing_noted conn e t all =
           tells_same r w n (given_room 0 (history buses w) (rows buses w))
-          (λ other o. let is : conn ≡ other = let both : Some conn ≡ Some other = sym e ∙ o in cc in subst (λ (c : Connection). told_of (given_room 0 (history buses w) (rows buses w) c) ≡ told_of c) is t) all
+          (λ other o. let is : conn ≡ other = let both : Some conn ≡ Some other = sym e ∙ o in cc in subst (λ (c : Connection). record_of (given_room 0 (history buses w) (rows buses w) c) ≡ record_of c) is t) all
 
-      noted_item : (item : Option Next) (conn : Connection) → numbered n w.connections ≡ Some conn → told_of (given_room 0 (history buses w) (rows buses w) conn) ≡ with_given (length r.steps) item (told_of conn) → Tells r w → Tells (gave n item r) (roomed 0 w)
+      noted_item : (item : Option Next) (conn : Connection) → numbered n w.connections ≡ Some conn → record_of (given_room 0 (history buses w) (rows buses w) conn) ≡ with_given (length r.steps) item (record_of conn) → Tells r w → Tells (gave n item r) (roomed 0 w)
       noted_item None conn e t all = nothing_noted conn e t all
       noted_item (Some (Told change)) conn e t all = tells_changed r w n conn (given_room 0 (history buses w) (rows buses w)) (with_item (length r.steps) (Told change)) e t all
       noted_item (Some (Listed row)) conn e t all = tells_changed r w n conn (given_room 0 (history buses w) (rows buses w)) (with_item (length r.steps) (Listed row)) e t all
@@ -186,7 +186,7 @@ module _ (buses : List Bus) (layout : IsLayout buses) (order : IsRisingBy key_at
             (open_room count w h.conn) (fed_room count (history buses w) (rows buses w) h.conn)
             (λ reader shut. taken_place reader (history buses w) h.conn count still ∙ ap (place_of reader (history buses w)) (sym room));
         tells = tells_changed r w n h.conn (given_room count (history buses w) (rows buses w)) (λ told. record told { sent = told.sent ++ take count (unsent_at key held) }) h.there
-            (ap told_of room ∙ taken_told h.conn count ∙ ap (λ bytes. record (told_of h.conn) { sent = sent h.conn ++ take count bytes }) (sym bytes_are)) k.tells;
+            (ap record_of room ∙ taken_told h.conn count ∙ ap (λ bytes. record (record_of h.conn) { sent = sent h.conn ++ take count bytes }) (sym bytes_are)) k.tells;
       }
     where
       not_over : (reader : Reading) (conn : Connection) (t : Bool) → is_over_place (history buses w) conn ≡ t → count ≤ length (place_of reader (history buses w) conn).unsent → is_over_place (history buses w) conn ≡ false
@@ -202,7 +202,7 @@ module _ (buses : List Bus) (layout : IsLayout buses) (order : IsRisingBy key_at
       let h = found_at buses (λ n fed. fed) keys held w n key k.stands named in
       let p = place_of h.reader (history buses w) h.conn in
       let same : changed_at key (without_sent 0) held ≡ held = ap (λ (o : Option Place). record held { places = changed_in key (without_sent 0) held.places o }) h.place ∙ ap (λ (places : List (Option Place)). record held { places = places }) (set_same held.places key p h.place) in
-      let t = tells_changed r w n h.conn (λ c. c) (λ told. record told { sent = told.sent ++ [] }) h.there (ap (λ bytes. record (told_of h.conn) { sent = bytes }) (sym (append-nil (sent h.conn)))) k.tells in
+      let t = tells_changed r w n h.conn (λ c. c) (λ told. record told { sent = told.sent ++ [] }) h.there (ap (λ bytes. record (record_of h.conn) { sent = bytes }) (sym (append-nil (sent h.conn)))) k.tells in
       record {
         fine = k.fine;
         stands = subst (λ (x : Held). StandsFor buses keys x w) (sym same) k.stands;

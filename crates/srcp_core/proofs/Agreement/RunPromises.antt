@@ -13,7 +13,7 @@ use Rattle.srcp_core.proofs.Agreement.MemoryAnswers.{all_moments, none_of_all}
 use Rattle.srcp_core.specs.declared.event.Event.{Event as PlainEvent}
 use Rattle.srcp_core.specs.Connection.{Connection, recorded}
 use Rattle.srcp_core.specs.Course.{World, course, history, numbered, state, state_after}
-use Rattle.srcp_core.specs.Promised.{told_at, ToldSessions, ToldReplies, ToldRooms, IsToldRegistry, IsPromised}
+use Rattle.srcp_core.specs.Promised.{record_at, RecordedSessions, RecordedReplies, RecordedRooms, IsRecordedRegistry, IsPromised}
 use Rattle.srcp_core.specs.Laws.{IsRecordOf, IsSession, IsPrefixOf, IsWholeWorld, AllMoments, HasMoment, times_listed, without_events}
 use Rattle.srcp_core.specs.declared.record.ConnRecord.{ConnRecord}
 use Rattle.srcp_core.specs.declared.record.Record.{Record}
@@ -30,16 +30,16 @@ record Told (f : Connection → ConnRecord) (number : ℕ) (conns : List Connect
   there : numbered number conns ≡ Some conn
   is : one ≡ f conn
 
-told_map : (f : Connection → ConnRecord) (number : ℕ) (conns : List Connection) (one : ConnRecord) → told_at number (map f conns) ≡ Some one → Told f number conns one
+told_map : (f : Connection → ConnRecord) (number : ℕ) (conns : List Connection) (one : ConnRecord) → record_at number (map f conns) ≡ Some one → Told f number conns one
 told_map f zero conns one e = cc
 told_map f (suc n) [] one e = cc
 told_map f (suc zero) (conn ∷ conns) one e = let same : f conn ≡ one = cc in record { conn = conn; there = refl; is = sym same }
 told_map f (suc (suc n)) (conn ∷ conns) one e = let t = told_map f (suc n) conns one e in record { conn = t.conn; there = t.there; is = t.is }
 
-pub told_sessions : (buses : List Bus) (events : List Event) (told : Record) → IsLayout buses → AllMoments events → IsRecordOf buses events told → ToldSessions buses events told
+pub told_sessions : (buses : List Bus) (events : List Event) (told : Record) → IsLayout buses → AllMoments events → IsRecordOf buses events told → RecordedSessions buses events told
 told_sessions buses events told layout moments r number one e info =
     let w = course buses events in
-    let t = told_map (recorded (history buses w)) number w.connections one (ap (told_at number) (sym r.connections) ∙ e) in
+    let t = told_map (recorded (history buses w)) number w.connections one (ap (record_at number) (sym r.connections) ∙ e) in
     let session : IsSession buses events number t.conn = record { there = t.there; info = sym (ap (λ (c : ConnRecord). c.info) t.is) ∙ info } in
     let laws = told_rightly buses in
     record {
@@ -58,10 +58,10 @@ told_sessions buses events told layout moments r number one e info =
       lines = laws.lines layout events number t.conn session moments;
     }
 
-pub told_replies : (buses : List Bus) (events : List Event) (told : Record) → IsLayout buses → IsRecordOf buses events told → ToldReplies buses events told
+pub told_replies : (buses : List Bus) (events : List Event) (told : Record) → IsLayout buses → IsRecordOf buses events told → RecordedReplies buses events told
 told_replies buses events told layout r number one e plain =
     let w = course buses events in
-    let t = told_map (recorded (history buses w)) number w.connections one (ap (told_at number) (sym r.connections) ∙ e) in
+    let t = told_map (recorded (history buses w)) number w.connections one (ap (record_at number) (sym r.connections) ∙ e) in
     let laws = served_rightly buses in
     let replies = laws.replies layout events number t.conn t.there (sym (ap (λ (c : ConnRecord). c.info) t.is) ∙ plain) in
     record {
@@ -75,10 +75,10 @@ told_replies buses events told layout r number one e plain =
           ap (λ (c : ConnRecord). c.sent) t.is ∙ a.all ∙ sym a.replies;
     }
 
-pub told_rooms : (buses : List Bus) (events : List Event) (told : Record) → IsLayout buses → IsRecordOf buses events told → ToldRooms buses events told
+pub told_rooms : (buses : List Bus) (events : List Event) (told : Record) → IsLayout buses → IsRecordOf buses events told → RecordedRooms buses events told
 told_rooms buses events told layout r number one e =
     let w = course buses events in
-    let t = told_map (recorded (history buses w)) number w.connections one (ap (told_at number) (sym r.connections) ∙ e) in
+    let t = told_map (recorded (history buses w)) number w.connections one (ap (record_at number) (sym r.connections) ∙ e) in
     let laws = served_rightly buses in
     record {
       conn = t.conn;
@@ -94,7 +94,7 @@ told_rooms buses events told layout r number one e =
           (ap (λ (c : ConnRecord). c.items) t.is ∙ n.items, ap (λ (c : ConnRecord). c.sent) t.is ∙ n.sent_bytes);
     }
 
-pub told_registry : (buses : List Bus) (events : List Event) (told : Record) → IsLayout buses → AllMoments events → IsRecordOf buses events told → IsToldRegistry buses events told
+pub told_registry : (buses : List Bus) (events : List Event) (told : Record) → IsLayout buses → AllMoments events → IsRecordOf buses events told → IsRecordedRegistry buses events told
 told_registry buses events told layout moments r =
     let laws = served_rightly buses in
     let world = laws.whole layout events moments in

@@ -1,8 +1,6 @@
 -- A run over one more event.
 use Rattle.std.proofs.Common.{◌≡◌, ◌≢◌, ℕ, zero, suc, min, max, ◌-◌, ◌<◌, ◌≤◌, Bool, true, false, List, [], ◌∷◌, ◌++◌, take, length, refl, ap, sym, ◌∙◌, subst, arith, append-nil, ◌⊎◌, inl, inr}
-use Rattle.std.proofs.lemmas.Bool.{ltb-false}
-use Rattle.std.specs.List.{fold}
-use Rattle.std.specs.Prelude.{Option, Some, None, not, ◌||◌, ◌==◌, nat_lt, slice_get, slice_set, if◌then◌else◌}
+use Rattle.std.specs.Prelude.{Option, Some, None, ◌||◌, ◌==◌, slice_get, slice_set, if◌then◌else◌}
 use Rattle.std.proofs.lemmas.List.{map-append}
 use Rattle.std.proofs.lemmas.Option.{none-some}
 use Rattle.std.proofs.Math.Nat.{pos_of_ne-zero, zero-min}
@@ -11,30 +9,25 @@ use Rattle.srcp_rules.specs.Layout.{IsLayout}
 use Rattle.srcp_rules.specs.State.{opening, shown_rows}
 use Rattle.srcp_feed.specs.declared.next.Next.{Next}
 use Rattle.srcp_feed.specs.declared.next.Next.TheVariants.{Told, Listed, Settled}
-use Rattle.srcp_core.specs.Under.{Event, Open, Bytes, Room, At, Shut, Piece, Moment, Ended, lines_under, step_told, under, denied_by}
+use Rattle.srcp_core.specs.Under.{Event, Open, Bytes, Room, At, Shut, Moment, Ended, step_told, under}
 use Rattle.srcp_core.specs.declared.event.Event.{Event as PlainEvent}
 use Rattle.srcp_core.specs.declared.event.Event.TheVariants as plain
-use Rattle.srcp_core.specs.declared.record.Step.{Step as PlainStep}
 use Rattle.srcp_core.specs.declared.record.Step.TheVariants as told
-use Rattle.srcp_core.specs.Connection.{Connection, is_nil}
-use Rattle.srcp_core.specs.Course.{World, numbered, at_connection, open_connection, did, history, fresh, counted, fault, absent_fault, bytes_fault as course_fault, accepted, fed_to, shut_as, answered as course_answered, new_marks, course, denied_fed}
+use Rattle.srcp_core.specs.Connection.{Connection}
+use Rattle.srcp_core.specs.Course.{World, numbered, at_connection, open_connection, did, history, fresh, counted, fault, absent_fault, bytes_fault as course_fault, accepted, shut_as, course}
 use Rattle.srcp_core.specs.Held.{Place, Held, at, open_count}
-use Rattle.srcp_core.specs.Machine.{IsAdmitted, IsNotAdmitted, one_denied, HasRoom, bytes_fault, bytes_fault_from, heard_at, line_taken, steps_of_line, freed_place, freed_of, hung_up, hung_up_from, advanced, live_session, live_session_of, let_out, without_sent, changed_at, changed_in as changed_places_in, filled, unsent_of, unsent_at, item_of, item_at, has_overrun}
-use Rattle.srcp_core.specs.Recording.{Recording, key_of, told_of, opened, shut, stepped, noted, gave, took, without_key, changed_record, changed_in}
+use Rattle.srcp_core.specs.Machine.{IsAdmitted, IsNotAdmitted, one_denied, freed_place, freed_of, hung_up, hung_up_from, advanced, live_session, live_session_of, let_out, without_sent, changed_at, changed_in as changed_places_in, filled, unsent_of, unsent_at, item_of, item_at}
+use Rattle.srcp_core.specs.Recording.{Recording, key_of, record_of, opened, shut, stepped, noted, gave, took, without_key, changed_record, changed_in}
 use Rattle.srcp_core.specs.Run.{Tells, Runs, Happened, HappensAs, CountsAsked, count_at, taken_at, taking}
 use Rattle.srcp_core.specs.Stands.{StandsFor, place_of}
-use Rattle.srcp_core.specs.declared.line.Asked.{Asked}
 use Rattle.srcp_core.specs.declared.record.ConnRecord.{ConnRecord}
 use Rattle.srcp_core.specs.declared.record.CoreFault.{CoreFault}
-use Rattle.srcp_core.specs.declared.record.CoreFault.TheVariants.{Full, Memory as MemoryFault, NoSuch, Busy, PieceTooLong, Closing}
+use Rattle.srcp_core.specs.declared.record.CoreFault.TheVariants.{Full, Memory as MemoryFault, NoSuch}
 use Rattle.srcp_core.specs.declared.record.Finish.TheVariants.{Shut as ShutFinish}
 use Rattle.srcp_core.proofs.Agreement.LinesAgree.{IsFine}
-use Rattle.srcp_core.proofs.Agreement.EventsAgree.{absent_at, fault_same, full_fault, free_room, free_fault, stands_counted, stands_advanced, stands_opened, stands_hung_up}
+use Rattle.srcp_core.proofs.Agreement.EventsAgree.{absent_at, full_fault, free_room, free_fault, stands_counted, stands_advanced, stands_opened, stands_hung_up}
 use Rattle.srcp_core.proofs.Agreement.RefusalsAreCounted.{after, denied_in_none}
-use Rattle.srcp_core.proofs.Agreement.MemoryAnswers.{counted_more}
-use Rattle.srcp_core.proofs.Invariants.LinesAreFound.{nothing_begun, heard_denied}
-use Rattle.srcp_core.proofs.Agreement.LinesAreNoted.{tells_same, tells_did, tells_changed}
-use Rattle.srcp_core.proofs.Agreement.PiecesAgree.{accepting, IsUpTo, world_upto, lined, lines_ended, piece_begun}
+use Rattle.srcp_core.proofs.Agreement.LinesAreNoted.{tells_did, tells_changed}
 use Rattle.srcp_core.proofs.CourseLaws.SessionsOfACourse.{anything, at_number, opening_in_order}
 use Rattle.srcp_core.proofs.Agreement.StandsAfterAChange.{Anything, Fine, AllFine, found_at}
 use Rattle.srcp_core.proofs.Agreement.RoomsAgree.{Kept, IsRooming, room_goes_on, room_taken, room_empty}
@@ -47,7 +40,7 @@ fine_course buses layout events = sound buses (opening_in_order buses layout) An
 tells_counted : (r : Recording) (w : World) → Tells r w → Tells r (counted w)
 tells_counted r w t = record { steps = t.steps; refused = t.refused; connections = t.connections }
 
-runs_counted : (buses : List Bus) (r : Recording) (held : Held) (w : World) → Runs buses r held w → Runs buses r held (counted w)
+pub runs_counted : (buses : List Bus) (r : Recording) (held : Held) (w : World) → Runs buses r held w → Runs buses r held (counted w)
 runs_counted buses r held w s = record { stands = stands_counted buses r.keys held w s.stands; tells = tells_counted r w s.tells }
 
 -- the same of recordings and cores that are the same
@@ -55,7 +48,7 @@ pub told_as : (event : PlainEvent) (refusal : Option CoreFault) (r : Recording) 
 told_as event refusal r held x y later new e f h = subst (λ (z : Held). HappensAs event refusal r held y z) (sym f) (subst (λ (z : Recording). HappensAs event refusal r held z later) (sym e) h)
 
 -- nothing is asked for where the count stays
-none_asked : (event : PlainEvent) (r : Recording) (held later : Held) → later.denied ≡ held.denied → CountsAsked r held later (under [] event)
+pub none_asked : (event : PlainEvent) (r : Recording) (held later : Held) → later.denied ≡ held.denied → CountsAsked r held later (under [] event)
 none_asked event r held later same buses events layout s = same ∙ sym (denied_in_none buses (counted (course buses events)) held.denied event)
 
 -- ---- a connection is opened
@@ -68,7 +61,7 @@ open_with key r old new a buses events layout s =
       free_fault buses r.keys old w c.stands a.room true,
       record {
         stands = stands_opened buses r.keys key old new w a c.stands;
-        tells = record { steps = s.tells.steps; refused = s.tells.refused; connections = ap (λ tolds. tolds ++ told_of fresh ∷ []) s.tells.connections ∙ sym (map-append told_of w.connections (fresh ∷ [])) };
+        tells = record { steps = s.tells.steps; refused = s.tells.refused; connections = ap (λ tolds. tolds ++ record_of fresh ∷ []) s.tells.connections ∙ sym (map-append record_of w.connections (fresh ∷ [])) };
       },
     )
 
@@ -245,147 +238,6 @@ shut_happens n key r old new now named is now_is = record {
 
         all : Tells (shut n r) closed
         all = tells_changed (record r { keys = without_key n r.keys }) w n conn (λ c. record c { shut = Some (length w.steps) }) (λ told. record told { finish = ShutFinish }) there refl (record { steps = t.steps; refused = t.refused; connections = t.connections })
-
--- ---- bytes
-
-pub bytes_refused : (n key : ℕ) (piece : List ℕ) (r : Recording) (held : Held) (cause : CoreFault) → key_of n r.keys ≡ Some key → bytes_fault key piece held ≡ Some cause → HappensAs (plain.Bytes n piece) (Some cause) r held r held
-bytes_refused n key piece r held cause named e = record {
-  grants = [];
-  counted = refl;
-  asked = none_asked (plain.Bytes n piece) r held held (refl);
-  happens = λ buses events layout s.
-      let w = counted (course buses events) in
-      let c = runs_counted buses r held (course buses events) s in
-      (sym (fault_same buses (opening_in_order buses layout) (λ n fed. fed) r.keys held w n key piece (fine_course buses layout events) c.stands named) ∙ e, c);
-}
-
--- where bytes are not refused there is room for their answers
-pub bytes_room : (key : ℕ) (piece : List ℕ) (held : Held) → bytes_fault key piece held ≡ None → (length piece ≤ 256) × HasRoom key piece 0 held
-bytes_room key piece held e = by (at held key) refl e
-  where
-    some_none : (cause : CoreFault) → Some cause ≡ None → ⊥
-    some_none cause e = cc
-
-    with : (p : Place) (over idle long : Bool) → at held key ≡ Some p → is_nil p.unsent ≡ idle → nat_lt 256 (length piece) ≡ long
-        → (if over then Some Closing else (if not idle then Some Busy else (if long then Some PieceTooLong else None))) ≡ None → (length piece ≤ 256) × HasRoom key piece 0 held
-    with p true idle long h i l e = absurd (some_none Closing e)
-    with p false false long h i l e = absurd (some_none Busy e)
-    with p false true true h i l e = absurd (some_none PieceTooLong e)
-    with p false true false h i l e = (ltb-false 256 (length piece) l, nothing_begun key piece held (ap unsent_of h ∙ nil_is p.unsent i))
-      where
-        nil_is : (xs : List ℕ) → is_nil xs ≡ true → xs ≡ []
-        nil_is [] e = refl
-        nil_is (x ∷ xs) e = cc
-
-    by : (o : Option Place) → at held key ≡ o → bytes_fault_from piece o ≡ None → (length piece ≤ 256) × HasRoom key piece 0 held
-    by None h e = absurd (some_none NoSuch e)
-    by (Some p) h e = with p (p.ended || has_overrun p.panel) (is_nil p.unsent) (nat_lt 256 (length piece)) h refl refl e
-
--- the piece was read up to a place
-pub record IsReading (n key : ℕ) (piece : List ℕ) (grants : List Bool) (first_r : Recording) (first : Held) (start : ℕ) (r : Recording) (held : Held) (buses : List Bus) (layout : IsLayout buses) (w : World) : Type 0 where
-  pub named : key_of n first_r.keys ≡ Some key
-  pub conn : Connection
-  pub opened : open_connection w n ≡ Some conn
-  pub free : course_fault buses w (open_connection w n) piece ≡ None
-  pub keys : r.keys ≡ first_r.keys
-  pub upto : IsUpTo buses (opening_in_order buses layout) first_r.keys n key named conn.fed piece (accepting n piece w) first.denied grants start held
-  pub tells : Tells r (world_upto buses (opening_in_order buses layout) first_r.keys n key named conn.fed piece (accepting n piece w) first.denied grants start)
-
--- so it was, whatever the events were before, where memory answered so to its lines so far
-abbrev pub ReadsWith : List Bool → ℕ → ℕ → List ℕ → Recording → Held → ℕ → Recording → Held → Type 0
-ReadsWith grants n key piece first_r first start r held =
-    (buses : List Bus) (events : List Event) (layout : IsLayout buses) → Runs buses first_r first (course buses events)
-    → IsReading n key piece grants first_r first start r held buses layout (counted (course buses events))
-
--- what memory answered to its lines so far
-pub record ReadsOn (n key : ℕ) (piece : List ℕ) (first_r : Recording) (first : Held) (start : ℕ) (r : Recording) (held : Held) : Type 0 where
-  pub grants : List Bool
-  pub counted : held.denied ≡ denied_by first.denied grants
-  pub reads : ReadsWith grants n key piece first_r first start r held
-
-pub reads_with_none : (n key : ℕ) (piece : List ℕ) (r : Recording) (held : Held) → key_of n r.keys ≡ Some key → bytes_fault key piece held ≡ None → ReadsWith [] n key piece r held 0 r held
-reads_with_none n key piece r held named free buses events layout s =
-    let w = counted (course buses events) in
-    let order = opening_in_order buses layout in
-    let c = runs_counted buses r held (course buses events) s in
-    let h = found_at buses (λ n fed. fed) r.keys held w n key c.stands named in
-    let b = piece_begun buses order r.keys n key named piece held w h.conn (fine_course buses layout events) c.stands h.there in
-    record {
-      named = named;
-      conn = h.conn;
-      opened = h.opened;
-      free = sym (fault_same buses order (λ n fed. fed) r.keys held w n key piece (fine_course buses layout events) c.stands named) ∙ free;
-      keys = refl;
-      upto = b.0;
-      tells = subst (λ (v : World). Tells r v) (sym b.1) (tells_same r w n (λ c. record c { fed = c.fed ++ piece }) (λ conn e. refl) c.tells);
-    }
-
-pub reads_first : (n key : ℕ) (piece : List ℕ) (r : Recording) (held : Held) → key_of n r.keys ≡ Some key → bytes_fault key piece held ≡ None → ReadsOn n key piece r held 0 r held
-reads_first n key piece r held named free = record { grants = []; counted = refl; reads = reads_with_none n key piece r held named free }
-
-pub noted_keys : (n : ℕ) (steps : List PlainStep) (r : Recording) → (noted n steps r).keys ≡ r.keys
-noted_keys n [] r = refl
-noted_keys n (told.Obeyed session moment command ∷ steps) r = noted_keys n steps _
-noted_keys n (told.Began session moment mode ∷ steps) r = noted_keys n steps _
-noted_keys n (told.Moment moment ∷ steps) r = noted_keys n steps _
-noted_keys n (told.Ended session moment ∷ steps) r = noted_keys n steps _
-
-pub reads_with_more : (grants : List Bool) (n key : ℕ) (piece : List ℕ) (first_r : Recording) (first : Held) (start stop : ℕ) (granted : Bool) (steps : List PlainStep) (r : Recording) (held new : Held) → start < stop
-    → ◌≡◌ {A = ℕ × Held} (stop, new) (line_taken key granted (start, held) (heard_at key piece start held)) → steps ≡ steps_of_line granted (heard_at key piece start held)
-    → ReadsWith grants n key piece first_r first start r held → ReadsWith (grants ++ granted ∷ []) n key piece first_r first stop (noted n steps r) new
-reads_with_more grants n key piece first_r first start stop granted steps r held new onward is steps_are reads buses events layout s =
-    let i = reads buses events layout s in
-    let order = opening_in_order buses layout in
-    let w = counted (course buses events) in
-    let l = lined buses order first_r.keys n key i.named i.conn.fed piece (accepting n piece w) first.denied grants start stop granted held new r onward is i.upto i.tells in
-    record {
-      named = i.named;
-      conn = i.conn;
-      opened = i.opened;
-      free = i.free;
-      keys = noted_keys n steps r ∙ i.keys;
-      upto = l.upto;
-      tells = subst (λ (steps : List PlainStep). Tells (noted n steps r) (world_upto buses order first_r.keys n key i.named i.conn.fed piece (accepting n piece w) first.denied (grants ++ granted ∷ []) stop)) (sym steps_are) l.tells;
-    }
-
-pub reads_more : (n key : ℕ) (piece : List ℕ) (first_r : Recording) (first : Held) (start stop : ℕ) (granted : Bool) (steps : List PlainStep) (r : Recording) (held new : Held) → start < stop
-    → ◌≡◌ {A = ℕ × Held} (stop, new) (line_taken key granted (start, held) (heard_at key piece start held)) → steps ≡ steps_of_line granted (heard_at key piece start held)
-    → new.denied ≡ denied_by held.denied (granted ∷ []) → ReadsOn n key piece first_r first start r held → ReadsOn n key piece first_r first stop (noted n steps r) new
-reads_more n key piece first_r first start stop granted steps r held new onward is steps_are counted reads = record {
-  grants = reads.grants ++ granted ∷ [];
-  counted = counted_more first.denied held.denied new.denied reads.grants granted reads.counted counted;
-  reads = reads_with_more reads.grants n key piece first_r first start stop granted steps r held new onward is steps_are reads.reads;
-}
-
-pub bytes_with : (grants : List Bool) (n key : ℕ) (piece : List ℕ) (first_r : Recording) (first : Held) (start : ℕ) (r : Recording) (held new : Held) → ◌≡◌ {A = Option (ℕ × Asked) × Held} (None, new) (heard_at key piece start held) → ReadsWith grants n key piece first_r first start r held
-    → (buses : List Bus) (events : List Event) → IsLayout buses → Runs buses first_r first (course buses events) → Happened buses (Bytes n (record { bytes = piece; grants = grants })) None r new (counted (course buses events))
-bytes_with grants n key piece first_r first start r held new is reads buses events layout s =
-    let i = reads buses events layout s in
-    let order = opening_in_order buses layout in
-    let w = counted (course buses events) in
-    let e = lines_ended buses order first_r.keys n key i.named i.conn.fed piece (accepting n piece w) first.denied grants start held new is i.upto in
-    let p : Piece = record { bytes = piece; grants = grants } in
-    let world : accepted buses (Bytes n p) w ≡ fold (course_answered buses n) (accepting n piece w) (lines_under grants (new_marks buses i.conn.fed piece)) = ap (λ o. fed_to buses n p o w) i.opened in (
-      i.free,
-      subst (λ (v : World). Runs buses r new v) (sym world) (record {
-        stands = subst (λ (keys : List (Option ℕ)). StandsFor buses keys new (fold (course_answered buses n) (accepting n piece w) (lines_under grants (new_marks buses i.conn.fed piece)))) (sym i.keys) e.stands;
-        tells = subst (λ (v : World). Tells r v) e.world_is i.tells;
-      }),
-    )
-
-pub bytes_happens : (n key : ℕ) (piece : List ℕ) (first_r : Recording) (first : Held) (start : ℕ) (r : Recording) (held new : Held) → ◌≡◌ {A = Option (ℕ × Asked) × Held} (None, new) (heard_at key piece start held) → ReadsOn n key piece first_r first start r held
-    → HappensAs (plain.Bytes n piece) None first_r first r new
-bytes_happens n key piece first_r first start r held new is reads = record {
-  grants = reads.grants;
-  counted = ap (λ (x : Option (ℕ × Asked) × Held). x.1.denied) is ∙ heard_denied key piece start held (at held key) ∙ reads.counted;
-  asked = λ buses events layout s.
-      let i = reads.reads buses events layout s in
-      let w = counted (course buses events) in
-      let p : Piece = record { bytes = piece; grants = reads.grants } in
-      (lines_ended buses (opening_in_order buses layout) first_r.keys n key i.named i.conn.fed piece (accepting n piece w) first.denied reads.grants start held new is i.upto).counts
-      ∙ sym (ap (λ (cause : Option CoreFault). denied_fed buses n p w first.denied cause (open_connection w n)) i.free ∙ ap (denied_fed buses n p w first.denied None) i.opened);
-  happens = bytes_with reads.grants n key piece first_r first start r held new is reads.reads;
-}
 
 -- ---- room
 

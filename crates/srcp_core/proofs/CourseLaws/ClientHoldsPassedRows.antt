@@ -17,13 +17,13 @@ use Rattle.srcp_feed.specs.declared.next.Next.{Next}
 use Rattle.srcp_feed.specs.declared.next.Next.TheVariants.{Told, Listed}
 use Rattle.srcp_info.proofs.ClientLaws.{key_at}
 use Rattle.srcp_feed.proofs.Steps.{ListsOne, lists_one, passed_changed, beyond_done}
-use Rattle.srcp_core.specs.Connection.{History, tells, told, items_of}
+use Rattle.srcp_core.specs.Connection.{History, tells, told_change, items_of}
 use Rattle.srcp_core.specs.declared.record.Item.{Item}
 use Rattle.srcp_core.proofs.CourseLaws.Histories.{rows_after, concerning_by, concerning_push, concerning_same, last_of, cursor_by, AreBy, IsDoneBy, by_all, by_more, done_more, cursor_later, cursor_before}
 
 -- the changes that were told
 abbrev pub tolds : List Item → List Change
-tolds items = filter_map (λ item. told item.what) items
+tolds items = filter_map (λ item. told_change item.what) items
 
 abbrev pub untold_by : ℕ → List Item → Option ℕ → History → List Change
 untold_by go items done history = drop (length (tolds items)) (concerning_by go (cursor_by done items) history)
@@ -119,7 +119,7 @@ fits_told start history go items done change changes f e =
     let con = concerning_item history go items done (Told change) in
     let cur = cursor_told history items done change f.numbers in
     let tel : tells (items ++ item_of history (Told change) ∷ []) ≡ tells items ++ change ∷ [] = flat_map-append (λ (item : Item). said item.what) items (item_of history (Told change) ∷ []) in
-    let tol : tolds (items ++ item_of history (Told change) ∷ []) ≡ tolds items ++ change ∷ [] = filter_map-append (λ (item : Item). told item.what) items (item_of history (Told change) ∷ []) in
+    let tol : tolds (items ++ item_of history (Told change) ∷ []) ≡ tolds items ++ change ∷ [] = filter_map-append (λ (item : Item). told_change item.what) items (item_of history (Told change) ∷ []) in
     let len : length (tolds (items ++ item_of history (Told change) ∷ [])) ≡ length (tolds items) + 1 = ap length tol ∙ length_push (tolds items) change in
     let before : List Change = concerning_by go (cursor_by done items) history in
     let room : length before - length (tolds items) ≡ length (change ∷ changes) = sym (length-drop (length (tolds items)) before) ∙ ap length e in
@@ -164,7 +164,7 @@ fits_listed start history go items None row left order f e b =
     let con = concerning_item history go items None (Listed row) in
     let cur : cursor_by None (items ++ item_of history (Listed row) ∷ []) (length history) ≡ After row.key = cursor_item history items (Listed row) f.numbers in
     let tel : tells (items ++ item_of history (Listed row) ∷ []) ≡ tells items ++ Put row ∷ [] = flat_map-append (λ (item : Item). said item.what) items (item_of history (Listed row) ∷ []) in
-    let tol : tolds (items ++ item_of history (Listed row) ∷ []) ≡ tolds items = filter_map-append (λ (item : Item). told item.what) items (item_of history (Listed row) ∷ []) ∙ append-nil (tolds items) in
+    let tol : tolds (items ++ item_of history (Listed row) ∷ []) ≡ tolds items = filter_map-append (λ (item : Item). told_change item.what) items (item_of history (Listed row) ∷ []) ∙ append-nil (tolds items) in
     let len : length (tolds (items ++ item_of history (Listed row) ∷ [])) ≡ length (tolds items) = ap length tol in
     let lencon : length (concerning_by go (cursor_by None (items ++ item_of history (Listed row) ∷ [])) history) ≡ length (concerning_by go (cursor_by None items) history) = ap length con in
     let enough = f.enough in

@@ -15,7 +15,7 @@ use Rattle.srcp_rules.specs.Effect.{Effect}
 use Rattle.srcp_rules.specs.State.{opening}
 use Rattle.srcp_feed.specs.Cursor.{concerns}
 use Rattle.srcp_core.specs.Under.{Event, Open, Bytes, Room, At, Shut, Step, Obeyed, Began, Moment, Ended, Heard, Order, effect, greets, Piece}
-use Rattle.srcp_core.specs.Connection.{Connection, History, heard, told, cursor_at, concerning, overran, is_nil, sent, unsent, owed, took, given_room, text}
+use Rattle.srcp_core.specs.Connection.{Connection, History, heard, told_change, cursor_at, concerning, overran, is_nil, sent, unsent, owed, took, given_room, text}
 use Rattle.srcp_core.specs.Course.{World, fresh, start, numbered, with_numbered, at_connection, if_open, open_connection, did, replied, counted, state, rows, history, entered, goes, greeted, ended, obeyed, commanded, answered_as, answered, order_of, fault, bytes_fault, absent_fault, new_lines, fed_to, shut_as, accepted, or_refused, happens, course}
 use Rattle.srcp_core.specs.Handshake.{Greeting, Speaks, Chooses, Goes, Refuses}
 use Rattle.srcp_core.specs.Laws.{is_over, SendsNoMore}
@@ -56,14 +56,14 @@ concerning_grows conn history changes = (
 
 -- whether it is over, by when it was shut
 abbrev over_by : Option ℕ → Connection → History → Bool
-over_by shut conn history = not (is_none shut) || nat_lt 256 (length (drop (length (filter_map (λ item. told item.what) conn.items)) (concerning conn (heard shut history))))
+over_by shut conn history = not (is_none shut) || nat_lt 256 (length (drop (length (filter_map (λ item. told_change item.what) conn.items)) (concerning conn (heard shut history))))
 
 over_by_push : (shut : Option ℕ) (conn : Connection) (history : History) (changes : List Change) → over_by shut conn history ≡ true → over_by shut conn (history ++ changes ∷ []) ≡ true
 over_by_push (Some n) conn history changes e = refl
 over_by_push None conn history changes e =
     let g = concerning_grows conn history changes in
-    ap (λ cs. nat_lt 256 (length (drop (length (filter_map (λ item. told item.what) conn.items)) cs))) g.1
-    ∙ longer (length (filter_map (λ item. told item.what) conn.items)) (concerning conn history) g.0 e
+    ap (λ cs. nat_lt 256 (length (drop (length (filter_map (λ item. told_change item.what) conn.items)) cs))) g.1
+    ∙ longer (length (filter_map (λ item. told_change item.what) conn.items)) (concerning conn history) g.0 e
   where
     longer : (n : ℕ) (xs ys : List Change) → nat_lt 256 (length (drop n xs)) ≡ true → nat_lt 256 (length (drop n (xs ++ ys))) ≡ true
     longer n xs ys t =

@@ -19,7 +19,7 @@ use Rattle.srcp_rules.specs.declared.layout.Bus.{Bus}
 use Rattle.srcp_rules.specs.Layout.{IsLayout}
 use Rattle.srcp_rules.specs.State.{opening, shown_rows}
 use Rattle.srcp_core.specs.Under.{Room}
-use Rattle.srcp_core.specs.Connection.{Connection, History, heard, line_of, front, fitting, is_nil, is_open, is_done_by, items_of, sent, untold, cursor_at, available, exhausts, given, told, unsent, text, owed, overran, took, given_room}
+use Rattle.srcp_core.specs.Connection.{Connection, History, heard, line_of, front, fitting, is_nil, is_open, is_done_by, items_of, sent, untold, cursor_at, available, exhausts, given, told_change, unsent, text, owed, overran, took, given_room}
 use Rattle.srcp_core.specs.Course.{World, numbered, with_numbered, if_open, counted, absent_fault, or_refused, accepted, start, happens, course, rows, history}
 use Rattle.srcp_core.specs.Laws.{AddsUp, RoomsAddUp, RoomsAreOne, SendsAllReplies, TakesWithin}
 use Rattle.srcp_core.specs.declared.record.Item.{Item}
@@ -170,7 +170,7 @@ pub took_overran : (history : History) (bytes : ℕ) (nexts : List Next) (conn :
 took_overran history bytes nexts conn shut e =
     ap (λ s. nat_lt 256 (length (drop (length (tolds (conn.items ++ given_items))) (concerning_by conn.go_step (cursor_by done_after (conn.items ++ given_items)) (heard s history))))) shut
     ∙ ap (λ cs. nat_lt 256 (length (drop (length (tolds (conn.items ++ given_items))) cs))) (concerning_took history conn.go_step conn.items conn.done (fitting bytes (unsent conn) nexts) (conn.info && exhausts bytes (unsent conn) nexts))
-    ∙ ap (λ ts. nat_lt 256 (length (drop (length ts) (concerning_by conn.go_step (cursor_by conn.done conn.items) history)))) (filter_map-append (λ (item : Item). told item.what) conn.items given_items)
+    ∙ ap (λ ts. nat_lt 256 (length (drop (length ts) (concerning_by conn.go_step (cursor_by conn.done conn.items) history)))) (filter_map-append (λ (item : Item). told_change item.what) conn.items given_items)
     ∙ shorter (tolds conn.items) (tolds given_items) (concerning_by conn.go_step (cursor_by conn.done conn.items) history)
     (subst (λ s. nat_lt 256 (length (drop (length (tolds conn.items)) (concerning_by conn.go_step (cursor_by conn.done conn.items) (heard s history)))) ≡ false) shut e)
   where

@@ -21,7 +21,7 @@ use Rattle.srcp_feed.specs.Feed.{Feed, is_full, told}
 use Rattle.srcp_core.specs.Handshake.{Greeting, Speaks, Chooses, Goes, Refuses}
 use Rattle.srcp_core.specs.Held.{Place, Held, place_at, at, IsSound}
 use Rattle.srcp_core.specs.Under.{wants_memory}
-use Rattle.srcp_core.specs.Machine.{told_feed, told_place, told_all, told_each, carried, unsent_of, begun_of, changed_in, changed_places, changed_at, with_unsent, replied, longest, longest_answer, entered_place, begun, goes, greeted, denied_line, one_denied, finished, obeyed, answered, asked_of, feed_in, panel_for}
+use Rattle.srcp_core.specs.Machine.{told_feed, told_place, told_all, told_each, carried, unsent_of, line_begun_of, changed_in, changed_places, changed_at, with_unsent, replied, longest, longest_answer, entered_place, session_begun, goes, greeted, denied_line, one_denied, finished, obeyed, answered, asked_of, feed_in, panel_for}
 use Rattle.srcp_core.specs.declared.connection.Panel.TheVariants.{Listening, Overran}
 use Rattle.srcp_core.specs.declared.line.Asked.{Asked}
 use Rattle.srcp_core.specs.declared.line.Asked.TheVariants.{Dropped, Greets, Commands}
@@ -34,7 +34,7 @@ use Rattle.srcp_core.proofs.Invariants.LinesAsk.{asked_by}
 -- at most so many bytes come to the unsent, and the line that has begun stays
 pub record Gains (n : ℕ) (old new : Option Place) : Type 0 where
   pub few : length (unsent_of new) ≤ length (unsent_of old) + n
-  pub begun : begun_of new ≡ begun_of old
+  pub begun : line_begun_of new ≡ line_begun_of old
 
 nothing : (o : Option Place) → Gains 0 o o
 nothing o = record { few = omega arith; begun = refl }
@@ -92,10 +92,10 @@ replied_gains key reply held now h =
 denied_gains : (key : ℕ) (held : Held) → IsMoment held.moment → Gains 64 (at held key) (at (denied_line key held) key)
 denied_gains key held now = replied_gains key (Refused C500) (one_denied held) now tt
 
-begun_gains : (key id : ℕ) (mode : Mode) (held : Held) → Gains 0 (at held key) (at (begun key id mode held) key)
+begun_gains : (key id : ℕ) (mode : Mode) (held : Held) → Gains 0 (at held key) (at (session_begun key id mode held) key)
 begun_gains key id mode held =
     let mid = carried (began id held.moment mode ∷ []) (record held { last_id = id }) in
-    both 0 0 (at held key) (at mid key) (at (begun key id mode held) key) (told_gains key (map change_in (began id held.moment mode ∷ [])) held.places)
+    both 0 0 (at held key) (at mid key) (at (session_begun key id mode held) key) (told_gains key (map change_in (began id held.moment mode ∷ [])) held.places)
     (changed_gains 0 key (entered_place id (panel_for mode)) mid.places (λ p. record { few = omega arith; begun = refl }))
 
 goes_gains : (granted : Bool) (key : ℕ) (mode : Mode) (held : Held) → IsMoment held.moment → Gains 64 (at held key) (at (goes granted key mode held) key)
@@ -105,10 +105,10 @@ goes_gains granted key mode held now = by (nat_lt held.last_id 4294967295) refl 
     low t = grind (arith, nat_tests)
 
     by : (t : Bool) → nat_lt held.last_id 4294967295 ≡ t → (granted : Bool)
-        → Gains 64 (at held key) (at (if t then (if granted then replied key (Go (held.last_id + 1)) (begun key (held.last_id + 1) mode held) else denied_line key held) else replied key (Refused C500) held) key)
+        → Gains 64 (at held key) (at (if t then (if granted then replied key (Go (held.last_id + 1)) (session_begun key (held.last_id + 1) mode held) else denied_line key held) else replied key (Refused C500) held) key)
     by true e true =
-        both 0 64 (at held key) (at (begun key (held.last_id + 1) mode held) key) _ (begun_gains key (held.last_id + 1) mode held)
-        (replied_gains key (Go (held.last_id + 1)) (begun key (held.last_id + 1) mode held) now (low e))
+        both 0 64 (at held key) (at (session_begun key (held.last_id + 1) mode held) key) _ (begun_gains key (held.last_id + 1) mode held)
+        (replied_gains key (Go (held.last_id + 1)) (session_begun key (held.last_id + 1) mode held) now (low e))
     by true e false = denied_gains key held now
     by false e granted = replied_gains key (Refused C500) held now tt
 

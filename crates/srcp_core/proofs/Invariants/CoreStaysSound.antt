@@ -24,7 +24,7 @@ use Rattle.srcp_rules.proofs.KeyLaws.{same_key, same_key-true}
 use Rattle.std.proofs.lemmas.Bool.{le-leb, eqb-false}
 use Rattle.std.proofs.Math.Nat.{pos_of_ne-zero}
 use Rattle.srcp_core.specs.declared.connection.Panel.{Panel}
-use Rattle.srcp_core.specs.Machine.{changed_at, changed_in, changed_places, carried, told_all, told_each, freed_of, freed_place, entered_place, begun, filled, filled_from, live_session_of, feed_in, panel_for}
+use Rattle.srcp_core.specs.Machine.{changed_at, changed_in, changed_places, carried, told_all, told_each, freed_of, freed_place, entered_place, session_begun, filled, filled_from, live_session_of, feed_in, panel_for}
 use Rattle.srcp_info.specs.declared.change.Shown.{Shown}
 use Rattle.srcp_feed.specs.Feed.{Feed}
 use Rattle.srcp_core.proofs.Invariants.ChangesOneByOne.{change_in}
@@ -192,7 +192,7 @@ sessions_begun last id key rows new old places next others own from a = record {
     row m q live (inl h) = ap (λ s. is_there (session_device s) new) h.1 ∙ own
     row m q live (inr h) = others q.session (older m q h) ∙ a.there m q h live
 
-pub sound_begun : (key id : ℕ) (mode : Mode) (held : Held) → IsMoment held.moment → id ≡ held.last_id + 1 → id ≤ 4294967295 → IsSound held → IsSound (begun key id mode held)
+pub sound_begun : (key id : ℕ) (mode : Mode) (held : Held) → IsMoment held.moment → id ≡ held.last_id + 1 → id ≤ 4294967295 → IsSound held → IsSound (session_begun key id mode held)
 sound_begun key id mode held now next high s =
     let update = began id held.moment mode in
     let mid : Held = carried (update ∷ []) (record held { last_id = id }) in
@@ -234,7 +234,7 @@ pub sound_set : (held : Held) (places : List (Option Place)) (key : ℕ) (change
 sound_set held places key change mild is s = subst (λ (ps : List (Option Place)). IsSound (record held { places = ps })) (sym is) (sound_changed_at key change held mild s)
 
 pub begun_is : (held : Held) (key id : ℕ) (mode : Mode) (panel : Panel) (rows : State) (change : Change) (told places : List (Option Place)) → panel ≡ panel_for mode → rows ≡ updated (began id held.moment mode) held.rows → change ≡ (began id held.moment mode).change
-    → told ≡ told_all change held.places → places ≡ changed_places key (entered_place id panel) told → record held { rows = rows; last_id = id; places = places } ≡ begun key id mode held
+    → told ≡ told_all change held.places → places ≡ changed_places key (entered_place id panel) told → record held { rows = rows; last_id = id; places = places } ≡ session_begun key id mode held
 begun_is held key id mode panel rows change told places e r c t p =
     ap (λ (s : State). let h : Held = record held { rows = s; last_id = id; places = places } in h) r
     ∙ ap (λ (ps : List (Option Place)). let h : Held = record held { rows = updated (began id held.moment mode) held.rows; last_id = id; places = ps } in h)

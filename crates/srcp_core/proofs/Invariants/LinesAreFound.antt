@@ -12,7 +12,7 @@ use Rattle.std.proofs.lemmas.List.{length-drop}
 use Rattle.std.proofs.lemmas.List.Sums.{fold-append}
 use Rattle.srcp_core.specs.Handshake.{greets}
 use Rattle.srcp_core.specs.Held.{Place, Held, IsSound, at}
-use Rattle.srcp_core.specs.Machine.{asked_of, heard_from, heard, heard_in, heard_at, longest_answer, unsent_of, unsent_at, begun_of, begun_at, answered, line_taken, lines_taken, steps_answered, steps_of_line, steps_in, HasRoom, IsAsked, IsLineTaken, CountsEach, IsReceived, is_panel}
+use Rattle.srcp_core.specs.Machine.{asked_of, heard_from, heard, heard_in, heard_at, longest_answer, unsent_of, unsent_at, line_begun_of, line_begun_at, answered, line_answered, lines_answered, steps_answered, steps_of_line, steps_in, HasRoom, IsAsked, IsLineAnswered, CountsEach, IsReceived, is_panel}
 use Rattle.srcp_core.specs.Under.{denied_by}
 use Rattle.srcp_core.specs.declared.line.LineRecord.{LineRecord}
 use Rattle.srcp_core.specs.declared.line.Asked.{Asked}
@@ -144,8 +144,8 @@ pub record IsLineFound (key : ℕ) (piece : List ℕ) (start stop : ℕ) (asked 
   pub here : at new key ≡ Some place
   pub asks : asked ≡ asked_of new.buses place mark
   pub unsent : unsent_at key new ≡ unsent_at key old
-  pub begun : begun_at key new ≡ Some []
-  pub few : begun_at key old ≡ Some [] → longest_answer asked ≤ 64 * (stop - start)
+  pub begun : line_begun_at key new ≡ Some []
+  pub few : line_begun_at key old ≡ Some [] → longest_answer asked ≤ 64 * (stop - start)
 
 pub line_found : (key : ℕ) (piece : List ℕ) (start stop : ℕ) (asked : Asked) (old new : Held) → ◌≡◌ {A = Option (ℕ × Asked) × Held} (Some (stop, asked), new) (heard_at key piece start old)
     → IsLineFound key piece start stop asked old new
@@ -167,8 +167,8 @@ line_found key piece start stop asked old new e = by (at old key) refl e
           here = here;
           asks = f.asks ∙ sym (ap (λ (h : Held). asked_of h.buses after f.mark) held);
           unsent = ap unsent_of here ∙ f.unsent ∙ sym (ap unsent_of there);
-          begun = ap begun_of here ∙ f.begun;
-          few = λ h. f.few (sym (ap begun_of there) ∙ h);
+          begun = ap line_begun_of here ∙ f.begun;
+          few = λ h. f.few (sym (ap line_begun_of there) ∙ h);
         }
 
 -- reading refuses nothing
@@ -218,33 +218,33 @@ module _ (key : ℕ) (piece : List ℕ) (start stop : ℕ) (asked : Asked) (held
       }
 
   -- and is answered
-  pub line_answered : (did : LineRecord) (new : Held) → new ≡ answered did.granted key asked mid → steps_in did ≡ steps_answered did.granted asked mid
-      → new.denied ≡ denied_by mid.denied (did.granted ∷ []) → IsSound mid → HasRoom key piece start held → IsLineTaken key piece start stop did held new
-  line_answered did new is steps counted s t = record {
+  pub line_is_answered : (did : LineRecord) (new : Held) → new ≡ answered did.granted key asked mid → steps_in did ≡ steps_answered did.granted asked mid
+      → new.denied ≡ denied_by mid.denied (did.granted ∷ []) → IsSound mid → HasRoom key piece start held → IsLineAnswered key piece start stop did held new
+  line_is_answered did new is steps counted s t = record {
     onward = (line_found key piece start stop asked held mid e).onward;
     room = subst (HasRoom key piece stop) (sym is) (room_after did.granted s t);
-    is = ap (λ (h : Held). let r : ℕ × Held = (stop, h) in r) is ∙ ap (λ (r : Option (ℕ × Asked) × Held). line_taken key did.granted (start, held) r) e;
+    is = ap (λ (h : Held). let r : ℕ × Held = (stop, h) in r) is ∙ ap (λ (r : Option (ℕ × Asked) × Held). line_answered key did.granted (start, held) r) e;
     steps = steps ∙ ap (λ (r : Option (ℕ × Asked) × Held). steps_of_line did.granted r) e;
     counted = counted ∙ ap (λ k. denied_by k (did.granted ∷ [])) (ap (λ (r : Option (ℕ × Asked) × Held). r.1.denied) e ∙ heard_denied key piece start held (at held key));
   }
 
 -- the lines up to a place of the piece are answered
-pub record IsTaken (key : ℕ) (piece : List ℕ) (first : Held) (start : ℕ) (held : Held) : Type 0 where
+pub record AreAnswered (key : ℕ) (piece : List ℕ) (first : Held) (start : ℕ) (held : Held) : Type 0 where
   pub room : HasRoom key piece start held
   pub grants : List Bool
   pub counted : CountsEach key piece (0, first) grants
-  pub is : ◌≡◌ {A = ℕ × Held} (start, held) (lines_taken key piece grants first)
+  pub is : ◌≡◌ {A = ℕ × Held} (start, held) (lines_answered key piece grants first)
 
-pub nothing_taken : (key : ℕ) (piece : List ℕ) (first : Held) → unsent_at key first ≡ [] → IsTaken key piece first 0 first
+pub nothing_taken : (key : ℕ) (piece : List ℕ) (first : Held) → unsent_at key first ≡ [] → AreAnswered key piece first 0 first
 nothing_taken key piece first idle = record { room = nothing_begun key piece first idle; grants = []; counted = tt; is = refl }
 
 counts_push : (key : ℕ) (piece : List ℕ) (grants : List Bool) (before : ℕ × Held) (granted : Bool) → CountsEach key piece before grants
-    → CountsEach key piece (fold (λ before granted. line_taken key granted before (heard_at key piece before.0 before.1)) before grants) (granted ∷ []) → CountsEach key piece before (grants ++ granted ∷ [])
+    → CountsEach key piece (fold (λ before granted. line_answered key granted before (heard_at key piece before.0 before.1)) before grants) (granted ∷ []) → CountsEach key piece before (grants ++ granted ∷ [])
 counts_push key piece [] before granted a e = e
-counts_push key piece (g ∷ grants) before granted a e = (a.0, counts_push key piece grants (line_taken key g before (heard_at key piece before.0 before.1)) granted a.1 e)
+counts_push key piece (g ∷ grants) before granted a e = (a.0, counts_push key piece grants (line_answered key g before (heard_at key piece before.0 before.1)) granted a.1 e)
 
-pub line_added : (key : ℕ) (piece : List ℕ) (first : Held) (start stop : ℕ) (did : LineRecord) (held new : Held) → IsLineTaken key piece start stop did held new
-    → IsTaken key piece first start held → IsTaken key piece first stop new
+pub line_added : (key : ℕ) (piece : List ℕ) (first : Held) (start stop : ℕ) (did : LineRecord) (held new : Held) → IsLineAnswered key piece start stop did held new
+    → AreAnswered key piece first start held → AreAnswered key piece first stop new
 line_added key piece first start stop did held new l t = record {
   room = l.room;
   grants = t.grants ++ did.granted ∷ [];
@@ -252,9 +252,9 @@ line_added key piece first start stop did held new l t = record {
       (subst (λ (b : ℕ × Held). CountsEach key piece b (did.granted ∷ [])) t.is (sym (ap (λ (r : ℕ × Held). r.1.denied) l.is) ∙ l.counted, tt));
   is =
       l.is
-      ∙ ap (λ (b : ℕ × Held). line_taken key did.granted b (heard_at key piece b.0 b.1)) t.is
-      ∙ sym (fold-append (λ before granted. line_taken key granted before (heard_at key piece before.0 before.1)) (0, first) t.grants (did.granted ∷ []));
+      ∙ ap (λ (b : ℕ × Held). line_answered key did.granted b (heard_at key piece b.0 b.1)) t.is
+      ∙ sym (fold-append (λ before granted. line_answered key granted before (heard_at key piece before.0 before.1)) (0, first) t.grants (did.granted ∷ []));
 }
 
-pub lines_end : (key : ℕ) (piece : List ℕ) (first : Held) (start : ℕ) (held new : Held) → ◌≡◌ {A = Option (ℕ × Asked) × Held} (None, new) (heard_at key piece start held) → IsTaken key piece first start held → IsReceived key piece first new
+pub lines_end : (key : ℕ) (piece : List ℕ) (first : Held) (start : ℕ) (held new : Held) → ◌≡◌ {A = Option (ℕ × Asked) × Held} (None, new) (heard_at key piece start held) → AreAnswered key piece first start held → IsReceived key piece first new
 lines_end key piece first start held new e t = record { grants = t.grants; counted = t.counted; rest = e ∙ ap (λ (b : ℕ × Held). heard_at key piece b.0 b.1) t.is }

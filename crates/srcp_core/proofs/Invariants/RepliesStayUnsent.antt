@@ -13,7 +13,7 @@ use Rattle.srcp_rules.specs.State.{Update, is_there, session_device}
 use Rattle.srcp_feed.specs.Cursor.{concerns}
 use Rattle.srcp_feed.specs.Feed.{Feed, is_full, told}
 use Rattle.srcp_core.specs.Held.{Place, Held, place_at, IsLive, IsSound, IsSessionAt}
-use Rattle.srcp_core.specs.Machine.{told_feed, told_place, told_all, told_each, carried, unsent_of, changed_in, changed_places, with_unsent, replied, longest, entered_place, begun, goes, feed_in, panel_for}
+use Rattle.srcp_core.specs.Machine.{told_feed, told_place, told_all, told_each, carried, unsent_of, changed_in, changed_places, with_unsent, replied, longest, entered_place, session_begun, goes, feed_in, panel_for}
 use Rattle.srcp_core.specs.declared.connection.Panel.TheVariants.{Listening, Overran}
 use Rattle.srcp_core.proofs.Invariants.EveryPlaceIsTold.{told_all_at}
 use Rattle.srcp_core.proofs.Invariants.ChangesOneByOne.{change_in}
@@ -97,7 +97,7 @@ pub session_row : (session key : ℕ) (held : Held) → IsSound held → IsSessi
 session_row session key held s h = subst (λ n. is_there (session_device n) held.rows ≡ true) h.own (s.sessions.there key h.place h.here h.live)
 
 -- a session that was given memory begins
-pub goes_granted : (held : Held) (key : ℕ) (mode : Mode) (last : ℕ) (mid new : Held) → last < 4294967295 → last ≡ held.last_id → mid ≡ begun key (last + 1) mode held → new ≡ replied key (Go (last + 1)) mid → new ≡ goes true key mode held
+pub goes_granted : (held : Held) (key : ℕ) (mode : Mode) (last : ℕ) (mid new : Held) → last < 4294967295 → last ≡ held.last_id → mid ≡ session_begun key (last + 1) mode held → new ≡ replied key (Go (last + 1)) mid → new ≡ goes true key mode held
 goes_granted held key mode last mid new low is m n =
-    n ∙ ap (replied key (Go (last + 1))) m ∙ ap (λ k. replied key (Go (k + 1)) (begun key (k + 1) mode held)) is
-    ∙ sym (ap (λ t. if t then replied key (Go (held.last_id + 1)) (begun key (held.last_id + 1) mode held) else replied key (Refused C500) held) (lt-ltb held.last_id 4294967295 (subst (λ k. k < 4294967295) is low)))
+    n ∙ ap (replied key (Go (last + 1))) m ∙ ap (λ k. replied key (Go (k + 1)) (session_begun key (k + 1) mode held)) is
+    ∙ sym (ap (λ t. if t then replied key (Go (held.last_id + 1)) (session_begun key (held.last_id + 1) mode held) else replied key (Refused C500) held) (lt-ltb held.last_id 4294967295 (subst (λ k. k < 4294967295) is low)))

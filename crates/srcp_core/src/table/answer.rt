@@ -8,7 +8,7 @@ ghost use Rattle.srcp_rules.specs.Effect.{effect};
 ghost use Rattle.srcp_rules.specs.State.{session_device, is_there};
 ghost use Rattle.srcp_core.specs.Held.{IsSessionAt, IsSound};
 ghost use Rattle.srcp_core.specs.Under.{denied_by, wants_memory};
-ghost use Rattle.srcp_core.specs.Machine.{changed_at, unsent_at, one_denied, replied, denied_line, begun, goes, greeted, carried, freed_of, answered, commanded, longest, longest_answer, steps_answered, steps_gone, steps_greeted, steps_commanded, steps_in, IsAsked};
+ghost use Rattle.srcp_core.specs.Machine.{changed_at, unsent_at, one_denied, replied, denied_line, session_begun, goes, greeted, carried, freed_of, answered, commanded, longest, longest_answer, steps_answered, steps_gone, steps_greeted, steps_commanded, steps_in, IsAsked};
 
 use super::Core;
 use super::walk::{free_all, tell_all, tell_each};
@@ -101,7 +101,7 @@ impl<'a, R: Rows> Core<'a, R> {
     /// session's row; where it is refused nothing changes.
     fn begin(&mut self, conn: usize, id: u32, mode: Mode) -> Result<(), Memory>
         requires { id ≡ self.old.last_id + 1 }
-        ensures ok { OnOk result (self.new ≡ begun conn id mode self.old) }
+        ensures ok { OnOk result (self.new ≡ session_begun conn id mode self.old) }
         ensures err { OnErr result (self.new ≡ self.old) }
     {
         let panel = Panel::of_mode(self.alloc, mode, &self.rows)?;

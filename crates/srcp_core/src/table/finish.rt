@@ -36,7 +36,7 @@ impl<'a, R: Rows> Core<'a, R> {
         self.connections.get(conn)?.live_session()
     }
 
-    /// How a connection stands. `Shut` where there is none at the place.
+    /// How a connection stands. `Shut` where there is none of that key.
     pub(crate) fn finish(&self, conn: usize) -> Finish
         ensures { result ≡ finish_at conn self.now }
     {

@@ -1,7 +1,7 @@
 //! Bytes that come in: the lines that end in them, and what each of them asks for.
 ghost use Rattle.std.specs.Prelude.{◌≡◌, ◌≤◌, [], length, Some, None, IfNone, IfSome, OnOk, OnErr, MatchResult};
 ghost use Rattle.srcp_core.specs.Held.{IsSound};
-ghost use Rattle.srcp_core.specs.Machine.{unsent_at, bytes_fault, heard_at, IsReceived, HasRoom, IsLineTaken};
+ghost use Rattle.srcp_core.specs.Machine.{unsent_at, bytes_fault, heard_at, IsReceived, HasRoom, IsLineAnswered};
 
 use super::{Core, MOST_IN_PIECE};
 use crate::line::{Asked, LineRecord};
@@ -23,7 +23,7 @@ impl<'a, R: Rows> Core<'a, R> {
         if let Some(fault) = self.bytes_fault(conn, piece) {
             return Err(fault);
         }
-        self.take_lines(conn, piece);
+        self.answer_lines(conn, piece);
         Ok(())
     }
 
@@ -47,19 +47,19 @@ impl<'a, R: Rows> Core<'a, R> {
     }
 
     /// Answers each line that ends in the piece.
-    fn take_lines(&mut self, conn: usize, piece: &[u8])
+    fn answer_lines(&mut self, conn: usize, piece: &[u8])
         requires idle { unsent_at conn self.old ≡ [] }
         requires few { length piece.now ≤ 256 }
         ensures { IsReceived conn piece.now self.old self.new }
     {
         let mut start = 0;
-        while let Some((stop, _)) = self.take_line(conn, piece, start) {
+        while let Some((stop, _)) = self.answer_line(conn, piece, start) {
             start = stop;
         }
     }
 
     /// Reads the piece on from `start` and answers its next line: the offset after that, and what came of it.
-    pub(crate) fn take_line(
+    pub(crate) fn answer_line(
         &mut self,
         conn: usize,
         piece: &[u8],
@@ -68,7 +68,7 @@ impl<'a, R: Rows> Core<'a, R> {
         requires few { length piece.now ≤ 256 }
         requires room { HasRoom conn piece.now start self.old }
         ensures none { IfNone result ((None, self.new) ≡ heard_at conn piece.now start self.old) }
-        ensures line { IfSome result (λ r. IsLineTaken conn piece.now start r.0 r.1 self.old self.new) }
+        ensures line { IfSome result (λ r. IsLineAnswered conn piece.now start r.0 r.1 self.old self.new) }
     {
         let (stop, asked) = self.hear(conn, piece, start)?;
         Some((stop, self.answer(conn, asked)))

@@ -2,7 +2,8 @@ use Rattle.std.proofs.Common.{sym, ◌∙◌, subst, [], ◌∷◌}
 use Rattle.srcp_core.specs.Machine.{steps_in}
 use Rattle.srcp_core.specs.Recording.{Recording}
 use Rattle.srcp_core.proofs.Agreement.MemoryAnswers.{none_denied}
-use Rattle.srcp_core.proofs.Agreement.RunsAnEvent.{no_bytes_happens, bytes_refused, bytes_room, reads_first, reads_more, bytes_happens, ReadsOn}
+use Rattle.srcp_core.proofs.Agreement.RunsAnEvent.{no_bytes_happens}
+use Rattle.srcp_core.proofs.Agreement.RunsBytes.{bytes_refused, bytes_room, reads_first, reads_more, bytes_happens, ReadsOn}
 use Rattle.srcp_core.proofs.runner.bytes.Goals as goal
 
 pub returns-in_default-clause-course : goal.returns-in_default-clause-course
@@ -20,20 +21,20 @@ loop-stop-init g c =
 
 pub returns-in_err-answered-clause-denied : goal.returns-in_err-answered-clause-denied
 returns-in_err-answered-clause-denied g c = λ d.
-    c.loop-stop.invariant.denied (none_denied (c.in-Some-take_line.line.granted ∷ []) c.loop-stop.core.denied (sym c.in-Some-take_line.ensures.line.counted ∙ d)).0
+    c.loop-stop.invariant.denied (none_denied (c.in-Some-answer_line.line.granted ∷ []) c.loop-stop.core.denied (sym c.in-Some-answer_line.ensures.line.counted ∙ d)).0
 
 pub loop-stop-preserved : goal.loop-stop-preserved
 loop-stop-preserved g c =
-    let line = c.in-Some-take_line.ensures.line in
+    let line = c.in-Some-answer_line.ensures.line in
     record {
       few = c.loop-stop.invariant.few;
       room = line.room;
-      reads = subst (λ (r : Recording). ReadsOn c.args.conn c.in-Some.key c.args.piece.now c.args.recorder.now c.args.core.now c.in-Some-take_line.stop r c.take_line.new.self) (sym c.in_ok-answered.ensures)
-          (reads_more c.args.conn c.in-Some.key c.args.piece.now c.args.recorder.now c.args.core.now c.loop-stop.start c.in-Some-take_line.stop c.in-Some-take_line.line.granted (steps_in c.in-Some-take_line.line) c.loop-stop.recorder c.loop-stop.core c.take_line.new.self
+      reads = subst (λ (r : Recording). ReadsOn c.args.conn c.in-Some.key c.args.piece.now c.args.recorder.now c.args.core.now c.in-Some-answer_line.stop r c.answer_line.new.self) (sym c.in_ok-answered.ensures)
+          (reads_more c.args.conn c.in-Some.key c.args.piece.now c.args.recorder.now c.args.core.now c.loop-stop.start c.in-Some-answer_line.stop c.in-Some-answer_line.line.granted (steps_in c.in-Some-answer_line.line) c.loop-stop.recorder c.loop-stop.core c.answer_line.new.self
           line.onward line.is line.steps line.counted c.loop-stop.invariant.reads);
-      denied = λ d. c.loop-stop.invariant.denied (none_denied (c.in-Some-take_line.line.granted ∷ []) c.loop-stop.core.denied (sym line.counted ∙ d)).0;
+      denied = λ d. c.loop-stop.invariant.denied (none_denied (c.in-Some-answer_line.line.granted ∷ []) c.loop-stop.core.denied (sym line.counted ∙ d)).0;
     }
 
 pub returns-clause-course : goal.returns-clause-course
 returns-clause-course g c =
-    bytes_happens c.args.conn c.in-Some.key c.args.piece.now c.args.recorder.now c.args.core.now c.loop-stop.start c.loop-stop.recorder c.loop-stop.core c.take_line.new.self c.in_default-take_line.ensures.none c.loop-stop.invariant.reads
+    bytes_happens c.args.conn c.in-Some.key c.args.piece.now c.args.recorder.now c.args.core.now c.loop-stop.start c.loop-stop.recorder c.loop-stop.core c.answer_line.new.self c.in_default-answer_line.ensures.none c.loop-stop.invariant.reads

@@ -1,6 +1,6 @@
 use Rattle.std.proofs.Common.{length, ◌-◌, ◌≤◌, ◌≡◌}
 use Rattle.srcp_core.specs.Machine.{HasRoom}
-use Rattle.srcp_core.proofs.Agreement.RunsAnEvent.{ReadsOn}
+use Rattle.srcp_core.proofs.Agreement.RunsBytes.{ReadsOn}
 use Rattle.srcp_core.proofs.runner.bytes.Given as goal
 
 abbrev pub invariant-loop-stop : goal.invariant-loop-stop

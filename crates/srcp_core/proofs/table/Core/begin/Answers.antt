@@ -2,7 +2,7 @@ use Rattle.std.proofs.Common.{◌≡◌, ◌+◌, ◌≤◌, List, Some, None, s
 use Rattle.std.specs.Option.{option_copied_mut}
 use Rattle.std.specs.Prelude.{Option}
 use Rattle.srcp_core.specs.Held.{Held, Place, IsSound, place_at}
-use Rattle.srcp_core.specs.Machine.{begun, changed_places, entered_place}
+use Rattle.srcp_core.specs.Machine.{session_begun, changed_places, entered_place}
 use Rattle.srcp_core.proofs.Invariants.CoreStaysSound.{begun_is, sound_begun}
 use Rattle.srcp_core.proofs.Invariants.PlacesCover.{set_as, none_as}
 use Rattle.srcp_core.proofs.table.Core.begin.Goals as goal
@@ -12,14 +12,14 @@ returns-clause-ok g c =
     let held : Held = record { buses = c.self.inside.layout.now; rows = g.R.Rows.state c.self.inside.rows; moment = c.self.inside.moment; last_id = c.self.inside.last_id; places = c.self.inside.connections.slots; denied = c.self.inside.denied } in
     let there = sym c.get_mut.ensures.value ∙ ap option_copied_mut c.in-Some.is in
     begun_is held c.args.conn c.args.id c.args.mode _ _ _ _ _ c.in_ok-panel.ensures c.in_ok-change.ensures.rows c.in_ok-change.ensures.change c.tell_all.ensures.slots (set_as _ _ _ _ _ there c.enter.ensures)
-    ∙ ap (begun c.args.conn c.args.id c.args.mode) c.self.view_is
+    ∙ ap (session_begun c.args.conn c.args.id c.args.mode) c.self.view_is
 
 pub returns-in_default-clause-ok : goal.returns-in_default-clause-ok
 returns-in_default-clause-ok g c =
     let held : Held = record { buses = c.self.inside.layout.now; rows = g.R.Rows.state c.self.inside.rows; moment = c.self.inside.moment; last_id = c.self.inside.last_id; places = c.self.inside.connections.slots; denied = c.self.inside.denied } in
     let none = sym c.get_mut.ensures.value ∙ ap option_copied_mut c.in_default.is in
     begun_is held c.args.conn c.args.id c.args.mode _ _ _ _ _ c.in_ok-panel.ensures c.in_ok-change.ensures.rows c.in_ok-change.ensures.change c.tell_all.ensures.slots (none_as _ _ _ none)
-    ∙ ap (begun c.args.conn c.args.id c.args.mode) c.self.view_is
+    ∙ ap (session_begun c.args.conn c.args.id c.args.mode) c.self.view_is
 
 pub invariant_of-self-2 : goal.invariant_of-self-2
 invariant_of-self-2 g c =

@@ -1,5 +1,5 @@
-use Rattle.srcp_core.proofs.Invariants.LinesAreFound.{line_asks, line_room, line_answered}
-use Rattle.srcp_core.proofs.table.Core.take_line.Goals as goal
+use Rattle.srcp_core.proofs.Invariants.LinesAreFound.{line_asks, line_room, line_is_answered}
+use Rattle.srcp_core.proofs.table.Core.answer_line.Goals as goal
 
 pub answer-requires-clause-asked : goal.answer-requires-clause-asked
 answer-requires-clause-asked g c =
@@ -11,5 +11,5 @@ answer-requires-clause-room g c =
 
 pub returns-clause-line : goal.returns-clause-line
 returns-clause-line g c =
-    line_answered c.args.conn c.args.piece.now c.args.start c.in_ok-stop.stop c.in_ok-stop.asked c.args.self.now c.hear.new.self c.in_ok-stop.ensures.heard
+    line_is_answered c.args.conn c.args.piece.now c.args.start c.in_ok-stop.stop c.in_ok-stop.asked c.args.self.now c.hear.new.self c.in_ok-stop.ensures.heard
     c.answer.result c.answer.new.self c.answer.ensures.core c.answer.ensures.steps c.answer.ensures.counted c.in_ok-stop.ensures.sound c.requires.room
