@@ -10,7 +10,7 @@ use crate::lock::{is_locked, moment_after, refusal};
 use crate::obeyed::Obeyed;
 use crate::registry::{is_there, set_one};
 use crate::rows::Rows;
-use srcp_info::{Bits, Code, Value};
+use srcp_info::{Bits, Code, DriveMode, Value};
 
 /// The functions of a locomotive's state.
 fn functions_of<R: Rows>(rows: &R, place: BusAddress) -> Bits
@@ -60,11 +60,15 @@ pub(crate) fn gl_refusal<R: Rows>(
     None
 }
 
-/// V as it is kept: in mode 2, the emergency stop, it is 0.
+/// V as it is kept: in an emergency stop it is 0.
 fn kept_v(mode: u32, v: u32) -> u32
     ensures { result ≡ kept_v mode v }
 {
-    if mode == 2 { 0 } else { v }
+    if mode == DriveMode::EmergencyStop as u32 {
+        0
+    } else {
+        v
+    }
 }
 
 /// SET of a locomotive.

@@ -10,7 +10,7 @@ use crate::init::init_device;
 use crate::obeyed::Obeyed;
 use crate::registry::row_put;
 use crate::rows::Rows;
-use srcp_info::{Bits, Device, Letter, Row, Value};
+use srcp_info::{Bits, Device, DriveMode, Letter, Row, Value};
 
 /// The rows of a locomotive that is made: it goes forward at rest, with all functions off.
 fn resting_rows(moment: u64, device: Device, init: &Value, functions: u32) -> [Row; 2]
@@ -18,7 +18,7 @@ fn resting_rows(moment: u64, device: Device, init: &Value, functions: u32) -> [R
     ensures { result ≡ row_put moment (key_at device 0) init.now None ∷ row_put moment (key_at device 1) (value.GlState 1 0 0 (replicate functions false)) None ∷ [] }
 {
     let resting = Value::GlState {
-        mode: 1,
+        mode: DriveMode::Forward as u32,
         v: 0,
         vmax: 0,
         functions: Bits::all_false(functions as usize),

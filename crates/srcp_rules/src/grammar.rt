@@ -11,8 +11,8 @@ use crate::layout::Bus;
 use crate::power_text::text_of;
 use crate::read::{bit_of, is_keyword, letter_of, lockable_on, number_in, switch_of, time_of};
 use srcp_info::{
-    Bits, Code, GREATEST_SPEED, GREATEST_VERSION, Letter, MOST_FUNCTIONS, MOST_SECONDS, MOST_STEPS,
-    Text,
+    Bits, Code, DriveMode, GREATEST_SPEED, GREATEST_VERSION, Letter, MOST_FUNCTIONS, MOST_SECONDS,
+    MOST_STEPS, Text,
 };
 use srcp_text::Words;
 
@@ -216,7 +216,7 @@ pub(crate) fn driven(bus: &Bus, mut words: Words<'_>) -> Result<Drive, Code>
     let fourth = next_word(&mut words)?;
     let functions = read_functions(words)?;
     let address = number_in(1, bus.gl_max, first)?;
-    let mode = number_in(0, 2, second)?;
+    let mode = number_in(0, DriveMode::EmergencyStop as u32, second)?;
     let v = number_in(0, GREATEST_SPEED, third)?;
     let vmax = number_in(0, GREATEST_SPEED, fourth)?;
     if vmax < v && vmax != 0 {
