@@ -29,7 +29,7 @@ fn end_session(session: u32, named: Option<u32>) -> Obeyed
     ensures { IsTold (term_session session named) result }
 {
     match named {
-        Some(id) if id != session => Obeyed::refused(Code::C415),
+        Some(id) if id != session => Obeyed::refused(Code::FORBIDDEN),
         _ => Obeyed::replied(Reply::Accepted, true),
     }
 }

@@ -49,13 +49,13 @@ pub(crate) fn gl_refusal<R: Rows>(
     ensures { result ≡ first_refusal (gl_refusals (R.state rows.now) session place.bus place.address functions.now) }
 {
     if !is_there(rows, device_in(Lockable::Gl, place)) {
-        return Some(Code::C416);
+        return Some(Code::NO_SUCH_DEVICE);
     }
     if functions_of(rows, place).len() < functions.len() {
-        return Some(Code::C418);
+        return Some(Code::TOO_LONG);
     }
     if is_locked(rows, session, Lockable::Gl, place) {
-        return Some(Code::C414);
+        return Some(Code::DEVICE_LOCKED);
     }
     None
 }

@@ -27,7 +27,7 @@ pub(crate) fn read_functions(mut words: Words<'_>) -> Result<Result<Bits, Code>,
     let mut count = 0;
     while let Some(word) = words.next() {
         if count == Bits::CAPACITY {
-            return Err(Code::C418);
+            return Err(Code::TOO_LONG);
         }
         functions = and_bit(functions, word);
         count += 1;

@@ -163,7 +163,7 @@ pub(crate) fn init_gl(bus: &Bus, mut words: Words<'_>) -> Result<Command, Code>
     let second = next_word(&mut words)?;
     let Some(third) = words.next() else {
         if !is_keyword(b"P", second) {
-            return Err(Code::C419);
+            return Err(Code::TOO_SHORT);
         }
         return Ok(Command::InitGl {
             bus: bus.number,
@@ -220,7 +220,7 @@ pub(crate) fn driven(bus: &Bus, mut words: Words<'_>) -> Result<Drive, Code>
     let v = number_in(0, GREATEST_SPEED, third)?;
     let vmax = number_in(0, GREATEST_SPEED, fourth)?;
     if vmax < v && vmax != 0 {
-        return Err(Code::C412);
+        return Err(Code::WRONG_VALUE);
     }
     Ok(Drive {
         address,

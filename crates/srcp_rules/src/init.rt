@@ -174,7 +174,7 @@ pub(crate) fn init_device<R: Rows>(
     ensures layout { R.buses rows.new ≡ R.buses rows.old }
 {
     if is_locked(rows, sender.session, group, place) {
-        return Obeyed::refused(Code::C414);
+        return Obeyed::refused(Code::DEVICE_LOCKED);
     }
     if has_init(rows, group, place, init) {
         return Obeyed::accepted(ArrayVec::new());
@@ -185,7 +185,7 @@ pub(crate) fn init_device<R: Rows>(
     let mut changes = ArrayVec::new();
     push_puts(&mut changes, fresh);
     if rows.add(fresh).is_err() {
-        return Obeyed::refused(Code::C500);
+        return Obeyed::refused(Code::OUT_OF_RESOURCES);
     }
     Obeyed::accepted(changes)
 }

@@ -36,10 +36,10 @@ pub(crate) fn refusal<R: Rows>(
     ensures { result ≡ first_refusal (refusals (R.state rows.now) session group place.bus place.address) }
 {
     if !is_there(rows, device_in(group, place)) {
-        return Some(Code::C416);
+        return Some(Code::NO_SUCH_DEVICE);
     }
     if is_locked(rows, session, group, place) {
-        return Some(Code::C414);
+        return Some(Code::DEVICE_LOCKED);
     }
     None
 }
@@ -99,7 +99,7 @@ pub(crate) fn set_lock<R: Rows>(
     let mut changes = ArrayVec::new();
     changes.push(put_of(&row));
     if rows.add(&[row]).is_err() {
-        return Obeyed::refused(Code::C500);
+        return Obeyed::refused(Code::OUT_OF_RESOURCES);
     }
     Obeyed::accepted(changes)
 }
@@ -116,10 +116,10 @@ pub(crate) fn term_lock<R: Rows>(
 {
     let lock = lock_on(group, place);
     if !is_there(rows, lock) {
-        return Obeyed::refused(Code::C416);
+        return Obeyed::refused(Code::NO_SUCH_DEVICE);
     }
     if is_locked(rows, sender.session, group, place) {
-        return Obeyed::refused(Code::C414);
+        return Obeyed::refused(Code::DEVICE_LOCKED);
     }
     let mut changes = ArrayVec::new();
     changes.push(remove(rows, sender.moment, lock));

@@ -25,18 +25,18 @@ pub(crate) fn text_of(mut words: Words<'_>) -> Result<Text, Code>
         return Ok(text);
     };
     if first.len() > Text::CAPACITY {
-        return Err(Code::C412);
+        return Err(Code::WRONG_VALUE);
     }
     push_word(&mut text, first);
     while let Some(word) = words.next() {
         if text.len() + 1 + word.len() > Text::CAPACITY {
-            return Err(Code::C412);
+            return Err(Code::WRONG_VALUE);
         }
         text.push(b' ');
         push_word(&mut text, word);
     }
     if !is_text(text.as_bytes()) {
-        return Err(Code::C412);
+        return Err(Code::WRONG_VALUE);
     }
     Ok(text)
 }
