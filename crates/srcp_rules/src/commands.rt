@@ -18,7 +18,7 @@ use crate::drive::{gl_refusal, set_ga, set_gl};
 use crate::fresh::{init_ga, init_gl};
 use crate::init::term_device;
 use crate::lock::{checked, refusal, set_lock, term_lock};
-use crate::obeyed::Obeyed;
+use crate::obeyed::{MOST_CHANGES, Obeyed};
 use crate::registry::{set_one, show};
 use crate::rows::Rows;
 use arrayvec::ArrayVec;
@@ -268,7 +268,7 @@ pub fn obey<R: Rows>(rows: &mut R, session: u32, moment: u64, command: &Command)
     ensures whole { IsWhole (R.buses rows.new) (R.state rows.new) }
     ensures reply { IsWellFormedReply result.reply }
     ensures changes { AllByRecursion IsWellFormed result.changes.items }
-    ensures few { length result.changes.items ≤ 11 }
+    ensures few { length result.changes.items ≤ MOST_CHANGES }
 {
     answer(rows, Sender { session, moment }, command)
 }

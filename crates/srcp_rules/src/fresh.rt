@@ -9,12 +9,12 @@ use crate::device::{BusAddress, device_in, key_at};
 use crate::init::init_device;
 use crate::obeyed::Obeyed;
 use crate::registry::row_put;
-use crate::rows::Rows;
-use srcp_info::{Bits, Device, DriveMode, Letter, Row, Value};
+use crate::rows::{MOST_ROWS, Rows};
+use srcp_info::{Bits, Device, DriveMode, Letter, MOST_FUNCTIONS, MOST_PORTS, Row, Value};
 
 /// The rows of a locomotive that is made: it goes forward at rest, with all functions off.
 fn resting_rows(moment: u64, device: Device, init: &Value, functions: u32) -> [Row; 2]
-    requires { functions ≤ 29 }
+    requires { functions ≤ MOST_FUNCTIONS }
     ensures { result ≡ row_put moment (key_at device 0) init.now None ∷ row_put moment (key_at device 1) (value.GlState 1 0 0 (replicate functions false)) None ∷ [] }
 {
     let resting = Value::GlState {
@@ -70,9 +70,9 @@ fn clear_port(moment: u64, device: Device, port: u8) -> Row
     )
 }
 
-/// The fresh rows of an accessory with eight ports, the most that one has.
-fn most_rows(moment: u64, device: Device, letter: Letter) -> [Row; 9]
-    ensures { result ≡ row_put moment (key_at device 0) (value.GaInit letter) None ∷ map (λ port. row_put moment (key_at device port) (value.GaPort false) None) (range_with_len 1 8) }
+/// The fresh rows of an accessory with the most ports that one has.
+fn most_rows(moment: u64, device: Device, letter: Letter) -> [Row; MOST_ROWS]
+    ensures { result ≡ row_put moment (key_at device 0) (value.GaInit letter) None ∷ map (λ port. row_put moment (key_at device port) (value.GaPort false) None) (range_with_len 1 MOST_PORTS) }
 {
     [
         row_put(moment, key_at(device, 0), Value::GaInit { letter }, None),

@@ -19,7 +19,7 @@ use srcp_text::{Words, read_number, words};
 
 /// The bus that the word is the number of; any other word is 412.
 fn bus_of(buses: &[Bus], word: &[u8]) -> Result<Bus, Code>
-    ensures { result ≡ ok_or (option_and_then (bus_at buses.now) (number_of 250 word.now)) WrongValue }
+    ensures { result ≡ ok_or (option_and_then (bus_at buses.now) (number_of GREATEST_BUS word.now)) WrongValue }
 {
     let Some(number) = read_number(word, u32::from(GREATEST_BUS)) else {
         return Err(Code::WRONG_VALUE);

@@ -8,7 +8,7 @@ ghost use Rattle.srcp_rules.specs.Grammar.{bit_of, groups, letter_of, lockable_o
 
 use crate::command::{Lockable, Named, Operation};
 use crate::layout::Bus;
-use srcp_info::{Code, Letter};
+use srcp_info::{Code, Letter, MOST_MILLISECONDS};
 use srcp_text::read_number;
 
 /// Whether the word is the keyword, in capital or small letters.
@@ -74,7 +74,7 @@ pub(crate) fn time_of(word: &[u8]) -> Result<Option<u32>, Code>
     if word == b"-1".as_slice() {
         return Ok(None);
     }
-    Ok(Some(number_in(0, 60000, word)?))
+    Ok(Some(number_in(0, MOST_MILLISECONDS, word)?))
 }
 
 /// The operation that the first word of a command names; any other word is 410.
