@@ -1,4 +1,4 @@
-//! The greatest numbers of rows, which are our own choice where SRCP 0.8 leaves them open.
+//! The greatest numbers of rows and lines, which are our own choice where SRCP 0.8 leaves them open.
 
 /// The greatest number of a bus. The least is 1: bus 0 is the server itself.
 pub const GREATEST_BUS: u8 = 250;
@@ -29,3 +29,15 @@ pub const GREATEST_SPEED: u32 = 65535;
 
 /// For how many seconds a lock is set at most.
 pub const MOST_SECONDS: u32 = 86400;
+
+/// For how many milliseconds a port of an accessory is set at most.
+pub const MOST_MILLISECONDS: u32 = 60000;
+
+/// How many bytes the text of a power row has at most.
+pub const LONGEST_TEXT: usize = 80;
+
+/// How many bytes a line has at most, its LF among them.
+pub const LONGEST_LINE: usize = 126;
+
+/// How many bytes the line of a reply that shows no row has at most, its LF among them.
+pub const LONGEST_SHORT_REPLY: usize = 64;

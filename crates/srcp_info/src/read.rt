@@ -14,6 +14,7 @@ ghost use Rattle.srcp_info.specs.Read.{kind_code, IsLineOf, Reads};
 
 use crate::change::{Change, Shown};
 use crate::key::{Device, Group, Key};
+use crate::limits::{LONGEST_TEXT, MOST_FUNCTIONS, MOST_PORTS};
 use crate::scan::{
     InfoKind, functions_of, kind_of, mode_named, moment_of, next_bit, next_group, next_letter,
     next_number, next_switch, next_word,
@@ -49,7 +50,7 @@ fn read_session(text: &[u8]) -> Tail
 }
 
 fn read_power(text: &[u8]) -> Tail
-    ensures { (on : Bool) (shown : List ℕ) → length shown ≤ 80
+    ensures { (on : Bool) (shown : List ℕ) → length shown ≤ LONGEST_TEXT
         → text.now ≡ join_with_byte 32 (value_words 0 0 (Value.Power on shown))
         → result ≡ record { address = 0; port = 0; value = Value.Power on shown } }
 {
@@ -94,7 +95,7 @@ fn read_gl_init(text: &[u8]) -> Tail
 fn read_gl_state(text: &[u8]) -> Tail
     ensures { (address mode v vmax : ℕ) (functions : List Bool)
         → address < 2 ^ 32 → mode < 2 ^ 32 → v < 2 ^ 32 → vmax < 2 ^ 32
-        → length functions ≤ 29
+        → length functions ≤ MOST_FUNCTIONS
         → text.now ≡ join_with_byte 32
         (value_words address 1 (Value.GlState mode v vmax functions))
         → result ≡ record {
@@ -135,7 +136,7 @@ fn read_ga_init(text: &[u8]) -> Tail
 }
 
 fn read_ga_port(text: &[u8]) -> Tail
-    ensures { (address port : ℕ) (on : Bool) → address < 2 ^ 32 → 1 ≤ port → port ≤ 8
+    ensures { (address port : ℕ) (on : Bool) → address < 2 ^ 32 → 1 ≤ port → port ≤ MOST_PORTS
         → text.now ≡ join_with_byte 32 (value_words address port (Value.GaPort on))
         → result ≡ record { address = address; port = port; value = Value.GaPort on } }
 {

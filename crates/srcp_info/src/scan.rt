@@ -12,6 +12,7 @@ ghost use Rattle.srcp_info.specs.Read.{kind_code};
 ghost use Rattle.srcp_info.specs.WellFormed.{is_space};
 
 use crate::key::Group;
+use crate::limits::MOST_FUNCTIONS;
 use crate::value::{Bits, Letter, Mode};
 use srcp_text::{read_number, read_plain};
 
@@ -174,7 +175,7 @@ pub(crate) fn next_switch(text: &[u8]) -> (bool, &[u8])
 
 /// The functions that the words of a text are.
 pub(crate) fn functions_of(text: &[u8]) -> Bits
-    ensures { (functions : List Bool) → length functions ≤ 29
+    ensures { (functions : List Bool) → length functions ≤ MOST_FUNCTIONS
         → text.now ≡ join_with_byte 32 (map bit_word functions)
         → result ≡ functions }
 {

@@ -10,7 +10,7 @@ use crate::limits::{
     GREATEST_BUS, GREATEST_FB, GREATEST_GA, GREATEST_GL, GREATEST_SPEED, GREATEST_VERSION,
     MOST_FUNCTIONS, MOST_PORTS, MOST_SECONDS, MOST_STEPS,
 };
-use crate::value::{Bits, Text, Value};
+use crate::value::{Bits, DriveMode, Text, Value};
 
 /// Whether a byte can stand in a word of a text: it is no control byte, space or DEL.
 fn is_text_byte(byte: u8) -> bool
@@ -99,11 +99,11 @@ fn can_go(group: Group) -> bool
 fn is_speed(mode: u32, v: u32, vmax: u32) -> bool
     ensures { IsTrue result ↔ IsSpeed mode v vmax }
 {
-    mode <= 2
+    mode <= DriveMode::EmergencyStop as u32
         && v <= GREATEST_SPEED
         && vmax <= GREATEST_SPEED
         && (v <= vmax || vmax == 0)
-        && (mode != 2 || v == 0)
+        && (mode != DriveMode::EmergencyStop as u32 || v == 0)
 }
 
 /// Whether the value is one that the row at this group and port can have.

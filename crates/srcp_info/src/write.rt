@@ -9,6 +9,7 @@ ghost use Rattle.srcp_info.specs.WellFormed.{IsWellFormed, IsWellFormedShown, Is
 
 use crate::change::{Change, Reply, Shown};
 use crate::key::{Device, Group, Key};
+use crate::limits::{LONGEST_LINE, LONGEST_SHORT_REPLY};
 use crate::value::{Bits, Text, Value};
 use crate::words::{bit_word, code_text, letter_word, mode_word, switch_word, value_code};
 use srcp_text::{LineBuf, put_bytes, put_number, put_stamp};
@@ -151,7 +152,7 @@ fn write_row(shown: &Shown, buffer: &mut LineBuf)
     requires well_formed { IsWellFormedShown shown.now }
     requires empty { buffer.old.items ≡ [] }
     ensures line { buffer.new.items ≡ line (Change.Put shown.now) }
-    ensures most { array_vec_len buffer.new ≤ 126 }
+    ensures most { array_vec_len buffer.new ≤ LONGEST_LINE }
 {
     let key = &shown.key;
     put_info(
@@ -170,7 +171,7 @@ fn write_gone(stamp: u64, device: &Device, buffer: &mut LineBuf)
     requires well_formed { IsWellFormed (Change.Gone stamp device.now) }
     requires empty { buffer.old.items ≡ [] }
     ensures line { buffer.new.items ≡ line (Change.Gone stamp device.now) }
-    ensures most { array_vec_len buffer.new ≤ 126 }
+    ensures most { array_vec_len buffer.new ≤ LONGEST_LINE }
 {
     put_info(stamp, b"102", device.bus, device.group, buffer);
     put_numeral(device.address, buffer);
@@ -184,7 +185,7 @@ pub fn write_change(change: &Change, buffer: &mut LineBuf)
     requires well_formed { IsWellFormed change.now }
     requires empty { buffer.old.items ≡ [] }
     ensures line { buffer.new.items ≡ line change.now }
-    ensures most { array_vec_len buffer.new ≤ 126 }
+    ensures most { array_vec_len buffer.new ≤ LONGEST_LINE }
 {
     match change {
         Change::Put(shown) => write_row(shown, buffer),
@@ -197,7 +198,7 @@ fn write_text(stamp: u64, text: &[u8], buffer: &mut LineBuf)
     requires short { length text.now ≤ 40 }
     requires empty { buffer.old.items ≡ [] }
     ensures line { buffer.new.items ≡ spaced (stamp_of stamp ∷ text.now ∷ []) }
-    ensures most { array_vec_len buffer.new ≤ 64 }
+    ensures most { array_vec_len buffer.new ≤ LONGEST_SHORT_REPLY }
 {
     put_stamp(stamp, buffer);
     put_word(text, buffer);
@@ -208,7 +209,7 @@ fn write_text(stamp: u64, text: &[u8], buffer: &mut LineBuf)
 fn write_go(stamp: u64, id: u32, buffer: &mut LineBuf)
     requires { buffer.old.items ≡ [] }
     ensures line { buffer.new.items ≡ reply_line stamp (Reply.Go id) }
-    ensures most { array_vec_len buffer.new ≤ 64 }
+    ensures most { array_vec_len buffer.new ≤ LONGEST_SHORT_REPLY }
 {
     put_stamp(stamp, buffer);
     put_word(b"200 OK GO", buffer);
@@ -223,8 +224,8 @@ pub fn write_reply(stamp: u64, reply: &Reply, buffer: &mut LineBuf)
     requires well_formed { IsWellFormedReply reply.now }
     requires empty { buffer.old.items ≡ [] }
     ensures line { buffer.new.items ≡ reply_line stamp reply.now }
-    ensures most { array_vec_len buffer.new ≤ 126 }
-    ensures short { ShowsNoRow reply.now → array_vec_len buffer.new ≤ 64 }
+    ensures most { array_vec_len buffer.new ≤ LONGEST_LINE }
+    ensures short { ShowsNoRow reply.now → array_vec_len buffer.new ≤ LONGEST_SHORT_REPLY }
 {
     match reply {
         Reply::Accepted => write_text(stamp, b"200 OK", buffer),

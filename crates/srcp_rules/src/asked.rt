@@ -21,7 +21,7 @@ fn session_asked(operation: Operation, words: Words<'_>) -> Result<Command, Code
     match operation {
         Operation::Get => get_session(words),
         Operation::Term => term_session(words),
-        _ => Err(Code::C423),
+        _ => Err(Code::UNSUPPORTED_OPERATION),
     }
 }
 
@@ -51,7 +51,7 @@ fn power_asked(operation: Operation, bus: &Bus, words: Words<'_>) -> Result<Comm
             })
         }
         Operation::Init => Ok(Command::InitPower { bus: number }),
-        _ => Err(Code::C423),
+        _ => Err(Code::UNSUPPORTED_OPERATION),
     }
 }
 
@@ -91,7 +91,7 @@ fn gl_asked(operation: Operation, bus: &Bus, words: Words<'_>) -> Result<Command
             bus: number,
             address: address(bus.gl_max, words)?,
         }),
-        _ => Err(Code::C423),
+        _ => Err(Code::UNSUPPORTED_OPERATION),
     }
 }
 
@@ -126,7 +126,7 @@ fn ga_asked(operation: Operation, bus: &Bus, words: Words<'_>) -> Result<Command
             bus: number,
             address: address(bus.ga_max, words)?,
         }),
-        _ => Err(Code::C423),
+        _ => Err(Code::UNSUPPORTED_OPERATION),
     }
 }
 
@@ -156,7 +156,7 @@ fn fb_asked(operation: Operation, bus: &Bus, words: Words<'_>) -> Result<Command
             })
         }
         Operation::Init => Ok(Command::InitFb { bus: number }),
-        _ => Err(Code::C423),
+        _ => Err(Code::UNSUPPORTED_OPERATION),
     }
 }
 
@@ -198,7 +198,7 @@ fn lock_asked(operation: Operation, bus: &Bus, words: Words<'_>) -> Result<Comma
                 address,
             })
         }
-        _ => Err(Code::C423),
+        _ => Err(Code::UNSUPPORTED_OPERATION),
     }
 }
 

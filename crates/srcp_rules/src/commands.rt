@@ -10,13 +10,15 @@ ghost use Rattle.srcp_rules.specs.Effect.{accepted, put_at, shown_at, term_sessi
 ghost use Rattle.srcp_rules.specs.Obeyed.{IsObeyed, IsTold, MayObey, Took};
 ghost use Rattle.srcp_rules.specs.State.{IsWhole, device_in, fb_device, is_there, key_at, power_device, session_device};
 
-use crate::command::{Command, Lockable, Named};
-use crate::device::{device_in, fb_device, key_at, lock_on, power_device, session_device};
+use crate::command::{Command, Lockable, Named, Sender};
+use crate::device::{
+    BusAddress, device_in, fb_device, key_at, lock_on, power_device, session_device,
+};
 use crate::drive::{gl_refusal, set_ga, set_gl};
 use crate::fresh::{init_ga, init_gl};
 use crate::init::term_device;
 use crate::lock::{checked, refusal, set_lock, term_lock};
-use crate::obeyed::Obeyed;
+use crate::obeyed::{MOST_CHANGES, Obeyed};
 use crate::registry::{set_one, show};
 use crate::rows::Rows;
 use arrayvec::ArrayVec;
@@ -27,36 +29,29 @@ fn end_session(session: u32, named: Option<u32>) -> Obeyed
     ensures { IsTold (term_session session named) result }
 {
     match named {
-        Some(id) if id != session => Obeyed::refused(Code::C415),
+        Some(id) if id != session => Obeyed::refused(Code::FORBIDDEN),
         _ => Obeyed::replied(Reply::Accepted, true),
     }
 }
 
 /// SET of the power of a bus.
-fn set_power<R: Rows>(
-    rows: &mut R,
-    session: u32,
-    moment: u64,
-    bus: u8,
-    on: bool,
-    text: Text,
-) -> Obeyed
-    requires { MayObey (R.buses rows.old) (R.state rows.old) session (Command.SetPower bus on text) }
-    ensures took { Took (accepted (put_at moment (first_key (power_device bus)) (value.Power on text) None ∷ [])) (R.state rows.old) (R.state rows.new) result }
+fn set_power<R: Rows>(rows: &mut R, sender: Sender, bus: u8, on: bool, text: Text) -> Obeyed
+    requires { MayObey (R.buses rows.old) (R.state rows.old) sender.session (Command.SetPower bus on text) }
+    ensures took { Took (accepted (put_at sender.moment (first_key (power_device bus)) (value.Power on text) None ∷ [])) (R.state rows.old) (R.state rows.new) result }
     ensures layout { R.buses rows.new ≡ R.buses rows.old }
 {
     let key = power_device(bus).first_key();
-    set_one(rows, moment, key, Value::Power { on, text }, None)
+    set_one(rows, sender.moment, key, Value::Power { on, text }, None)
 }
 
 /// SET of a feedback port.
-fn set_fb<R: Rows>(rows: &mut R, session: u32, moment: u64, bus: u8, port: u32, on: bool) -> Obeyed
-    requires { MayObey (R.buses rows.old) (R.state rows.old) session (Command.SetFb bus port on) }
-    ensures took { Took (accepted (put_at moment (first_key (fb_device bus port)) (value.Fb on) None ∷ [])) (R.state rows.old) (R.state rows.new) result }
+fn set_fb<R: Rows>(rows: &mut R, sender: Sender, bus: u8, port: u32, on: bool) -> Obeyed
+    requires { MayObey (R.buses rows.old) (R.state rows.old) sender.session (Command.SetFb bus port on) }
+    ensures took { Took (accepted (put_at sender.moment (first_key (fb_device bus port)) (value.Fb on) None ∷ [])) (R.state rows.old) (R.state rows.new) result }
     ensures layout { R.buses rows.new ≡ R.buses rows.old }
 {
     let key = fb_device(bus, port).first_key();
-    set_one(rows, moment, key, Value::Fb { on }, None)
+    set_one(rows, sender.moment, key, Value::Fb { on }, None)
 }
 
 /// What a command that changes nothing answers.
@@ -79,15 +74,15 @@ fn answer_session<R: Rows>(rows: &R, session: u32, command: &Command) -> Obeyed
 }
 
 /// Answers a command of the power of a bus.
-fn answer_power<R: Rows>(rows: &mut R, session: u32, moment: u64, command: &Command) -> Obeyed
-    requires may { MayObey (R.buses rows.old) (R.state rows.old) session command.now }
+fn answer_power<R: Rows>(rows: &mut R, sender: Sender, command: &Command) -> Obeyed
+    requires may { MayObey (R.buses rows.old) (R.state rows.old) sender.session command.now }
     requires named { named_of command.now ≡ named.Power }
-    ensures obeyed { IsObeyed (R.state rows.old) (R.state rows.new) session moment command.now result }
+    ensures obeyed { IsObeyed (R.state rows.old) (R.state rows.new) sender.session sender.moment command.now result }
     ensures layout { R.buses rows.new ≡ R.buses rows.old }
 {
     match *command {
         Command::GetPower { bus } => show(rows, &power_device(bus).first_key()),
-        Command::SetPower { bus, on, text } => set_power(rows, session, moment, bus, on, text),
+        Command::SetPower { bus, on, text } => set_power(rows, sender, bus, on, text),
         Command::CheckPower { .. } => accepted(),
         Command::InitPower { .. } => accepted(),
         _ => unreachable!(),
@@ -95,21 +90,21 @@ fn answer_power<R: Rows>(rows: &mut R, session: u32, moment: u64, command: &Comm
 }
 
 /// GET of a locomotive: its state.
-fn show_gl<R: Rows>(rows: &R, bus: u8, address: u32) -> Obeyed
-    ensures { Took (shown_at (key_at (device_in lockable.Gl bus address) 1) (R.state rows.now)) (R.state rows.now) (R.state rows.now) result }
+fn show_gl<R: Rows>(rows: &R, place: BusAddress) -> Obeyed
+    ensures { Took (shown_at (key_at (device_in lockable.Gl place.bus place.address) 1) (R.state rows.now)) (R.state rows.now) (R.state rows.now) result }
 {
-    show(rows, &key_at(device_in(Lockable::Gl, bus, address), 1))
+    show(rows, &key_at(device_in(Lockable::Gl, place), 1))
 }
 
 /// Answers a command of a locomotive.
-fn answer_gl<R: Rows>(rows: &mut R, session: u32, moment: u64, command: &Command) -> Obeyed
-    requires may { MayObey (R.buses rows.old) (R.state rows.old) session command.now }
+fn answer_gl<R: Rows>(rows: &mut R, sender: Sender, command: &Command) -> Obeyed
+    requires may { MayObey (R.buses rows.old) (R.state rows.old) sender.session command.now }
     requires named { named_of command.now ≡ named.Gl }
-    ensures obeyed { IsObeyed (R.state rows.old) (R.state rows.new) session moment command.now result }
+    ensures obeyed { IsObeyed (R.state rows.old) (R.state rows.new) sender.session sender.moment command.now result }
     ensures layout { R.buses rows.new ≡ R.buses rows.old }
 {
     match *command {
-        Command::GetGl { bus, address } => show_gl(rows, bus, address),
+        Command::GetGl { bus, address } => show_gl(rows, BusAddress { bus, address }),
         Command::SetGl {
             bus,
             address,
@@ -117,15 +112,19 @@ fn answer_gl<R: Rows>(rows: &mut R, session: u32, moment: u64, command: &Command
             v,
             vmax,
             functions,
-        } => set_gl(
-            rows, session, moment, bus, address, mode, v, vmax, &functions,
-        ),
+        } => {
+            let place = BusAddress { bus, address };
+            set_gl(rows, sender, place, mode, v, vmax, &functions)
+        }
         Command::CheckGl {
             bus,
             address,
             functions,
             ..
-        } => checked(gl_refusal(rows, session, bus, address, &functions)),
+        } => {
+            let place = BusAddress { bus, address };
+            checked(gl_refusal(rows, sender.session, place, &functions))
+        }
         Command::InitGl {
             bus,
             address,
@@ -133,29 +132,28 @@ fn answer_gl<R: Rows>(rows: &mut R, session: u32, moment: u64, command: &Command
             version,
             steps,
             functions,
-        } => init_gl(
-            rows, session, moment, bus, address, letter, version, steps, functions,
-        ),
+        } => {
+            let place = BusAddress { bus, address };
+            init_gl(rows, sender, place, letter, version, steps, functions)
+        }
         Command::TermGl { bus, address } => {
-            term_device(rows, session, moment, Lockable::Gl, bus, address)
+            term_device(rows, sender, Lockable::Gl, BusAddress { bus, address })
         }
         _ => unreachable!(),
     }
 }
 
 /// Answers a command of an accessory.
-fn answer_ga<R: Rows>(rows: &mut R, session: u32, moment: u64, command: &Command) -> Obeyed
-    requires may { MayObey (R.buses rows.old) (R.state rows.old) session command.now }
+fn answer_ga<R: Rows>(rows: &mut R, sender: Sender, command: &Command) -> Obeyed
+    requires may { MayObey (R.buses rows.old) (R.state rows.old) sender.session command.now }
     requires named { named_of command.now ≡ named.Ga }
-    ensures obeyed { IsObeyed (R.state rows.old) (R.state rows.new) session moment command.now result }
+    ensures obeyed { IsObeyed (R.state rows.old) (R.state rows.new) sender.session sender.moment command.now result }
     ensures layout { R.buses rows.new ≡ R.buses rows.old }
 {
     match *command {
         Command::GetGa { bus, address, port } => {
-            show(
-                rows,
-                &key_at(device_in(Lockable::Ga, bus, address), 1 + port),
-            )
+            let place = BusAddress { bus, address };
+            show(rows, &key_at(device_in(Lockable::Ga, place), 1 + port))
         }
         Command::SetGa {
             bus,
@@ -163,33 +161,34 @@ fn answer_ga<R: Rows>(rows: &mut R, session: u32, moment: u64, command: &Command
             port,
             on,
             time,
-        } => set_ga(rows, session, moment, bus, address, port, on, time),
+        } => set_ga(rows, sender, BusAddress { bus, address }, port, on, time),
         Command::CheckGa { bus, address, .. } => {
-            checked(refusal(rows, session, Lockable::Ga, bus, address))
+            let place = BusAddress { bus, address };
+            checked(refusal(rows, sender.session, Lockable::Ga, place))
         }
         Command::InitGa {
             bus,
             address,
             letter,
             ports,
-        } => init_ga(rows, session, moment, bus, address, letter, ports),
+        } => init_ga(rows, sender, BusAddress { bus, address }, letter, ports),
         Command::TermGa { bus, address } => {
-            term_device(rows, session, moment, Lockable::Ga, bus, address)
+            term_device(rows, sender, Lockable::Ga, BusAddress { bus, address })
         }
         _ => unreachable!(),
     }
 }
 
 /// Answers a command of a feedback port.
-fn answer_fb<R: Rows>(rows: &mut R, session: u32, moment: u64, command: &Command) -> Obeyed
-    requires may { MayObey (R.buses rows.old) (R.state rows.old) session command.now }
+fn answer_fb<R: Rows>(rows: &mut R, sender: Sender, command: &Command) -> Obeyed
+    requires may { MayObey (R.buses rows.old) (R.state rows.old) sender.session command.now }
     requires named { named_of command.now ≡ named.Fb }
-    ensures obeyed { IsObeyed (R.state rows.old) (R.state rows.new) session moment command.now result }
+    ensures obeyed { IsObeyed (R.state rows.old) (R.state rows.new) sender.session sender.moment command.now result }
     ensures layout { R.buses rows.new ≡ R.buses rows.old }
 {
     match *command {
         Command::GetFb { bus, port } => show(rows, &fb_device(bus, port).first_key()),
-        Command::SetFb { bus, port, on } => set_fb(rows, session, moment, bus, port, on),
+        Command::SetFb { bus, port, on } => set_fb(rows, sender, bus, port, on),
         Command::CheckFb { .. } => accepted(),
         Command::InitFb { .. } => accepted(),
         _ => unreachable!(),
@@ -197,10 +196,10 @@ fn answer_fb<R: Rows>(rows: &mut R, session: u32, moment: u64, command: &Command
 }
 
 /// Answers a command of a lock.
-fn answer_lock<R: Rows>(rows: &mut R, session: u32, moment: u64, command: &Command) -> Obeyed
-    requires may { MayObey (R.buses rows.old) (R.state rows.old) session command.now }
+fn answer_lock<R: Rows>(rows: &mut R, sender: Sender, command: &Command) -> Obeyed
+    requires may { MayObey (R.buses rows.old) (R.state rows.old) sender.session command.now }
     requires named { named_of command.now ≡ named.Lock }
-    ensures obeyed { IsObeyed (R.state rows.old) (R.state rows.new) session moment command.now result }
+    ensures obeyed { IsObeyed (R.state rows.old) (R.state rows.new) sender.session sender.moment command.now result }
     ensures layout { R.buses rows.new ≡ R.buses rows.old }
 {
     match *command {
@@ -208,41 +207,44 @@ fn answer_lock<R: Rows>(rows: &mut R, session: u32, moment: u64, command: &Comma
             bus,
             group,
             address,
-        } => show(rows, &lock_on(group, bus, address).first_key()),
+        } => {
+            let place = BusAddress { bus, address };
+            show(rows, &lock_on(group, place).first_key())
+        }
         Command::SetLock {
             bus,
             group,
             address,
             seconds,
-        } => set_lock(rows, session, moment, group, bus, address, seconds),
+        } => set_lock(rows, sender, group, BusAddress { bus, address }, seconds),
         Command::CheckLock {
             bus,
             group,
             address,
             ..
-        } => checked(refusal(rows, session, group, bus, address)),
+        } => checked(refusal(rows, sender.session, group, BusAddress { bus, address })),
         Command::TermLock {
             bus,
             group,
             address,
-        } => term_lock(rows, session, moment, group, bus, address),
+        } => term_lock(rows, sender, group, BusAddress { bus, address }),
         _ => unreachable!(),
     }
 }
 
 /// Answers the command.
-fn answer<R: Rows>(rows: &mut R, session: u32, moment: u64, command: &Command) -> Obeyed
-    requires { MayObey (R.buses rows.old) (R.state rows.old) session command.now }
-    ensures obeyed { IsObeyed (R.state rows.old) (R.state rows.new) session moment command.now result }
+fn answer<R: Rows>(rows: &mut R, sender: Sender, command: &Command) -> Obeyed
+    requires { MayObey (R.buses rows.old) (R.state rows.old) sender.session command.now }
+    ensures obeyed { IsObeyed (R.state rows.old) (R.state rows.new) sender.session sender.moment command.now result }
     ensures layout { R.buses rows.new ≡ R.buses rows.old }
 {
     match command.named() {
-        Named::Session => answer_session(rows, session, command),
-        Named::Power => answer_power(rows, session, moment, command),
-        Named::Gl => answer_gl(rows, session, moment, command),
-        Named::Ga => answer_ga(rows, session, moment, command),
-        Named::Fb => answer_fb(rows, session, moment, command),
-        Named::Lock => answer_lock(rows, session, moment, command),
+        Named::Session => answer_session(rows, sender.session, command),
+        Named::Power => answer_power(rows, sender, command),
+        Named::Gl => answer_gl(rows, sender, command),
+        Named::Ga => answer_ga(rows, sender, command),
+        Named::Fb => answer_fb(rows, sender, command),
+        Named::Lock => answer_lock(rows, sender, command),
     }
 }
 
@@ -266,7 +268,7 @@ pub fn obey<R: Rows>(rows: &mut R, session: u32, moment: u64, command: &Command)
     ensures whole { IsWhole (R.buses rows.new) (R.state rows.new) }
     ensures reply { IsWellFormedReply result.reply }
     ensures changes { AllByRecursion IsWellFormed result.changes.items }
-    ensures few { length result.changes.items ≤ 11 }
+    ensures few { length result.changes.items ≤ MOST_CHANGES }
 {
-    answer(rows, session, moment, command)
+    answer(rows, Sender { session, moment }, command)
 }

@@ -12,7 +12,7 @@ pub(crate) fn next_word<'a>(words: &mut Words<'a>) -> Result<&'a [u8], Code>
 {
     match words.next() {
         Some(word) => Ok(word),
-        None => Err(Code::C419),
+        None => Err(Code::TOO_SHORT),
     }
 }
 
@@ -22,7 +22,7 @@ pub(crate) fn no_more(mut words: Words<'_>) -> Result<(), Code>
         (λ code. ((word : List ℕ) × (others : List (List ℕ)) × (words.entry ≡ word ∷ others)) × (code ≡ TooLong)) }
 {
     match words.next() {
-        Some(_) => Err(Code::C418),
+        Some(_) => Err(Code::TOO_LONG),
         None => Ok(()),
     }
 }

@@ -37,33 +37,40 @@ pub(crate) fn fb_device(bus: u8, port: u32) -> Device
     }
 }
 
+/// An address on a bus, where a locomotive or an accessory is.
+#[derive(Clone, Copy)]
+pub(crate) struct BusAddress {
+    pub(crate) bus: u8,
+    pub(crate) address: u32,
+}
+
 /// A locomotive or an accessory.
-pub(crate) fn device_in(group: Lockable, bus: u8, address: u32) -> Device
-    ensures { result ≡ device_in group bus address }
+pub(crate) fn device_in(group: Lockable, place: BusAddress) -> Device
+    ensures { result ≡ device_in group place.bus place.address }
 {
     let group = match group {
         Lockable::Gl => Group::Gl,
         Lockable::Ga => Group::Ga,
     };
     Device {
-        bus,
+        bus: place.bus,
         group,
-        address,
+        address: place.address,
     }
 }
 
 /// The lock of a locomotive or an accessory, which is a device of its own.
-pub(crate) fn lock_on(group: Lockable, bus: u8, address: u32) -> Device
-    ensures { result ≡ lock_on group bus address }
+pub(crate) fn lock_on(group: Lockable, place: BusAddress) -> Device
+    ensures { result ≡ lock_on group place.bus place.address }
 {
     let group = match group {
         Lockable::Gl => Group::LockGl,
         Lockable::Ga => Group::LockGa,
     };
     Device {
-        bus,
+        bus: place.bus,
         group,
-        address,
+        address: place.address,
     }
 }
 

@@ -4,19 +4,19 @@ ghost use Rattle.srcp_rules.specs.Effect.{done, first_refusal, functions_after, 
 ghost use Rattle.srcp_rules.specs.Obeyed.{MayObey, Took};
 ghost use Rattle.srcp_rules.specs.State.{functions_of};
 
-use crate::command::{Command, Lockable};
-use crate::device::{device_in, key_at};
+use crate::command::{Command, Lockable, Sender};
+use crate::device::{BusAddress, device_in, key_at};
 use crate::lock::{is_locked, moment_after, refusal};
 use crate::obeyed::Obeyed;
 use crate::registry::{is_there, set_one};
 use crate::rows::Rows;
-use srcp_info::{Bits, Code, Value};
+use srcp_info::{Bits, Code, DriveMode, Value};
 
 /// The functions of a locomotive's state.
-fn functions_of<R: Rows>(rows: &R, bus: u8, address: u32) -> Bits
-    ensures { result ≡ functions_of bus address (R.state rows.now) }
+fn functions_of<R: Rows>(rows: &R, place: BusAddress) -> Bits
+    ensures { result ≡ functions_of place.bus place.address (R.state rows.now) }
 {
-    let locomotive = device_in(Lockable::Gl, bus, address);
+    let locomotive = device_in(Lockable::Gl, place);
     match rows.row(&key_at(locomotive, 1)) {
         Some(row) => match row.shown.value {
             Value::GlState { functions, .. } => functions,
@@ -43,58 +43,59 @@ fn functions_after(given: &Bits, before: &Bits) -> Bits
 pub(crate) fn gl_refusal<R: Rows>(
     rows: &R,
     session: u32,
-    bus: u8,
-    address: u32,
+    place: BusAddress,
     functions: &Bits,
 ) -> Option<Code>
-    ensures { result ≡ first_refusal (gl_refusals (R.state rows.now) session bus address functions.now) }
+    ensures { result ≡ first_refusal (gl_refusals (R.state rows.now) session place.bus place.address functions.now) }
 {
-    if !is_there(rows, device_in(Lockable::Gl, bus, address)) {
-        return Some(Code::C416);
+    if !is_there(rows, device_in(Lockable::Gl, place)) {
+        return Some(Code::NO_SUCH_DEVICE);
     }
-    if functions_of(rows, bus, address).len() < functions.len() {
-        return Some(Code::C418);
+    if functions_of(rows, place).len() < functions.len() {
+        return Some(Code::TOO_LONG);
     }
-    if is_locked(rows, session, Lockable::Gl, bus, address) {
-        return Some(Code::C414);
+    if is_locked(rows, session, Lockable::Gl, place) {
+        return Some(Code::DEVICE_LOCKED);
     }
     None
 }
 
-/// V as it is kept: in mode 2, the emergency stop, it is 0.
+/// V as it is kept: in an emergency stop it is 0.
 fn kept_v(mode: u32, v: u32) -> u32
     ensures { result ≡ kept_v mode v }
 {
-    if mode == 2 { 0 } else { v }
+    if mode == DriveMode::EmergencyStop as u32 {
+        0
+    } else {
+        v
+    }
 }
 
 /// SET of a locomotive.
 pub(crate) fn set_gl<R: Rows>(
     rows: &mut R,
-    session: u32,
-    moment: u64,
-    bus: u8,
-    address: u32,
+    sender: Sender,
+    place: BusAddress,
     mode: u32,
     v: u32,
     vmax: u32,
     functions: &Bits,
 ) -> Obeyed
-    requires { MayObey (R.buses rows.old) (R.state rows.old) session (Command.SetGl bus address mode v vmax functions.now) }
-    ensures took { Took (done (set_gl (R.state rows.old) session moment bus address mode v vmax functions.now)) (R.state rows.old) (R.state rows.new) result }
+    requires { MayObey (R.buses rows.old) (R.state rows.old) sender.session (Command.SetGl place.bus place.address mode v vmax functions.now) }
+    ensures took { Took (done (set_gl (R.state rows.old) sender.session sender.moment place.bus place.address mode v vmax functions.now)) (R.state rows.old) (R.state rows.new) result }
     ensures layout { R.buses rows.new ≡ R.buses rows.old }
 {
-    if let Some(code) = gl_refusal(rows, session, bus, address, functions) {
+    if let Some(code) = gl_refusal(rows, sender.session, place, functions) {
         return Obeyed::refused(code);
     }
     let driven = Value::GlState {
         mode,
         v: kept_v(mode, v),
         vmax,
-        functions: functions_after(functions, &functions_of(rows, bus, address)),
+        functions: functions_after(functions, &functions_of(rows, place)),
     };
-    let key = key_at(device_in(Lockable::Gl, bus, address), 1);
-    set_one(rows, moment, key, driven, None)
+    let key = key_at(device_in(Lockable::Gl, place), 1);
+    set_one(rows, sender.moment, key, driven, None)
 }
 
 /// When a port that is set for a time goes back: none where it is set to 0, for no time or for ever.
@@ -112,22 +113,20 @@ fn port_end(moment: u64, on: bool, time: Option<u32>) -> Option<u64>
 /// SET of an accessory's port.
 pub(crate) fn set_ga<R: Rows>(
     rows: &mut R,
-    session: u32,
-    moment: u64,
-    bus: u8,
-    address: u32,
+    sender: Sender,
+    place: BusAddress,
     port: u8,
     on: bool,
     time: Option<u32>,
 ) -> Obeyed
-    requires { MayObey (R.buses rows.old) (R.state rows.old) session (Command.SetGa bus address port on time) }
-    ensures took { Took (done (set_ga (R.state rows.old) session moment bus address port on time)) (R.state rows.old) (R.state rows.new) result }
+    requires { MayObey (R.buses rows.old) (R.state rows.old) sender.session (Command.SetGa place.bus place.address port on time) }
+    ensures took { Took (done (set_ga (R.state rows.old) sender.session sender.moment place.bus place.address port on time)) (R.state rows.old) (R.state rows.new) result }
     ensures layout { R.buses rows.new ≡ R.buses rows.old }
 {
-    if let Some(code) = refusal(rows, session, Lockable::Ga, bus, address) {
+    if let Some(code) = refusal(rows, sender.session, Lockable::Ga, place) {
         return Obeyed::refused(code);
     }
-    let key = key_at(device_in(Lockable::Ga, bus, address), 1 + port);
-    let due = port_end(moment, on, time);
-    set_one(rows, moment, key, Value::GaPort { on }, due)
+    let key = key_at(device_in(Lockable::Ga, place), 1 + port);
+    let due = port_end(sender.moment, on, time);
+    set_one(rows, sender.moment, key, Value::GaPort { on }, due)
 }

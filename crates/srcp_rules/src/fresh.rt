@@ -4,21 +4,21 @@ ghost use Rattle.srcp_info.specs.declared.value.Value.TheVariants as value;
 ghost use Rattle.srcp_rules.specs.Obeyed.{IsObeyed, MayObey};
 ghost use Rattle.srcp_rules.specs.State.{key_at, row_put};
 
-use crate::command::{Command, Lockable};
-use crate::device::{device_in, key_at};
+use crate::command::{Command, Lockable, Sender};
+use crate::device::{BusAddress, device_in, key_at};
 use crate::init::init_device;
 use crate::obeyed::Obeyed;
 use crate::registry::row_put;
-use crate::rows::Rows;
-use srcp_info::{Bits, Device, Letter, Row, Value};
+use crate::rows::{MOST_ROWS, Rows};
+use srcp_info::{Bits, Device, DriveMode, Letter, MOST_FUNCTIONS, MOST_PORTS, Row, Value};
 
 /// The rows of a locomotive that is made: it goes forward at rest, with all functions off.
 fn resting_rows(moment: u64, device: Device, init: &Value, functions: u32) -> [Row; 2]
-    requires { functions ≤ 29 }
+    requires { functions ≤ MOST_FUNCTIONS }
     ensures { result ≡ row_put moment (key_at device 0) init.now None ∷ row_put moment (key_at device 1) (value.GlState 1 0 0 (replicate functions false)) None ∷ [] }
 {
     let resting = Value::GlState {
-        mode: 1,
+        mode: DriveMode::Forward as u32,
         v: 0,
         vmax: 0,
         functions: Bits::all_false(functions as usize),
@@ -32,17 +32,15 @@ fn resting_rows(moment: u64, device: Device, init: &Value, functions: u32) -> [R
 /// INIT of a locomotive: it goes forward at rest, with all functions off.
 pub(crate) fn init_gl<R: Rows>(
     rows: &mut R,
-    session: u32,
-    moment: u64,
-    bus: u8,
-    address: u32,
+    sender: Sender,
+    place: BusAddress,
     letter: Letter,
     version: u32,
     steps: u32,
     functions: u32,
 ) -> Obeyed
-    requires { MayObey (R.buses rows.old) (R.state rows.old) session (Command.InitGl bus address letter version steps functions) }
-    ensures obeyed { IsObeyed (R.state rows.old) (R.state rows.new) session moment (Command.InitGl bus address letter version steps functions) result }
+    requires { MayObey (R.buses rows.old) (R.state rows.old) sender.session (Command.InitGl place.bus place.address letter version steps functions) }
+    ensures obeyed { IsObeyed (R.state rows.old) (R.state rows.new) sender.session sender.moment (Command.InitGl place.bus place.address letter version steps functions) result }
     ensures layout { R.buses rows.new ≡ R.buses rows.old }
 {
     let init = Value::GlInit {
@@ -52,21 +50,12 @@ pub(crate) fn init_gl<R: Rows>(
         functions,
     };
     let fresh = resting_rows(
-        moment,
-        device_in(Lockable::Gl, bus, address),
+        sender.moment,
+        device_in(Lockable::Gl, place),
         &init,
         functions,
     );
-    init_device(
-        rows,
-        session,
-        moment,
-        Lockable::Gl,
-        bus,
-        address,
-        &init,
-        &fresh,
-    )
+    init_device(rows, sender, Lockable::Gl, place, &init, &fresh)
 }
 
 /// The fresh row of an accessory's port.
@@ -81,9 +70,9 @@ fn clear_port(moment: u64, device: Device, port: u8) -> Row
     )
 }
 
-/// The fresh rows of an accessory with eight ports, the most that one has.
-fn most_rows(moment: u64, device: Device, letter: Letter) -> [Row; 9]
-    ensures { result ≡ row_put moment (key_at device 0) (value.GaInit letter) None ∷ map (λ port. row_put moment (key_at device port) (value.GaPort false) None) (range_with_len 1 8) }
+/// The fresh rows of an accessory with the most ports that one has.
+fn most_rows(moment: u64, device: Device, letter: Letter) -> [Row; MOST_ROWS]
+    ensures { result ≡ row_put moment (key_at device 0) (value.GaInit letter) None ∷ map (λ port. row_put moment (key_at device port) (value.GaPort false) None) (range_with_len 1 MOST_PORTS) }
 {
     [
         row_put(moment, key_at(device, 0), Value::GaInit { letter }, None),
@@ -101,26 +90,22 @@ fn most_rows(moment: u64, device: Device, letter: Letter) -> [Row; 9]
 /// INIT of an accessory: all its ports are 0.
 pub(crate) fn init_ga<R: Rows>(
     rows: &mut R,
-    session: u32,
-    moment: u64,
-    bus: u8,
-    address: u32,
+    sender: Sender,
+    place: BusAddress,
     letter: Letter,
     ports: u8,
 ) -> Obeyed
-    requires { MayObey (R.buses rows.old) (R.state rows.old) session (Command.InitGa bus address letter ports) }
-    ensures obeyed { IsObeyed (R.state rows.old) (R.state rows.new) session moment (Command.InitGa bus address letter ports) result }
+    requires { MayObey (R.buses rows.old) (R.state rows.old) sender.session (Command.InitGa place.bus place.address letter ports) }
+    ensures obeyed { IsObeyed (R.state rows.old) (R.state rows.new) sender.session sender.moment (Command.InitGa place.bus place.address letter ports) result }
     ensures layout { R.buses rows.new ≡ R.buses rows.old }
 {
-    let most = most_rows(moment, device_in(Lockable::Ga, bus, address), letter);
+    let most = most_rows(sender.moment, device_in(Lockable::Ga, place), letter);
     let init = Value::GaInit { letter };
     init_device(
         rows,
-        session,
-        moment,
+        sender,
         Lockable::Ga,
-        bus,
-        address,
+        place,
         &init,
         &most[..1 + usize::from(ports)],
     )

@@ -5,12 +5,12 @@ ghost use Rattle.srcp_info.specs.declared.change.Code.TheVariants.{C418 as TooLo
 ghost use Rattle.srcp_rules.specs.Grammar.{and_bit, bits_of};
 
 use crate::read::bit_of;
-use srcp_info::{Bits, Code};
+use srcp_info::{Bits, Code, MOST_FUNCTIONS};
 use srcp_text::Words;
 
 /// The functions read before, with one more; or the first refusal.
 fn and_bit(before: Result<Bits, Code>, word: &[u8]) -> Result<Bits, Code>
-    requires { IfOk before (λ bits. length bits < 29) }
+    requires { IfOk before (λ bits. length bits < MOST_FUNCTIONS) }
     ensures { result ≡ and_bit before word.now }
 {
     let mut bits = before?;
@@ -21,13 +21,13 @@ fn and_bit(before: Result<Bits, Code>, word: &[u8]) -> Result<Bits, Code>
 /// The functions, each 0 or 1. More of them than a locomotive can have are 418, whatever they are;
 /// else the inner result is 412 where one is neither.
 pub(crate) fn read_functions(mut words: Words<'_>) -> Result<Result<Bits, Code>, Code>
-    ensures { result ≡ (if nat_lt 29 (length words.entry) then Err TooLong else Ok (bits_of words.entry)) }
+    ensures { result ≡ (if nat_lt MOST_FUNCTIONS (length words.entry) then Err TooLong else Ok (bits_of words.entry)) }
 {
     let mut functions = Ok(Bits::new());
     let mut count = 0;
     while let Some(word) = words.next() {
         if count == Bits::CAPACITY {
-            return Err(Code::C418);
+            return Err(Code::TOO_LONG);
         }
         functions = and_bit(functions, word);
         count += 1;

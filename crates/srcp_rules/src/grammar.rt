@@ -11,8 +11,8 @@ use crate::layout::Bus;
 use crate::power_text::text_of;
 use crate::read::{bit_of, is_keyword, letter_of, lockable_on, number_in, switch_of, time_of};
 use srcp_info::{
-    Bits, Code, GREATEST_SPEED, GREATEST_VERSION, Letter, MOST_FUNCTIONS, MOST_SECONDS, MOST_STEPS,
-    Text,
+    Bits, Code, DriveMode, GREATEST_SPEED, GREATEST_VERSION, Letter, MOST_FUNCTIONS, MOST_SECONDS,
+    MOST_STEPS, Text,
 };
 use srcp_text::Words;
 
@@ -163,7 +163,7 @@ pub(crate) fn init_gl(bus: &Bus, mut words: Words<'_>) -> Result<Command, Code>
     let second = next_word(&mut words)?;
     let Some(third) = words.next() else {
         if !is_keyword(b"P", second) {
-            return Err(Code::C419);
+            return Err(Code::TOO_SHORT);
         }
         return Ok(Command::InitGl {
             bus: bus.number,
@@ -216,11 +216,11 @@ pub(crate) fn driven(bus: &Bus, mut words: Words<'_>) -> Result<Drive, Code>
     let fourth = next_word(&mut words)?;
     let functions = read_functions(words)?;
     let address = number_in(1, bus.gl_max, first)?;
-    let mode = number_in(0, 2, second)?;
+    let mode = number_in(0, DriveMode::EmergencyStop as u32, second)?;
     let v = number_in(0, GREATEST_SPEED, third)?;
     let vmax = number_in(0, GREATEST_SPEED, fourth)?;
     if vmax < v && vmax != 0 {
-        return Err(Code::C412);
+        return Err(Code::WRONG_VALUE);
     }
     Ok(Drive {
         address,

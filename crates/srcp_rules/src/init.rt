@@ -8,17 +8,21 @@ ghost use Rattle.srcp_rules.specs.Obeyed.{Took, TookUnless};
 ghost use Rattle.srcp_rules.specs.Rows.{AreRowsOf, put_rows};
 ghost use Rattle.srcp_rules.specs.State.{IsRowOf, IsWhole, device_in, has_row, is_there, put_of, updated_all};
 
-use crate::command::Lockable;
-use crate::device::{device_in, lock_on};
+use crate::command::{Lockable, Sender};
+use crate::device::{BusAddress, device_in, lock_on};
 use crate::lock::{is_locked, refusal};
-use crate::obeyed::Obeyed;
+use crate::obeyed::{MOST_CHANGES, Obeyed};
 use crate::registry::{is_there, put_of, remove};
 use crate::rows::Rows;
 use arrayvec::ArrayVec;
 use srcp_info::{Change, Code, Device, Row, Value};
 
 /// Takes out the device, if it is there.
-fn remove_there<R: Rows>(rows: &mut R, moment: u64, device: Device) -> ArrayVec<Change, 16>
+fn remove_there<R: Rows>(
+    rows: &mut R,
+    moment: u64,
+    device: Device,
+) -> ArrayVec<Change, MOST_CHANGES>
     requires { IsTrue (can_go device.group) }
     ensures changes { result.items ≡ map (λ update. update.change) (removal (R.state rows.old) moment device) }
     ensures rows { R.state rows.new ≡ updated_all (removal (R.state rows.old) moment device) (R.state rows.old) }
@@ -36,16 +40,15 @@ fn remove_device<R: Rows>(
     rows: &mut R,
     moment: u64,
     group: Lockable,
-    bus: u8,
-    address: u32,
-) -> ArrayVec<Change, 16>
-    ensures changes { result.items ≡ map (λ update. update.change) (removals (R.state rows.old) moment group bus address) }
-    ensures rows { R.state rows.new ≡ updated_all (removals (R.state rows.old) moment group bus address) (R.state rows.old) }
+    place: BusAddress,
+) -> ArrayVec<Change, MOST_CHANGES>
+    ensures changes { result.items ≡ map (λ update. update.change) (removals (R.state rows.old) moment group place.bus place.address) }
+    ensures rows { R.state rows.new ≡ updated_all (removals (R.state rows.old) moment group place.bus place.address) (R.state rows.old) }
     ensures layout { R.buses rows.new ≡ R.buses rows.old }
 {
-    let device = device_in(group, bus, address);
+    let device = device_in(group, place);
     let has_device = is_there(rows, device);
-    let mut changes = remove_there(rows, moment, lock_on(group, bus, address));
+    let mut changes = remove_there(rows, moment, lock_on(group, place));
     if has_device {
         changes.push(remove(rows, moment, device));
     }
@@ -55,19 +58,17 @@ fn remove_device<R: Rows>(
 /// TERM of a locomotive or an accessory.
 pub(crate) fn term_device<R: Rows>(
     rows: &mut R,
-    session: u32,
-    moment: u64,
+    sender: Sender,
     group: Lockable,
-    bus: u8,
-    address: u32,
+    place: BusAddress,
 ) -> Obeyed
-    ensures took { Took (done (term_device (R.state rows.old) session moment group bus address)) (R.state rows.old) (R.state rows.new) result }
+    ensures took { Took (done (term_device (R.state rows.old) sender.session sender.moment group place.bus place.address)) (R.state rows.old) (R.state rows.new) result }
     ensures layout { R.buses rows.new ≡ R.buses rows.old }
 {
-    if let Some(code) = refusal(rows, session, group, bus, address) {
+    if let Some(code) = refusal(rows, sender.session, group, place) {
         return Obeyed::refused(code);
     }
-    Obeyed::accepted(remove_device(rows, moment, group, bus, address))
+    Obeyed::accepted(remove_device(rows, sender.moment, group, place))
 }
 
 /// Whether two first rows have the same parameters.
@@ -105,10 +106,10 @@ fn is_same_init(one: &Value, other: &Value) -> bool
 }
 
 /// Whether the device is there with these parameters.
-fn has_init<R: Rows>(rows: &R, group: Lockable, bus: u8, address: u32, init: &Value) -> bool
-    ensures { result ≡ has_init (R.state rows.now) group bus address init.now }
+fn has_init<R: Rows>(rows: &R, group: Lockable, place: BusAddress, init: &Value) -> bool
+    ensures { result ≡ has_init (R.state rows.now) group place.bus place.address init.now }
 {
-    match rows.row(&device_in(group, bus, address).first_key()) {
+    match rows.row(&device_in(group, place).first_key()) {
         Some(row) => is_same_init(&row.shown.value, init),
         None => false,
     }
@@ -126,8 +127,8 @@ fn set_all<R: Rows>(rows: &mut R, fresh: &[Row])
 }
 
 /// Appends the changes that tell of the rows.
-fn push_puts(changes: &mut ArrayVec<Change, 16>, fresh: &[Row])
-    requires { array_vec_len changes.old + length fresh.now ≤ 16 }
+fn push_puts(changes: &mut ArrayVec<Change, MOST_CHANGES>, fresh: &[Row])
+    requires { array_vec_len changes.old + length fresh.now ≤ MOST_CHANGES }
     ensures { changes.new.items ≡ changes.old.items ++ map (λ row. (put_of row).change) fresh.now }
 {
     for row in fresh {
@@ -141,21 +142,20 @@ fn remake<R: Rows>(
     rows: &mut R,
     moment: u64,
     group: Lockable,
-    bus: u8,
-    address: u32,
+    place: BusAddress,
     fresh: &[Row],
-) -> ArrayVec<Change, 16>
+) -> ArrayVec<Change, MOST_CHANGES>
     requires whole { IsWhole (R.buses rows.old) (R.state rows.old) }
-    requires there { is_there (device_in group bus address) (R.state rows.old) ≡ true }
-    requires fresh { AreRowsOf (R.buses rows.old) (device_in group bus address) fresh.now }
-    ensures changes { result.items ≡ map (λ update. update.change) (removals (R.state rows.old) moment group bus address ++ map put_of fresh.now) }
-    ensures rows { R.state rows.new ≡ updated_all (removals (R.state rows.old) moment group bus address ++ map put_of fresh.now) (R.state rows.old) }
+    requires there { is_there (device_in group place.bus place.address) (R.state rows.old) ≡ true }
+    requires fresh { AreRowsOf (R.buses rows.old) (device_in group place.bus place.address) fresh.now }
+    ensures changes { result.items ≡ map (λ update. update.change) (removals (R.state rows.old) moment group place.bus place.address ++ map put_of fresh.now) }
+    ensures rows { R.state rows.new ≡ updated_all (removals (R.state rows.old) moment group place.bus place.address ++ map put_of fresh.now) (R.state rows.old) }
     ensures layout { R.buses rows.new ≡ R.buses rows.old }
 {
-    let mut changes = remove_there(rows, moment, lock_on(group, bus, address));
+    let mut changes = remove_there(rows, moment, lock_on(group, place));
     changes.push(Change::Gone {
         stamp: moment,
-        device: device_in(group, bus, address),
+        device: device_in(group, place),
     });
     push_puts(&mut changes, fresh);
     set_all(rows, fresh);
@@ -165,33 +165,31 @@ fn remake<R: Rows>(
 /// INIT of a locomotive or an accessory, which would have these rows.
 pub(crate) fn init_device<R: Rows>(
     rows: &mut R,
-    session: u32,
-    moment: u64,
+    sender: Sender,
     group: Lockable,
-    bus: u8,
-    address: u32,
+    place: BusAddress,
     init: &Value,
     fresh: &[Row],
 ) -> Obeyed
     requires whole { IsWhole (R.buses rows.old) (R.state rows.old) }
-    requires some { 0 < row_count (R.buses rows.old) (device_in group bus address) }
-    requires fresh { AreRowsOf (R.buses rows.old) (device_in group bus address) fresh.now }
-    ensures took { TookUnless (not (is_there (device_in group bus address) (R.state rows.old))) (done (init_device (R.state rows.old) session moment group bus address init.now (map put_of fresh.now))) (R.state rows.old) (R.state rows.new) result }
+    requires some { 0 < row_count (R.buses rows.old) (device_in group place.bus place.address) }
+    requires fresh { AreRowsOf (R.buses rows.old) (device_in group place.bus place.address) fresh.now }
+    ensures took { TookUnless (not (is_there (device_in group place.bus place.address) (R.state rows.old))) (done (init_device (R.state rows.old) sender.session sender.moment group place.bus place.address init.now (map put_of fresh.now))) (R.state rows.old) (R.state rows.new) result }
     ensures layout { R.buses rows.new ≡ R.buses rows.old }
 {
-    if is_locked(rows, session, group, bus, address) {
-        return Obeyed::refused(Code::C414);
+    if is_locked(rows, sender.session, group, place) {
+        return Obeyed::refused(Code::DEVICE_LOCKED);
     }
-    if has_init(rows, group, bus, address, init) {
+    if has_init(rows, group, place, init) {
         return Obeyed::accepted(ArrayVec::new());
     }
-    if is_there(rows, device_in(group, bus, address)) {
-        return Obeyed::accepted(remake(rows, moment, group, bus, address, fresh));
+    if is_there(rows, device_in(group, place)) {
+        return Obeyed::accepted(remake(rows, sender.moment, group, place, fresh));
     }
     let mut changes = ArrayVec::new();
     push_puts(&mut changes, fresh);
     if rows.add(fresh).is_err() {
-        return Obeyed::refused(Code::C500);
+        return Obeyed::refused(Code::OUT_OF_RESOURCES);
     }
     Obeyed::accepted(changes)
 }

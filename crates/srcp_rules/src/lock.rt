@@ -2,8 +2,8 @@ ghost use Rattle.std.specs.Prelude.{◌≡◌};
 ghost use Rattle.srcp_rules.specs.Effect.{first_refusal, is_locked, lock_end, lock_refusals, moment_after, refusals, refused_or_not, term_lock, done};
 ghost use Rattle.srcp_rules.specs.Obeyed.{IsObeyed, IsTold, MayObey, Took};
 
-use crate::command::{Command, Lockable};
-use crate::device::{device_in, lock_on};
+use crate::command::{Command, Lockable, Sender};
+use crate::device::{BusAddress, device_in, lock_on};
 use crate::obeyed::Obeyed;
 use crate::registry::{is_there, put_of, remove, row_put, set_one};
 use crate::rows::Rows;
@@ -11,16 +11,10 @@ use arrayvec::ArrayVec;
 use srcp_info::{Code, Value};
 
 /// Whether the device has a lock, and another session has it.
-pub(crate) fn is_locked<R: Rows>(
-    rows: &R,
-    session: u32,
-    group: Lockable,
-    bus: u8,
-    address: u32,
-) -> bool
-    ensures { result ≡ is_locked (R.state rows.now) session group bus address }
+pub(crate) fn is_locked<R: Rows>(rows: &R, session: u32, group: Lockable, place: BusAddress) -> bool
+    ensures { result ≡ is_locked (R.state rows.now) session group place.bus place.address }
 {
-    match rows.row(&lock_on(group, bus, address).first_key()) {
+    match rows.row(&lock_on(group, place).first_key()) {
         Some(row) => match row.shown.value {
             Value::Lock {
                 session: holder,
@@ -37,16 +31,15 @@ pub(crate) fn refusal<R: Rows>(
     rows: &R,
     session: u32,
     group: Lockable,
-    bus: u8,
-    address: u32,
+    place: BusAddress,
 ) -> Option<Code>
-    ensures { result ≡ first_refusal (refusals (R.state rows.now) session group bus address) }
+    ensures { result ≡ first_refusal (refusals (R.state rows.now) session group place.bus place.address) }
 {
-    if !is_there(rows, device_in(group, bus, address)) {
-        return Some(Code::C416);
+    if !is_there(rows, device_in(group, place)) {
+        return Some(Code::NO_SUCH_DEVICE);
     }
-    if is_locked(rows, session, group, bus, address) {
-        return Some(Code::C414);
+    if is_locked(rows, session, group, place) {
+        return Some(Code::DEVICE_LOCKED);
     }
     None
 }
@@ -81,31 +74,32 @@ fn lock_end(moment: u64, seconds: u32) -> Option<u64>
 /// SET of a lock. A device that has none takes memory for it.
 pub(crate) fn set_lock<R: Rows>(
     rows: &mut R,
-    session: u32,
-    moment: u64,
+    sender: Sender,
     group: Lockable,
-    bus: u8,
-    address: u32,
+    place: BusAddress,
     seconds: u32,
 ) -> Obeyed
-    requires { MayObey (R.buses rows.old) (R.state rows.old) session (Command.SetLock bus group address seconds) }
-    ensures obeyed { IsObeyed (R.state rows.old) (R.state rows.new) session moment (Command.SetLock bus group address seconds) result }
+    requires { MayObey (R.buses rows.old) (R.state rows.old) sender.session (Command.SetLock place.bus group place.address seconds) }
+    ensures obeyed { IsObeyed (R.state rows.old) (R.state rows.new) sender.session sender.moment (Command.SetLock place.bus group place.address seconds) result }
     ensures layout { R.buses rows.new ≡ R.buses rows.old }
 {
-    if let Some(code) = refusal(rows, session, group, bus, address) {
+    if let Some(code) = refusal(rows, sender.session, group, place) {
         return Obeyed::refused(code);
     }
-    let lock = lock_on(group, bus, address);
-    let value = Value::Lock { seconds, session };
-    let due = lock_end(moment, seconds);
+    let lock = lock_on(group, place);
+    let value = Value::Lock {
+        seconds,
+        session: sender.session,
+    };
+    let due = lock_end(sender.moment, seconds);
     if is_there(rows, lock) {
-        return set_one(rows, moment, lock.first_key(), value, due);
+        return set_one(rows, sender.moment, lock.first_key(), value, due);
     }
-    let row = row_put(moment, lock.first_key(), value, due);
+    let row = row_put(sender.moment, lock.first_key(), value, due);
     let mut changes = ArrayVec::new();
     changes.push(put_of(&row));
     if rows.add(&[row]).is_err() {
-        return Obeyed::refused(Code::C500);
+        return Obeyed::refused(Code::OUT_OF_RESOURCES);
     }
     Obeyed::accepted(changes)
 }
@@ -113,23 +107,21 @@ pub(crate) fn set_lock<R: Rows>(
 /// TERM of a lock.
 pub(crate) fn term_lock<R: Rows>(
     rows: &mut R,
-    session: u32,
-    moment: u64,
+    sender: Sender,
     group: Lockable,
-    bus: u8,
-    address: u32,
+    place: BusAddress,
 ) -> Obeyed
-    ensures took { Took (done (term_lock (R.state rows.old) session moment group bus address)) (R.state rows.old) (R.state rows.new) result }
+    ensures took { Took (done (term_lock (R.state rows.old) sender.session sender.moment group place.bus place.address)) (R.state rows.old) (R.state rows.new) result }
     ensures layout { R.buses rows.new ≡ R.buses rows.old }
 {
-    let lock = lock_on(group, bus, address);
+    let lock = lock_on(group, place);
     if !is_there(rows, lock) {
-        return Obeyed::refused(Code::C416);
+        return Obeyed::refused(Code::NO_SUCH_DEVICE);
     }
-    if is_locked(rows, session, group, bus, address) {
-        return Obeyed::refused(Code::C414);
+    if is_locked(rows, sender.session, group, place) {
+        return Obeyed::refused(Code::DEVICE_LOCKED);
     }
     let mut changes = ArrayVec::new();
-    changes.push(remove(rows, moment, lock));
+    changes.push(remove(rows, sender.moment, lock));
     Obeyed::accepted(changes)
 }

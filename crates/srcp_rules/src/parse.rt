@@ -19,14 +19,14 @@ use srcp_text::{Words, read_number, words};
 
 /// The bus that the word is the number of; any other word is 412.
 fn bus_of(buses: &[Bus], word: &[u8]) -> Result<Bus, Code>
-    ensures { result ≡ ok_or (option_and_then (bus_at buses.now) (number_of 250 word.now)) WrongValue }
+    ensures { result ≡ ok_or (option_and_then (bus_at buses.now) (number_of GREATEST_BUS word.now)) WrongValue }
 {
     let Some(number) = read_number(word, u32::from(GREATEST_BUS)) else {
-        return Err(Code::C412);
+        return Err(Code::WRONG_VALUE);
     };
     match bus_at(buses, number as u8) {
         Some(bus) => Ok(bus),
-        None => Err(Code::C412),
+        None => Err(Code::WRONG_VALUE),
     }
 }
 
@@ -39,7 +39,7 @@ fn directed(buses: &[Bus], operation: Operation, mut words: Words<'_>) -> Result
     let bus = bus_of(buses, first)?;
     let group = group_of(second)?;
     if !has_group(&bus, group) {
-        return Err(Code::C422);
+        return Err(Code::UNSUPPORTED_DEVICE_GROUP);
     }
     asked_of(operation, group, &bus, words)
 }
@@ -49,7 +49,7 @@ fn commanded(buses: &[Bus], mut words: Words<'_>) -> Result<Command, Code>
     ensures { result ≡ commanded buses.now words.entry }
 {
     let Some(first) = words.next() else {
-        return Err(Code::C410);
+        return Err(Code::UNKNOWN_COMMAND);
     };
     directed(buses, operation_of(first)?, words)
 }

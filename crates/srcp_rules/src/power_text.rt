@@ -3,12 +3,12 @@
 ghost use Rattle.std.specs.Prelude.{◌≡◌, ◌+◌, ◌++◌, ◌≤◌, [], ◌∷◌, Ok, length};
 ghost use Rattle.srcp_rules.specs.Grammar.{text_of};
 
-use srcp_info::{Code, Text, is_text};
+use srcp_info::{Code, LONGEST_TEXT, Text, is_text};
 use srcp_text::Words;
 
 /// Appends a word, where there is room.
 fn push_word(text: &mut Text, word: &[u8])
-    requires { length text.old + length word.now ≤ 80 }
+    requires { length text.old + length word.now ≤ LONGEST_TEXT }
     ensures { text.new ≡ text.old ++ word.now }
 {
     for byte in word {
@@ -24,19 +24,19 @@ pub(crate) fn text_of(mut words: Words<'_>) -> Result<Text, Code>
     let Some(first) = words.next() else {
         return Ok(text);
     };
-    if first.len() > Text::CAPACITY {
-        return Err(Code::C412);
+    if first.len() > LONGEST_TEXT {
+        return Err(Code::WRONG_VALUE);
     }
     push_word(&mut text, first);
     while let Some(word) = words.next() {
-        if text.len() + 1 + word.len() > Text::CAPACITY {
-            return Err(Code::C412);
+        if text.len() + 1 + word.len() > LONGEST_TEXT {
+            return Err(Code::WRONG_VALUE);
         }
         text.push(b' ');
         push_word(&mut text, word);
     }
     if !is_text(text.as_bytes()) {
-        return Err(Code::C412);
+        return Err(Code::WRONG_VALUE);
     }
     Ok(text)
 }

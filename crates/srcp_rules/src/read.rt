@@ -8,7 +8,7 @@ ghost use Rattle.srcp_rules.specs.Grammar.{bit_of, groups, letter_of, lockable_o
 
 use crate::command::{Lockable, Named, Operation};
 use crate::layout::Bus;
-use srcp_info::{Code, Letter};
+use srcp_info::{Code, Letter, MOST_MILLISECONDS};
 use srcp_text::read_number;
 
 /// Whether the word is the keyword, in capital or small letters.
@@ -24,7 +24,7 @@ pub(crate) fn number_in(least: u32, most: u32, word: &[u8]) -> Result<u32, Code>
 {
     match read_number(word, most) {
         Some(number) if number >= least => Ok(number),
-        _ => Err(Code::C412),
+        _ => Err(Code::WRONG_VALUE),
     }
 }
 
@@ -51,7 +51,7 @@ pub(crate) fn letter_of(word: &[u8]) -> Result<Letter, Code>
     if is_keyword(b"P", word) {
         return Ok(Letter::P);
     }
-    Err(Code::C420)
+    Err(Code::UNSUPPORTED_DEVICE_PROTOCOL)
 }
 
 /// ON or OFF; any other word is 412.
@@ -64,7 +64,7 @@ pub(crate) fn switch_of(word: &[u8]) -> Result<bool, Code>
     if is_keyword(b"OFF", word) {
         return Ok(false);
     }
-    Err(Code::C412)
+    Err(Code::WRONG_VALUE)
 }
 
 /// Milliseconds up to 60000, or none where the word is -1.
@@ -74,7 +74,7 @@ pub(crate) fn time_of(word: &[u8]) -> Result<Option<u32>, Code>
     if word == b"-1".as_slice() {
         return Ok(None);
     }
-    Ok(Some(number_in(0, 60000, word)?))
+    Ok(Some(number_in(0, MOST_MILLISECONDS, word)?))
 }
 
 /// The operation that the first word of a command names; any other word is 410.
@@ -105,7 +105,7 @@ pub(crate) fn operation_of(word: &[u8]) -> Result<Operation, Code>
     if is_keyword(b"RESET", word) {
         return Ok(Operation::Reset);
     }
-    Err(Code::C410)
+    Err(Code::UNKNOWN_COMMAND)
 }
 
 /// The group that the third word of a command names; any other word is 421.
@@ -130,7 +130,7 @@ pub(crate) fn group_of(word: &[u8]) -> Result<Named, Code>
     if is_keyword(b"LOCK", word) {
         return Ok(Named::Lock);
     }
-    Err(Code::C421)
+    Err(Code::UNSUPPORTED_DEVICE)
 }
 
 /// The group of a LOCK command, which has to be on the bus; any other word is 412.
@@ -143,5 +143,5 @@ pub(crate) fn lockable_on(bus: &Bus, word: &[u8]) -> Result<Lockable, Code>
     if is_keyword(b"GA", word) && bus.ga_max > 0 {
         return Ok(Lockable::Ga);
     }
-    Err(Code::C412)
+    Err(Code::WRONG_VALUE)
 }

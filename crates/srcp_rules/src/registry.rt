@@ -79,7 +79,7 @@ pub(crate) fn show<R: Rows>(rows: &R, key: &Key) -> Obeyed
 {
     match rows.row(key) {
         Some(row) => Obeyed::replied(Reply::Shows(row.shown), false),
-        None => Obeyed::refused(Code::C416),
+        None => Obeyed::refused(Code::NO_SUCH_DEVICE),
     }
 }
 

@@ -7,8 +7,11 @@ ghost use Rattle.srcp_rules.specs.State.{State, IsRowOf, has_row, opening, put_r
 
 use crate::layout::Layout;
 use crate::obeyed::Memory;
-use srcp_info::{Cursor, Device, Key, Row};
+use srcp_info::{Cursor, Device, Key, MOST_PORTS, Row};
 use std::alloc::Global;
+
+/// How many rows a device has at most: those of an accessory with the most ports.
+pub(crate) const MOST_ROWS: usize = 1 + MOST_PORTS as usize;
 
 /// What keeps the rows of a registry, and the layout that they are of. The order of the rows, by bus,
 /// group, address and port, is our own choice.

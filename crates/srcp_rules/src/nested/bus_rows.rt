@@ -12,6 +12,7 @@ use crate::first_rows::{power_row, push_ports};
 use crate::layout::Bus;
 use crate::nested::devices::Devices;
 use crate::obeyed::Memory;
+use crate::rows::MOST_ROWS;
 use crate::sorted_rows::{row_after_in, row_in, set_in};
 use srcp_info::{Cursor, Device, Group, Key, Row};
 use std::alloc::Global;
@@ -22,7 +23,7 @@ pub(crate) struct BusRows {
     /// Its power row, if the bus has one.
     power: Option<Row>,
     locomotives: Devices<2>,
-    accessories: Devices<9>,
+    accessories: Devices<MOST_ROWS>,
     /// The rows of its feedback ports, by rising port.
     feedback: Vec<Row>,
     locomotive_locks: Devices<1>,

@@ -17,15 +17,15 @@ pub add-requires : goal.add-requires
 add-requires g c =
     let buses = g.R.Rows.buses c.args.rows.now in
     let state = g.R.Rows.state c.args.rows.now in
-    let device = device_in c.args.group c.args.bus c.args.address in
+    let device = device_in c.args.group c.args.place.bus c.args.place.address in
     let absent : is_there device state ≡ false = ap (λ (d : Device). is_there d state) (sym c.device_in.ensures) ∙ sym c.is_there.ensures ∙ c.if-is_there.false in
-    (device, added buses state c.requires.whole c.args.moment c.args.group c.args.bus c.args.address c.args.fresh.now c.requires.fresh c.requires.some absent)
+    (device, added buses state c.requires.whole c.args.sender.moment c.args.group c.args.place.bus c.args.place.address c.args.fresh.now c.requires.fresh c.requires.some absent)
 
 pub returns-clause-took : goal.returns-clause-took
 returns-clause-took g c =
     let buses = g.R.Rows.buses c.args.rows.now in
     let state = g.R.Rows.state c.args.rows.now in
-    let device = device_in c.args.group c.args.bus c.args.address in
+    let device = device_in c.args.group c.args.place.bus c.args.place.address in
     let absent : is_there device state ≡ false = ap (λ (d : Device). is_there d state) (sym c.device_in.ensures) ∙ sym c.is_there.ensures ∙ c.if-is_there.false in
     let fresh = c.args.fresh.now in
     let free = sym c.is_locked.ensures ∙ c.if-is_locked.false in
@@ -33,11 +33,11 @@ returns-clause-took g c =
     let succeeded : is_ok c.add.result ≡ true = c.is_err.ensures.negation ∙ ap not c.if-is_err.false in
     let changes =
     c.accepted-2.ensures.changes ∙ c.push_puts.ensures ∙ ap (λ (before : List Change). before ++ map (λ (row : Row). (put_of row).change) fresh) c.new-changes.ensures
-    ∙ changes_made buses state c.requires.whole c.args.moment c.args.group c.args.bus c.args.address fresh absent in
-    let rows = on_ok c.add.result _ succeeded c.add.ensures.ok ∙ rows_made buses state c.requires.whole c.args.moment c.args.group c.args.bus c.args.address fresh absent in
+    ∙ changes_made buses state c.requires.whole c.args.sender.moment c.args.group c.args.place.bus c.args.place.address fresh absent in
+    let rows = on_ok c.add.result _ succeeded c.add.ensures.ok ∙ rows_made buses state c.requires.whole c.args.sender.moment c.args.group c.args.place.bus c.args.place.address fresh absent in
     inl
     (subst (λ (did : Effect). Took did state (g.R.Rows.state c.add.new.self) c.accepted-2.result)
-    (init_accepted state c.args.session c.args.moment c.args.group c.args.bus c.args.address c.args.init.now (map put_of fresh) free other)
+    (init_accepted state c.args.sender.session c.args.sender.moment c.args.group c.args.place.bus c.args.place.address c.args.init.now (map put_of fresh) free other)
     (record { told = record { reply = c.accepted-2.ensures.reply; changes = changes; ends = c.accepted-2.ensures.ends }; rows = rows }))
 
 pub returns-then-is_there-clause-took : goal.returns-then-is_there-clause-took
