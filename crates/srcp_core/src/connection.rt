@@ -9,17 +9,14 @@ ghost use Rattle.srcp_core.specs.Connection.{is_nil, line_of};
 ghost use Rattle.srcp_core.specs.Machine.{queue_of, fresh_place, with_unsent, without_sent, entered_place, panel_for, feed_in, has_overrun, is_panel, told_place, filled, item_from, IsTellable, asked_of, heard, live_session_of, longest};
 
 use crate::handshake::{Greeting, greet};
+use crate::limits::MOST_UNSENT;
 use crate::line::Asked;
 use srcp_feed::{InfoFeed, Next, Told};
-use srcp_info::{Change, Code, Mode, Reply, write_change, write_reply};
+use srcp_info::{Change, Code, LONGEST_LINE, Mode, Reply, write_change, write_reply};
 use srcp_rules::{Layout, Memory, Rows, parse_command};
 use srcp_text::{Fed, LineBuf, LineReader};
 use std::alloc::Global;
 use std::marker::Model;
-
-/// How many bytes may be unsent: 64 for each byte of a piece, and 256 for a line that was begun before it. Our own
-/// choice.
-pub(crate) const MOST_UNSENT: usize = 16_640;
 
 /// What the server says first: the welcome line of SRCP 0.8, with our own name and version.
 const WELCOME: &[u8] = b"srcp_server 1.0; SRCP 0.8.4; SRCPOTHER 0.8.3\n";
@@ -65,13 +62,14 @@ impl Model for Connection {
     ghost use Rattle.std.specs.List.{AllByRecursion};
     ghost use Rattle.srcp_info.specs.WellFormed.{IsWellFormed};
     ghost use Rattle.srcp_core.specs.Held.{Place};
+    ghost use Rattle.srcp_core.specs.declared.limits.TheConstants.{MOST_UNSENT};
     ghost use Rattle.srcp_core.specs.Machine.{queue_of};
 
     ghost Value = { Place };
 
     ghost view = { λ c. record { reader = c.reader; mode = c.mode; session = c.session; ended = c.ended; unsent = drop c.start c.reply.items; panel = c.panel } };
 
-    ghost invariant = { λ c. (c.start ≤ length c.reply.items) × (length c.reply.items ≤ 16640) × (16640 ≤ vec_capacity c.reply) × AllByRecursion IsWellFormed (queue_of c.panel) };
+    ghost invariant = { λ c. (c.start ≤ length c.reply.items) × (length c.reply.items ≤ MOST_UNSENT) × (MOST_UNSENT ≤ vec_capacity c.reply) × AllByRecursion IsWellFormed (queue_of c.panel) };
 }
 
 impl Connection {
@@ -126,14 +124,14 @@ impl Connection {
     /// The bytes that are to be sent.
     pub(crate) fn unsent(&self) -> &[u8]
         ensures bytes { result.now ≡ self.now.unsent }
-        ensures most { length result.now ≤ 16640 }
+        ensures most { length result.now ≤ MOST_UNSENT }
     {
         &self.reply[self.start..]
     }
 
     /// Puts bytes at the end of what is to be sent.
     pub(crate) fn put(&mut self, line: &[u8])
-        requires { length self.old.unsent + length line.now ≤ 16640 }
+        requires { length self.old.unsent + length line.now ≤ MOST_UNSENT }
         ensures { self.new ≡ with_unsent line.now self.old }
     {
         compact(&mut self.reply, self.start);
@@ -144,7 +142,7 @@ impl Connection {
     /// Puts a reply at the end of what is to be sent, stamped with the moment.
     pub(crate) fn reply(&mut self, moment: u64, reply: &Reply)
         requires well_formed { IsWellFormedReply reply.now }
-        requires room { length self.old.unsent + longest reply.now ≤ 16640 }
+        requires room { length self.old.unsent + longest reply.now ≤ MOST_UNSENT }
         ensures { self.new ≡ with_unsent (reply_line moment reply.now) self.old }
     {
         let mut line = LineBuf::new();
@@ -224,12 +222,12 @@ impl Connection {
         if self.session == 0 {
             Asked::Greets {
                 mode: self.mode,
-                greeting: Greeting::Refuses(Code::C418),
+                greeting: Greeting::Refuses(Code::TOO_LONG),
             }
         } else {
             Asked::Commands {
                 session: self.session,
-                command: Err(Code::C418),
+                command: Err(Code::TOO_LONG),
             }
         }
     }
@@ -269,7 +267,7 @@ impl Connection {
         requires { AllByRecursion IsWellFormedShown (shown_rows (R.state rows.now)) }
         ensures place { self.new ≡ filled (shown_rows (R.state rows.now)) self.old }
         ensures item { result ≡ item_from (shown_rows (R.state rows.now)) self.old.unsent (feed_in self.old.panel) }
-        ensures most { self.old.unsent ≡ [] → length self.new.unsent ≤ 126 }
+        ensures most { self.old.unsent ≡ [] → length self.new.unsent ≤ LONGEST_LINE }
     {
         if self.start < self.reply.len() {
             return None;
@@ -289,9 +287,9 @@ impl Connection {
 fn put_next(next: &Next, buffer: &mut Vec<u8>)
     requires well_formed { IsTellable next.now }
     requires empty { buffer.old.items ≡ [] }
-    requires room { 16640 ≤ vec_capacity buffer.old }
+    requires room { MOST_UNSENT ≤ vec_capacity buffer.old }
     ensures line { buffer.new.items ≡ line_of next.now }
-    ensures most { length buffer.new.items ≤ 126 }
+    ensures most { length buffer.new.items ≤ LONGEST_LINE }
     ensures capacity { vec_capacity buffer.old ≤ vec_capacity buffer.new }
 {
     let change = match next {

@@ -3,11 +3,10 @@ ghost use Rattle.std.specs.Prelude.{◌≡◌};
 ghost use Rattle.std.specs.Char.{is_ascii_digit};
 ghost use Rattle.std.specs.List.{list_all};
 ghost use Rattle.srcp_text.specs.Marks.{Line};
-ghost use Rattle.srcp_text.specs.Words.{is_keyword};
 ghost use Rattle.srcp_core.specs.Handshake.{is_version, greets_protocol, greets_mode, greets};
 
 use srcp_info::{Code, Mode};
-use srcp_text::{Words, words};
+use srcp_text::{Words, is_keyword, words};
 
 /// What a line before the session asks for.
 #[derive(Clone, Copy)]
@@ -29,17 +28,17 @@ pub(crate) fn greet(line: &[u8]) -> Greeting
 {
     let mut words = words(line);
     let Some(word) = words.next() else {
-        return Greeting::Refuses(Code::C410);
+        return Greeting::Refuses(Code::UNKNOWN_COMMAND);
     };
     let Some(what) = words.next() else {
         return if is_keyword(b"GO", word) {
             Greeting::Goes
         } else {
-            Greeting::Refuses(Code::C410)
+            Greeting::Refuses(Code::UNKNOWN_COMMAND)
         };
     };
     if !is_keyword(b"SET", word) {
-        return Greeting::Refuses(Code::C410);
+        return Greeting::Refuses(Code::UNKNOWN_COMMAND);
     }
     if is_keyword(b"PROTOCOL", what) {
         return greet_protocol(words);
@@ -47,7 +46,7 @@ pub(crate) fn greet(line: &[u8]) -> Greeting
     if is_keyword(b"CONNECTIONMODE", what) {
         return greet_mode(words);
     }
-    Greeting::Refuses(Code::C410)
+    Greeting::Refuses(Code::UNKNOWN_COMMAND)
 }
 
 /// The words after `SET PROTOCOL`.
@@ -55,18 +54,18 @@ fn greet_protocol(mut words: Words<'_>) -> Greeting
     ensures { result ≡ greets_protocol words.entry }
 {
     let Some(name) = words.next() else {
-        return Greeting::Refuses(Code::C402);
+        return Greeting::Refuses(Code::INSUFFICIENT_DATA);
     };
     let Some(version) = words.next() else {
-        return Greeting::Refuses(Code::C402);
+        return Greeting::Refuses(Code::INSUFFICIENT_DATA);
     };
     if words.next().is_some() {
-        return Greeting::Refuses(Code::C410);
+        return Greeting::Refuses(Code::UNKNOWN_COMMAND);
     }
     if is_keyword(b"SRCP", name) && is_version(version) {
         Greeting::Speaks
     } else {
-        Greeting::Refuses(Code::C400)
+        Greeting::Refuses(Code::UNSUPPORTED_PROTOCOL)
     }
 }
 
@@ -75,16 +74,16 @@ fn greet_mode(mut words: Words<'_>) -> Greeting
     ensures { result ≡ greets_mode words.entry }
 {
     let Some(name) = words.next() else {
-        return Greeting::Refuses(Code::C402);
+        return Greeting::Refuses(Code::INSUFFICIENT_DATA);
     };
     let Some(mode) = words.next() else {
-        return Greeting::Refuses(Code::C402);
+        return Greeting::Refuses(Code::INSUFFICIENT_DATA);
     };
     if words.next().is_some() {
-        return Greeting::Refuses(Code::C410);
+        return Greeting::Refuses(Code::UNKNOWN_COMMAND);
     }
     if !is_keyword(b"SRCP", name) {
-        return Greeting::Refuses(Code::C401);
+        return Greeting::Refuses(Code::UNSUPPORTED_MODE);
     }
     if is_keyword(b"COMMAND", mode) {
         return Greeting::Chooses(Mode::Command);
@@ -92,7 +91,7 @@ fn greet_mode(mut words: Words<'_>) -> Greeting
     if is_keyword(b"INFO", mode) {
         return Greeting::Chooses(Mode::Info);
     }
-    Greeting::Refuses(Code::C401)
+    Greeting::Refuses(Code::UNSUPPORTED_MODE)
 }
 
 /// Whether the word is `0.8`, or `0.8.` and digits.
@@ -113,11 +112,4 @@ fn are_digits(text: &[u8]) -> bool
     ensures { result ≡ list_all is_ascii_digit text.now }
 {
     text.iter().all(|byte| byte.is_ascii_digit())
-}
-
-/// Whether the word is the keyword, in capital or small letters.
-fn is_keyword(keyword: &[u8], word: &[u8]) -> bool
-    ensures { result ≡ is_keyword keyword.now word.now }
-{
-    keyword.eq_ignore_ascii_case(word)
 }

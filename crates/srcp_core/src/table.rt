@@ -11,18 +11,13 @@ mod stamp;
 mod walk;
 
 use crate::connection::Connection;
+use crate::limits::MOST_CONNECTIONS;
 use crate::quiet::Timed;
 use crate::record::CoreFault;
 use slab::Slab;
 use srcp_rules::{Layout, Memory, Rows};
 use std::alloc::Global;
 use std::marker::Model;
-
-/// How many connections may be open at once: our own choice.
-const MOST_CONNECTIONS: usize = 64;
-
-/// How many bytes a piece may have: our own choice.
-const MOST_IN_PIECE: usize = 256;
 
 /// The registry of a layout, and the connections to it with their sessions.
 ///
@@ -59,12 +54,13 @@ pub struct Core<'a, R: Rows> {
 impl<'a, R: Rows> Model for Core<'a, R> {
     ghost use Rattle.std.specs.Prelude.{◌≡◌, ◌≤◌};
     ghost use Rattle.srcp_core.specs.Held.{Held, IsSound};
+    ghost use Rattle.srcp_core.specs.declared.limits.TheConstants.{MOST_CONNECTIONS};
 
     ghost Value = { Held };
 
     ghost view = { λ c. record { buses = c.layout.now; rows = R.state c.rows; moment = c.moment; last_id = c.last_id; places = c.connections.slots; denied = c.denied } };
 
-    ghost invariant = { λ c. IsSound (record { buses = c.layout.now; rows = R.state c.rows; moment = c.moment; last_id = c.last_id; places = c.connections.slots; denied = c.denied }) × (R.buses c.rows ≡ c.layout.now) × (64 ≤ c.connections.capacity) };
+    ghost invariant = { λ c. IsSound (record { buses = c.layout.now; rows = R.state c.rows; moment = c.moment; last_id = c.last_id; places = c.connections.slots; denied = c.denied }) × (R.buses c.rows ≡ c.layout.now) × (MOST_CONNECTIONS ≤ c.connections.capacity) };
 }
 
 impl<'a, R: Rows> Core<'a, R> {

@@ -9,12 +9,12 @@ use crate::counted::{next_word, no_more};
 use crate::functions::read_functions;
 use crate::layout::Bus;
 use crate::power_text::text_of;
-use crate::read::{bit_of, is_keyword, letter_of, lockable_on, number_in, switch_of, time_of};
+use crate::read::{bit_of, letter_of, lockable_on, number_in, switch_of, time_of};
 use srcp_info::{
     Bits, Code, DriveMode, GREATEST_SPEED, GREATEST_VERSION, Letter, MOST_FUNCTIONS, MOST_SECONDS,
     MOST_STEPS, Text,
 };
-use srcp_text::Words;
+use srcp_text::{Words, is_keyword};
 
 /// An address and nothing else.
 pub(crate) fn address(most: u32, mut words: Words<'_>) -> Result<u32, Code>

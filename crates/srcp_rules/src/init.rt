@@ -11,7 +11,7 @@ ghost use Rattle.srcp_rules.specs.State.{IsRowOf, IsWhole, device_in, has_row, i
 use crate::command::{Lockable, Sender};
 use crate::device::{BusAddress, device_in, lock_on};
 use crate::lock::{is_locked, refusal};
-use crate::obeyed::{MOST_CHANGES, Obeyed};
+use crate::obeyed::{CHANGES_CAPACITY, Obeyed};
 use crate::registry::{is_there, put_of, remove};
 use crate::rows::Rows;
 use arrayvec::ArrayVec;
@@ -22,7 +22,7 @@ fn remove_there<R: Rows>(
     rows: &mut R,
     moment: u64,
     device: Device,
-) -> ArrayVec<Change, MOST_CHANGES>
+) -> ArrayVec<Change, CHANGES_CAPACITY>
     requires { IsTrue (can_go device.group) }
     ensures changes { result.items ≡ map (λ update. update.change) (removal (R.state rows.old) moment device) }
     ensures rows { R.state rows.new ≡ updated_all (removal (R.state rows.old) moment device) (R.state rows.old) }
@@ -41,7 +41,7 @@ fn remove_device<R: Rows>(
     moment: u64,
     group: Lockable,
     place: BusAddress,
-) -> ArrayVec<Change, MOST_CHANGES>
+) -> ArrayVec<Change, CHANGES_CAPACITY>
     ensures changes { result.items ≡ map (λ update. update.change) (removals (R.state rows.old) moment group place.bus place.address) }
     ensures rows { R.state rows.new ≡ updated_all (removals (R.state rows.old) moment group place.bus place.address) (R.state rows.old) }
     ensures layout { R.buses rows.new ≡ R.buses rows.old }
@@ -127,8 +127,8 @@ fn set_all<R: Rows>(rows: &mut R, fresh: &[Row])
 }
 
 /// Appends the changes that tell of the rows.
-fn push_puts(changes: &mut ArrayVec<Change, MOST_CHANGES>, fresh: &[Row])
-    requires { array_vec_len changes.old + length fresh.now ≤ MOST_CHANGES }
+fn push_puts(changes: &mut ArrayVec<Change, CHANGES_CAPACITY>, fresh: &[Row])
+    requires { array_vec_len changes.old + length fresh.now ≤ CHANGES_CAPACITY }
     ensures { changes.new.items ≡ changes.old.items ++ map (λ row. (put_of row).change) fresh.now }
 {
     for row in fresh {
@@ -144,7 +144,7 @@ fn remake<R: Rows>(
     group: Lockable,
     place: BusAddress,
     fresh: &[Row],
-) -> ArrayVec<Change, MOST_CHANGES>
+) -> ArrayVec<Change, CHANGES_CAPACITY>
     requires whole { IsWhole (R.buses rows.old) (R.state rows.old) }
     requires there { is_there (device_in group place.bus place.address) (R.state rows.old) ≡ true }
     requires fresh { AreRowsOf (R.buses rows.old) (device_in group place.bus place.address) fresh.now }

@@ -3,20 +3,12 @@
 ghost use Rattle.std.specs.Prelude.{◌≡◌};
 ghost use Rattle.std.specs.Option.{ok_or};
 ghost use Rattle.srcp_info.specs.declared.change.Code.TheVariants.{C410 as UnknownCommand, C421 as UnsupportedDevice};
-ghost use Rattle.srcp_text.specs.Words.{is_keyword};
 ghost use Rattle.srcp_rules.specs.Grammar.{bit_of, groups, letter_of, lockable_on, named_in, number_in, operations, switch_of, time_of};
 
 use crate::command::{Lockable, Named, Operation};
 use crate::layout::Bus;
 use srcp_info::{Code, Letter, MOST_MILLISECONDS};
-use srcp_text::read_number;
-
-/// Whether the word is the keyword, in capital or small letters.
-pub(crate) fn is_keyword(keyword: &[u8], word: &[u8]) -> bool
-    ensures { result ≡ is_keyword keyword.now word.now }
-{
-    keyword.eq_ignore_ascii_case(word)
-}
+use srcp_text::{is_keyword, read_number};
 
 /// A number from `least` to `most`; any other word is 412.
 pub(crate) fn number_in(least: u32, most: u32, word: &[u8]) -> Result<u32, Code>

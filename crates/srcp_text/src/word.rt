@@ -1,7 +1,7 @@
 //! The words of a line: what stands between spaces and tabs.
 
 ghost use Rattle.std.specs.Prelude.{◌≡◌, ◌≤◌, length, position};
-ghost use Rattle.srcp_text.specs.Words.{is_blank, is_filled, words_of};
+ghost use Rattle.srcp_text.specs.Words.{is_blank, is_filled, is_keyword, words_of};
 
 use crate::iter::Words;
 
@@ -13,6 +13,13 @@ pub fn words(line: &[u8]) -> Words<'_>
     ensures few { length result ≤ length line.now }
 {
     Words::of(line)
+}
+
+/// Whether the word is the keyword, in capital or small letters.
+pub fn is_keyword(keyword: &[u8], word: &[u8]) -> bool
+    ensures { result ≡ is_keyword keyword.now word.now }
+{
+    keyword.eq_ignore_ascii_case(word)
 }
 
 // Where the first word of a text begins.

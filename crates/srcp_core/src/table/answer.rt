@@ -14,20 +14,18 @@ use super::Core;
 use super::walk::{free_all, tell_all, tell_each};
 use crate::connection::Panel;
 use crate::handshake::Greeting;
+use crate::limits::{LAST_ID, MOST_UNSENT};
 use crate::line::{Asked, LineRecord};
 use crate::record::Step;
-use srcp_info::{Code, Mode, Reply};
+use srcp_info::{Code, LONGEST_LINE, LONGEST_SHORT_REPLY, Mode, Reply};
 use srcp_rules::{Command, Memory, Obeyed, Rows, begin_session, obey};
-
-/// The greatest session id: our own choice, the greatest of 32 bits.
-const LAST_ID: u32 = 4_294_967_295;
 
 impl<'a, R: Rows> Core<'a, R> {
     /// Answers what a line asks for.
     pub(super) fn answer(&mut self, conn: usize, asked: Asked) -> LineRecord
         requires sound { IsSound self.old }
         requires asked { IsAsked conn asked self.old }
-        requires room { length (unsent_at conn self.old) + longest_answer asked ≤ 16640 }
+        requires room { length (unsent_at conn self.old) + longest_answer asked ≤ MOST_UNSENT }
         ensures core { self.new ≡ answered result.granted conn asked self.old }
         ensures steps { steps_in result ≡ steps_answered result.granted asked self.old }
         ensures counted { self.new.denied ≡ denied_by self.old.denied (result.granted ∷ []) }
@@ -41,7 +39,7 @@ impl<'a, R: Rows> Core<'a, R> {
 
     /// Answers a line before the session.
     fn greet(&mut self, conn: usize, mode: Mode, greeting: Greeting) -> LineRecord
-        requires { length (unsent_at conn self.old) + 64 ≤ 16640 }
+        requires { length (unsent_at conn self.old) + LONGEST_SHORT_REPLY ≤ MOST_UNSENT }
         ensures core { self.new ≡ greeted result.granted conn mode greeting self.old }
         ensures steps { steps_in result ≡ steps_greeted result.granted mode greeting self.old }
         ensures counted { self.new.denied ≡ denied_by self.old.denied (result.granted ∷ []) }
@@ -70,13 +68,13 @@ impl<'a, R: Rows> Core<'a, R> {
 
     /// Answers `GO`.
     fn go(&mut self, conn: usize, mode: Mode) -> LineRecord
-        requires { length (unsent_at conn self.old) + 64 ≤ 16640 }
+        requires { length (unsent_at conn self.old) + LONGEST_SHORT_REPLY ≤ MOST_UNSENT }
         ensures core { self.new ≡ goes result.granted conn mode self.old }
         ensures steps { steps_in result ≡ steps_gone result.granted mode self.old }
         ensures counted { self.new.denied ≡ denied_by self.old.denied (result.granted ∷ []) }
     {
         if self.last_id >= LAST_ID {
-            self.reply(conn, &Reply::Refused(Code::C500));
+            self.reply(conn, &Reply::Refused(Code::OUT_OF_RESOURCES));
             return LineRecord::nothing();
         }
         let session = self.last_id + 1;
@@ -120,7 +118,7 @@ impl<'a, R: Rows> Core<'a, R> {
         requires session { IsSessionAt session conn self.old }
         requires row { is_there (session_device session) self.old.rows ≡ true }
         requires command { IfOk command (IsCommandOf self.old.buses) }
-        requires room { length (unsent_at conn self.old) + longest_answer (Asked.Commands session command) ≤ 16640 }
+        requires room { length (unsent_at conn self.old) + longest_answer (Asked.Commands session command) ≤ MOST_UNSENT }
         ensures core { self.new ≡ commanded result.granted conn session command self.old }
         ensures steps { steps_in result ≡ steps_commanded result.granted session command self.old }
         ensures counted { self.new.denied ≡ denied_by self.old.denied (result.granted ∷ []) }
@@ -139,7 +137,7 @@ impl<'a, R: Rows> Core<'a, R> {
         requires session { IsSessionAt session conn self.old }
         requires row { is_there (session_device session) self.old.rows ≡ true }
         requires command { IsCommandOf self.old.buses command.now }
-        requires room { length (unsent_at conn self.old) + 126 ≤ 16640 }
+        requires room { length (unsent_at conn self.old) + LONGEST_LINE ≤ MOST_UNSENT }
         ensures core { self.new ≡ commanded result.granted conn session (Ok command.now) self.old }
         ensures steps { steps_in result ≡ steps_commanded result.granted session (Ok command.now) self.old }
         ensures counted { self.new.denied ≡ denied_by self.old.denied (result.granted ∷ []) }
@@ -203,7 +201,7 @@ impl<'a, R: Rows> Core<'a, R> {
     /// Puts a reply at the end of what is to be sent.
     fn reply(&mut self, conn: usize, reply: &Reply)
         requires well_formed { IsWellFormedReply reply.now }
-        requires room { length (unsent_at conn self.old) + longest reply.now ≤ 16640 }
+        requires room { length (unsent_at conn self.old) + longest reply.now ≤ MOST_UNSENT }
         ensures { self.new ≡ replied conn reply.now self.old }
     {
         let Some(connection) = self.connections.get_mut(conn) else {
@@ -214,11 +212,11 @@ impl<'a, R: Rows> Core<'a, R> {
 
     /// Answers a line to which memory was refused.
     fn deny(&mut self, conn: usize)
-        requires { length (unsent_at conn self.old) + 64 ≤ 16640 }
+        requires { length (unsent_at conn self.old) + LONGEST_SHORT_REPLY ≤ MOST_UNSENT }
         ensures { self.new ≡ denied_line conn self.old }
     {
         self.count_denied();
-        self.reply(conn, &Reply::Refused(Code::C500));
+        self.reply(conn, &Reply::Refused(Code::OUT_OF_RESOURCES));
     }
 
     /// Counts one more growth that was refused.

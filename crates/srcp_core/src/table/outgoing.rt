@@ -6,6 +6,7 @@ ghost use Rattle.srcp_core.specs.Machine.{changed_at, without_sent, unsent_at, l
 use super::Core;
 use crate::record::CoreFault;
 use srcp_feed::Next;
+use srcp_info::LONGEST_LINE;
 use srcp_rules::Rows;
 
 impl<'a, R: Rows> Core<'a, R> {
@@ -20,7 +21,7 @@ impl<'a, R: Rows> Core<'a, R> {
         ensures* ends { sem 𝓛 (EndsAs R.row R.Rows self.entry (let_out conn self.old)) }
         ensures absent { MatchResult result (λ _. IsSome (at self.old conn)) (λ fault. (fault ≡ CoreFault.NoSuch) × (at self.old conn ≡ None)) }
         ensures bytes { IfOk result (λ bytes. bytes.now ≡ unsent_at conn (let_out conn self.old)) }
-        ensures one_line { unsent_at conn self.old ≡ [] → IfOk result (λ bytes. length bytes.now ≤ 126) }
+        ensures one_line { unsent_at conn self.old ≡ [] → IfOk result (λ bytes. length bytes.now ≤ LONGEST_LINE) }
     {
         self.fill(conn)?;
         self.unsent(conn)
@@ -32,7 +33,7 @@ impl<'a, R: Rows> Core<'a, R> {
         ensures fault { IfErr result (λ fault. fault ≡ CoreFault.NoSuch) }
         ensures core { self.new ≡ let_out conn self.old }
         ensures item { IfOk result (λ item. item ≡ item_at conn self.old) }
-        ensures most { unsent_at conn self.old ≡ [] → length (unsent_at conn self.new) ≤ 126 }
+        ensures most { unsent_at conn self.old ≡ [] → length (unsent_at conn self.new) ≤ LONGEST_LINE }
     {
         let Some(connection) = self.connections.get_mut(conn) else {
             return Err(CoreFault::NoSuch);

@@ -3,7 +3,8 @@ ghost use Rattle.std.specs.Prelude.{◌≡◌, ◌≤◌, [], length, Some, None
 ghost use Rattle.srcp_core.specs.Held.{IsSound};
 ghost use Rattle.srcp_core.specs.Machine.{unsent_at, bytes_fault, heard_at, IsReceived, HasRoom, IsLineAnswered};
 
-use super::{Core, MOST_IN_PIECE};
+use super::Core;
+use crate::limits::MOST_IN_PIECE;
 use crate::line::{Asked, LineRecord};
 use crate::record::CoreFault;
 use srcp_rules::Rows;
@@ -49,7 +50,7 @@ impl<'a, R: Rows> Core<'a, R> {
     /// Answers each line that ends in the piece.
     fn answer_lines(&mut self, conn: usize, piece: &[u8])
         requires idle { unsent_at conn self.old ≡ [] }
-        requires few { length piece.now ≤ 256 }
+        requires few { length piece.now ≤ MOST_IN_PIECE }
         ensures { IsReceived conn piece.now self.old self.new }
     {
         let mut start = 0;
@@ -65,7 +66,7 @@ impl<'a, R: Rows> Core<'a, R> {
         piece: &[u8],
         start: usize,
     ) -> Option<(usize, LineRecord)>
-        requires few { length piece.now ≤ 256 }
+        requires few { length piece.now ≤ MOST_IN_PIECE }
         requires room { HasRoom conn piece.now start self.old }
         ensures none { IfNone result ((None, self.new) ≡ heard_at conn piece.now start self.old) }
         ensures line { IfSome result (λ r. IsLineAnswered conn piece.now start r.0 r.1 self.old self.new) }
