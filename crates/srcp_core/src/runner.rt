@@ -71,7 +71,6 @@ fn follow<R: Rows>(
     event: &Event,
 ) -> Result<(), Memory>
     ensures course { OnOk result (FollowsAs number event.now recorder.old core.old recorder.new core.new) }
-    ensures denied { core.new.denied ≡ 0 → core.old.denied ≡ 0 }
     ensures moment { HasPlainMoment event.now }
 {
     if let Some(fault) = happen(core, recorder, event)? {
@@ -87,7 +86,6 @@ fn happen<R: Rows>(
     event: &Event,
 ) -> Result<Option<CoreFault>, Memory>
     ensures course { IfOk result (λ refusal. HappensAs event.now refusal recorder.old core.old recorder.new core.new) }
-    ensures denied { core.new.denied ≡ 0 → core.old.denied ≡ 0 }
     ensures moment { HasPlainMoment event.now }
 {
     match event {
@@ -104,8 +102,7 @@ fn open<R: Rows>(
     core: &mut Core<'_, R>,
     recorder: &mut Recorder,
 ) -> Result<Option<CoreFault>, Memory>
-    ensures course { IfOk result (λ refusal. HappensAs Event.Open refusal recorder.old core.old recorder.new core.new) }
-    ensures denied { core.new.denied ≡ 0 → core.old.denied ≡ 0 }
+    ensures { IfOk result (λ refusal. HappensAs Event.Open refusal recorder.old core.old recorder.new core.new) }
 {
     match core.connect() {
         Ok(key) => {
@@ -123,8 +120,7 @@ fn bytes<R: Rows>(
     conn: usize,
     piece: &[u8],
 ) -> Result<Option<CoreFault>, Memory>
-    ensures course { IfOk result (λ refusal. HappensAs (Event.Bytes conn piece.now) refusal recorder.old core.old recorder.new core.new) }
-    ensures denied { core.new.denied ≡ 0 → core.old.denied ≡ 0 }
+    ensures { IfOk result (λ refusal. HappensAs (Event.Bytes conn piece.now) refusal recorder.old core.old recorder.new core.new) }
 {
     let Some(key) = recorder.key(conn) else {
         return Ok(Some(CoreFault::NoSuch));
@@ -147,8 +143,7 @@ fn room<R: Rows>(
     conn: usize,
     bytes: usize,
 ) -> Result<Option<CoreFault>, Memory>
-    ensures course { IfOk result (λ refusal. HappensAs (Event.Room conn bytes) refusal recorder.old core.old recorder.new core.new) }
-    ensures denied { core.new.denied ≡ 0 → core.old.denied ≡ 0 }
+    ensures { IfOk result (λ refusal. HappensAs (Event.Room conn bytes) refusal recorder.old core.old recorder.new core.new) }
 {
     let Some(key) = recorder.key(conn) else {
         return Ok(Some(CoreFault::NoSuch));
@@ -201,7 +196,6 @@ fn advance<R: Rows>(
     moment: u64,
 ) -> Result<Option<CoreFault>, Memory>
     ensures course { IfOk result (λ refusal. HappensAs (Event.At moment) refusal recorder.old core.old recorder.new core.new) }
-    ensures denied { core.new.denied ≡ 0 → core.old.denied ≡ 0 }
     ensures fits { IsMoment moment }
 {
     core.advance(moment);
@@ -215,8 +209,7 @@ fn shut<R: Rows>(
     recorder: &mut Recorder,
     conn: usize,
 ) -> Result<Option<CoreFault>, Memory>
-    ensures course { IfOk result (λ refusal. HappensAs (Event.Shut conn) refusal recorder.old core.old recorder.new core.new) }
-    ensures denied { core.new.denied ≡ 0 → core.old.denied ≡ 0 }
+    ensures { IfOk result (λ refusal. HappensAs (Event.Shut conn) refusal recorder.old core.old recorder.new core.new) }
 {
     let Some(key) = recorder.key(conn) else {
         return Ok(Some(CoreFault::NoSuch));

@@ -1,27 +1,22 @@
-use Rattle.std.proofs.Common.{sym, ◌∙◌, subst, [], ◌∷◌}
+use Rattle.std.proofs.Common.{sym, ◌∙◌, subst}
 use Rattle.srcp_core.specs.Machine.{steps_in}
 use Rattle.srcp_core.specs.Recording.{Recording}
-use Rattle.srcp_core.proofs.Agreement.MemoryAnswers.{none_denied}
 use Rattle.srcp_core.proofs.Agreement.RunsAnEvent.{no_bytes_happens}
 use Rattle.srcp_core.proofs.Agreement.RunsBytes.{bytes_refused, bytes_room, reads_first, reads_more, bytes_happens, ReadsOn}
 use Rattle.srcp_core.proofs.runner.bytes.Goals as goal
 
-pub returns-in_default-clause-course : goal.returns-in_default-clause-course
-returns-in_default-clause-course g c = no_bytes_happens c.args.conn c.args.piece.now c.args.recorder.now c.args.core.now (sym c.key.ensures ∙ c.in_default.is)
+pub returns-in_default : goal.returns-in_default
+returns-in_default g c = no_bytes_happens c.args.conn c.args.piece.now c.args.recorder.now c.args.core.now (sym c.key.ensures ∙ c.in_default.is)
 
-pub returns-in-Some-bytes_fault-clause-course : goal.returns-in-Some-bytes_fault-clause-course
-returns-in-Some-bytes_fault-clause-course g c =
+pub returns-in-Some-bytes_fault : goal.returns-in-Some-bytes_fault
+returns-in-Some-bytes_fault g c =
     bytes_refused c.args.conn c.in-Some.key c.args.piece.now c.args.recorder.now c.args.core.now c.in-Some-bytes_fault.fault (sym c.key.ensures ∙ c.in-Some.is) (sym c.bytes_fault.ensures ∙ c.in-Some-bytes_fault.is)
 
 pub loop-stop-init : goal.loop-stop-init
 loop-stop-init g c =
     let free = sym c.bytes_fault.ensures ∙ c.in_default-bytes_fault.is in
     let room = bytes_room c.in-Some.key c.args.piece.now c.args.core.now free in
-    record { few = room.0; room = room.1; reads = reads_first c.args.conn c.in-Some.key c.args.piece.now c.args.recorder.now c.args.core.now (sym c.key.ensures ∙ c.in-Some.is) free; denied = λ d. d }
-
-pub returns-in_err-answered-clause-denied : goal.returns-in_err-answered-clause-denied
-returns-in_err-answered-clause-denied g c = λ d.
-    c.loop-stop.invariant.denied (none_denied (c.in-Some-answer_line.line.granted ∷ []) c.loop-stop.core.denied (sym c.in-Some-answer_line.ensures.line.counted ∙ d)).0
+    record { few = room.0; room = room.1; reads = reads_first c.args.conn c.in-Some.key c.args.piece.now c.args.recorder.now c.args.core.now (sym c.key.ensures ∙ c.in-Some.is) free }
 
 pub loop-stop-preserved : goal.loop-stop-preserved
 loop-stop-preserved g c =
@@ -32,9 +27,8 @@ loop-stop-preserved g c =
       reads = subst (λ (r : Recording). ReadsOn c.args.conn c.in-Some.key c.args.piece.now c.args.recorder.now c.args.core.now c.in-Some-answer_line.stop r c.answer_line.new.self) (sym c.in_ok-answered.ensures)
           (reads_more c.args.conn c.in-Some.key c.args.piece.now c.args.recorder.now c.args.core.now c.loop-stop.start c.in-Some-answer_line.stop c.in-Some-answer_line.line.granted (steps_in c.in-Some-answer_line.line) c.loop-stop.recorder c.loop-stop.core c.answer_line.new.self
           line.onward line.is line.steps line.counted c.loop-stop.invariant.reads);
-      denied = λ d. c.loop-stop.invariant.denied (none_denied (c.in-Some-answer_line.line.granted ∷ []) c.loop-stop.core.denied (sym line.counted ∙ d)).0;
     }
 
-pub returns-clause-course : goal.returns-clause-course
-returns-clause-course g c =
+pub returns : goal.returns
+returns g c =
     bytes_happens c.args.conn c.in-Some.key c.args.piece.now c.args.recorder.now c.args.core.now c.loop-stop.start c.loop-stop.recorder c.loop-stop.core c.answer_line.new.self c.in_default-answer_line.ensures.none c.loop-stop.invariant.reads

@@ -8,7 +8,6 @@ invariant-loop-stop g l = record {
   few : length l.piece ≤ 256;
   room : HasRoom l.key l.piece l.start l.core;
   reads : ReadsOn l.conn l.key l.piece l.fn.recorder l.fn.core l.start l.recorder l.core;
-  denied : l.core.denied ≡ 0 → l.fn.core.denied ≡ 0;
 }
 
 abbrev pub decreases-loop-stop : goal.decreases-loop-stop

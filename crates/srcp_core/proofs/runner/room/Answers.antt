@@ -5,8 +5,8 @@ use Rattle.srcp_core.proofs.Agreement.RunsAnEvent.{told_as, no_room_happens, giv
 use Rattle.srcp_core.proofs.runner.room.Goals as goal
 use Rattle.srcp_core.proofs.runner.room.Goals.{then-left-eq0-via-then-left-eq0, then-left-eq0-via-else-left-eq0+then-count-eq0}
 
-pub returns-in_default-clause-course : goal.returns-in_default-clause-course
-returns-in_default-clause-course g c = no_room_happens c.args.conn c.args.bytes c.args.recorder.now c.args.core.now (sym c.key.ensures ∙ c.in_default.is)
+pub returns-in_default : goal.returns-in_default
+returns-in_default g c = no_room_happens c.args.conn c.args.bytes c.args.recorder.now c.args.core.now (sym c.key.ensures ∙ c.in_default.is)
 
 pub loop-count-init : goal.loop-count-init
 loop-count-init g c = record {
@@ -20,8 +20,8 @@ first_ends left count now e h = inl (omega (arith, e, h))
 second_ends : (left count now : ℕ) → count ≡ now → count ≡ 0 → (left - now ≡ 0) ⊎ (now ≡ 0)
 second_ends left count now e h = inr (omega (arith, e, h))
 
-pub returns-then-left-eq0-clause-course : goal.returns-then-left-eq0-clause-course
-returns-then-left-eq0-clause-course g c =
+pub returns-then-left-eq0 : goal.returns-then-left-eq0
+returns-then-left-eq0 g c =
     let now = count_at c.in-Some.key c.loop-count.left c.loop-count.core in
     told_as (Room c.args.conn c.args.bytes) None c.args.recorder.now c.args.core.now (taking c.args.conn c.in-Some.key c.loop-count.left c.loop-count.core c.loop-count.recorder) c.take.new.recorder (taken_at c.in-Some.key c.loop-count.left c.loop-count.core) c.take.new.core
     c.in_ok-count.ensures.recorder c.in_ok-count.ensures.core
