@@ -1,104 +1,112 @@
-ghost use Rattle.std.specs.Prelude.{◌≡◌, ◌<◌, ◌≤◌, ℕ, Ok, IfOk, length};
-ghost use Rattle.srcp_serve.specs.declared.door.Got.{Got};
+//! A peer with its socket.
 
-use crate::door::Got;
+ghost use Rattle.std.specs.Prelude.{◌≡◌, ◌<◌, ◌≤◌, ℕ, IfOk, length};
+ghost use Rattle.srcp_serve.specs.declared.socket.read_ahead.Given.{Given};
+
+use super::held::{HandedOver, MOST_GATHERED};
+use super::link::Link;
+use super::pacing::Pacing;
+use super::read_ahead::{Filled, Given};
+use mio::event::Event;
 use mio::net::TcpStream;
 use std::alloc::{AllocError, Global};
-use std::io;
-use std::io::{ErrorKind, Read, Write};
-use std::vec::Vec;
 
-/// How many bytes of a peer are gathered before its socket is handed them.
-const MOST_GATHERED: usize = 16_384;
+/// How many bytes of a panel may wait for the next millisecond. What else may be gathered holds the 300 lines of 126 bytes
+/// that a peer is written in a turn at most.
+const MOST_WAITING: usize = MOST_GATHERED - 300 * 126;
 
-/// A peer, and what was taken for it that its socket was not handed yet.
+/// A peer and its socket.
 #[derive(Drop)]
 pub(super) struct Peer {
     pub number: u32,
     stream: TcpStream,
+    link: Link,
     // Whether a read may find something.
     readable: bool,
-    gathered: Vec<u8>,
-    // A write failed when no call was there to tell it.
-    lost: bool,
+    // Whether the socket may take something.
+    writable: bool,
+    // Whether a read was asked in this turn.
+    asked: bool,
 }
 
 impl Peer {
-    /// Takes the memory of all that may be gathered.
-    pub(super) fn new(alloc: Global, number: u32, stream: TcpStream) -> Result<Peer, AllocError> {
+    /// A newcomer. Takes the memory of all that may be gathered and read ahead.
+    ///
+    /// # Errors
+    /// Where memory is refused.
+    pub(super) fn new(alloc: Global, number: u32, stream: TcpStream) -> Result<Peer, AllocError>
+        ensures { IfOk result (λ peer. peer.number ≡ number) }
+    {
         Ok(Peer {
             number,
             stream,
+            link: Link::new(alloc)?,
             readable: true,
-            gathered: Vec::with_capacity(alloc, MOST_GATHERED)?,
-            lost: false,
+            writable: true,
+            asked: false,
         })
     }
 
-    /// A read may find something again.
-    pub(super) fn wake(&mut self) {
-        self.readable = true;
+    /// Notes what its socket was found ready for.
+    pub(super) fn wake(&mut self, event: &Event) {
+        if event.is_readable() || event.is_read_closed() || event.is_error() {
+            self.readable = true;
+        }
+        if event.is_writable() || event.is_error() {
+            self.writable = true;
+        }
     }
 
-    /// Reads what has come. The system is not asked where it said that there is nothing.
-    pub(super) fn read(&mut self, buffer: &mut [u8]) -> io::Result<Got>
-        requires { 0 < length buffer.old }
-        ensures count { (n : ℕ) → result ≡ Ok (Got.Bytes n) → (0 < n) × (n ≤ length buffer.new) }
+    /// Hands its socket what is gathered, where that may take something. Panels have it once a millisecond, with `tick`,
+    /// or where much is gathered.
+    pub(super) fn hand_over(&mut self, tick: bool) {
+        let waits = self.is_panel() && !tick && self.link.gathered.len() <= MOST_WAITING;
+        if !waits && self.writable && self.link.hand_over(&mut self.stream) == HandedOver::Later {
+            self.writable = false;
+        }
+    }
+
+    /// Reads its socket, where a read may find something, and begins the turn.
+    pub(super) fn begin_turn(&mut self, clear: bool) {
+        if self.readable && self.link.fill(&mut self.stream) == Filled::Later {
+            self.readable = false;
+        }
+        self.link.begin_turn(clear);
+        self.asked = false;
+    }
+
+    /// Hands out what was read, as far as the turn's lines go, or tells the end.
+    pub(super) fn read(&mut self, pacing: &mut Pacing, buffer: &mut [u8]) -> Given
+        ensures count { (n : ℕ) → result ≡ Given.Bytes n → (0 < n) × (n ≤ length buffer.old) }
     {
-        if self.lost {
-            return Err(io::Error::from(ErrorKind::BrokenPipe));
-        }
-        if !self.readable {
-            return Ok(Got::Nothing);
-        }
-        match self.stream.read(buffer) {
-            Ok(0) => Ok(Got::Ended),
-            Ok(count) => Ok(Got::Bytes(count)),
-            Err(fault) if is_later(&fault) => {
-                self.readable = false;
-                Ok(Got::Nothing)
-            }
-            Err(fault) => Err(fault),
-        }
+        self.asked = true;
+        self.link.read(pacing, buffer)
     }
 
-    /// Takes bytes, as many as there is room for. Where there is none, the socket is handed what was gathered first.
-    pub(super) fn take(&mut self, bytes: &[u8]) -> io::Result<usize>
-        ensures { IfOk result (λ count. count ≤ length bytes.now) }
+    /// Gathers bytes, as many as there is room for.
+    pub(super) fn write(&mut self, bytes: &[u8]) -> usize
+        ensures { result ≤ length bytes.now }
     {
-        if self.gathered.len() + bytes.len() > MOST_GATHERED {
-            self.hand_over();
-        }
-        if self.lost {
-            return Err(io::Error::from(ErrorKind::BrokenPipe));
-        }
-        let room = MOST_GATHERED.saturating_sub(self.gathered.len());
-        let count = bytes.len().min(room);
-        self.gathered.extend_from_slice(&bytes[..count])?;
-        Ok(count)
+        self.link.write(bytes)
     }
 
-    /// Hands the socket what was gathered, as much of it as it takes now.
-    pub(super) fn hand_over(&mut self) {
-        if self.lost || self.gathered.is_empty() {
-            return;
-        }
-        match self.stream.write(&self.gathered) {
-            Ok(count) => self.drop_front(count),
-            Err(fault) if is_later(&fault) => (),
-            Err(_) => self.lost = true,
-        }
+    /// Whether the next turn has something of it. What the core did not ask for in the last turn waits.
+    pub(super) fn is_busy(&self) -> bool {
+        self.asked && self.link.has_more()
     }
 
-    fn drop_front(&mut self, count: usize) {
-        let end = self.gathered.len();
-        let count = count.min(end);
-        self.gathered.copy_within(count..end, 0);
-        self.gathered.truncate(end - count);
+    /// Whether something is gathered that its socket may still take.
+    pub(super) fn is_owed(&self) -> bool {
+        self.link.is_owed()
     }
-}
 
-/// Whether the call may go well later.
-fn is_later(fault: &io::Error) -> bool {
-    matches!(fault.kind(), ErrorKind::WouldBlock | ErrorKind::Interrupted)
+    /// Whether something is gathered that its socket may take now.
+    pub(super) fn is_waiting(&self) -> bool {
+        self.writable && self.link.is_owed()
+    }
+
+    /// Whether it was written more lines than it sent.
+    pub(super) fn is_panel(&self) -> bool {
+        self.link.replies.panel
+    }
 }

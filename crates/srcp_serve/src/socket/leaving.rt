@@ -1,0 +1,77 @@
+//! Peers that were let go while something was gathered for them.
+
+use super::peer::Peer;
+use mio::event::Event;
+use std::alloc::{AllocError, Global};
+use std::vec::Vec;
+
+/// How many peers are kept aside at most.
+const MOST_LEAVING: usize = 64;
+
+/// How long a peer is kept aside at most, in milliseconds.
+const PATIENCE: u64 = 10_000;
+
+/// A peer that was let go.
+#[derive(Drop)]
+struct Leaver {
+    peer: Peer,
+    // Until when it is kept, in milliseconds of the clock that is never set.
+    until: u64,
+}
+
+/// The peers that are kept aside until their sockets took what was gathered. The one that was let go first is in front.
+#[derive(Drop)]
+pub(super) struct Leaving {
+    leavers: Vec<Leaver>,
+}
+
+impl Leaving {
+    /// Nobody. The only call that takes memory.
+    ///
+    /// # Errors
+    /// Where memory is refused.
+    pub(super) fn new(alloc: Global) -> Result<Leaving, AllocError> {
+        Ok(Leaving {
+            leavers: Vec::with_capacity(alloc, MOST_LEAVING)?,
+        })
+    }
+
+    /// Keeps a peer aside where its socket may still take something. Where too many are kept, the first goes.
+    ///
+    /// # Errors
+    /// Where memory is refused; the peer is gone then.
+    pub(super) fn keep(&mut self, peer: Peer, now: u64) -> Result<(), AllocError> {
+        if !peer.is_owed() {
+            return Ok(());
+        }
+        if self.leavers.len() >= MOST_LEAVING {
+            self.leavers.remove(0);
+        }
+        let until = now.saturating_add(PATIENCE);
+        self.leavers.push(Leaver { peer, until })?;
+        Ok(())
+    }
+
+    /// Hands their sockets what is gathered. Those go whose sockets took all, or that were kept long enough.
+    pub(super) fn hand_over(&mut self, now: u64) {
+        for leaver in &mut self.leavers {
+            leaver.peer.hand_over(true);
+        }
+        self.leavers
+            .retain(|leaver| leaver.peer.is_owed() && now < leaver.until);
+    }
+
+    /// Whether nobody is kept.
+    pub(super) fn is_empty(&self) -> bool {
+        self.leavers.is_empty()
+    }
+
+    /// Notes what the socket of that number was found ready for, where its peer is kept.
+    pub(super) fn wake(&mut self, number: usize, event: &Event) {
+        for leaver in &mut self.leavers {
+            if leaver.peer.number as usize == number {
+                leaver.peer.wake(event);
+            }
+        }
+    }
+}
