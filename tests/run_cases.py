@@ -19,6 +19,7 @@ from functools import partial
 from pathlib import Path
 
 from clients import CLIENT_CASES
+from door import DOOR_CASES
 from inputs import INPUT_CASES
 from serving import SERVING_CASES
 from tables import TABLE_CASES
@@ -218,7 +219,7 @@ STREAM_CASES = (input_past_its_limit, input_at_its_limit, input_that_cannot_be_r
                 words_that_are_unknown, word_that_is_no_text, configuration_at_its_limit, configuration_past_its_limit,
                 script_past_its_limit, script_at_its_limit, script_that_cannot_be_read, run_that_cannot_be_written,
                 run_in_little_memory, full_bus_that_stalls_nobody)
-ALL_CASES = STREAM_CASES + TABLE_CASES + INPUT_CASES + SERVING_CASES + CLIENT_CASES
+ALL_CASES = STREAM_CASES + TABLE_CASES + INPUT_CASES + SERVING_CASES + DOOR_CASES + CLIENT_CASES
 
 
 def cases_by_name():

@@ -1,4 +1,4 @@
-//! Peers that were let go while something was gathered for them.
+//! Peers that were let go and are not at their end.
 
 use super::peer::Peer;
 use mio::event::Event;
@@ -17,9 +17,12 @@ struct Leaver {
     peer: Peer,
     // Until when it is kept, in milliseconds of the clock that is never set.
     until: u64,
+    // Whether there is nothing left to do for it.
+    parted: bool,
 }
 
-/// The peers that are kept aside until their sockets took what was gathered. The one that was let go first is in front.
+/// The peers that are kept aside until their sockets took what was gathered and they ended too. The one that was let go
+/// first is in front.
 #[derive(Drop)]
 pub(super) struct Leaving {
     leavers: Vec<Leaver>,
@@ -36,34 +39,37 @@ impl Leaving {
         })
     }
 
-    /// Keeps a peer aside where its socket may still take something. Where too many are kept, the first goes.
+    /// Keeps a peer aside where it is not at its end. Where too many are kept, the first goes.
     ///
     /// # Errors
     /// Where memory is refused; the peer is gone then.
-    pub(super) fn keep(&mut self, peer: Peer, now: u64) -> Result<(), AllocError> {
-        if !peer.is_owed() {
+    pub(super) fn keep(&mut self, mut peer: Peer, now: u64) -> Result<(), AllocError> {
+        if peer.part() {
             return Ok(());
         }
         if self.leavers.len() >= MOST_LEAVING {
             self.leavers.remove(0);
         }
         let until = now.saturating_add(PATIENCE);
-        self.leavers.push(Leaver { peer, until })?;
+        self.leavers.push(Leaver {
+            peer,
+            until,
+            parted: false,
+        })?;
         Ok(())
     }
 
-    /// Hands their sockets what is gathered. Those go whose sockets took all, or that were kept long enough.
-    pub(super) fn hand_over(&mut self, now: u64) {
+    /// Hands their sockets what is gathered. Those go that are at their end, or that were kept long enough.
+    pub(super) fn part(&mut self, now: u64) {
         for leaver in &mut self.leavers {
-            leaver.peer.hand_over(true);
+            leaver.parted = leaver.peer.part() || leaver.until <= now;
         }
-        self.leavers
-            .retain(|leaver| leaver.peer.is_owed() && now < leaver.until);
+        self.leavers.retain(|leaver| !leaver.parted);
     }
 
-    /// Whether nobody is kept.
-    pub(super) fn is_empty(&self) -> bool {
-        self.leavers.is_empty()
+    /// Whether something is gathered that a socket may still take.
+    pub(super) fn is_owed(&self) -> bool {
+        self.leavers.iter().any(|leaver| leaver.peer.is_owed())
     }
 
     /// Notes what the socket of that number was found ready for, where its peer is kept.

@@ -6,12 +6,13 @@ ghost use Rattle.srcp_serve.specs.declared.socket.read_ahead.Given.{Given};
 use super::held::{HandedOver, MOST_GATHERED};
 use super::link::Link;
 use super::pacing::Pacing;
-use super::read_ahead::{Filled, Given};
+use super::read_ahead::{Course, Filled, Given};
 use mio::event::Event;
 use mio::net::TcpStream;
 use std::alloc::{AllocError, Global};
+use std::net::Shutdown;
 
-/// How many bytes of a panel may wait for the next millisecond. What else may be gathered holds the 300 lines of 126 bytes
+/// How many bytes of a panel may wait for the next tick. What else may be gathered holds the 300 lines of 126 bytes
 /// that a peer is written in a turn at most.
 const MOST_WAITING: usize = MOST_GATHERED - 300 * 126;
 
@@ -27,6 +28,8 @@ pub(super) struct Peer {
     writable: bool,
     // Whether a read was asked in this turn.
     asked: bool,
+    // Whether the socket was told that nothing more is written.
+    shut: bool,
 }
 
 impl Peer {
@@ -44,6 +47,7 @@ impl Peer {
             readable: true,
             writable: true,
             asked: false,
+            shut: false,
         })
     }
 
@@ -57,22 +61,45 @@ impl Peer {
         }
     }
 
-    /// Hands its socket what is gathered, where that may take something. Panels have it once a millisecond, with `tick`,
-    /// or where much is gathered.
+    /// Hands its socket what is gathered, where that may take something. A panel has it with `tick` alone, or where much is
+    /// gathered.
     pub(super) fn hand_over(&mut self, tick: bool) {
-        let waits = self.is_panel() && !tick && self.link.gathered.len() <= MOST_WAITING;
+        let waits = !tick && self.is_panel() && self.link.gathered.len() <= MOST_WAITING;
         if !waits && self.writable && self.link.hand_over(&mut self.stream) == HandedOver::Later {
             self.writable = false;
         }
     }
 
-    /// Reads its socket, where a read may find something, and begins the turn.
-    pub(super) fn begin_turn(&mut self, clear: bool) {
+    /// Reads its socket, where a read may find something.
+    fn fill(&mut self)
+        ensures { self.new.number ≡ self.old.number }
+    {
         if self.readable && self.link.fill(&mut self.stream) == Filled::Later {
             self.readable = false;
         }
+    }
+
+    /// Reads its socket and begins the turn.
+    pub(super) fn begin_turn(&mut self, clear: bool) {
+        self.fill();
         self.link.begin_turn(clear);
         self.asked = false;
+    }
+
+    /// Hands its socket what is gathered, tells it that nothing follows, and lets go of what it still sends: a socket that
+    /// is closed with input in it drops what its peer did not take. Returns whether there is nothing left to do.
+    pub(super) fn part(&mut self) -> bool {
+        self.hand_over(true);
+        if self.link.is_owed() {
+            return false;
+        }
+        if !self.shut {
+            let _ = self.stream.shutdown(Shutdown::Write);
+            self.shut = true;
+        }
+        self.link.ahead.forget();
+        self.fill();
+        self.link.lost || self.link.ahead.course() != Course::Open
     }
 
     /// Hands out what was read, as far as the turn's lines go, or tells the end.
@@ -98,11 +125,6 @@ impl Peer {
     /// Whether something is gathered that its socket may still take.
     pub(super) fn is_owed(&self) -> bool {
         self.link.is_owed()
-    }
-
-    /// Whether something is gathered that its socket may take now.
-    pub(super) fn is_waiting(&self) -> bool {
-        self.writable && self.link.is_owed()
     }
 
     /// Whether it was written more lines than it sent.

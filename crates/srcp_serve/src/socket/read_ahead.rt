@@ -147,6 +147,13 @@ impl ReadAhead {
         self.held.is_empty() && self.course == Course::Ended
     }
 
+    /// Lets go of what is held.
+    pub(super) fn forget(&mut self)
+        ensures { self.new ≡ record { bytes = []; course = self.old.course } }
+    {
+        self.held.drop_front(self.held.len());
+    }
+
     /// Hands out bytes into the front of a buffer, at most so many.
     pub(super) fn hand_out(&mut self, most: usize, buffer: &mut [u8]) -> Given
         ensures bytes { self.old.bytes ≡ given result buffer.new ++ self.new.bytes }

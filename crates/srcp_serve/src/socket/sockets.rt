@@ -76,14 +76,14 @@ impl Sockets {
     }
 
     /// Begins a turn: hands the sockets what is gathered, waits, and reads what came. It does not wait with `hurry`, or
-    /// where there is something to do.
+    /// where there is something to do. Panels are handed theirs once a millisecond, or after a turn in which nothing happened.
     ///
     /// # Errors
     /// Where the system refused to wait. The turn has begun all the same.
     pub(super) fn begin_turn(&mut self, now: u64, hurry: bool) -> io::Result<()>
         ensures { self.new.last ≡ self.old.last }
     {
-        let tick = now != self.began;
+        let tick = now != self.began || !self.busy;
         self.began = now;
         self.hand_over(tick);
         let waited = self.wait(tick, hurry);
@@ -95,18 +95,18 @@ impl Sockets {
         waited
     }
 
-    /// Hands the sockets what is gathered, those of panels once a millisecond.
+    /// Hands the sockets what is gathered, those of panels with `tick` alone.
     fn hand_over(&mut self, tick: bool)
         ensures { self.new.last ≡ self.old.last }
     {
         for peer in &mut self.peers {
             peer.hand_over(tick);
         }
-        self.leaving.hand_over(self.began);
+        self.leaving.part(self.began);
     }
 
-    /// Waits until a socket is ready, and notes which are. Where something is held of a peer, the system is asked once a
-    /// millisecond.
+    /// Waits until a socket is ready, and notes which are. Where something is held of a peer, the system is asked with `tick`
+    /// alone.
     fn wait(&mut self, tick: bool, hurry: bool) -> io::Result<()>
         ensures { self.new.last ≡ self.old.last }
     {
@@ -116,14 +116,7 @@ impl Sockets {
         if held && !tick {
             return Ok(());
         }
-        let patience = if busy {
-            0
-        } else if self.peers.iter().any(|peer| peer.is_waiting()) {
-            self.patience.min(1)
-        } else {
-            self.patience
-        };
-        self.poll_for(patience)
+        self.poll_for(if busy { 0 } else { self.patience })
     }
 
     /// Waits so many milliseconds at most until a socket is ready, and notes which are.
@@ -217,13 +210,12 @@ impl Sockets {
         Ok(count)
     }
 
-    /// Lets a peer go. It is kept aside while its socket did not take all that was gathered.
+    /// Lets a peer go. It is kept aside where it is not at its end.
     pub(super) fn close(&mut self, number: u32) -> io::Result<()>
         ensures { self.new.last ≡ self.old.last }
     {
         let place = self.place(number)?;
-        let mut peer = self.peers.remove(place);
-        peer.hand_over(true);
+        let peer = self.peers.remove(place);
         self.leaving.keep(peer, self.began)?;
         Ok(())
     }
@@ -232,7 +224,7 @@ impl Sockets {
     pub(super) fn settle(&mut self, now: u64) -> bool {
         self.began = now;
         self.hand_over(true);
-        if self.leaving.is_empty() && !self.peers.iter().any(|peer| peer.is_owed()) {
+        if !self.leaving.is_owed() && !self.peers.iter().any(|peer| peer.is_owed()) {
             return true;
         }
         let _ = self.poll_for(PAUSE);
