@@ -29,7 +29,7 @@ def stamps_are_the_time(program):
         throttle = Client(port, "COMMAND")
         for pause in (0, 0.5):
             time.sleep(pause)
-            throttle.socket.sendall(b"GET 1 POWER\n")
+            throttle.socket.sendall(b"SET 1 POWER ON\n")
             late = time.time() - float(throttle.line().split()[0])
             if abs(late) > 2:
                 return f"a stamp is {late:.3f} s late"
@@ -39,23 +39,27 @@ def stamps_are_the_time(program):
 def pulse_ends_in_time(program):
     with served(program) as (port, _):
         throttle, panel = Client(port, "COMMAND"), Client(port, "INFO")
-        throttle.asks("INIT 1 GA 5 N", "SET 1 GA 5 0 1 200")
-        told = [float(panel.hears_until(end).splitlines()[-1].split()[0]) for end in (b" GA 5 0 1\n", b" GA 5 0 0\n")]
-        throttle.socket.sendall(b"GET 1 GA 5 0\n")
-        heard = float(throttle.line().split()[0])
-    if not 0.199 < told[1] - told[0] < 0.3:
-        return f"a pulse of 0.2 s took {told[1] - told[0]:.3f} s"
-    return None if heard - told[1] < 0.1 else f"its end was told {heard - told[1]:.3f} s late"
+        throttle.asks("INIT 1 GA 5 N")
+        begun = time.monotonic()
+        throttle.asks("SET 1 GA 5 0 1 200")
+        panel.hears_until(b" GA 5 0 1\n")
+        panel.hears_until(b" GA 5 0 0\n")
+        took = time.monotonic() - begun
+    return None if 0.19 < took < 0.5 else f"a pulse of 0.2 s took {took:.3f} s"
 
 
 def end_of_a_session_is_answered(program):
     """The reply comes before the end of the stream, also where commands follow that nobody answers."""
     with served(program) as (port, _):
-        for rest in (b"", b"GET 1 POWER\n" * 100):
+        for rest in (0, 100, 10_000):
             leaver = Client(port, "COMMAND")
-            leaver.socket.sendall(b"TERM 0 SESSION\n" + rest)
-            if not re.fullmatch(rb"\d+\.\d{3} 200 OK\n", told := leaver.hears_to_the_end()):
-                return f"told {told!r}"
+            leaver.socket.sendall(b"TERM 0 SESSION\n" + b"GET 1 POWER\n" * rest)
+            try:
+                told = leaver.hears_to_the_end()
+            except OSError as fault:
+                return f"with {rest} commands behind it: {fault}"
+            if not re.fullmatch(rb"\d+\.\d{3} 200 OK\n", told):
+                return f"with {rest} commands behind it: {told!r}"
     return None
 
 
