@@ -1,5 +1,5 @@
 -- When the end of a peer may be told.
-use Rattle.std.specs.Prelude.{Bool, true, false, cond, not, ◌&&◌}
+use Rattle.std.specs.Prelude.{Bool, cond}
 use Rattle.srcp_serve.specs.declared.socket.ending.Ending.{Ending}
 use Rattle.srcp_serve.specs.declared.socket.ending.Ending.TheVariants.{Open, Quiet, Written, Told}
 

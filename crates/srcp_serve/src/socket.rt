@@ -41,7 +41,7 @@ const REST: u64 = 8;
 /// Peers over TCP on the machine itself, at 127.0.0.1, with the clock that it was handed. Each peer has a number above
 /// those of all peers before it.
 ///
-/// `now` begins a turn. It hands the sockets what is gathered, waits 8 milliseconds at most where there is nothing to do, and
+/// `now` begins a turn. It writes what is gathered to the sockets, waits 8 milliseconds at most where there is nothing to do, and
 /// reads up to 4,096 bytes of each peer ahead. What a peer is written is gathered, up to 40,960 bytes of it.
 ///
 /// While a panel is there, the lines that are handed out in a turn weigh at most 88, and the rest waits for the next turns. A
@@ -59,10 +59,11 @@ pub struct SocketDoor<C: Clock + Drop> {
 }
 
 impl<C: Clock + Drop> SocketDoor<C> {
-    /// A door at the port. Its moments begin with the wall clock as it stands now, and go on with the clock that is never set.
+    /// Opens a door at the port. Its moments begin with the wall clock as it stands now, and go on with the clock that is
+    /// never set.
     ///
     /// # Errors
-    /// `Port` where the port is taken or refused, or the system has no descriptors for it. `Memory` where memory was
+    /// `Port` where the port is taken or refused, the system has no descriptors for it, or a clock can't be read. `Memory` where memory was
     /// refused. Nothing is listened at then.
     pub fn listen<N: Net>(
         net: &N,
@@ -125,7 +126,7 @@ impl<C: Clock + Drop> Drop for SocketDoor<C> {
     fn drop(mut self) {
         for _ in 0..LAST_LOOKS {
             let now = self.clock.monotonic().map_or(u64::MAX, milliseconds);
-            if self.sockets.settle(now) || now >= self.elapsed.saturating_add(LAST_WAIT) {
+            if self.sockets.deliver(now) || now >= self.elapsed.saturating_add(LAST_WAIT) {
                 break;
             }
         }

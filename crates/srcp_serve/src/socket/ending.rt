@@ -18,7 +18,7 @@ pub(super) enum Ending {
 }
 
 impl Ending {
-    /// After the begin of a turn, where `ended` says that the input is over and none of it held, and `gathered` that
+    /// Returns what follows the begin of a turn, where `ended` says that the input is over and none of it held, and `gathered` that
     /// something is gathered for the peer.
     pub(super) fn begin_turn(self, ended: bool, gathered: bool) -> Ending
         ensures next { result ≡ begun self ended gathered }
@@ -35,7 +35,7 @@ impl Ending {
         }
     }
 
-    /// After a write to the peer was asked.
+    /// Returns what follows a write that was asked.
     pub(super) fn written(self) -> Ending
         ensures next { result ≡ written self }
         ensures untold { (result ≢ Ending.Told) × (result ≢ Ending.Quiet) }

@@ -45,7 +45,10 @@ pub(super) enum HandedOver {
 }
 
 impl<const MOST: usize> Held<MOST> {
-    /// None yet. The only call that takes memory.
+    /// Returns none yet. No other call takes memory.
+    ///
+    /// # Errors
+    /// Where memory is refused.
     pub(super) fn new(alloc: Global) -> Result<Held<MOST>, AllocError>
         ensures { IfOk result (λ held. held ≡ []) }
     {
@@ -62,38 +65,38 @@ impl<const MOST: usize> Held<MOST> {
         self.bytes.len()
     }
 
-    /// Whether none is.
+    /// Returns whether none is held.
     pub(super) fn is_empty(&self) -> bool
         ensures { result ≡ (length self.now == 0) }
     {
         self.bytes.is_empty()
     }
 
-    /// How many more would be taken.
-    pub(super) fn room(&self) -> usize
+    /// Returns how many more would be taken.
+    pub(super) fn space(&self) -> usize
         ensures { result ≡ MOST - length self.now }
     {
         MOST - self.bytes.len()
     }
 
-    /// Takes bytes, as many as there is room for, and says how many those are.
+    /// Takes bytes, as many as there is space for, and returns how many those are.
     pub(super) fn take(&mut self, bytes: &[u8]) -> usize
         ensures count { result ≡ min (length bytes.now) (MOST - length self.old) }
         ensures held { self.new ≡ self.old ++ take result bytes.now }
     {
-        let count = bytes.len().min(self.room());
+        let count = bytes.len().min(self.space());
         self.bytes.extend_from_slice(&bytes[..count]).unwrap();
         count
     }
 
-    /// The bytes, the one that came first in front.
+    /// Returns the bytes, the one that came first in front.
     pub(super) fn front(&self) -> &[u8]
         ensures { result.now ≡ self.now }
     {
         &self.bytes
     }
 
-    /// Lets go of so many, from the first on.
+    /// Drops so many, from the first on.
     pub(super) fn drop_front(&mut self, count: usize)
         requires { count ≤ length self.old }
         ensures { self.new ≡ drop count self.old }
@@ -103,8 +106,8 @@ impl<const MOST: usize> Held<MOST> {
         self.bytes.truncate(end - count);
     }
 
-    /// Hands a writer the bytes once, as many as it takes now. Whatever it answers, what it has and what is held is
-    /// together what it was.
+    /// Writes the bytes once, as many as the writer takes now. Whatever it answers, what it has and what is held is together
+    /// what it was.
     pub(super) fn hand_over<W: Write>(&mut self, writer: &mut W) -> HandedOver
         ensures whole { Keeps (append_known (W.contents writer.old) self.old) (append_known (W.contents writer.new) self.new) }
         ensures handed { Appends (W.contents writer.old) (W.contents writer.new) (take (length self.old - length self.new) self.old) }
@@ -124,7 +127,7 @@ impl<const MOST: usize> Held<MOST> {
         }
     }
 
-    /// What is so after a writer took so many.
+    /// Drops the bytes that a writer took, and returns what that makes of them.
     fn after(&mut self, count: usize) -> HandedOver
         requires { count ≤ length self.old }
         ensures rest { self.new ≡ drop count self.old }

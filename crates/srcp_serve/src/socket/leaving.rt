@@ -29,7 +29,7 @@ pub(super) struct Leaving {
 }
 
 impl Leaving {
-    /// Nobody. The only call that takes memory.
+    /// Keeps nobody, with the memory for as many as are kept at most.
     ///
     /// # Errors
     /// Where memory is refused.
@@ -59,7 +59,7 @@ impl Leaving {
         Ok(())
     }
 
-    /// Hands their sockets what is gathered. Those go that are at their end, or that were kept long enough.
+    /// Writes what is gathered for them. Those go that are at their end, or that were kept long enough.
     pub(super) fn part(&mut self, now: u64) {
         for leaver in &mut self.leavers {
             leaver.parted = leaver.peer.part() || leaver.until <= now;
@@ -67,7 +67,7 @@ impl Leaving {
         self.leavers.retain(|leaver| !leaver.parted);
     }
 
-    /// Whether something is gathered that a socket may still take.
+    /// Returns whether something is gathered that a socket may still take.
     pub(super) fn is_owed(&self) -> bool {
         self.leavers.iter().any(|leaver| leaver.peer.is_owed())
     }

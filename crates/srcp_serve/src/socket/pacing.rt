@@ -30,7 +30,7 @@ pub(super) enum Line {
 }
 
 impl Line {
-    /// How much the line weighs where it ends now.
+    /// Returns how much the line weighs where it ends now.
     fn weight(self) -> usize
         ensures { result ≡ line_weight self }
     {
@@ -40,7 +40,7 @@ impl Line {
         }
     }
 
-    /// The line after one more byte that ends none.
+    /// Returns the line after one more byte that does not end it.
     fn after(self, byte: u8) -> Line
         ensures { result ≡ line_after self byte }
     {
@@ -69,7 +69,7 @@ struct Seen {
 }
 
 impl Seen {
-    /// What is seen after one more byte.
+    /// Returns what is seen after one more byte.
     fn after(self, byte: u8) -> Seen
         requires { self.weight ≤ MOST_UNPACED }
         ensures { result ≡ seen_after self byte }
@@ -117,7 +117,7 @@ impl Model for Pacing {
 }
 
 impl Pacing {
-    /// Before the first turn: nothing is let through.
+    /// Lets nothing through before the first turn.
     pub(super) fn new() -> Pacing
         ensures { result ≡ record { left = 0; refused = false; end = false } }
     {
@@ -128,8 +128,8 @@ impl Pacing {
         }
     }
 
-    /// Begins a turn, with all its lines to be let through. Answers whether every peer that asked for a line since the
-    /// marks were cleared got one: they are to be cleared then.
+    /// Begins a turn, with all its lines to be let through. Returns whether every peer that asked for a line since the marks
+    /// were cleared got one: they are to be cleared then.
     pub(super) fn begin_turn(&mut self, panel: bool) -> bool
         ensures budget { self.new ≡ record { left = cond panel MOST_WEIGHT MOST_UNPACED; refused = false; end = true } }
         ensures round { IsTrue result ↔ self.old.refused ≡ false }
@@ -141,7 +141,7 @@ impl Pacing {
         round
     }
 
-    /// How many bytes of a peer's piece may be handed out now. A peer that has its mark is let through no line; one that
+    /// Returns how many bytes of a peer's piece may be handed out now. A peer that has its mark gets no line, and one that
     /// gets a line gets its mark. Bytes that end no line may always be handed out.
     pub(super) fn allow(&mut self, share: &mut Share, piece: &[u8]) -> usize
         ensures within { result ≤ length piece.now }
@@ -166,7 +166,7 @@ impl Pacing {
         front.count
     }
 
-    /// Whether the end of a peer may be told now, which is then the one of this turn.
+    /// Returns whether the end of a peer may be told now, which is then the one of this turn.
     pub(super) fn allow_end(&mut self) -> bool
         ensures allowed { result ≡ self.old.end }
         ensures new { self.new ≡ record { left = self.old.left; refused = self.old.refused; end = false } }
@@ -177,7 +177,7 @@ impl Pacing {
     }
 }
 
-/// The longest front whose lines weigh at most so much.
+/// Returns the longest front whose lines weigh at most so much.
 fn front_within(piece: &[u8], line: Line, most: usize) -> Front
     requires { most ≤ MOST_UNPACED }
     ensures within { result.count ≤ length piece.now }

@@ -6,7 +6,7 @@ ghost use Rattle.srcp_serve.specs.declared.socket.read_ahead.Given.{Given};
 use super::held::{HandedOver, MOST_GATHERED};
 use super::link::Link;
 use super::pacing::Pacing;
-use super::read_ahead::{Course, Filled, Given};
+use super::read_ahead::{Filled, Given, Input};
 use mio::event::Event;
 use mio::net::TcpStream;
 use std::alloc::{AllocError, Global};
@@ -33,7 +33,7 @@ pub(super) struct Peer {
 }
 
 impl Peer {
-    /// A newcomer. Takes the memory of all that may be gathered and read ahead.
+    /// Returns a newcomer, with the memory of all that may be gathered and read ahead.
     ///
     /// # Errors
     /// Where memory is refused.
@@ -61,7 +61,7 @@ impl Peer {
         }
     }
 
-    /// Hands its socket what is gathered, where that may take something. A panel has it with `tick` alone, or where much is
+    /// Writes what is gathered, where the socket may take something. To a panel it writes with `tick` alone, or where much is
     /// gathered.
     pub(super) fn hand_over(&mut self, tick: bool) {
         let waits = !tick && self.is_panel() && self.link.gathered.len() <= MOST_WAITING;
@@ -86,8 +86,8 @@ impl Peer {
         self.asked = false;
     }
 
-    /// Hands its socket what is gathered, tells it that nothing follows, and lets go of what it still sends: a socket that
-    /// is closed with input in it drops what its peer did not take. Returns whether there is nothing left to do.
+    /// Writes what is gathered, shuts the socket for writing behind that, and drops what still comes: a socket that is closed
+    /// with input in it resets the connection. Returns whether there is nothing left to do.
     pub(super) fn part(&mut self) -> bool {
         self.hand_over(true);
         if self.link.is_owed() {
@@ -99,10 +99,10 @@ impl Peer {
         }
         self.link.ahead.forget();
         self.fill();
-        self.link.lost || self.link.ahead.course() != Course::Open
+        self.link.lost || self.link.ahead.input() != Input::Open
     }
 
-    /// Hands out what was read, as far as the turn's lines go, or tells the end.
+    /// Moves what was read into the buffer, as far as the turn's lines go, or tells the end.
     pub(super) fn read(&mut self, pacing: &mut Pacing, buffer: &mut [u8]) -> Given
         ensures count { (n : ℕ) → result ≡ Given.Bytes n → (0 < n) × (n ≤ length buffer.old) }
     {
@@ -110,24 +110,24 @@ impl Peer {
         self.link.read(pacing, buffer)
     }
 
-    /// Gathers bytes, as many as there is room for.
+    /// Takes bytes, as many as there is space for, and returns how many.
     pub(super) fn write(&mut self, bytes: &[u8]) -> usize
         ensures { result ≤ length bytes.now }
     {
         self.link.write(bytes)
     }
 
-    /// Whether the next turn has something of it. What the core did not ask for in the last turn waits.
+    /// Returns whether the next turn has something of it. What the core did not ask for in the last turn waits.
     pub(super) fn is_busy(&self) -> bool {
         self.asked && self.link.has_more()
     }
 
-    /// Whether something is gathered that its socket may still take.
+    /// Returns whether something is gathered that its socket may still take.
     pub(super) fn is_owed(&self) -> bool {
         self.link.is_owed()
     }
 
-    /// Whether it was written more lines than it sent.
+    /// Returns whether it is a panel: it was written more lines than it sent.
     pub(super) fn is_panel(&self) -> bool {
         self.link.replies.panel
     }

@@ -18,7 +18,7 @@ pub(super) const MOST_PIECE: usize = 256;
 
 /// What a reader is known to give after what was read.
 #[derive(Clone, Copy, PartialEq, Eq)]
-pub(super) enum Course {
+pub(super) enum Input {
     /// There may be more.
     Open,
     /// It was at its end.
@@ -30,7 +30,7 @@ pub(super) enum Course {
 /// What a reader was found to give.
 #[derive(Clone, Copy, PartialEq, Eq)]
 pub(super) enum Filled {
-    /// It was not asked: a whole piece is held, or its course is known.
+    /// It was not asked: a whole piece is held, or its input is over.
     Unasked,
     /// It gave bytes, its end or a fault.
     Something,
@@ -53,11 +53,11 @@ pub(super) enum Given {
     Failed,
 }
 
-/// Bytes that were read ahead. Seen as a record of those bytes and the reader's course.
+/// Bytes that were read ahead. Seen as a record of those bytes and what is known of the input.
 #[derive(Drop)]
 pub(super) struct ReadAhead {
     held: Held<MOST_AHEAD>,
-    course: Course,
+    input: Input,
 }
 
 impl Model for ReadAhead {
@@ -65,43 +65,47 @@ impl Model for ReadAhead {
 
     ghost Value = { Ahead };
 
-    ghost view = { λ r. record { bytes = r.held; course = r.course } };
+    ghost view = { λ r. record { bytes = r.held; input = r.input } };
 }
 
 impl ReadAhead {
-    /// Nothing yet, of a reader that is open. The only call that takes memory.
+    /// Returns nothing yet, of a reader that is open. No other call takes memory.
+    ///
+    /// # Errors
+    /// Where memory is refused.
     pub(super) fn new(alloc: Global) -> Result<ReadAhead, AllocError>
-        ensures { IfOk result (λ ahead. ahead ≡ record { bytes = []; course = Course.Open }) }
+        ensures { IfOk result (λ ahead. ahead ≡ record { bytes = []; input = Input.Open }) }
     {
         Ok(ReadAhead {
             held: Held::new(alloc)?,
-            course: Course::Open,
+            input: Input::Open,
         })
     }
 
-    /// Reads once, as much as there is room for, where less than a piece is held. What is held and what the reader has left is together what it was.
+    /// Reads once, as much as there is space for, where less than a piece is held. What is held and what the reader has left
+    /// is together what it was.
     pub(super) fn fill<R: Read>(&mut self, reader: &mut R) -> Filled
         ensures whole { Keeps (prepend_known self.old.bytes (R.remaining reader.old)) (prepend_known self.new.bytes (R.remaining reader.new)) }
         ensures held { StartsWith self.new.bytes self.old.bytes }
         ensures read { Consumes (R.remaining reader.old) (R.remaining reader.new) (drop (length self.old.bytes) self.new.bytes) }
-        ensures ended { self.old.course ≡ Course.Open → self.new.course ≡ Course.Ended → IsAtEnd (R.remaining reader.new) }
-        ensures over { self.old.course ≢ Course.Open → self.new ≡ self.old }
+        ensures ended { self.old.input ≡ Input.Open → self.new.input ≡ Input.Ended → IsAtEnd (R.remaining reader.new) }
+        ensures over { self.old.input ≢ Input.Open → self.new ≡ self.old }
         ensures same { result ≢ Filled.Something → self.new ≡ self.old }
         ensures unasked { result ≡ Filled.Unasked → reader.new ≡ reader.old }
-        ensures asked { self.old.course ≡ Course.Open → length self.old.bytes < MOST_PIECE → result ≢ Filled.Unasked }
-        ensures something { result ≡ Filled.Something → (length self.old.bytes < length self.new.bytes) ⊎ (self.new.course ≢ Course.Open) }
+        ensures asked { self.old.input ≡ Input.Open → length self.old.bytes < MOST_PIECE → result ≢ Filled.Unasked }
+        ensures something { result ≡ Filled.Something → (length self.old.bytes < length self.new.bytes) ⊎ (self.new.input ≢ Input.Open) }
     {
-        if self.course != Course::Open {
+        if self.input != Input::Open {
             return Filled::Unasked;
         }
         if self.held.len() >= MOST_PIECE {
             return Filled::Unasked;
         }
-        let room = self.held.room();
+        let space = self.held.space();
         let mut piece = [0; MOST_AHEAD];
-        match reader.read(&mut piece[..room]) {
+        match reader.read(&mut piece[..space]) {
             Ok(0) => {
-                self.course = Course::Ended;
+                self.input = Input::Ended;
                 Filled::Something
             }
             Ok(count) => {
@@ -111,13 +115,13 @@ impl ReadAhead {
             Err(fault) if fault.kind() == ErrorKind::WouldBlock => Filled::Later,
             Err(fault) if fault.kind() == ErrorKind::Interrupted => Filled::Again,
             Err(_) => {
-                self.course = Course::Failed;
+                self.input = Input::Failed;
                 Filled::Something
             }
         }
     }
 
-    /// The bytes that come next, at most so many.
+    /// Returns the bytes that come next, at most so many.
     #[tactic(auto, using(std::proofs::lemmas::List::take_min))]
     pub(super) fn piece(&self, most: usize) -> &[u8]
         ensures { result.now ≡ take most self.now.bytes }
@@ -126,47 +130,47 @@ impl ReadAhead {
         &held[..most.min(held.len())]
     }
 
-    /// Whether nothing is held.
+    /// Returns whether nothing is held.
     pub(super) fn is_empty(&self) -> bool
         ensures { IsTrue result ↔ self.now.bytes ≡ [] }
     {
         self.held.is_empty()
     }
 
-    /// What the reader is known to give after what was read.
-    pub(super) fn course(&self) -> Course
-        ensures { result ≡ self.now.course }
+    /// Returns what the reader is known to give after what was read.
+    pub(super) fn input(&self) -> Input
+        ensures { result ≡ self.now.input }
     {
-        self.course
+        self.input
     }
 
-    /// Whether nothing is held of a reader that was at its end.
+    /// Returns whether nothing is held of a reader that was at its end.
     pub(super) fn is_over(&self) -> bool
-        ensures { IsTrue result ↔ ((self.now.bytes ≡ []) × (self.now.course ≡ Course.Ended)) }
+        ensures { IsTrue result ↔ ((self.now.bytes ≡ []) × (self.now.input ≡ Input.Ended)) }
     {
-        self.held.is_empty() && self.course == Course::Ended
+        self.held.is_empty() && self.input == Input::Ended
     }
 
-    /// Lets go of what is held.
+    /// Drops what is held.
     pub(super) fn forget(&mut self)
-        ensures { self.new ≡ record { bytes = []; course = self.old.course } }
+        ensures { self.new ≡ record { bytes = []; input = self.old.input } }
     {
         self.held.drop_front(self.held.len());
     }
 
-    /// Hands out bytes into the front of a buffer, at most so many.
+    /// Moves bytes into the front of a buffer, at most so many.
     pub(super) fn hand_out(&mut self, most: usize, buffer: &mut [u8]) -> Given
         ensures bytes { self.old.bytes ≡ given result buffer.new ++ self.new.bytes }
         ensures handed { given result buffer.new ≡ take (min most (length buffer.old)) self.old.bytes }
         ensures count { (n : ℕ) → result ≡ Given.Bytes n → (0 < n) × (n ≡ min most (min (length buffer.old) (length self.old.bytes))) }
-        ensures nothing { result ≡ Given.Nothing → (self.old.bytes ≡ []) × (self.old.course ≡ Course.Open) ⊎ (min most (length buffer.old) ≡ 0) }
-        ensures ended { result ≡ Given.Ended ↔ ((self.old.bytes ≡ []) × (self.old.course ≡ Course.Ended)) }
-        ensures failed { result ≡ Given.Failed ↔ ((self.old.bytes ≡ []) × (self.old.course ≡ Course.Failed)) }
-        ensures course { self.new.course ≡ self.old.course }
+        ensures nothing { result ≡ Given.Nothing → (self.old.bytes ≡ []) × (self.old.input ≡ Input.Open) ⊎ (min most (length buffer.old) ≡ 0) }
+        ensures ended { result ≡ Given.Ended ↔ ((self.old.bytes ≡ []) × (self.old.input ≡ Input.Ended)) }
+        ensures failed { result ≡ Given.Failed ↔ ((self.old.bytes ≡ []) × (self.old.input ≡ Input.Failed)) }
+        ensures input { self.new.input ≡ self.old.input }
         ensures len { length buffer.new ≡ length buffer.old }
     {
         if self.held.is_empty() {
-            return self.course.told();
+            return self.input.told();
         }
         let count = most.min(buffer.len()).min(self.held.len());
         if count == 0 {
@@ -178,19 +182,19 @@ impl ReadAhead {
     }
 }
 
-impl Course {
-    /// What is told where nothing is held.
+impl Input {
+    /// Returns what is told where nothing is held.
     fn told(self) -> Given
         ensures bytes { (buffer : List ℕ) → given result buffer ≡ [] }
         ensures count { (n : ℕ) → result ≢ Given.Bytes n }
-        ensures nothing { result ≡ Given.Nothing ↔ self ≡ Course.Open }
-        ensures ended { result ≡ Given.Ended ↔ self ≡ Course.Ended }
-        ensures failed { result ≡ Given.Failed ↔ self ≡ Course.Failed }
+        ensures nothing { result ≡ Given.Nothing ↔ self ≡ Input.Open }
+        ensures ended { result ≡ Given.Ended ↔ self ≡ Input.Ended }
+        ensures failed { result ≡ Given.Failed ↔ self ≡ Input.Failed }
     {
         match self {
-            Course::Open => Given::Nothing,
-            Course::Ended => Given::Ended,
-            Course::Failed => Given::Failed,
+            Input::Open => Given::Nothing,
+            Input::Ended => Given::Ended,
+            Input::Failed => Given::Failed,
         }
     }
 }

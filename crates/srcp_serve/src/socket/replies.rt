@@ -17,7 +17,7 @@ pub(super) struct Replies {
 }
 
 impl Replies {
-    /// Of a peer that sent nothing.
+    /// Returns those of a peer that sent nothing.
     pub(super) fn new() -> Replies
         ensures { result ≡ record { owed = 1; panel = false } }
     {
@@ -27,14 +27,14 @@ impl Replies {
         }
     }
 
-    /// The peer sent these bytes.
+    /// Adds the lines that end in bytes that the peer sent.
     pub(super) fn sent(&mut self, bytes: &[u8])
         ensures { self.new ≡ record { owed = min (self.old.owed + lines bytes.now) (2 ^ 64 - 1); panel = self.old.panel } }
     {
         self.owed = self.owed.saturating_add(lines_of(bytes));
     }
 
-    /// The peer was written these bytes.
+    /// Takes off the lines that end in bytes that the peer was written.
     pub(super) fn written(&mut self, bytes: &[u8])
         ensures owed { self.new.owed ≡ self.old.owed - lines bytes.now }
         ensures panel { IsTrue self.new.panel ↔ (IsTrue self.old.panel ⊎ (self.old.owed < lines bytes.now)) }
@@ -47,7 +47,7 @@ impl Replies {
     }
 }
 
-/// How many lines end in the bytes.
+/// Returns how many lines end in the bytes.
 fn lines_of(bytes: &[u8]) -> usize
     ensures { result ≡ lines bytes.now }
 {

@@ -75,8 +75,9 @@ impl Sockets {
         self.patience = milliseconds;
     }
 
-    /// Begins a turn: hands the sockets what is gathered, waits, and reads what came. It does not wait with `hurry`, or
-    /// where there is something to do. Panels are handed theirs once a millisecond, or after a turn in which nothing happened.
+    /// Begins a turn: writes what is gathered, waits, and reads what came. It does not wait with `hurry`, or
+    /// where there is something to do. Panels are written to
+    /// once a millisecond, or after a turn in which nothing happened.
     ///
     /// # Errors
     /// Where the system refused to wait. The turn has begun all the same.
@@ -95,7 +96,7 @@ impl Sockets {
         waited
     }
 
-    /// Hands the sockets what is gathered, those of panels with `tick` alone.
+    /// Writes what is gathered, to panels with `tick` alone.
     fn hand_over(&mut self, tick: bool)
         ensures { self.new.last ≡ self.old.last }
     {
@@ -183,9 +184,8 @@ impl Sockets {
         Ok(number)
     }
 
-    /// Hands out what was read of a peer, as far as the turn's lines go.
+    /// Moves what was read of a peer into the buffer, as far as the turn's lines go.
     pub(super) fn read(&mut self, number: u32, buffer: &mut [u8]) -> io::Result<Given>
-        requires { 0 < length buffer.old }
         ensures count { (n : ℕ) → result ≡ Ok (Given.Bytes n) → (0 < n) × (n ≤ length buffer.old) }
         ensures last { self.new.last ≡ self.old.last }
     {
@@ -197,7 +197,7 @@ impl Sockets {
         Ok(given)
     }
 
-    /// Gathers bytes for a peer, as many as there is room for.
+    /// Takes bytes for a peer, as many as there is space for, and returns how many.
     pub(super) fn write(&mut self, number: u32, bytes: &[u8]) -> io::Result<usize>
         ensures count { IfOk result (λ count. count ≤ length bytes.now) }
         ensures last { self.new.last ≡ self.old.last }
@@ -220,8 +220,8 @@ impl Sockets {
         Ok(())
     }
 
-    /// Hands the sockets what is gathered, and waits a little where they did not take all. Answers whether they did.
-    pub(super) fn settle(&mut self, now: u64) -> bool {
+    /// Writes what is gathered, and waits a little where the sockets did not take all. Returns whether they did.
+    pub(super) fn deliver(&mut self, now: u64) -> bool {
         self.began = now;
         self.hand_over(true);
         if !self.leaving.is_owed() && !self.peers.iter().any(|peer| peer.is_owed()) {

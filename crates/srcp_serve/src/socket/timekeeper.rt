@@ -32,7 +32,7 @@ impl Model for Timekeeper {
 }
 
 impl Timekeeper {
-    /// At the start, at which the wall clock is told.
+    /// Begins with the wall clock and the other one at the start.
     pub(super) fn new(wall: u64, start: u64) -> Timekeeper
         ensures { result ≡ record { wall = wall; start = start; last = wall } }
     {
@@ -43,7 +43,7 @@ impl Timekeeper {
         }
     }
 
-    /// The moment to be told, where the clock that is never set shows so many milliseconds.
+    /// Returns the moment to be told, where the clock that is never set shows so many milliseconds.
     pub(super) fn tell(&mut self, elapsed: u64) -> u64
         ensures told { result ≡ next_moment STEP MOST_BEHIND self.old.last (target self.old elapsed) }
         ensures new { self.new ≡ record { wall = self.old.wall; start = self.old.start; last = result } }
@@ -60,7 +60,7 @@ impl Timekeeper {
         self.last
     }
 
-    /// Whether the moment that was told last is behind the time.
+    /// Returns whether the moment that was told last is behind the time.
     pub(super) fn is_late(&self, elapsed: u64) -> bool
         ensures { IsTrue result ↔ self.now.last < target self.now elapsed }
     {
