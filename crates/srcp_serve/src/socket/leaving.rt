@@ -1,8 +1,11 @@
 //! Peers that were let go and are not at their end.
 
+ghost use Rattle.std.specs.Prelude.{◌≡◌, ◌≤◌, IfOk, max};
+
 use super::peer::Peer;
 use mio::event::Event;
 use std::alloc::{AllocError, Global};
+use std::marker::Model;
 use std::vec::Vec;
 
 /// How many peers are kept aside at most.
@@ -22,45 +25,59 @@ struct Leaver {
 }
 
 /// The peers that are kept aside until their sockets took what was gathered and they ended too. The one that was let go
-/// first is in front.
+/// first is in front. Seen as how many they are.
 #[derive(Drop)]
 pub(super) struct Leaving {
     leavers: Vec<Leaver>,
 }
 
+impl Model for Leaving {
+    ghost use Rattle.std.specs.Prelude.{◌≤◌, ℕ, vec_capacity, vec_len};
+    ghost use Rattle.srcp_serve.specs.declared.socket.leaving.TheConstants.{MOST_LEAVING};
+
+    ghost Value = { ℕ };
+
+    ghost view = { λ l. vec_len l.leavers };
+
+    ghost invariant = { λ l. (vec_len l.leavers ≤ MOST_LEAVING) × (MOST_LEAVING ≤ vec_capacity l.leavers) };
+}
+
 impl Leaving {
-    /// Keeps nobody, with the memory for as many as are kept at most.
+    /// Keeps nobody. No other call takes memory.
     ///
     /// # Errors
     /// Where memory is refused.
-    pub(super) fn new(alloc: Global) -> Result<Leaving, AllocError> {
+    pub(super) fn new(alloc: Global) -> Result<Leaving, AllocError>
+        ensures { IfOk result (λ leaving. leaving ≡ 0) }
+    {
         Ok(Leaving {
             leavers: Vec::with_capacity(alloc, MOST_LEAVING)?,
         })
     }
 
     /// Keeps a peer aside where it is not at its end. Where too many are kept, the first goes.
-    ///
-    /// # Errors
-    /// Where memory is refused; the peer is gone then.
-    pub(super) fn keep(&mut self, mut peer: Peer, now: u64) -> Result<(), AllocError> {
+    pub(super) fn keep(&mut self, mut peer: Peer, now: u64)
+        ensures { self.new ≤ max self.old MOST_LEAVING }
+    {
         if peer.part() {
-            return Ok(());
+            return;
         }
         if self.leavers.len() >= MOST_LEAVING {
             self.leavers.remove(0);
         }
         let until = now.saturating_add(PATIENCE);
-        self.leavers.push(Leaver {
+        let leaver = Leaver {
             peer,
             until,
             parted: false,
-        })?;
-        Ok(())
+        };
+        self.leavers.push(leaver).unwrap();
     }
 
     /// Writes what is gathered for them. Those go that are at their end, or that were kept long enough.
-    pub(super) fn part(&mut self, now: u64) {
+    pub(super) fn part(&mut self, now: u64)
+        ensures { self.new ≤ self.old }
+    {
         for leaver in &mut self.leavers {
             leaver.parted = leaver.peer.part() || leaver.until <= now;
         }

@@ -216,7 +216,7 @@ impl Sockets {
     {
         let place = self.place(number)?;
         let peer = self.peers.remove(place);
-        self.leaving.keep(peer, self.began)?;
+        self.leaving.keep(peer, self.began);
         Ok(())
     }
 
