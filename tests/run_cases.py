@@ -20,6 +20,7 @@ from functools import partial
 from pathlib import Path
 
 from clients import CLIENT_CASES
+from door import DOOR_CASES
 from inputs import INPUT_CASES
 from pages import PAGE_CASES
 from run_script import RUN_SCRIPT_CASES
@@ -221,7 +222,7 @@ STREAM_CASES = (input_past_its_limit, input_at_its_limit, input_that_cannot_be_r
                 words_that_are_unknown, word_that_is_no_text, configuration_at_its_limit, configuration_past_its_limit,
                 script_past_its_limit, script_at_its_limit, script_that_cannot_be_read, run_that_cannot_be_written,
                 run_in_little_memory, full_bus_that_stalls_nobody)
-ALL_CASES = (STREAM_CASES + TABLE_CASES + INPUT_CASES + SERVING_CASES + CLIENT_CASES + PAGE_CASES
+ALL_CASES = (STREAM_CASES + TABLE_CASES + INPUT_CASES + SERVING_CASES + DOOR_CASES + CLIENT_CASES + PAGE_CASES
              + RUN_SCRIPT_CASES)
 
 

@@ -3,9 +3,17 @@
 ghost use Rattle.std.specs.Prelude.{◌≡◌, IfOk};
 ghost use Rattle.srcp_serve.specs.Calls.{one_more};
 
+mod ending;
 mod fault;
+mod held;
+mod leaving;
+mod link;
+mod pacing;
 mod peer;
+mod read_ahead;
+mod replies;
 mod sockets;
+mod timekeeper;
 
 use crate::door::{Door, DoorFault, Got};
 use crate::tally::Tally;
@@ -13,28 +21,49 @@ pub use fault::ListenFault;
 use fault::fault_of;
 use mio::Poll;
 use mio::net::TcpListener;
+use read_ahead::Given;
 use sockets::Sockets;
 use std::alloc::Global;
 use std::io;
 use std::net::{Ipv4Addr, Net, SocketAddr};
-use std::time::Clock;
+use std::time::{Clock, Duration};
+use timekeeper::Timekeeper;
 
-/// Peers over TCP on the machine itself, at 127.0.0.1, with the clock that it was handed. What a peer is written is
-/// gathered, and its socket is handed it at the next call of `now` or where 16,384 bytes are gathered. `now` waits 8
-/// milliseconds where nothing happened since it was called last, and ends its wait when a socket is ready. Each peer has a
-/// number above those of all peers before it.
-#[derive(Drop)]
+/// How long the door delivers what was taken after serving ended, in milliseconds.
+const LAST_WAIT: u64 = 10_000;
+
+/// How often it looks at its clock meanwhile, at most.
+const LAST_LOOKS: u32 = 1_000_000;
+
+/// How long `now` waits where the system refuses to, in milliseconds.
+const REST: u64 = 8;
+
+/// Peers over TCP on the machine itself, at 127.0.0.1, with the clock that it was handed. Each peer has a number above
+/// those of all peers before it.
+///
+/// `now` begins a turn. It writes what is gathered to the sockets, waits 8 milliseconds at most where there is nothing to do, and
+/// reads up to 4,096 bytes of each peer ahead. What a peer is written is gathered, up to 40,960 bytes of it.
+///
+/// While a panel is there, the lines that are handed out in a turn weigh at most 88, and the rest waits for the next turns. A
+/// peer whose input ends is told to have ended after a turn that wrote nothing to it. One that is let go is kept aside until
+/// its socket took all that was gathered, 10 seconds at most.
 pub struct SocketDoor<C: Clock + Drop> {
     sockets: Sockets,
     clock: C,
+    timekeeper: Timekeeper,
+    // What the clock that is never set showed last, in milliseconds.
+    elapsed: u64,
+    // Whether the moment that was told last is behind the time.
+    late: bool,
     tally: Tally,
 }
 
 impl<C: Clock + Drop> SocketDoor<C> {
-    /// A door at the port.
+    /// Opens a door at the port. Its moments begin with the wall clock as it stands now, and go on with the clock that is
+    /// never set.
     ///
     /// # Errors
-    /// `Port` where the port is taken or refused, or the system has no descriptors for it. `Memory` where memory was
+    /// `Port` where the port is taken or refused, the system has no descriptors for it, or a clock can't be read. `Memory` where memory was
     /// refused. Nothing is listened at then.
     pub fn listen<N: Net>(
         net: &N,
@@ -44,10 +73,13 @@ impl<C: Clock + Drop> SocketDoor<C> {
     ) -> Result<SocketDoor<C>, ListenFault>
         ensures { IfOk result (λ door. door.tally.faults ≡ 0) }
     {
-        match open(net, alloc, port) {
-            Ok(sockets) => Ok(SocketDoor {
+        match open(net, alloc, port, &clock) {
+            Ok((sockets, timekeeper)) => Ok(SocketDoor {
                 sockets,
                 clock,
+                timekeeper,
+                elapsed: 0,
+                late: false,
                 tally: Tally::new(),
             }),
             Err(error) => Err(fault_of(&error)),
@@ -72,21 +104,59 @@ impl<C: Clock + Drop> SocketDoor<C> {
     }
 }
 
-fn open<N: Net>(net: &N, alloc: Global, port: u16) -> io::Result<Sockets> {
+fn open<N: Net, C: Clock>(
+    net: &N,
+    alloc: Global,
+    port: u16,
+    clock: &C,
+) -> io::Result<(Sockets, Timekeeper)> {
     let listener = TcpListener::bind(net, SocketAddr::from((Ipv4Addr::LOCALHOST, port)))?;
-    Sockets::new(alloc, listener, Poll::new(net)?)
+    let sockets = Sockets::new(alloc, listener, Poll::new(net)?)?;
+    let wall = milliseconds(clock.since_1970()?);
+    let start = milliseconds(clock.monotonic()?);
+    Ok((sockets, Timekeeper::new(wall, start)))
+}
+
+fn milliseconds(time: Duration) -> u64 {
+    u64::try_from(time.as_millis()).unwrap_or(u64::MAX)
+}
+
+impl<C: Clock + Drop> Drop for SocketDoor<C> {
+    /// Delivers what was taken, for 10 seconds at most.
+    fn drop(mut self) {
+        for _ in 0..LAST_LOOKS {
+            let now = self.clock.monotonic().map_or(u64::MAX, milliseconds);
+            if self.sockets.deliver(now) || now >= self.elapsed.saturating_add(LAST_WAIT) {
+                break;
+            }
+        }
+        let SocketDoor {
+            sockets: _,
+            clock: _,
+            timekeeper: _,
+            elapsed: _,
+            late: _,
+            tally: _,
+        } = self;
+    }
 }
 
 impl<C: Clock + Drop> Door for SocketDoor<C> {
     ghost faults = { λ d. d.tally.faults };
 
-    /// Milliseconds since 1970.
+    /// Begins a turn. Returns milliseconds since 1970, which never go back, and which catch up in steps of 10 where no turn
+    /// began for long.
     fn now(&mut self) -> Result<u64, DoorFault> {
-        self.sockets.pause();
-        match self.clock.since_1970() {
-            Ok(time) => Ok(u64::try_from(time.as_millis()).unwrap_or(u64::MAX)),
-            Err(_) => Err(self.failed(DoorFault::Now)),
+        if self.sockets.begin_turn(self.elapsed, self.late).is_err() {
+            self.clock.sleep(Duration::from_millis(REST));
         }
+        let Ok(time) = self.clock.monotonic() else {
+            return Err(self.failed(DoorFault::Now));
+        };
+        self.elapsed = milliseconds(time);
+        let moment = self.timekeeper.tell(self.elapsed);
+        self.late = self.timekeeper.is_late(self.elapsed);
+        Ok(moment)
     }
 
     fn accept(&mut self) -> Result<Option<u32>, DoorFault> {
@@ -98,8 +168,10 @@ impl<C: Clock + Drop> Door for SocketDoor<C> {
 
     fn read(&mut self, peer: u32, buf: &mut [u8]) -> Result<Got, DoorFault> {
         match self.sockets.read(peer, buf) {
-            Ok(got) => Ok(got),
-            Err(_) => Err(self.failed(DoorFault::Read)),
+            Ok(Given::Bytes(count)) => Ok(Got::Bytes(count)),
+            Ok(Given::Nothing) => Ok(Got::Nothing),
+            Ok(Given::Ended) => Ok(Got::Ended),
+            Ok(Given::Failed) | Err(_) => Err(self.failed(DoorFault::Read)),
         }
     }
 

@@ -2,7 +2,8 @@
 
 use srcp_core::Core;
 use srcp_rules::{Flat, Layout};
-use srcp_serve::{ListenFault, Served, SocketDoor, serve};
+use srcp_serve::{Door, ListenFault, Served, SocketDoor, serve};
+use std::cell::Cell;
 use std::io;
 use std::io::{Read, Write};
 use std::net::{Ipv4Addr, Net, OpenListener, SocketAddr, TcpListener, TcpStream};
@@ -22,6 +23,23 @@ impl Clock for Still {
 
     fn since_1970(&self) -> io::Result<Duration> {
         Ok(Duration::from_millis(0))
+    }
+}
+
+/// A clock whose hands are set, in milliseconds.
+#[derive(Drop)]
+struct Hands {
+    wall: Cell<u64>,
+    elapsed: Cell<u64>,
+}
+
+impl Clock for Hands {
+    fn monotonic(&self) -> io::Result<Duration> {
+        Ok(Duration::from_millis(self.elapsed.get()))
+    }
+
+    fn since_1970(&self) -> io::Result<Duration> {
+        Ok(Duration::from_millis(self.wall.get()))
     }
 }
 
@@ -59,5 +77,49 @@ fn refuses_a_port_that_is_taken(rt: HostRuntime) -> Result<(), Fail> {
     let _door = SocketDoor::listen(&rt, rt.alloc(), port, Still)?;
     let taken = SocketDoor::listen(&rt, rt.alloc(), port, Still);
     assert_eq!(rt; taken.err(), Some(ListenFault::Port));
+    Ok(())
+}
+
+#[test]
+fn time_goes_forward_in_steps(rt: HostRuntime) -> Result<(), Fail> {
+    let clock = Hands {
+        wall: Cell::new(10_000_000),
+        elapsed: Cell::new(500),
+    };
+    let mut door = SocketDoor::listen(&rt, rt.alloc(), free_port(&rt)?, &clock)?;
+    door.wait_at_most(0);
+    // The wall clock is set back by an hour; then nothing runs for 32 milliseconds, and for an hour.
+    for (wall, elapsed, moment) in [
+        (10_000_000, 500, 10_000_000),
+        (6_400_007, 507, 10_000_007),
+        (6_400_039, 539, 10_000_017),
+        (6_400_039, 539, 10_000_027),
+        (6_400_039, 539, 10_000_037),
+        (6_400_039, 539, 10_000_039),
+        (6_400_039, 539, 10_000_039),
+        (10_000_039, 3_600_539, 13_000_039),
+        (10_000_039, 3_600_539, 13_000_049),
+    ] {
+        clock.wall.set(wall);
+        clock.elapsed.set(elapsed);
+        assert_eq!(rt; door.now(), Ok(moment));
+    }
+    Ok(())
+}
+
+#[test]
+fn delivers_what_was_taken_in_the_last_turn(rt: HostRuntime) -> Result<(), Fail> {
+    let layout = Layout::new(rt.alloc());
+    let mut core = Core::<Flat>::new(rt.alloc(), &layout, 0, 0)?;
+    let port = free_port(&rt)?;
+    let address = SocketAddr::from((Ipv4Addr::LOCALHOST, port));
+    let mut door = SocketDoor::listen(&rt, rt.alloc(), port, Still)?;
+    door.wait_at_most(0);
+    let mut client = TcpStream::connect(&rt, address)?;
+    assert_eq!(rt; serve(&mut core, &mut door, 1).opened, 1);
+    drop(door);
+    let mut heard = [0u8; 45];
+    client.read_exact(&mut heard)?;
+    assert_eq!(rt; heard.as_slice(), &BOTH_LINES[..45]);
     Ok(())
 }

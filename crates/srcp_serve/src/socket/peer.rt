@@ -1,104 +1,134 @@
-ghost use Rattle.std.specs.Prelude.{◌≡◌, ◌<◌, ◌≤◌, ℕ, Ok, IfOk, length};
-ghost use Rattle.srcp_serve.specs.declared.door.Got.{Got};
+//! A peer with its socket.
 
-use crate::door::Got;
+ghost use Rattle.std.specs.Prelude.{◌≡◌, ◌<◌, ◌≤◌, ℕ, IfOk, length};
+ghost use Rattle.srcp_serve.specs.declared.socket.read_ahead.Given.{Given};
+
+use super::held::{HandedOver, MOST_GATHERED};
+use super::link::Link;
+use super::pacing::Pacing;
+use super::read_ahead::{Filled, Given, Input};
+use mio::event::Event;
 use mio::net::TcpStream;
 use std::alloc::{AllocError, Global};
-use std::io;
-use std::io::{ErrorKind, Read, Write};
-use std::vec::Vec;
+use std::net::Shutdown;
 
-/// How many bytes of a peer are gathered before its socket is handed them.
-const MOST_GATHERED: usize = 16_384;
+/// How many bytes of a panel may wait for the next tick. What else may be gathered holds the 300 lines of 126 bytes
+/// that a peer is written in a turn at most.
+const MOST_WAITING: usize = MOST_GATHERED - 300 * 126;
 
-/// A peer, and what was taken for it that its socket was not handed yet.
+/// A peer and its socket.
 #[derive(Drop)]
 pub(super) struct Peer {
     pub number: u32,
     stream: TcpStream,
+    link: Link,
     // Whether a read may find something.
     readable: bool,
-    gathered: Vec<u8>,
-    // A write failed when no call was there to tell it.
-    lost: bool,
+    // Whether the socket may take something.
+    writable: bool,
+    // Whether a read was asked in this turn.
+    asked: bool,
+    // Whether the socket was told that nothing more is written.
+    shut: bool,
 }
 
 impl Peer {
-    /// Takes the memory of all that may be gathered.
-    pub(super) fn new(alloc: Global, number: u32, stream: TcpStream) -> Result<Peer, AllocError> {
+    /// Returns a newcomer, with the memory of all that may be gathered and read ahead.
+    ///
+    /// # Errors
+    /// Where memory is refused.
+    pub(super) fn new(alloc: Global, number: u32, stream: TcpStream) -> Result<Peer, AllocError>
+        ensures { IfOk result (λ peer. peer.number ≡ number) }
+    {
         Ok(Peer {
             number,
             stream,
+            link: Link::new(alloc)?,
             readable: true,
-            gathered: Vec::with_capacity(alloc, MOST_GATHERED)?,
-            lost: false,
+            writable: true,
+            asked: false,
+            shut: false,
         })
     }
 
-    /// A read may find something again.
-    pub(super) fn wake(&mut self) {
-        self.readable = true;
+    /// Notes what its socket was found ready for.
+    pub(super) fn wake(&mut self, event: &Event) {
+        if event.is_readable() || event.is_read_closed() || event.is_error() {
+            self.readable = true;
+        }
+        if event.is_writable() || event.is_error() {
+            self.writable = true;
+        }
     }
 
-    /// Reads what has come. The system is not asked where it said that there is nothing.
-    pub(super) fn read(&mut self, buffer: &mut [u8]) -> io::Result<Got>
-        requires { 0 < length buffer.old }
-        ensures count { (n : ℕ) → result ≡ Ok (Got.Bytes n) → (0 < n) × (n ≤ length buffer.new) }
+    /// Writes what is gathered, where the socket may take something. To a panel it writes with `tick` alone, or where much is
+    /// gathered.
+    pub(super) fn hand_over(&mut self, tick: bool) {
+        let waits = !tick && self.is_panel() && self.link.gathered.len() <= MOST_WAITING;
+        if !waits && self.writable && self.link.hand_over(&mut self.stream) == HandedOver::Later {
+            self.writable = false;
+        }
+    }
+
+    /// Reads its socket, where a read may find something.
+    fn fill(&mut self)
+        ensures { self.new.number ≡ self.old.number }
     {
-        if self.lost {
-            return Err(io::Error::from(ErrorKind::BrokenPipe));
-        }
-        if !self.readable {
-            return Ok(Got::Nothing);
-        }
-        match self.stream.read(buffer) {
-            Ok(0) => Ok(Got::Ended),
-            Ok(count) => Ok(Got::Bytes(count)),
-            Err(fault) if is_later(&fault) => {
-                self.readable = false;
-                Ok(Got::Nothing)
-            }
-            Err(fault) => Err(fault),
+        if self.readable && self.link.fill(&mut self.stream) == Filled::Later {
+            self.readable = false;
         }
     }
 
-    /// Takes bytes, as many as there is room for. Where there is none, the socket is handed what was gathered first.
-    pub(super) fn take(&mut self, bytes: &[u8]) -> io::Result<usize>
-        ensures { IfOk result (λ count. count ≤ length bytes.now) }
+    /// Reads its socket and begins the turn.
+    pub(super) fn begin_turn(&mut self, clear: bool) {
+        self.fill();
+        self.link.begin_turn(clear);
+        self.asked = false;
+    }
+
+    /// Writes what is gathered, shuts the socket for writing behind that, and drops what still comes: a socket that is closed
+    /// with input in it resets the connection. Returns whether there is nothing left to do.
+    pub(super) fn part(&mut self) -> bool {
+        self.hand_over(true);
+        if self.link.is_owed() {
+            return false;
+        }
+        if !self.shut {
+            let _ = self.stream.shutdown(Shutdown::Write);
+            self.shut = true;
+        }
+        self.link.ahead.forget();
+        self.fill();
+        self.link.lost || self.link.ahead.input() != Input::Open
+    }
+
+    /// Moves what was read into the buffer, as far as the turn's lines go, or tells the end.
+    pub(super) fn read(&mut self, pacing: &mut Pacing, buffer: &mut [u8]) -> Given
+        ensures count { (n : ℕ) → result ≡ Given.Bytes n → (0 < n) × (n ≤ length buffer.old) }
     {
-        if self.gathered.len() + bytes.len() > MOST_GATHERED {
-            self.hand_over();
-        }
-        if self.lost {
-            return Err(io::Error::from(ErrorKind::BrokenPipe));
-        }
-        let room = MOST_GATHERED.saturating_sub(self.gathered.len());
-        let count = bytes.len().min(room);
-        self.gathered.extend_from_slice(&bytes[..count])?;
-        Ok(count)
+        self.asked = true;
+        self.link.read(pacing, buffer)
     }
 
-    /// Hands the socket what was gathered, as much of it as it takes now.
-    pub(super) fn hand_over(&mut self) {
-        if self.lost || self.gathered.is_empty() {
-            return;
-        }
-        match self.stream.write(&self.gathered) {
-            Ok(count) => self.drop_front(count),
-            Err(fault) if is_later(&fault) => (),
-            Err(_) => self.lost = true,
-        }
+    /// Takes bytes, as many as there is space for, and returns how many.
+    pub(super) fn write(&mut self, bytes: &[u8]) -> usize
+        ensures { result ≤ length bytes.now }
+    {
+        self.link.write(bytes)
     }
 
-    fn drop_front(&mut self, count: usize) {
-        let end = self.gathered.len();
-        let count = count.min(end);
-        self.gathered.copy_within(count..end, 0);
-        self.gathered.truncate(end - count);
+    /// Returns whether the next turn has something of it. What the core did not ask for in the last turn waits.
+    pub(super) fn is_busy(&self) -> bool {
+        self.asked && self.link.has_more()
     }
-}
 
-/// Whether the call may go well later.
-fn is_later(fault: &io::Error) -> bool {
-    matches!(fault.kind(), ErrorKind::WouldBlock | ErrorKind::Interrupted)
+    /// Returns whether something is gathered that its socket may still take.
+    pub(super) fn is_owed(&self) -> bool {
+        self.link.is_owed()
+    }
+
+    /// Returns whether it is a panel: it was written more lines than it sent.
+    pub(super) fn is_panel(&self) -> bool {
+        self.link.replies.panel
+    }
 }

@@ -1,8 +1,12 @@
-ghost use Rattle.std.specs.Prelude.{◌≡◌, ◌<◌, ◌≤◌, ℕ, Ok, None, IfOk, IfSome, OnErr, length};
-ghost use Rattle.srcp_serve.specs.declared.door.Got.{Got};
+//! The sockets of a door, and the lines that are let through in a turn.
 
+ghost use Rattle.std.specs.Prelude.{◌≡◌, ◌<◌, ◌≤◌, ℕ, Ok, None, IfOk, IfSome, OnErr, length};
+ghost use Rattle.srcp_serve.specs.declared.socket.read_ahead.Given.{Given};
+
+use super::leaving::Leaving;
+use super::pacing::Pacing;
 use super::peer::Peer;
-use crate::door::Got;
+use super::read_ahead::Given;
 use mio::net::{TcpListener, TcpStream};
 use mio::{Events, Interest, Poll, Token};
 use std::alloc::Global;
@@ -11,7 +15,7 @@ use std::io::ErrorKind;
 use std::time::Duration;
 use std::vec::Vec;
 
-/// How long `pause` waits at most where nothing happens, in milliseconds, unless it is told otherwise.
+/// How long a turn waits at most where nothing happens, in milliseconds, unless it is told otherwise.
 const PAUSE: u64 = 8;
 
 /// How many sockets may be found ready at once.
@@ -33,9 +37,13 @@ pub(super) struct Sockets {
     peers: Vec<Peer>,
     // The number of the peer that came last.
     last: u32,
-    // Whether something happened since the last pause.
+    leaving: Leaving,
+    pacing: Pacing,
+    // Whether something happened since the turn began.
     busy: bool,
-    // How long a pause waits at most, in milliseconds.
+    // When the turn before began, in milliseconds of the clock that is never set.
+    began: u64,
+    // How long a turn waits at most, in milliseconds.
     patience: u64,
 }
 
@@ -51,12 +59,15 @@ impl Sockets {
             events: Events::with_capacity(alloc, MOST_EVENTS)?,
             peers: Vec::new(alloc),
             last: 0,
+            leaving: Leaving::new(alloc)?,
+            pacing: Pacing::new(),
             busy: true,
+            began: 0,
             patience: PAUSE,
         })
     }
 
-    /// Has a pause wait so many milliseconds at most.
+    /// Has a turn wait so many milliseconds at most.
     pub(super) fn wait_at_most(&mut self, milliseconds: u64)
         ensures wait { self.new.patience ≡ milliseconds }
         ensures last { self.new.last ≡ self.old.last }
@@ -64,41 +75,73 @@ impl Sockets {
         self.patience = milliseconds;
     }
 
-    /// Hands every socket what was gathered for it. Where nothing happened since the last time, waits until something
-    /// does, for as long as it has patience.
-    pub(super) fn pause(&mut self)
+    /// Begins a turn: writes what is gathered, waits, and reads what came. It does not wait with `hurry`, or
+    /// where there is something to do. Panels are written to
+    /// once a millisecond, or after a turn in which nothing happened.
+    ///
+    /// # Errors
+    /// Where the system refused to wait. The turn has begun all the same.
+    pub(super) fn begin_turn(&mut self, now: u64, hurry: bool) -> io::Result<()>
+        ensures { self.new.last ≡ self.old.last }
+    {
+        let tick = now != self.began || !self.busy;
+        self.began = now;
+        self.hand_over(tick);
+        let waited = self.wait(tick, hurry);
+        let panel = self.peers.iter().any(|peer| peer.is_panel());
+        let clear = self.pacing.begin_turn(panel);
+        for peer in &mut self.peers {
+            peer.begin_turn(clear);
+        }
+        waited
+    }
+
+    /// Writes what is gathered, to panels with `tick` alone.
+    fn hand_over(&mut self, tick: bool)
         ensures { self.new.last ≡ self.old.last }
     {
         for peer in &mut self.peers {
-            peer.hand_over();
+            peer.hand_over(tick);
         }
-        let patience = if self.busy { 0 } else { self.patience };
-        self.busy = false;
-        let waited = self
-            .poll
-            .poll(&mut self.events, Some(Duration::from_millis(patience)));
-        if waited.is_ok() {
-            self.wake();
-        }
+        self.leaving.part(self.began);
     }
 
-    /// Notes which sockets are ready.
-    fn wake(&mut self)
+    /// Waits until a socket is ready, and notes which are. Where something is held of a peer, the system is asked with `tick`
+    /// alone.
+    fn wait(&mut self, tick: bool, hurry: bool) -> io::Result<()>
         ensures { self.new.last ≡ self.old.last }
     {
+        let held = self.peers.iter().any(|peer| peer.is_busy());
+        let busy = self.busy || hurry || held;
+        self.busy = false;
+        if held && !tick {
+            return Ok(());
+        }
+        self.poll_for(if busy { 0 } else { self.patience })
+    }
+
+    /// Waits so many milliseconds at most until a socket is ready, and notes which are.
+    fn poll_for(&mut self, patience: u64) -> io::Result<()>
+        ensures { self.new.last ≡ self.old.last }
+    {
+        self.poll
+            .poll(&mut self.events, Some(Duration::from_millis(patience)))?;
         for event in &self.events {
             let Token(token) = event.token();
             if token == LISTENER.0 {
                 self.wanted = true;
+                continue;
             }
-            if let Some(peer) = self
+            let peer = self
                 .peers
                 .iter_mut()
-                .find(|peer| peer.number as usize == token)
-            {
-                peer.wake();
+                .find(|peer| peer.number as usize == token);
+            match peer {
+                Some(peer) => peer.wake(&event),
+                None => self.leaving.wake(token, &event),
             }
         }
+        Ok(())
     }
 
     /// Lets in the next peer that wants in, if one does. Its number is above those of all peers before it.
@@ -116,6 +159,7 @@ impl Sockets {
                 self.wanted = false;
                 Ok(None)
             }
+            Err(fault) if fault.kind() == ErrorKind::Interrupted => Ok(None),
             Err(fault) => Err(fault),
         }
     }
@@ -140,38 +184,51 @@ impl Sockets {
         Ok(number)
     }
 
-    pub(super) fn read(&mut self, number: u32, buffer: &mut [u8]) -> io::Result<Got>
-        requires { 0 < length buffer.old }
-        ensures count { (n : ℕ) → result ≡ Ok (Got.Bytes n) → (0 < n) × (n ≤ length buffer.new) }
+    /// Moves what was read of a peer into the buffer, as far as the turn's lines go.
+    pub(super) fn read(&mut self, number: u32, buffer: &mut [u8]) -> io::Result<Given>
+        ensures count { (n : ℕ) → result ≡ Ok (Given.Bytes n) → (0 < n) × (n ≤ length buffer.old) }
         ensures last { self.new.last ≡ self.old.last }
     {
         let place = self.place(number)?;
-        let got = self.peers[place].read(buffer)?;
-        if got != Got::Nothing {
+        let given = self.peers[place].read(&mut self.pacing, buffer);
+        if given != Given::Nothing {
             self.busy = true;
         }
-        Ok(got)
+        Ok(given)
     }
 
+    /// Takes bytes for a peer, as many as there is space for, and returns how many.
     pub(super) fn write(&mut self, number: u32, bytes: &[u8]) -> io::Result<usize>
         ensures count { IfOk result (λ count. count ≤ length bytes.now) }
         ensures last { self.new.last ≡ self.old.last }
     {
         let place = self.place(number)?;
-        let count = self.peers[place].take(bytes)?;
+        let count = self.peers[place].write(bytes);
         if count > 0 {
             self.busy = true;
         }
         Ok(count)
     }
 
+    /// Lets a peer go. It is kept aside where it is not at its end.
     pub(super) fn close(&mut self, number: u32) -> io::Result<()>
         ensures { self.new.last ≡ self.old.last }
     {
         let place = self.place(number)?;
-        let mut peer = self.peers.remove(place);
-        peer.hand_over();
+        let peer = self.peers.remove(place);
+        self.leaving.keep(peer, self.began);
         Ok(())
+    }
+
+    /// Writes what is gathered, and waits a little where the sockets did not take all. Returns whether they did.
+    pub(super) fn deliver(&mut self, now: u64) -> bool {
+        self.began = now;
+        self.hand_over(true);
+        if !self.leaving.is_owed() && !self.peers.iter().any(|peer| peer.is_owed()) {
+            return true;
+        }
+        let _ = self.poll_for(PAUSE);
+        false
     }
 
     fn place(&self, number: u32) -> io::Result<usize>

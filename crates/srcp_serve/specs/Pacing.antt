@@ -1,0 +1,46 @@
+-- How much lines weigh, and what is seen of the pacing.
+use Rattle.std.specs.Prelude.{ℕ, Bool, List, ◌+◌, ◌==◌, ◌||◌, cond, fold, count_by}
+use Rattle.srcp_serve.specs.declared.socket.pacing.Line.{Line}
+use Rattle.srcp_serve.specs.declared.socket.pacing.Line.TheVariants.{Ended, Light, Heavy}
+use Rattle.srcp_serve.specs.declared.socket.pacing.Seen.{Seen}
+
+-- how much may still be let through in this turn, whether a peer was refused its first line, and whether the end of a
+-- peer may still be told
+pub record Budget : Type 0 where
+  pub left : ℕ
+  pub refused : Bool
+  pub end : Bool
+
+-- the changes that a line makes at most, where it ends now: one that begins with S, G or C makes one
+abbrev pub line_weight : Line → ℕ
+line_weight Ended = 11
+line_weight Light = 1
+line_weight Heavy = 11
+
+-- the bytes S, G and C
+abbrev pub begins_light : ℕ → Bool
+begins_light byte = (byte == 83) || (byte == 71) || (byte == 67)
+
+-- the line after one more byte that does not end it
+abbrev pub line_after : Line → ℕ → Line
+line_after Ended byte = cond (begins_light byte) Light Heavy
+line_after Light byte = Light
+line_after Heavy byte = Heavy
+
+-- the line and the weight of those that ended, after one more byte
+abbrev pub seen_after : Seen → ℕ → Seen
+seen_after seen byte = cond (byte == 10)
+    (record { line = Ended; weight = seen.weight + line_weight seen.line })
+    (record { line = line_after seen.line byte; weight = seen.weight })
+
+-- the same after bytes that follow a line
+abbrev pub seen_of : Line → List ℕ → Seen
+seen_of line bytes = fold seen_after (record { line = line; weight = 0 }) bytes
+
+-- how much the lines weigh that end in bytes that follow a line
+abbrev pub weight_of : Line → List ℕ → ℕ
+weight_of line bytes = (seen_of line bytes).weight
+
+-- how many lines end in bytes
+abbrev pub lines : List ℕ → ℕ
+lines bytes = count_by (λ byte. byte == 10) bytes

@@ -1,0 +1,194 @@
+//! What a door keeps of a peer, without its socket.
+
+ghost use Rattle.std.specs.Prelude.{◌≡◌, ◌≢◌, ◌↔◌, ◌<◌, ◌≤◌, ◌+◌, ◌-◌, ◌++◌, ◌==◌, ◌⊎◌, [], true, false, not, cond, Bool, ℕ, IfOk, IfSome, IfNone, IsTrue, length, take, drop, min};
+ghost use Rattle.std.specs.Io.KnownBytes.{Keeps, append_known, prepend_known};
+ghost use Rattle.srcp_serve.specs.Ahead.{Ahead, given};
+ghost use Rattle.srcp_serve.specs.Pacing.{Budget, lines, seen_of, weight_of};
+ghost use Rattle.srcp_serve.specs.Ends.{begun, written};
+ghost use Rattle.srcp_serve.specs.declared.socket.ending.Ending.{Ending};
+ghost use Rattle.srcp_serve.specs.declared.socket.read_ahead.Input.{Input};
+
+use super::ending::Ending;
+use super::held::{Gathered, HandedOver, Held, MOST_GATHERED};
+use super::pacing::{HEAVY, Line, Pacing, Share};
+use super::read_ahead::{Filled, Given, Input, MOST_PIECE, ReadAhead};
+use super::replies::Replies;
+use std::alloc::{AllocError, Global};
+use std::io::{Read, Write};
+
+/// What a door keeps of a peer.
+#[derive(Drop)]
+pub(super) struct Link {
+    /// What it was written that its socket did not take yet.
+    pub gathered: Gathered,
+    /// What was read of it.
+    pub ahead: ReadAhead,
+    /// How far it is on the way to its end.
+    pub ending: Ending,
+    /// Its share of the lines that are let through.
+    pub share: Share,
+    /// How many lines it is owed, and whether it is a panel.
+    pub replies: Replies,
+    /// Whether its socket takes no more.
+    pub lost: bool,
+}
+
+impl Link {
+    /// Returns a newcomer. It has its mark, so that newcomers don't keep the others from their lines. No other call takes
+    /// memory.
+    ///
+    /// # Errors
+    /// Where memory is refused.
+    pub(super) fn new(alloc: Global) -> Result<Link, AllocError>
+        ensures { IfOk result (λ link. (link.gathered ≡ []) × (link.ahead.bytes ≡ []) × (link.ending ≡ Ending.Open)
+            × (link.share.mark ≡ true) × (link.lost ≡ false)) }
+    {
+        Ok(Link {
+            gathered: Held::new(alloc)?,
+            ahead: ReadAhead::new(alloc)?,
+            ending: Ending::Open,
+            share: Share {
+                line: Line::Ended,
+                mark: true,
+            },
+            replies: Replies::new(),
+            lost: false,
+        })
+    }
+
+    /// Writes what is gathered, as much of it as the socket takes now.
+    pub(super) fn hand_over<W: Write>(&mut self, writer: &mut W) -> HandedOver
+        ensures whole { Keeps (append_known (W.contents writer.old) self.old.gathered) (append_known (W.contents writer.new) self.new.gathered) }
+        ensures rest { self.new.gathered ≡ drop (length self.old.gathered - length self.new.gathered) self.old.gathered }
+        ensures all { self.new.lost ≡ false → (result ≡ HandedOver.All ↔ self.new.gathered ≡ []) }
+        ensures lost { result ≡ HandedOver.Lost ↔ self.new.lost ≡ true }
+        ensures once_lost { self.old.lost ≡ true → (self.new ≡ self.old) × (writer.new ≡ writer.old) }
+        ensures others { self.new ≡ record { gathered = self.new.gathered; ahead = self.old.ahead; ending = self.old.ending; share = self.old.share; replies = self.old.replies; lost = self.new.lost } }
+    {
+        if self.lost {
+            return HandedOver::Lost;
+        }
+        let handed = self.gathered.hand_over(writer);
+        self.lost = handed == HandedOver::Lost;
+        handed
+    }
+
+    /// Reads from its socket, as much as there is space for.
+    pub(super) fn fill<R: Read>(&mut self, reader: &mut R) -> Filled
+        ensures whole { Keeps (prepend_known self.old.ahead.bytes (R.remaining reader.old)) (prepend_known self.new.ahead.bytes (R.remaining reader.new)) }
+        ensures same { result ≢ Filled.Something → self.new ≡ self.old }
+        ensures asked { self.old.ahead.input ≡ Input.Open → length self.old.ahead.bytes < MOST_PIECE → result ≢ Filled.Unasked }
+        ensures something { result ≡ Filled.Something → (length self.old.ahead.bytes < length self.new.ahead.bytes) ⊎ (self.new.ahead.input ≢ Input.Open) }
+        ensures others { self.new ≡ record { gathered = self.old.gathered; ahead = self.new.ahead; ending = self.old.ending; share = self.old.share; replies = self.old.replies; lost = self.old.lost } }
+    {
+        self.ahead.fill(reader)
+    }
+
+    /// Begins a turn, after its socket was handed what is gathered and was read. With `clear` its mark is cleared.
+    pub(super) fn begin_turn(&mut self, clear: bool)
+        ensures ending { (ended : Bool) → (IsTrue ended ↔ ((self.old.ahead.bytes ≡ []) × (self.old.ahead.input ≡ Input.Ended)))
+            → self.new.ending ≡ begun self.old.ending ended (not (length self.old.gathered == 0)) }
+        ensures share { self.new.share ≡ record { line = self.old.share.line; mark = cond clear false self.old.share.mark } }
+        ensures others { self.new ≡ record { gathered = self.old.gathered; ahead = self.old.ahead; ending = self.new.ending; share = self.new.share; replies = self.old.replies; lost = self.old.lost } }
+    {
+        let gathered = !self.gathered.is_empty();
+        self.ending = self.ending.begin_turn(self.ahead.is_over(), gathered);
+        if clear {
+            self.share.mark = false;
+        }
+    }
+
+    /// Moves what was read into the buffer, as far as the turn's lines go. Where nothing is held, tells its end where that is
+    /// due and the turn told no other.
+    pub(super) fn read(&mut self, pacing: &mut Pacing, buffer: &mut [u8]) -> Given
+        ensures bytes { self.old.ahead.bytes ≡ given result buffer.new ++ self.new.ahead.bytes }
+        ensures spent { weight_of self.old.share.line (given result buffer.new) + pacing.new.left ≡ pacing.old.left }
+        ensures line { self.new.share.line ≡ (seen_of self.old.share.line (given result buffer.new)).line }
+        ensures most { length (given result buffer.new) ≤ MOST_PIECE }
+        ensures count { (n : ℕ) → result ≡ Given.Bytes n → (0 < n) × (n ≤ length buffer.old) }
+        ensures all { length (given result buffer.new) < min (min (length buffer.old) MOST_PIECE) (length self.old.ahead.bytes)
+            → (self.old.share.mark ≡ true) ⊎ (pacing.new.left < HEAVY) }
+        ensures ended { result ≡ Given.Ended → (self.old.ahead.bytes ≡ []) × (self.old.ending ≡ Ending.Told) × (pacing.old.end ≡ true) × (pacing.new.end ≡ false) }
+        ensures told { self.old.ahead.bytes ≡ [] → pacing.old.end ≡ true → (self.old.lost ≡ true) ⊎ (self.old.ending ≡ Ending.Told) → result ≢ Given.Nothing }
+        ensures failed { result ≡ Given.Failed → (self.old.ahead.bytes ≡ []) × ((self.old.lost ≡ true) ⊎ (self.old.ahead.input ≡ Input.Failed)) × (pacing.old.end ≡ true) × (pacing.new.end ≡ false) }
+        ensures others { self.new ≡ record { gathered = self.old.gathered; ahead = self.new.ahead; ending = self.old.ending; share = self.new.share; replies = self.new.replies; lost = self.old.lost } }
+        ensures len { length buffer.new ≡ length buffer.old }
+    {
+        if self.ahead.is_empty() {
+            return self.told_end(pacing);
+        }
+        let within = buffer.len().min(MOST_PIECE);
+        let most = pacing.allow(&mut self.share, self.ahead.piece(within));
+        let given = self.ahead.hand_out(most, buffer);
+        if let Given::Bytes(count) = given {
+            self.replies.sent(&buffer[..count]);
+        }
+        given
+    }
+
+    /// Returns whether a read has something to hand out or to tell now or in the next turn.
+    pub(super) fn has_more(&self) -> bool
+        ensures { IsTrue result ↔ ((self.now.ahead.bytes ≢ []) ⊎ (self.now.lost ≡ true) ⊎ (self.now.ahead.input ≡ Input.Failed)
+            ⊎ (self.now.ending ≢ Ending.Open) × (self.now.gathered ≡ [])) }
+    {
+        !self.ahead.is_empty()
+            || self.lost
+            || self.ahead.input() == Input::Failed
+            || self.ending != Ending::Open && self.gathered.is_empty()
+    }
+
+    /// Returns whether something is gathered that its socket may still take.
+    pub(super) fn is_owed(&self) -> bool
+        ensures { IsTrue result ↔ ((self.now.lost ≡ false) × (self.now.gathered ≢ [])) }
+    {
+        !self.lost && !self.gathered.is_empty()
+    }
+
+    /// Returns what is told where nothing is held of it.
+    fn told_end(&self, pacing: &mut Pacing) -> Given
+        ensures bytes { (n : ℕ) → result ≢ Given.Bytes n }
+        ensures left { pacing.new.left ≡ pacing.old.left }
+        ensures ended { result ≡ Given.Ended → (self.now.ending ≡ Ending.Told) × (pacing.old.end ≡ true) × (pacing.new.end ≡ false) }
+        ensures failed { result ≡ Given.Failed → ((self.now.lost ≡ true) ⊎ (self.now.ahead.input ≡ Input.Failed)) × (pacing.old.end ≡ true) × (pacing.new.end ≡ false) }
+        ensures told { pacing.old.end ≡ true → (self.now.lost ≡ true) ⊎ (self.now.ending ≡ Ending.Told) → result ≢ Given.Nothing }
+    {
+        let due = self.due_end();
+        if due == Given::Nothing || !pacing.allow_end() {
+            return Given::Nothing;
+        }
+        due
+    }
+
+    /// Returns what is due to be told where nothing is held of it.
+    fn due_end(&self) -> Given
+        ensures bytes { (n : ℕ) → result ≢ Given.Bytes n }
+        ensures ended { result ≡ Given.Ended → self.now.ending ≡ Ending.Told }
+        ensures failed { result ≡ Given.Failed ↔ ((self.now.lost ≡ true) ⊎ (self.now.ahead.input ≡ Input.Failed)) }
+        ensures nothing { result ≡ Given.Nothing → (self.now.ending ≢ Ending.Told) × (self.now.lost ≡ false) }
+    {
+        if self.lost || self.ahead.input() == Input::Failed {
+            Given::Failed
+        } else if self.ending == Ending::Told {
+            Given::Ended
+        } else {
+            Given::Nothing
+        }
+    }
+
+    /// Takes bytes for it, as many as there is space for, and returns how many. What is written to a lost peer goes nowhere.
+    pub(super) fn write(&mut self, bytes: &[u8]) -> usize
+        ensures count { result ≡ cond self.old.lost (length bytes.now) (min (length bytes.now) (MOST_GATHERED - length self.old.gathered)) }
+        ensures gathered { self.new.gathered ≡ cond self.old.lost self.old.gathered (self.old.gathered ++ take result bytes.now) }
+        ensures others { self.new ≡ record { gathered = self.new.gathered; ahead = self.old.ahead; ending = self.new.ending; share = self.old.share; replies = self.new.replies; lost = self.old.lost } }
+    {
+        self.ending = self.ending.written();
+        if self.lost {
+            return bytes.len();
+        }
+        let count = self.gathered.take(bytes);
+        if !self.replies.panel {
+            self.replies.written(&bytes[..count]);
+        }
+        count
+    }
+}

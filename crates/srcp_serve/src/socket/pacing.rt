@@ -1,0 +1,200 @@
+//! How many lines are let through in a turn.
+
+ghost use Rattle.std.specs.Prelude.{◌≡◌, ◌<◌, ◌≤◌, ◌+◌, ◌↔◌, ◌⊎◌, true, false, cond, IsTrue, length, slice_index, take};
+ghost use Rattle.srcp_serve.specs.Pacing.{Budget, line_weight, line_after, seen_after, seen_of, weight_of};
+
+use std::marker::Model;
+
+/// How much the lines of a turn weigh at most while a panel is there. Between two visits of a panel the lines of two
+/// turns meet, so 176 of the 256 changes that may wait for it are made by them.
+pub(super) const MOST_WEIGHT: usize = 88;
+
+/// How much the lines of a turn weigh at most while no panel is there: more than 64 peers can be read of in a turn.
+pub(super) const MOST_UNPACED: usize = 1_000_000;
+
+/// How many changes a line makes at most, which is its weight. One that begins like SET, GET or CHECK makes one.
+pub(super) const HEAVY: usize = 11;
+
+/// What ends a line.
+const LINE_END: u8 = b'\n';
+
+/// The line of a peer that was handed out last.
+#[derive(Clone, Copy)]
+pub(super) enum Line {
+    /// It ended, or there was none.
+    Ended,
+    /// It has an S, G or C in front, and no end.
+    Light,
+    /// It has something else in front, and no end.
+    Heavy,
+}
+
+impl Line {
+    /// Returns how much the line weighs where it ends now.
+    fn weight(self) -> usize
+        ensures { result ≡ line_weight self }
+    {
+        match self {
+            Line::Ended | Line::Heavy => HEAVY,
+            Line::Light => 1,
+        }
+    }
+
+    /// Returns the line after one more byte that does not end it.
+    fn after(self, byte: u8) -> Line
+        ensures { result ≡ line_after self byte }
+    {
+        match self {
+            Line::Ended if matches!(byte, b'S' | b'G' | b'C') => Line::Light,
+            Line::Light => Line::Light,
+            Line::Ended | Line::Heavy => Line::Heavy,
+        }
+    }
+}
+
+/// A peer's share of the lines.
+#[derive(Clone, Copy)]
+pub(super) struct Share {
+    /// The line that was handed out last.
+    pub line: Line,
+    /// Whether the peer got a line since the marks were cleared.
+    pub mark: bool,
+}
+
+/// What was seen of some bytes.
+#[derive(Clone, Copy)]
+struct Seen {
+    line: Line,
+    weight: usize,
+}
+
+impl Seen {
+    /// Returns what is seen after one more byte.
+    fn after(self, byte: u8) -> Seen
+        requires { self.weight ≤ MOST_UNPACED }
+        ensures { result ≡ seen_after self byte }
+    {
+        if byte == LINE_END {
+            Seen {
+                line: Line::Ended,
+                weight: self.weight + self.line.weight(),
+            }
+        } else {
+            Seen {
+                line: self.line.after(byte),
+                weight: self.weight,
+            }
+        }
+    }
+}
+
+/// A front of some bytes.
+#[derive(Clone, Copy)]
+struct Front {
+    count: usize,
+    seen: Seen,
+}
+
+/// How much the lines that are let through may still weigh in this turn, whether a peer was refused its first one, and
+/// whether the end of a peer may still be told. Seen as a record of the three.
+#[derive(Drop)]
+pub(super) struct Pacing {
+    left: usize,
+    refused: bool,
+    end: bool,
+}
+
+impl Model for Pacing {
+    ghost use Rattle.std.specs.Prelude.{◌<◌, ◌≤◌, IsTrue};
+    ghost use Rattle.srcp_serve.specs.Pacing.{Budget};
+    ghost use Rattle.srcp_serve.specs.declared.socket.pacing.TheConstants.{MOST_UNPACED, HEAVY};
+
+    ghost Value = { Budget };
+
+    ghost view = { λ p. record { left = p.left; refused = p.refused; end = p.end } };
+
+    ghost invariant = { λ p. (p.left ≤ MOST_UNPACED) × (IsTrue p.refused → p.left < HEAVY) };
+}
+
+impl Pacing {
+    /// Lets nothing through before the first turn.
+    pub(super) fn new() -> Pacing
+        ensures { result ≡ record { left = 0; refused = false; end = false } }
+    {
+        Pacing {
+            left: 0,
+            refused: false,
+            end: false,
+        }
+    }
+
+    /// Begins a turn, with all its lines to be let through. Returns whether every peer that asked for a line since the marks
+    /// were cleared got one: they are to be cleared then.
+    pub(super) fn begin_turn(&mut self, panel: bool) -> bool
+        ensures budget { self.new ≡ record { left = cond panel MOST_WEIGHT MOST_UNPACED; refused = false; end = true } }
+        ensures round { IsTrue result ↔ self.old.refused ≡ false }
+    {
+        let round = !self.refused;
+        self.left = if panel { MOST_WEIGHT } else { MOST_UNPACED };
+        self.refused = false;
+        self.end = true;
+        round
+    }
+
+    /// Returns how many bytes of a peer's piece may be handed out now. A peer that has its mark gets no line, and one that
+    /// gets a line gets its mark. Bytes that end no line may always be handed out.
+    pub(super) fn allow(&mut self, share: &mut Share, piece: &[u8]) -> usize
+        ensures within { result ≤ length piece.now }
+        ensures spent { weight_of share.old.line (take result piece.now) + self.new.left ≡ self.old.left }
+        ensures line { share.new.line ≡ (seen_of share.old.line (take result piece.now)).line }
+        ensures most { result < length piece.now → (slice_index piece.now result ≡ 10) × ((share.old.mark ≡ true) ⊎ (self.new.left < HEAVY)) }
+        ensures served { share.old.mark ≡ true → weight_of share.old.line (take result piece.now) ≡ 0 }
+        ensures mark { IsTrue share.new.mark ↔ (IsTrue share.old.mark ⊎ (0 < weight_of share.old.line (take result piece.now))) }
+        ensures refused { IsTrue self.new.refused ↔ (IsTrue self.old.refused ⊎ (share.new.mark ≡ false) × (result < length piece.now)) }
+        ensures end { self.new.end ≡ self.old.end }
+        ensures fair { IsTrue self.new.refused → self.new.left < HEAVY }
+    {
+        let most = if share.mark { 0 } else { self.left };
+        let front = front_within(piece, share.line, most);
+        self.left -= front.seen.weight;
+        share.line = front.seen.line;
+        if front.seen.weight > 0 {
+            share.mark = true;
+        } else if !share.mark && front.count < piece.len() {
+            self.refused = true;
+        }
+        front.count
+    }
+
+    /// Returns whether the end of a peer may be told now, which is then the one of this turn.
+    pub(super) fn allow_end(&mut self) -> bool
+        ensures allowed { result ≡ self.old.end }
+        ensures new { self.new ≡ record { left = self.old.left; refused = self.old.refused; end = false } }
+    {
+        let allowed = self.end;
+        self.end = false;
+        allowed
+    }
+}
+
+/// Returns the longest front whose lines weigh at most so much.
+fn front_within(piece: &[u8], line: Line, most: usize) -> Front
+    requires { most ≤ MOST_UNPACED }
+    ensures within { result.count ≤ length piece.now }
+    ensures seen { result.seen ≡ seen_of line (take result.count piece.now) }
+    ensures few { result.seen.weight ≤ most }
+    ensures most { result.count < length piece.now → (slice_index piece.now result.count ≡ 10) × (most < result.seen.weight + HEAVY) }
+{
+    let mut seen = Seen { line, weight: 0 };
+    for count in 0..piece.len() {
+        let next = seen.after(piece[count]);
+        if next.weight > most {
+            return Front { count, seen };
+        }
+        seen = next;
+    }
+    Front {
+        count: piece.len(),
+        seen,
+    }
+}

@@ -1,0 +1,159 @@
+"""What the door over sockets does with connections, bytes and time, seen from outside."""
+import re
+import socket
+import threading
+import time
+from pathlib import Path
+
+from serving import SECONDS, WELCOME, Client, rows_of, served
+
+REPLIES = 200_000
+ROWS = 2_000
+SESSIONS = 32
+PANELS = 8
+RESET = b"\1\0\0\0\0\0\0\0"
+
+
+def listens_on_the_loopback_alone(program):
+    with served(program) as (port, _):
+        listening = [line.split()[1] for line in Path("/proc/net/tcp").read_text().splitlines()[1:]
+                     if line.split()[3] == "0A" and line.split()[1].endswith(f":{port:04X}")]
+        session = Client(port, "COMMAND").session
+    if listening != [f"0100007F:{port:04X}"]:
+        return f"it listens at {listening}"
+    return None if session == 1 else f"the first session is {session}"
+
+
+def stamps_are_the_time(program):
+    with served(program) as (port, _):
+        throttle = Client(port, "COMMAND")
+        for pause in (0, 0.5):
+            time.sleep(pause)
+            throttle.socket.sendall(b"SET 1 POWER ON\n")
+            late = time.time() - float(throttle.line().split()[0])
+            if abs(late) > 2:
+                return f"a stamp is {late:.3f} s late"
+    return None
+
+
+def pulse_ends_in_time(program):
+    with served(program) as (port, _):
+        throttle, panel = Client(port, "COMMAND"), Client(port, "INFO")
+        throttle.asks("INIT 1 GA 5 N")
+        begun = time.monotonic()
+        throttle.asks("SET 1 GA 5 0 1 200")
+        panel.hears_until(b" GA 5 0 1\n")
+        panel.hears_until(b" GA 5 0 0\n")
+        took = time.monotonic() - begun
+    return None if 0.19 < took < 0.5 else f"a pulse of 0.2 s took {took:.3f} s"
+
+
+def end_of_a_session_is_answered(program):
+    """The reply comes before the end of the stream, also where commands follow that nobody answers."""
+    with served(program) as (port, _):
+        for rest in (0, 100, 10_000):
+            leaver = Client(port, "COMMAND")
+            leaver.socket.sendall(b"TERM 0 SESSION\n" + b"GET 1 POWER\n" * rest)
+            try:
+                told = leaver.hears_to_the_end()
+            except OSError as fault:
+                return f"with {rest} commands behind it: {fault}"
+            if not re.fullmatch(rb"\d+\.\d{3} 200 OK\n", told):
+                return f"with {rest} commands behind it: {told!r}"
+    return None
+
+
+def slow_reader_gets_every_byte(program):
+    """A session that reads its replies slower than they come, and whose last command ends it."""
+    with served(program) as (port, _):
+        reader = Client(port, "COMMAND", receives=32768)
+        commands = b"GET 1 POWER\n" * REPLIES + b"TERM 0 SESSION\n"
+        sender = threading.Thread(target=reader.socket.sendall, args=(commands,))
+        sender.start()
+        pieces = [reader.begun]
+        try:
+            while piece := reader.socket.recv(32768):
+                pieces.append(piece)
+                time.sleep(0.01)
+        except OSError as fault:
+            return f"got {fault}"
+        sender.join()
+    lines = b"".join(pieces).splitlines(keepends=True)
+    if len(lines) != REPLIES + 1 or not lines[-1].endswith(b" 200 OK\n"):
+        return f"got {len(lines)} of {REPLIES + 1} replies, the last {lines[-1:]!r}"
+    wrong = [line for line in lines[:-1] if not re.fullmatch(rb"\d+\.\d{3} 100 INFO 1 POWER OFF\n", line)]
+    return f"got {wrong[:3]!r}" if wrong else None
+
+
+def peers_that_reset_leave_their_places(program):
+    with served(program) as (port, _):
+        for _ in range(80):
+            peer = Client(port, "COMMAND")
+            peer.socket.setsockopt(socket.SOL_SOCKET, socket.SO_LINGER, RESET)
+            peer.close()
+        time.sleep(1)
+        for place in range(64):
+            peer = socket.create_connection(("127.0.0.1", port), timeout=SECONDS)
+            if peer.recv(100) != WELCOME:
+                return f"place {place} is not free"
+            kept = [peer] if place == 0 else [*kept, peer]
+    return None
+
+
+def half_closed_panel_is_served(program):
+    """A panel that sends no more is listed every row, and then the stream ends."""
+    with served(program) as (port, _):
+        throttle = Client(port, "COMMAND")
+        throttle.asks_many([f"INIT 1 GL {address} N 1 28 5" for address in range(1, ROWS + 1)])
+        with socket.create_connection(("127.0.0.1", port), timeout=SECONDS) as panel:
+            panel.sendall(b"SET CONNECTIONMODE SRCP INFO\nGO\n")
+            panel.shutdown(socket.SHUT_WR)
+            told = b"".join(iter(lambda: panel.recv(1 << 20), b""))
+        listed = Client(port, "INFO").hears_until(b" 1 FB 8 0\n")
+    # Before its rows come the welcome line and two replies.
+    got, want = len(rows_of(told)) - 3, len(rows_of(listed))
+    return None if got == want else f"{got} of {want} lines"
+
+
+def reads_to_the_end(panel, ended):
+    """Reads what a panel is told; notes the panel where the server closes it."""
+    try:
+        while panel.socket.recv(1 << 20):
+            pass
+        ended.append(panel.session)
+    except OSError:
+        pass
+
+
+def pipelines(throttle, address, end):
+    """Sends commands a hundred at a time until that moment."""
+    while time.monotonic() < end:
+        throttle.asks_many([f"SET 1 GL {address} 1 {speed % 29} 28" for speed in range(100)])
+
+
+def panels_that_read_are_kept(program):
+    """However many sessions send without end, no panel that reads is closed."""
+    with served(program) as (port, _):
+        first = Client(port, "COMMAND")
+        first.asks(*(f"INIT 1 GL {address} N 1 28 5" for address in range(1, SESSIONS + 1)))
+        panels = [Client(port, "INFO") for _ in range(PANELS)]
+        throttles = [Client(port, "COMMAND") for _ in range(SESSIONS)]
+        ended, end = [], time.monotonic() + 3
+        readers = [threading.Thread(target=reads_to_the_end, args=(panel, ended)) for panel in panels]
+        senders = [threading.Thread(target=pipelines, args=(throttle, address, end))
+                   for address, throttle in enumerate(throttles, 1)]
+        for thread in readers + senders:
+            thread.start()
+        for thread in senders:
+            thread.join()
+        closed = list(ended)
+        for panel in panels:
+            panel.socket.shutdown(socket.SHUT_RDWR)
+        for thread in readers:
+            thread.join()
+    return f"{len(closed)} of {PANELS} panels were closed" if closed else None
+
+
+DOOR_CASES = (listens_on_the_loopback_alone, stamps_are_the_time, pulse_ends_in_time, end_of_a_session_is_answered,
+              slow_reader_gets_every_byte, peers_that_reset_leave_their_places, half_closed_panel_is_served,
+              panels_that_read_are_kept)
