@@ -1,10 +1,6 @@
-pub mod Ahead
 pub mod Calls
-pub mod Ends
 pub mod Given
 pub mod Listening
-pub mod Moments
-pub mod Pacing
 pub mod Places
 pub mod Serving
 pub mod Tally

@@ -3,17 +3,10 @@
 ghost use Rattle.std.specs.Prelude.{◌≡◌, IfOk};
 ghost use Rattle.srcp_serve.specs.Calls.{one_more};
 
-mod ending;
 mod fault;
-mod held;
 mod leaving;
-mod link;
-mod pacing;
 mod peer;
-mod read_ahead;
-mod replies;
 mod sockets;
-mod timekeeper;
 
 use crate::door::{Door, DoorFault, Got};
 use crate::tally::Tally;
@@ -21,13 +14,12 @@ pub use fault::ListenFault;
 use fault::fault_of;
 use mio::Poll;
 use mio::net::TcpListener;
-use read_ahead::Given;
 use sockets::Sockets;
+use srcp_door::{Given, Timekeeper};
 use std::alloc::Global;
 use std::io;
 use std::net::{Ipv4Addr, Net, SocketAddr};
 use std::time::{Clock, Duration};
-use timekeeper::Timekeeper;
 
 /// How long the door delivers what was taken after serving ended, in milliseconds.
 const LAST_WAIT: u64 = 10_000;

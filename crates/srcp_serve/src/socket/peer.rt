@@ -1,14 +1,11 @@
 //! A peer with its socket.
 
 ghost use Rattle.std.specs.Prelude.{◌≡◌, ◌<◌, ◌≤◌, ℕ, IfOk, length};
-ghost use Rattle.srcp_serve.specs.declared.socket.read_ahead.Given.{Given};
+ghost use Rattle.srcp_door.specs.declared.read_ahead.Given.{Given};
 
-use super::held::{HandedOver, MOST_GATHERED};
-use super::link::Link;
-use super::pacing::Pacing;
-use super::read_ahead::{Filled, Given, Input};
 use mio::event::Event;
 use mio::net::TcpStream;
+use srcp_door::{Filled, Given, HandedOver, Input, Link, MOST_GATHERED, Pacing};
 use std::alloc::{AllocError, Global};
 use std::net::Shutdown;
 

@@ -1,14 +1,13 @@
 //! The sockets of a door, and the lines that are let through in a turn.
 
 ghost use Rattle.std.specs.Prelude.{◌≡◌, ◌<◌, ◌≤◌, ℕ, Ok, None, IfOk, IfSome, OnErr, length};
-ghost use Rattle.srcp_serve.specs.declared.socket.read_ahead.Given.{Given};
+ghost use Rattle.srcp_door.specs.declared.read_ahead.Given.{Given};
 
 use super::leaving::Leaving;
-use super::pacing::Pacing;
 use super::peer::Peer;
-use super::read_ahead::Given;
 use mio::net::{TcpListener, TcpStream};
 use mio::{Events, Interest, Poll, Token};
+use srcp_door::{Given, Pacing};
 use std::alloc::Global;
 use std::io;
 use std::io::ErrorKind;

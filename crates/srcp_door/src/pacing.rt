@@ -1,26 +1,26 @@
 //! How many lines are let through in a turn.
 
 ghost use Rattle.std.specs.Prelude.{◌≡◌, ◌<◌, ◌≤◌, ◌+◌, ◌↔◌, ◌⊎◌, true, false, cond, IsTrue, length, slice_index, take};
-ghost use Rattle.srcp_serve.specs.Pacing.{Budget, line_weight, line_after, seen_after, seen_of, weight_of};
+ghost use Rattle.srcp_door.specs.Pacing.{Budget, line_weight, line_after, seen_after, seen_of, weight_of};
 
 use std::marker::Model;
 
 /// How much the lines of a turn weigh at most while a panel is there. Between two visits of a panel the lines of two
 /// turns meet, so 176 of the 256 changes that may wait for it are made by them.
-pub(super) const MOST_WEIGHT: usize = 88;
+pub const MOST_WEIGHT: usize = 88;
 
 /// How much the lines of a turn weigh at most while no panel is there: more than 64 peers can be read of in a turn.
-pub(super) const MOST_UNPACED: usize = 1_000_000;
+pub const MOST_UNPACED: usize = 1_000_000;
 
 /// How many changes a line makes at most, which is its weight. One that begins like SET, GET or CHECK makes one.
-pub(super) const HEAVY: usize = 11;
+pub const HEAVY: usize = 11;
 
 /// What ends a line.
 const LINE_END: u8 = b'\n';
 
 /// The line of a peer that was handed out last.
 #[derive(Clone, Copy)]
-pub(super) enum Line {
+pub enum Line {
     /// It ended, or there was none.
     Ended,
     /// It has an S, G or C in front, and no end.
@@ -54,7 +54,7 @@ impl Line {
 
 /// A peer's share of the lines.
 #[derive(Clone, Copy)]
-pub(super) struct Share {
+pub struct Share {
     /// The line that was handed out last.
     pub line: Line,
     /// Whether the peer got a line since the marks were cleared.
@@ -98,7 +98,7 @@ struct Front {
 /// How much the lines that are let through may still weigh in this turn, whether a peer was refused its first one, and
 /// whether the end of a peer may still be told. Seen as a record of the three.
 #[derive(Drop)]
-pub(super) struct Pacing {
+pub struct Pacing {
     left: usize,
     refused: bool,
     end: bool,
@@ -106,8 +106,8 @@ pub(super) struct Pacing {
 
 impl Model for Pacing {
     ghost use Rattle.std.specs.Prelude.{◌<◌, ◌≤◌, IsTrue};
-    ghost use Rattle.srcp_serve.specs.Pacing.{Budget};
-    ghost use Rattle.srcp_serve.specs.declared.socket.pacing.TheConstants.{MOST_UNPACED, HEAVY};
+    ghost use Rattle.srcp_door.specs.Pacing.{Budget};
+    ghost use Rattle.srcp_door.specs.declared.pacing.TheConstants.{MOST_UNPACED, HEAVY};
 
     ghost Value = { Budget };
 
@@ -118,7 +118,7 @@ impl Model for Pacing {
 
 impl Pacing {
     /// Lets nothing through before the first turn.
-    pub(super) fn new() -> Pacing
+    pub fn new() -> Pacing
         ensures { result ≡ record { left = 0; refused = false; end = false } }
     {
         Pacing {
@@ -130,7 +130,7 @@ impl Pacing {
 
     /// Begins a turn, with all its lines to be let through. Returns whether every peer that asked for a line since the marks
     /// were cleared got one: they are to be cleared then.
-    pub(super) fn begin_turn(&mut self, panel: bool) -> bool
+    pub fn begin_turn(&mut self, panel: bool) -> bool
         ensures budget { self.new ≡ record { left = cond panel MOST_WEIGHT MOST_UNPACED; refused = false; end = true } }
         ensures round { IsTrue result ↔ self.old.refused ≡ false }
     {
@@ -143,7 +143,7 @@ impl Pacing {
 
     /// Returns how many bytes of a peer's piece may be handed out now. A peer that has its mark gets no line, and one that
     /// gets a line gets its mark. Bytes that end no line may always be handed out.
-    pub(super) fn allow(&mut self, share: &mut Share, piece: &[u8]) -> usize
+    pub fn allow(&mut self, share: &mut Share, piece: &[u8]) -> usize
         ensures within { result ≤ length piece.now }
         ensures spent { weight_of share.old.line (take result piece.now) + self.new.left ≡ self.old.left }
         ensures line { share.new.line ≡ (seen_of share.old.line (take result piece.now)).line }
@@ -167,7 +167,7 @@ impl Pacing {
     }
 
     /// Returns whether the end of a peer may be told now, which is then the one of this turn.
-    pub(super) fn allow_end(&mut self) -> bool
+    pub fn allow_end(&mut self) -> bool
         ensures allowed { result ≡ self.old.end }
         ensures new { self.new ≡ record { left = self.old.left; refused = self.old.refused; end = false } }
     {

@@ -1,6 +1,6 @@
 use Rattle.std.proofs.Common.{◌≡◌, ◌≤◌, take}
-use Rattle.srcp_serve.specs.Pacing.{seen_of}
-use Rattle.srcp_serve.proofs.socket.pacing.front_within.Given as goal
+use Rattle.srcp_door.specs.Pacing.{seen_of}
+use Rattle.srcp_door.proofs.pacing.front_within.Given as goal
 
 abbrev pub invariant-loop-count : goal.invariant-loop-count
 invariant-loop-count l = record {

@@ -1,7 +1,7 @@
 //! Whether a peer is a panel.
 
 ghost use Rattle.std.specs.Prelude.{◌≡◌, ◌<◌, ◌-◌, ◌+◌, ◌↔◌, ◌⊎◌, ◌^◌, false, IsTrue, min};
-ghost use Rattle.srcp_serve.specs.Pacing.{lines};
+ghost use Rattle.srcp_door.specs.Pacing.{lines};
 
 /// What ends a line.
 const LINE_END: u8 = b'\n';
@@ -9,7 +9,7 @@ const LINE_END: u8 = b'\n';
 /// How many replies a peer is owed, one for each line that it sent and one for the welcome line. A panel is a peer that was
 /// written more lines than it was owed.
 #[derive(Clone, Copy)]
-pub(super) struct Replies {
+pub struct Replies {
     /// How many lines it is owed.
     pub owed: usize,
     /// Whether it was written more.
@@ -18,7 +18,7 @@ pub(super) struct Replies {
 
 impl Replies {
     /// Returns those of a peer that sent nothing.
-    pub(super) fn new() -> Replies
+    pub fn new() -> Replies
         ensures { result ≡ record { owed = 1; panel = false } }
     {
         Replies {
@@ -28,14 +28,14 @@ impl Replies {
     }
 
     /// Adds the lines that end in bytes that the peer sent.
-    pub(super) fn sent(&mut self, bytes: &[u8])
+    pub fn sent(&mut self, bytes: &[u8])
         ensures { self.new ≡ record { owed = min (self.old.owed + lines bytes.now) (2 ^ 64 - 1); panel = self.old.panel } }
     {
         self.owed = self.owed.saturating_add(lines_of(bytes));
     }
 
     /// Takes off the lines that end in bytes that the peer was written.
-    pub(super) fn written(&mut self, bytes: &[u8])
+    pub fn written(&mut self, bytes: &[u8])
         ensures owed { self.new.owed ≡ self.old.owed - lines bytes.now }
         ensures panel { IsTrue self.new.panel ↔ (IsTrue self.old.panel ⊎ (self.old.owed < lines bytes.now)) }
     {

@@ -3,22 +3,22 @@
 ghost use Rattle.std.specs.Prelude.{◌≡◌, ◌≢◌, ◌↔◌, ◌<◌, ◌≤◌, ◌++◌, ◌⊎◌, [], ℕ, List, IfOk, IsTrue, length, take, drop, min};
 ghost use Rattle.std.specs.Io.{StartsWith};
 ghost use Rattle.std.specs.Io.KnownBytes.{Consumes, IsAtEnd, Keeps, prepend_known};
-ghost use Rattle.srcp_serve.specs.Ahead.{Ahead, given};
+ghost use Rattle.srcp_door.specs.Ahead.{Ahead, given};
 
-use super::held::Held;
+use crate::held::Held;
 use std::alloc::{AllocError, Global};
 use std::io::{ErrorKind, Read};
 use std::marker::Model;
 
 /// How many bytes are read ahead at most.
-pub(super) const MOST_AHEAD: usize = 4_096;
+pub const MOST_AHEAD: usize = 4_096;
 
 /// How many bytes are handed out at once, at most.
-pub(super) const MOST_PIECE: usize = 256;
+pub const MOST_PIECE: usize = 256;
 
 /// What a reader is known to give after what was read.
 #[derive(Clone, Copy, PartialEq, Eq)]
-pub(super) enum Input {
+pub enum Input {
     /// There may be more.
     Open,
     /// It was at its end.
@@ -29,7 +29,7 @@ pub(super) enum Input {
 
 /// What a reader was found to give.
 #[derive(Clone, Copy, PartialEq, Eq)]
-pub(super) enum Filled {
+pub enum Filled {
     /// It was not asked: a whole piece is held, or its input is over.
     Unasked,
     /// It gave bytes, its end or a fault.
@@ -42,7 +42,7 @@ pub(super) enum Filled {
 
 /// What is handed out.
 #[derive(Clone, Copy, PartialEq, Eq)]
-pub(super) enum Given {
+pub enum Given {
     /// So many bytes, at the front of the buffer; at least one.
     Bytes(usize),
     /// Nothing now.
@@ -55,13 +55,13 @@ pub(super) enum Given {
 
 /// Bytes that were read ahead. Seen as a record of those bytes and what is known of the input.
 #[derive(Drop)]
-pub(super) struct ReadAhead {
+pub struct ReadAhead {
     held: Held<MOST_AHEAD>,
     input: Input,
 }
 
 impl Model for ReadAhead {
-    ghost use Rattle.srcp_serve.specs.Ahead.{Ahead};
+    ghost use Rattle.srcp_door.specs.Ahead.{Ahead};
 
     ghost Value = { Ahead };
 
@@ -73,7 +73,7 @@ impl ReadAhead {
     ///
     /// # Errors
     /// Where memory is refused.
-    pub(super) fn new(alloc: Global) -> Result<ReadAhead, AllocError>
+    pub fn new(alloc: Global) -> Result<ReadAhead, AllocError>
         ensures { IfOk result (λ ahead. ahead ≡ record { bytes = []; input = Input.Open }) }
     {
         Ok(ReadAhead {
@@ -84,7 +84,7 @@ impl ReadAhead {
 
     /// Reads once, as much as there is space for, where less than a piece is held. What is held and what the reader has left
     /// is together what it was.
-    pub(super) fn fill<R: Read>(&mut self, reader: &mut R) -> Filled
+    pub fn fill<R: Read>(&mut self, reader: &mut R) -> Filled
         ensures whole { Keeps (prepend_known self.old.bytes (R.remaining reader.old)) (prepend_known self.new.bytes (R.remaining reader.new)) }
         ensures held { StartsWith self.new.bytes self.old.bytes }
         ensures read { Consumes (R.remaining reader.old) (R.remaining reader.new) (drop (length self.old.bytes) self.new.bytes) }
@@ -123,7 +123,7 @@ impl ReadAhead {
 
     /// Returns the bytes that come next, at most so many.
     #[tactic(auto, using(std::proofs::lemmas::List::take_min))]
-    pub(super) fn piece(&self, most: usize) -> &[u8]
+    pub fn piece(&self, most: usize) -> &[u8]
         ensures { result.now ≡ take most self.now.bytes }
     {
         let held = self.held.front();
@@ -131,35 +131,35 @@ impl ReadAhead {
     }
 
     /// Returns whether nothing is held.
-    pub(super) fn is_empty(&self) -> bool
+    pub fn is_empty(&self) -> bool
         ensures { IsTrue result ↔ self.now.bytes ≡ [] }
     {
         self.held.is_empty()
     }
 
     /// Returns what the reader is known to give after what was read.
-    pub(super) fn input(&self) -> Input
+    pub fn input(&self) -> Input
         ensures { result ≡ self.now.input }
     {
         self.input
     }
 
     /// Returns whether nothing is held of a reader that was at its end.
-    pub(super) fn is_over(&self) -> bool
+    pub fn is_over(&self) -> bool
         ensures { IsTrue result ↔ ((self.now.bytes ≡ []) × (self.now.input ≡ Input.Ended)) }
     {
         self.held.is_empty() && self.input == Input::Ended
     }
 
     /// Drops what is held.
-    pub(super) fn forget(&mut self)
+    pub fn forget(&mut self)
         ensures { self.new ≡ record { bytes = []; input = self.old.input } }
     {
         self.held.drop_front(self.held.len());
     }
 
     /// Moves bytes into the front of a buffer, at most so many.
-    pub(super) fn hand_out(&mut self, most: usize, buffer: &mut [u8]) -> Given
+    pub fn hand_out(&mut self, most: usize, buffer: &mut [u8]) -> Given
         ensures bytes { self.old.bytes ≡ given result buffer.new ++ self.new.bytes }
         ensures handed { given result buffer.new ≡ take (min most (length buffer.old)) self.old.bytes }
         ensures count { (n : ℕ) → result ≡ Given.Bytes n → (0 < n) × (n ≡ min most (min (length buffer.old) (length self.old.bytes))) }

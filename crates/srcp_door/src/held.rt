@@ -10,14 +10,14 @@ use std::vec::Vec;
 
 /// How many bytes of a peer are gathered at most. It holds the 300 lines of 126 bytes that a peer is written in a turn at
 /// most.
-pub(super) const MOST_GATHERED: usize = 40_960;
+pub const MOST_GATHERED: usize = 40_960;
 
 /// What a peer was written that its socket did not take yet.
-pub(super) type Gathered = Held<MOST_GATHERED>;
+pub type Gathered = Held<MOST_GATHERED>;
 
 /// Bytes in the order in which they came, at most so many. Seen as a list.
 #[derive(Drop)]
-pub(super) struct Held<const MOST: usize> {
+pub struct Held<const MOST: usize> {
     bytes: Vec<u8>,
 }
 
@@ -33,7 +33,7 @@ impl<const MOST: usize> Model for Held<MOST> {
 
 /// What became of held bytes that a writer was handed.
 #[derive(Clone, Copy, PartialEq, Eq)]
-pub(super) enum HandedOver {
+pub enum HandedOver {
     /// None is left.
     All,
     /// Some are left, which the writer takes later.
@@ -49,7 +49,7 @@ impl<const MOST: usize> Held<MOST> {
     ///
     /// # Errors
     /// Where memory is refused.
-    pub(super) fn new(alloc: Global) -> Result<Held<MOST>, AllocError>
+    pub fn new(alloc: Global) -> Result<Held<MOST>, AllocError>
         ensures { IfOk result (λ held. held ≡ []) }
     {
         Ok(Held {
@@ -58,7 +58,7 @@ impl<const MOST: usize> Held<MOST> {
     }
 
     /// Returns how many are held.
-    pub(super) fn len(&self) -> usize
+    pub fn len(&self) -> usize
         ensures count { result ≡ length self.now }
         ensures most { result ≤ MOST }
     {
@@ -66,21 +66,21 @@ impl<const MOST: usize> Held<MOST> {
     }
 
     /// Returns whether none is held.
-    pub(super) fn is_empty(&self) -> bool
+    pub fn is_empty(&self) -> bool
         ensures { result ≡ (length self.now == 0) }
     {
         self.bytes.is_empty()
     }
 
     /// Returns how many more would be taken.
-    pub(super) fn space(&self) -> usize
+    pub fn space(&self) -> usize
         ensures { result ≡ MOST - length self.now }
     {
         MOST - self.bytes.len()
     }
 
     /// Takes bytes, as many as there is space for, and returns how many those are.
-    pub(super) fn take(&mut self, bytes: &[u8]) -> usize
+    pub fn take(&mut self, bytes: &[u8]) -> usize
         ensures count { result ≡ min (length bytes.now) (MOST - length self.old) }
         ensures held { self.new ≡ self.old ++ take result bytes.now }
     {
@@ -90,14 +90,14 @@ impl<const MOST: usize> Held<MOST> {
     }
 
     /// Returns the bytes, the one that came first in front.
-    pub(super) fn front(&self) -> &[u8]
+    pub fn front(&self) -> &[u8]
         ensures { result.now ≡ self.now }
     {
         &self.bytes
     }
 
     /// Drops so many, from the first on.
-    pub(super) fn drop_front(&mut self, count: usize)
+    pub fn drop_front(&mut self, count: usize)
         requires { count ≤ length self.old }
         ensures { self.new ≡ drop count self.old }
     {
@@ -108,7 +108,7 @@ impl<const MOST: usize> Held<MOST> {
 
     /// Writes the bytes once, as many as the writer takes now. Whatever it answers, what it has and what is held is together
     /// what it was.
-    pub(super) fn hand_over<W: Write>(&mut self, writer: &mut W) -> HandedOver
+    pub fn hand_over<W: Write>(&mut self, writer: &mut W) -> HandedOver
         ensures whole { Keeps (append_known (W.contents writer.old) self.old) (append_known (W.contents writer.new) self.new) }
         ensures handed { Appends (W.contents writer.old) (W.contents writer.new) (take (length self.old - length self.new) self.old) }
         ensures rest { self.new ≡ drop (length self.old - length self.new) self.old }

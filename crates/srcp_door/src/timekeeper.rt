@@ -1,7 +1,7 @@
 //! Moments that never go back.
 
 ghost use Rattle.std.specs.Prelude.{◌≡◌, ◌<◌, ◌≤◌, ◌+◌, ◌*◌, ◌↔◌, IsTrue, max};
-ghost use Rattle.srcp_serve.specs.Moments.{Moments, next_moment, target};
+ghost use Rattle.srcp_door.specs.Moments.{Moments, next_moment, target};
 
 use std::marker::Model;
 
@@ -17,14 +17,14 @@ const MOST_BEHIND: u64 = STEP * MOST_STEPS;
 /// Tells moments in milliseconds since 1970: the wall clock at the start, and what elapsed since on a clock that is never
 /// set. Seen as a record of the two clocks at the start and the moment that was told last.
 #[derive(Drop)]
-pub(super) struct Timekeeper {
+pub struct Timekeeper {
     wall: u64,
     start: u64,
     last: u64,
 }
 
 impl Model for Timekeeper {
-    ghost use Rattle.srcp_serve.specs.Moments.{Moments};
+    ghost use Rattle.srcp_door.specs.Moments.{Moments};
 
     ghost Value = { Moments };
 
@@ -33,7 +33,7 @@ impl Model for Timekeeper {
 
 impl Timekeeper {
     /// Begins with the wall clock and the other one at the start.
-    pub(super) fn new(wall: u64, start: u64) -> Timekeeper
+    pub fn new(wall: u64, start: u64) -> Timekeeper
         ensures { result ≡ record { wall = wall; start = start; last = wall } }
     {
         Timekeeper {
@@ -44,7 +44,7 @@ impl Timekeeper {
     }
 
     /// Returns the moment to be told, where the clock that is never set shows so many milliseconds.
-    pub(super) fn tell(&mut self, elapsed: u64) -> u64
+    pub fn tell(&mut self, elapsed: u64) -> u64
         ensures told { result ≡ next_moment STEP MOST_BEHIND self.old.last (target self.old elapsed) }
         ensures new { self.new ≡ record { wall = self.old.wall; start = self.old.start; last = result } }
         ensures forward { self.old.last ≤ result }
@@ -61,7 +61,7 @@ impl Timekeeper {
     }
 
     /// Returns whether the moment that was told last is behind the time.
-    pub(super) fn is_late(&self, elapsed: u64) -> bool
+    pub fn is_late(&self, elapsed: u64) -> bool
         ensures { IsTrue result ↔ self.now.last < target self.now elapsed }
     {
         self.last < self.wall.saturating_add(elapsed.saturating_sub(self.start))

@@ -1,7 +1,7 @@
 -- When the end of a peer may be told.
 use Rattle.std.specs.Prelude.{Bool, cond}
-use Rattle.srcp_serve.specs.declared.socket.ending.Ending.{Ending}
-use Rattle.srcp_serve.specs.declared.socket.ending.Ending.TheVariants.{Open, Quiet, Written, Told}
+use Rattle.srcp_door.specs.declared.ending.Ending.{Ending}
+use Rattle.srcp_door.specs.declared.ending.Ending.TheVariants.{Open, Quiet, Written, Told}
 
 -- the state after a turn's begin, where `ended` says that the peer's input is over and none of it held, and `gathered`
 -- that something is gathered for it

@@ -2,23 +2,23 @@
 
 ghost use Rattle.std.specs.Prelude.{◌≡◌, ◌≢◌, ◌↔◌, ◌<◌, ◌≤◌, ◌+◌, ◌-◌, ◌++◌, ◌==◌, ◌⊎◌, [], true, false, not, cond, Bool, ℕ, IfOk, IfSome, IfNone, IsTrue, length, take, drop, min};
 ghost use Rattle.std.specs.Io.KnownBytes.{Keeps, append_known, prepend_known};
-ghost use Rattle.srcp_serve.specs.Ahead.{Ahead, given};
-ghost use Rattle.srcp_serve.specs.Pacing.{Budget, lines, seen_of, weight_of};
-ghost use Rattle.srcp_serve.specs.Ends.{begun, written};
-ghost use Rattle.srcp_serve.specs.declared.socket.ending.Ending.{Ending};
-ghost use Rattle.srcp_serve.specs.declared.socket.read_ahead.Input.{Input};
+ghost use Rattle.srcp_door.specs.Ahead.{Ahead, given};
+ghost use Rattle.srcp_door.specs.Pacing.{Budget, lines, seen_of, weight_of};
+ghost use Rattle.srcp_door.specs.Ends.{begun, written};
+ghost use Rattle.srcp_door.specs.declared.ending.Ending.{Ending};
+ghost use Rattle.srcp_door.specs.declared.read_ahead.Input.{Input};
 
-use super::ending::Ending;
-use super::held::{Gathered, HandedOver, Held, MOST_GATHERED};
-use super::pacing::{HEAVY, Line, Pacing, Share};
-use super::read_ahead::{Filled, Given, Input, MOST_PIECE, ReadAhead};
-use super::replies::Replies;
+use crate::ending::Ending;
+use crate::held::{Gathered, HandedOver, Held, MOST_GATHERED};
+use crate::pacing::{HEAVY, Line, Pacing, Share};
+use crate::read_ahead::{Filled, Given, Input, MOST_PIECE, ReadAhead};
+use crate::replies::Replies;
 use std::alloc::{AllocError, Global};
 use std::io::{Read, Write};
 
 /// What a door keeps of a peer.
 #[derive(Drop)]
-pub(super) struct Link {
+pub struct Link {
     /// What it was written that its socket did not take yet.
     pub gathered: Gathered,
     /// What was read of it.
@@ -39,7 +39,7 @@ impl Link {
     ///
     /// # Errors
     /// Where memory is refused.
-    pub(super) fn new(alloc: Global) -> Result<Link, AllocError>
+    pub fn new(alloc: Global) -> Result<Link, AllocError>
         ensures { IfOk result (λ link. (link.gathered ≡ []) × (link.ahead.bytes ≡ []) × (link.ending ≡ Ending.Open)
             × (link.share.mark ≡ true) × (link.lost ≡ false)) }
     {
@@ -57,7 +57,7 @@ impl Link {
     }
 
     /// Writes what is gathered, as much of it as the socket takes now.
-    pub(super) fn hand_over<W: Write>(&mut self, writer: &mut W) -> HandedOver
+    pub fn hand_over<W: Write>(&mut self, writer: &mut W) -> HandedOver
         ensures whole { Keeps (append_known (W.contents writer.old) self.old.gathered) (append_known (W.contents writer.new) self.new.gathered) }
         ensures rest { self.new.gathered ≡ drop (length self.old.gathered - length self.new.gathered) self.old.gathered }
         ensures all { self.new.lost ≡ false → (result ≡ HandedOver.All ↔ self.new.gathered ≡ []) }
@@ -74,7 +74,7 @@ impl Link {
     }
 
     /// Reads from its socket, as much as there is space for.
-    pub(super) fn fill<R: Read>(&mut self, reader: &mut R) -> Filled
+    pub fn fill<R: Read>(&mut self, reader: &mut R) -> Filled
         ensures whole { Keeps (prepend_known self.old.ahead.bytes (R.remaining reader.old)) (prepend_known self.new.ahead.bytes (R.remaining reader.new)) }
         ensures same { result ≢ Filled.Something → self.new ≡ self.old }
         ensures asked { self.old.ahead.input ≡ Input.Open → length self.old.ahead.bytes < MOST_PIECE → result ≢ Filled.Unasked }
@@ -85,7 +85,7 @@ impl Link {
     }
 
     /// Begins a turn, after its socket was handed what is gathered and was read. With `clear` its mark is cleared.
-    pub(super) fn begin_turn(&mut self, clear: bool)
+    pub fn begin_turn(&mut self, clear: bool)
         ensures ending { (ended : Bool) → (IsTrue ended ↔ ((self.old.ahead.bytes ≡ []) × (self.old.ahead.input ≡ Input.Ended)))
             → self.new.ending ≡ begun self.old.ending ended (not (length self.old.gathered == 0)) }
         ensures share { self.new.share ≡ record { line = self.old.share.line; mark = cond clear false self.old.share.mark } }
@@ -100,7 +100,7 @@ impl Link {
 
     /// Moves what was read into the buffer, as far as the turn's lines go. Where nothing is held, tells its end where that is
     /// due and the turn told no other.
-    pub(super) fn read(&mut self, pacing: &mut Pacing, buffer: &mut [u8]) -> Given
+    pub fn read(&mut self, pacing: &mut Pacing, buffer: &mut [u8]) -> Given
         ensures bytes { self.old.ahead.bytes ≡ given result buffer.new ++ self.new.ahead.bytes }
         ensures spent { weight_of self.old.share.line (given result buffer.new) + pacing.new.left ≡ pacing.old.left }
         ensures line { self.new.share.line ≡ (seen_of self.old.share.line (given result buffer.new)).line }
@@ -127,7 +127,7 @@ impl Link {
     }
 
     /// Returns whether a read has something to hand out or to tell now or in the next turn.
-    pub(super) fn has_more(&self) -> bool
+    pub fn has_more(&self) -> bool
         ensures { IsTrue result ↔ ((self.now.ahead.bytes ≢ []) ⊎ (self.now.lost ≡ true) ⊎ (self.now.ahead.input ≡ Input.Failed)
             ⊎ (self.now.ending ≢ Ending.Open) × (self.now.gathered ≡ [])) }
     {
@@ -138,7 +138,7 @@ impl Link {
     }
 
     /// Returns whether something is gathered that its socket may still take.
-    pub(super) fn is_owed(&self) -> bool
+    pub fn is_owed(&self) -> bool
         ensures { IsTrue result ↔ ((self.now.lost ≡ false) × (self.now.gathered ≢ [])) }
     {
         !self.lost && !self.gathered.is_empty()
@@ -176,7 +176,7 @@ impl Link {
     }
 
     /// Takes bytes for it, as many as there is space for, and returns how many. What is written to a lost peer goes nowhere.
-    pub(super) fn write(&mut self, bytes: &[u8]) -> usize
+    pub fn write(&mut self, bytes: &[u8]) -> usize
         ensures count { result ≡ cond self.old.lost (length bytes.now) (min (length bytes.now) (MOST_GATHERED - length self.old.gathered)) }
         ensures gathered { self.new.gathered ≡ cond self.old.lost self.old.gathered (self.old.gathered ++ take result bytes.now) }
         ensures others { self.new ≡ record { gathered = self.new.gathered; ahead = self.old.ahead; ending = self.new.ending; share = self.old.share; replies = self.new.replies; lost = self.old.lost } }

@@ -1,12 +1,12 @@
 //! When the end of a peer is told.
 
 ghost use Rattle.std.specs.Prelude.{◌≡◌, ◌≢◌, ◌↔◌, ◌⊎◌, true, false};
-ghost use Rattle.srcp_serve.specs.Ends.{begun, written};
+ghost use Rattle.srcp_door.specs.Ends.{begun, written};
 
 /// How far a peer is on the way to its end, which is told only after a turn in which no write to it was asked, with
 /// nothing gathered for it.
 #[derive(Clone, Copy, PartialEq, Eq)]
-pub(super) enum Ending {
+pub enum Ending {
     /// Its input is not over.
     Open,
     /// Its input is over, and no write to it was asked since the turn began.
@@ -20,7 +20,7 @@ pub(super) enum Ending {
 impl Ending {
     /// Returns what follows the begin of a turn, where `ended` says that the input is over and none of it held, and `gathered` that
     /// something is gathered for the peer.
-    pub(super) fn begin_turn(self, ended: bool, gathered: bool) -> Ending
+    pub fn begin_turn(self, ended: bool, gathered: bool) -> Ending
         ensures next { result ≡ begun self ended gathered }
         ensures told { result ≡ Ending.Told ↔ ((self ≡ Ending.Quiet) ⊎ (self ≡ Ending.Told)) × (gathered ≡ false) }
         ensures open { result ≡ Ending.Open ↔ (self ≡ Ending.Open) × (ended ≡ false) }
@@ -36,7 +36,7 @@ impl Ending {
     }
 
     /// Returns what follows a write that was asked.
-    pub(super) fn written(self) -> Ending
+    pub fn written(self) -> Ending
         ensures next { result ≡ written self }
         ensures untold { (result ≢ Ending.Told) × (result ≢ Ending.Quiet) }
         ensures open { result ≡ Ending.Open ↔ self ≡ Ending.Open }

@@ -1,8 +1,8 @@
 -- How much lines weigh, and what is seen of the pacing.
 use Rattle.std.specs.Prelude.{ℕ, Bool, List, ◌+◌, ◌==◌, ◌||◌, cond, fold, count_by}
-use Rattle.srcp_serve.specs.declared.socket.pacing.Line.{Line}
-use Rattle.srcp_serve.specs.declared.socket.pacing.Line.TheVariants.{Ended, Light, Heavy}
-use Rattle.srcp_serve.specs.declared.socket.pacing.Seen.{Seen}
+use Rattle.srcp_door.specs.declared.pacing.Line.{Line}
+use Rattle.srcp_door.specs.declared.pacing.Line.TheVariants.{Ended, Light, Heavy}
+use Rattle.srcp_door.specs.declared.pacing.Seen.{Seen}
 
 -- how much may still be let through in this turn, whether a peer was refused its first line, and whether the end of a
 -- peer may still be told

@@ -1,0 +1,4 @@
+pub mod Ahead
+pub mod Ends
+pub mod Moments
+pub mod Pacing
