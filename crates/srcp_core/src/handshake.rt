@@ -21,8 +21,8 @@ pub(crate) enum Greeting {
     Refuses(Code),
 }
 
-/// What the line asks for, or the refusal that answers it. The lines and their codes are of SRCP 0.8; that they may
-/// come in any order, and which refusal comes first, is our own choice.
+/// Returns what the line asks for, or the refusal that answers it. The lines and their codes are of SRCP 0.8. They may
+/// come in any order.
 pub(crate) fn greet(line: &[u8]) -> Greeting
     ensures { result ≡ greets (Line line.now) }
 {

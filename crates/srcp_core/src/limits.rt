@@ -1,4 +1,4 @@
-//! The limits of a core, which are our own choice.
+//! The limits of a core. SRCP 0.8 has none of them.
 
 /// How many connections may be open at once.
 pub const MOST_CONNECTIONS: usize = 64;

@@ -93,8 +93,8 @@ impl<'a, R: Rows> Core<'a, R> {
     }
 
     /// Opens a connection, and returns its key. The memory of its reply buffer is taken whole, before
-    /// anything changes; the welcome line, which is of SRCP 0.8, stands in it. `Full` where 64 connections are open,
-    /// which is our own choice; `Memory` where the growth was refused, which is counted. Either leaves all else as it
+    /// anything changes. The welcome line, which is of SRCP 0.8, stands in it. Fails with `Full` if 64 connections are
+    /// open, and with `Memory` if memory is refused, which is counted. Either leaves all else as it
     /// is. Its laws are `opened`, `not_opened`, `accepts`, `refuses`, `named` and `counted` of `laws::calls_follow`.
     pub fn connect(&mut self) -> Result<usize, CoreFault>
         ensures admitted { IfOk result (λ key. IsAdmitted key self.old self.new) }

@@ -88,7 +88,7 @@ impl Seen {
     }
 }
 
-/// A front of some bytes.
+/// A prefix of some bytes.
 #[derive(Clone, Copy)]
 struct Front {
     count: usize,

@@ -15,12 +15,11 @@ use srcp_rules::{Memory, Rows};
 use std::alloc::Global;
 use std::marker::Model;
 
-/// How many changes may wait for one session (our own choice).
+/// How many changes may wait for one session.
 const MOST_WAITING: usize = 256;
 
 /// What one information session is given: the changes that wait, then the next rows of its listing.
-/// It holds how far the listing has come and the changes that wait, and no row. What a session is given
-/// in which order is our own choice.
+/// It holds how far the listing has come and the changes that wait, and no row.
 #[derive(Drop)]
 pub struct InfoFeed {
     cursor: Cursor,

@@ -1,4 +1,4 @@
-//! The greatest numbers of rows and lines, which are our own choice where SRCP 0.8 leaves them open.
+//! The greatest numbers of rows and lines.
 
 /// The greatest number of a bus. The least is 1: bus 0 is the server itself.
 pub const GREATEST_BUS: u8 = 250;

@@ -276,9 +276,9 @@ fn told_by(line: &[u8]) -> Change
     }
 }
 
-/// The change whose line this is, without its LF, or `None` where no well-formed change has that
-/// line. Takes no memory. The line's form is that of SRCP 0.8. That a line with another spelling, as
-/// with two spaces, a leading zero or small letters, is none is our own choice.
+/// Returns the change whose line this is, without its LF, or `None` if no well-formed change has that
+/// line. Takes no memory. The line's form is that of SRCP 0.8. A line with another spelling, as with
+/// two spaces, a leading zero or small letters, is none.
 pub fn read_change(line: &[u8]) -> Option<Change>
     ensures { Reads line.now result }
 {

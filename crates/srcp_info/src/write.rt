@@ -179,8 +179,8 @@ fn write_gone(stamp: u64, device: &Device, buffer: &mut LineBuf)
 }
 
 /// Writes the line that tells of a change, with its LF, into an empty buffer. It has at most 126
-/// bytes, and takes no memory. The line's form is that of SRCP 0.8; one space between two words,
-/// numbers without leading zeros and capital letters alone are our own choice.
+/// bytes, and takes no memory. The line's form is that of SRCP 0.8, with one space between two words,
+/// numbers without leading zeros, and capital letters alone.
 pub fn write_change(change: &Change, buffer: &mut LineBuf)
     requires well_formed { IsWellFormed change.now }
     requires empty { buffer.old.items ≡ [] }

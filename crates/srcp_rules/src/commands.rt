@@ -248,9 +248,9 @@ fn answer<R: Rows>(rows: &mut R, sender: Sender, command: &Command) -> Obeyed
     }
 }
 
-/// Does what a command of a session does, and says what came of it: the reply, the changes in
-/// order, and whether the session ends. A command that is refused changes nothing; its reply is the
-/// first of these refusals; which has which code, and their order, are our own choice:
+/// Does what a command of a session does, and returns what came of it: the reply, the changes in
+/// order, and whether the session ends. A command that is refused changes nothing. Its reply is the
+/// first of these refusals:
 /// 1. 416 where what is named is not there: for GET and TERM of a lock the lock, for GET of a session
 ///    its row, and else the device, also for SET and CHECK of a lock; INIT asks for none of them;
 /// 2. 418 where SET or CHECK of a locomotive has more functions than the locomotive;

@@ -54,7 +54,7 @@ pub(crate) fn checked(refusal: Option<Code>) -> Obeyed
     }
 }
 
-/// The moment so many milliseconds later, or the greatest moment, which is our own choice.
+/// Returns the moment so many milliseconds later, at most the greatest moment.
 pub(crate) fn moment_after(moment: u64, milliseconds: u64) -> u64
     ensures { result ≡ moment_after moment milliseconds }
 {

@@ -12,8 +12,8 @@ use srcp_info::{Change, Cursor, Group, Key, Row, Value};
 /// Carries out the first of the changes that the moment brings beyond the cursor, in key order: a
 /// lock that has run out ends, and a port that has been on for its time becomes 0. None where the
 /// moment brings no further change, and the rows are as before. That a port falls back after its
-/// time, and a lock ends after its seconds, is of SRCP 0.8 (GA, LOCK); that it happens at the first
-/// moment handed in that is not before the end, in key order, is our own choice.
+/// time, and a lock ends after its seconds, is of SRCP 0.8 (GA, LOCK). It happens at the first moment
+/// handed in that is not before the end.
 pub fn due_next<R: Rows>(rows: &mut R, moment: u64, cursor: Cursor) -> Option<Change>
     requires whole { IsWhole (R.buses rows.old) (R.state rows.old) }
     ensures change { result ≡ option_map (λ update. update.change) (due_after (R.state rows.old) moment cursor) }
@@ -48,7 +48,7 @@ fn carry_out<R: Rows>(rows: &mut R, moment: u64, row: &Row) -> Change
 
 /// Carries out the first of the changes that the end of a session brings: its locks are taken out
 /// in key order, and its own row last. None where it has neither locks nor a row, and the rows are
-/// as before. That its locks go with a session is of SRCP 0.8 (LOCK); the order is our own choice.
+/// as before. That its locks go with a session is of SRCP 0.8 (LOCK).
 pub fn free_next<R: Rows>(rows: &mut R, session: u32, moment: u64) -> Option<Change>
     requires whole { IsWhole (R.buses rows.old) (R.state rows.old) }
     ensures change { result ≡ option_map (λ update. update.change) (slice_get (freed (R.state rows.old) session moment) 0) }

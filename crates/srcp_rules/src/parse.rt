@@ -54,9 +54,9 @@ fn commanded(buses: &[Bus], mut words: Words<'_>) -> Result<Command, Code>
     directed(buses, operation_of(first)?, words)
 }
 
-/// The command of the layout that a line of a command session is. Keywords are read in capital or
-/// small letters, and words are parted by spaces and tabs. `Err` is the first of these refusals;
-/// which has which code, and their order, are our own choice:
+/// Returns the command of the layout that a line of a command session is. Keywords are read in
+/// capital or small letters, and words are parted by spaces and tabs. `Err` is the first of these
+/// refusals:
 /// 1. 410 where the first word is no operation, or there is none;
 /// 2. 419 where the bus or the group is missing;
 /// 3. 412 where the second word is no number, or neither 0, the server itself, nor a bus of the

@@ -48,7 +48,7 @@ pub(crate) fn row_put(moment: u64, key: Key, value: Value, due: Option<u64>) -> 
     Row { shown, due }
 }
 
-/// The change that a client is told of where the row is set.
+/// The change that tells a client of a row that is set.
 pub(crate) fn put_of(row: &Row) -> Change
     ensures { result ≡ (put_of row.now).change }
 {

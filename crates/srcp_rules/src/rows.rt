@@ -13,8 +13,8 @@ use std::alloc::Global;
 /// How many rows a device has at most: those of an accessory with the most ports.
 pub(crate) const MOST_ROWS: usize = 1 + MOST_PORTS as usize;
 
-/// What keeps the rows of a registry, and the layout that they are of. The order of the rows, by bus,
-/// group, address and port, is our own choice.
+/// What keeps the rows of a registry, and the layout that they are of. The rows are in order of bus,
+/// group, address and port.
 pub trait Rows: Drop {
     /// The buses of the layout.
     ghost buses: { Self → List Bus };
@@ -23,7 +23,7 @@ pub trait Rows: Drop {
     ghost state: { Self → State };
 
     /// The registry of the layout as it begins, at the moment 0: the power of each bus is off and
-    /// its feedback ports are 0. `Err` is want of memory.
+    /// its feedback ports are 0. Fails if memory is refused.
     fn empty(alloc: Global, layout: &Layout) -> Result<Self, Memory>
         ensures layout { IfOk result (λ kept. buses kept ≡ layout.now) }
         ensures rows { IfOk result (λ kept. state kept ≡ opening layout.now 0) };
@@ -36,8 +36,8 @@ pub trait Rows: Drop {
     fn row_after(&self, cursor: Cursor) -> Option<&Row>
         ensures { option_copied result ≡ row_after cursor (state self.now) };
 
-    /// Adds all the rows of one device that is not there, in key order. `Err` is want of memory, and
-    /// the rows are as before.
+    /// Adds all the rows of one device that is not there, in key order. Fails if memory is refused,
+    /// and then the rows are as before.
     fn add(&mut self, added: &[Row]) -> Result<(), Memory>
         requires { (device : Device) × AreNewRowsOf (buses self.old) (state self.old) device added.now }
         ensures layout { buses self.new ≡ buses self.old }
@@ -51,7 +51,7 @@ pub trait Rows: Drop {
         ensures layout { buses self.new ≡ buses self.old }
         ensures rows { state self.new ≡ put_row row (state self.old) };
 
-    /// Takes out the rows of a device of a group that comes and goes; nothing where it has none.
+    /// Takes out the rows of a device of a group that comes and goes, if it has any.
     fn drop_device(&mut self, device: Device)
         requires { IsTrue (can_go device.group) }
         ensures layout { buses self.new ≡ buses self.old }

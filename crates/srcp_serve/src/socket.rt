@@ -33,8 +33,8 @@ const REST: u64 = 8;
 /// Peers over TCP on the machine itself, at 127.0.0.1, with the clock that it was handed. Each peer has a number above
 /// those of all peers before it.
 ///
-/// `now` begins a turn. It writes what is gathered to the sockets, waits 8 milliseconds at most where there is nothing to do, and
-/// reads up to 4,096 bytes of each peer ahead. What a peer is written is gathered, up to 40,960 bytes of it.
+/// `now` begins a turn. It writes what is gathered to the sockets, waits 8 milliseconds at most if there is nothing to do,
+/// and reads up to 4,096 bytes of each peer ahead. What a peer is written is gathered, up to 40,960 bytes of it.
 ///
 /// While a panel is there, the lines that are handed out in a turn weigh at most 88, and the rest waits for the next turns. A
 /// peer whose input ends is told to have ended after a turn that wrote nothing to it. One that is let go is kept aside until
@@ -55,8 +55,8 @@ impl<C: Clock + Drop> SocketDoor<C> {
     /// never set.
     ///
     /// # Errors
-    /// `Port` where the port is taken or refused, the system has no descriptors for it, or a clock can't be read. `Memory` where memory was
-    /// refused. Nothing is listened at then.
+    /// Fails with `Port` if the port is taken or refused, the system has no descriptors for it, or a clock cannot be read,
+    /// and with `Memory` if memory is refused. Then it does not listen.
     pub fn listen<N: Net>(
         net: &N,
         alloc: Global,

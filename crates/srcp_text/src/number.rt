@@ -3,8 +3,8 @@
 ghost use Rattle.std.specs.Prelude.{◌≡◌};
 ghost use Rattle.srcp_text.specs.Words.{number_of, plain_number_of, has_leading_zero};
 
-/// The number that a word writes: one ASCII digit or more and nothing else, leading zeros allowed
-/// (our own choice), and at most `max`. None for any other word.
+/// Returns the number that a word writes: one ASCII digit or more and nothing else, leading zeros
+/// allowed, and at most `max`. Returns `None` for any other word.
 pub fn read_number(word: &[u8], max: u32) -> Option<u32>
     ensures { result ≡ number_of max word.now }
 {

@@ -36,9 +36,9 @@ enum State {
 }
 
 /// Finds the lines of bytes that come in pieces, in whatever pieces they come. The line form is that
-/// of SRCP 0.8: a line ends in LF, and one CR just before the LF is dropped. That at most 1,000 bytes
-/// may stand before the LF, the CR counted, is our own choice. The bytes of a begun line stand in the
-/// value itself, so nothing takes memory.
+/// of SRCP 0.8: a line ends in LF, and one CR just before the LF is dropped. At most 1,000 bytes may
+/// stand before the LF, the CR counted. The bytes of a begun line stand in the value itself, so nothing
+/// takes memory.
 #[derive(Debug, Drop)]
 pub struct LineReader {
     bytes: ArrayVec<u8, 1000>,

@@ -5,8 +5,8 @@ ghost use Rattle.srcp_text.specs.Words.{is_blank, is_filled, is_keyword, words_o
 
 use crate::iter::Words;
 
-/// The words of a line, from its first on. They are cut at runs of space and tab, also at both ends
-/// of the line, and every other byte belongs to a word (our own choice).
+/// Returns the words of a line, from its first on. They are cut at runs of space and tab, also at both
+/// ends of the line, and every other byte belongs to a word.
 pub fn words(line: &[u8]) -> Words<'_>
     ensures words { result ≡ words_of line.now }
     // So they can be counted.

@@ -17,7 +17,6 @@ use std::vec::Vec;
 
 /// What the bytes of a configuration say: the port, and for each bus, by rising number, its groups
 /// with how much there is of each. The ports of an accessory are told where there are more than two.
-/// The form is our own choice.
 ///
 /// # Errors
 /// `Config` for the configuration's first fault, `Memory` where a growth was refused.

@@ -11,7 +11,7 @@ use std::fmt;
 use thiserror::Error;
 
 /// Why the program stops. It prints as what the program tells of it on standard error, behind
-/// `srcp_server: `. The texts are our own choice.
+/// `srcp_server: `.
 #[derive(Clone, Copy, Debug, PartialEq, Eq, Error)]
 pub enum ToolFault {
     /// The standard input fails.

@@ -9,10 +9,10 @@ use std::alloc::Global;
 use std::io::Read;
 use std::vec::Vec;
 
-/// The bytes that may be read of the standard input: our own choice.
+/// How many bytes may be read of the standard input.
 pub(crate) const INPUT_LIMIT: usize = 16_777_216;
 
-/// The bytes that a configuration may have: our own choice.
+/// How many bytes a configuration may have.
 const CONFIG_LIMIT: usize = 1_048_576;
 
 /// The bytes that are asked for at once.

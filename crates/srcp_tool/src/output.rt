@@ -10,7 +10,7 @@ use std::io::Write;
 /// Writes all of a text.
 ///
 /// # Errors
-/// `Output` where a write fails or takes nothing; a front of the text is written then.
+/// `Output` if a write fails or takes nothing; a prefix of the text is written then.
 pub(crate) fn write_whole<W: Write>(writer: &mut W, text: &[u8]) -> Result<(), ToolFault>
     ensures ok { OnOk result (Appends (W.contents writer.old) (W.contents writer.new) text.now) }
     ensures err { IfErr result (λ fault. (fault ≡ ToolFault.Output)

@@ -20,7 +20,7 @@ use std::vec::Vec;
 
 /// What is printed of a run: each connection in the order in which they were opened, with its number
 /// from 1 on, how many bytes it was sent, how it ended, and those bytes; the refused events; and the
-/// rows in key order. The form is our own choice.
+/// rows in key order.
 pub(crate) fn print(alloc: Global, run: &Record) -> Result<Vec<u8>, AllocError>
     requires { AllByRecursion (λ row. IsWellFormedShown row.shown) run.now.rows }
     ensures { IfOk result (λ text. text.items ≡ printed run.now) }

@@ -35,7 +35,7 @@ pub struct ScriptFault {
 }
 
 /// The events of a script, in order. Lines end in LF, the last may lack it; empty lines and lines that
-/// begin with `#` are skipped. The script's form is our own choice.
+/// begin with `#` are skipped.
 ///
 /// # Errors
 /// The first faulty line, and in it the first fault from left to right; `Cause::Memory` only where a

@@ -58,7 +58,7 @@ fn take_lines(alloc: Global, input: &[u8]) -> Result<Mirror, ToolFault>
 /// # Errors
 /// `Input` where a read fails, `TooLarge` where there is more than 16,777,216 bytes, `Line` for the
 /// first line that is no information line, `Memory` where a growth was refused: nothing is written
-/// then. `Output` where a write fails or takes nothing: a front of the rows' lines is written.
+/// then. `Output` if a write fails or takes nothing: a prefix of the rows' lines is written.
 pub fn mirror<R: Read, W: Write>(
     alloc: Global,
     reader: &mut R,

@@ -10,8 +10,8 @@ use srcp_rules::Rows;
 
 impl<'a, R: Rows> Core<'a, R> {
     /// Takes the moment, in milliseconds, where it is not before the one taken last, and carries out every row that
-    /// is due then, in key order: accessories fall back and locks end, as SRCP 0.8 has it. That an earlier moment counts
-    /// as the last one, and the order, are our own choice. Its law is `moment` of `laws::calls_follow`.
+    /// is due then, in key order: accessories fall back and locks end, as SRCP 0.8 has it. An earlier moment counts as the
+    /// last one. Its law is `moment` of `laws::calls_follow`.
     pub fn advance(&mut self, moment: u64)
         ensures { self.new ≡ advanced moment self.old }
     {
@@ -20,8 +20,8 @@ impl<'a, R: Rows> Core<'a, R> {
     }
 
     /// Takes a connection out; then its session ends, where it has one that did not end: its locks are taken out in
-    /// key order, and its own row. That locks end with their session is of SRCP 0.8, the order our own choice. `NoSuch`
-    /// where there is no such connection, and then nothing changes. Its laws are `shut`, `shuts` and `there` of
+    /// key order, and its own row. That locks end with their session is of SRCP 0.8. Fails with `NoSuch` if there is no
+    /// such connection, and then nothing changes. Its laws are `shut`, `shuts` and `there` of
     /// `laws::calls_follow`.
     pub fn hangup(&mut self, conn: usize) -> Result<(), CoreFault>
         ensures absent { MatchResult result (λ _. IsSome (at self.old conn)) (λ fault. (fault ≡ CoreFault.NoSuch) × (at self.old conn ≡ None)) }

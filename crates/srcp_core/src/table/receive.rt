@@ -11,10 +11,10 @@ use srcp_rules::Rows;
 
 impl<'a, R: Rows> Core<'a, R> {
     /// Takes bytes that came in on a connection, of any line's front, middle or end, and answers each line that ends
-    /// in them: before the session by the handshake of SRCP 0.8, after it by its commands; lines to an information
-    /// session are dropped, which is our own choice. Refused, and nothing changes: `NoSuch` where there is no such
-    /// connection, `Closing` where it ended or overran, `Busy` while bytes of it are unsent, `PieceTooLong` for more
-    /// than 256 bytes; the first that applies. These causes, their order and the 256 are our own choice. Its laws are
+    /// in them: before the session by the handshake of SRCP 0.8, after it by its commands. Lines to an information
+    /// session are dropped. Fails with the first of these that applies, and then nothing changes: `NoSuch` if there is
+    /// no such connection, `Closing` if it ended or overran, `Busy` while bytes of it are unsent, `PieceTooLong` for more
+    /// than 256 bytes. Its laws are
     /// `taken`, `refused`, `bytes` and `takes` of `laws::calls_follow`.
     pub fn receive(&mut self, conn: usize, piece: &[u8]) -> Result<(), CoreFault>
         ensures fault { MatchResult result (λ _. bytes_fault conn piece.now self.old ≡ None) (λ fault. bytes_fault conn piece.now self.old ≡ Some fault) }

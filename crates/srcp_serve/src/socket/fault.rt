@@ -8,7 +8,7 @@ use std::io::ErrorKind;
 use std::{fmt, io};
 use thiserror::Error;
 
-/// Why nothing is listened at. The texts are our own choice.
+/// Why nothing is listened at.
 #[derive(Clone, Copy, Debug, PartialEq, Eq, Error)]
 pub enum ListenFault {
     /// The port is taken or refused, or the system has no descriptors for it.

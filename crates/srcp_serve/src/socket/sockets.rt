@@ -74,12 +74,11 @@ impl Sockets {
         self.patience = milliseconds;
     }
 
-    /// Begins a turn: writes what is gathered, waits, and reads what came. It does not wait with `hurry`, or
-    /// where there is something to do. Panels are written to
-    /// once a millisecond, or after a turn in which nothing happened.
+    /// Begins a turn: writes what is gathered, waits, and reads what came. With `hurry`, or if there is something to do, it
+    /// does not wait. Panels are written to once a millisecond, or after a turn in which nothing happened.
     ///
     /// # Errors
-    /// Where the system refused to wait. The turn has begun all the same.
+    /// Fails if the system refuses to wait. The turn has begun all the same.
     pub(super) fn begin_turn(&mut self, now: u64, hurry: bool) -> io::Result<()>
         ensures { self.new.last ≡ self.old.last }
     {
