@@ -1,5 +1,4 @@
--- What the answers of a core's calls say of the course that it stands for.
--- It models the code: the calls of a core cite it, and what `run` promises and the laws of courses do not.
+-- The model of the code: what the answers of a core's calls say of the course that it stands for.
 use Rattle.std.specs.Prelude.{◌≡◌, ℕ, ◌+◌, ◌≤◌, Bool, true, false, not, ◌&&◌, ◌||◌, nat_le, if◌then◌else◌, List, [], ◌∷◌, ◌++◌, length, Option, Some, None, is_some, count_by}
 use Rattle.std.specs.Option.{option_map_or}
 use Rattle.srcp_rules.specs.declared.layout.Bus.{Bus}

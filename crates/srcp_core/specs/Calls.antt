@@ -1,5 +1,4 @@
--- What a core's calls make of the course that it stands for, by the equations that they promise and no more.
--- It models the code: the calls of a core cite it, and what `run` promises and the laws of courses do not.
+-- The model of the code: what a core's calls make of the course that it stands for, by the equations that they promise and no more.
 use Rattle.std.specs.Prelude.{◌≡◌, ℕ, ◌<◌, ◌≤◌, true, false, List, [], ◌∷◌, ◌++◌, length, Some, None, is_none, IsSome}
 use Rattle.srcp_rules.specs.declared.layout.Bus.{Bus}
 use Rattle.srcp_core.specs.Agrees.{OfCourse, OfConnection, NamesNewest, CountsOpen, TakesPieces}

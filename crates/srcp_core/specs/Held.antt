@@ -1,5 +1,4 @@
--- What is seen of a core: the registry, and a place for each connection. The key of a connection is the index of its place.
--- It models the code: the calls of a core cite it, and what `run` promises and the laws of courses do not.
+-- The model of the code: what is seen of a core: the registry, and a place for each connection. The key of a connection is the index of its place.
 use Rattle.std.specs.Prelude.{◌≡◌, ℕ, ◌<◌, ◌≤◌, Bool, true, false, List, Option, Some, None, is_some, count_by, slice_index_or}
 use Rattle.srcp_info.specs.WellFormed.{IsMoment}
 use Rattle.srcp_info.specs.declared.value.Mode.{Mode}

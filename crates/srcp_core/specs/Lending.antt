@@ -1,5 +1,4 @@
--- What a core ends as, once bytes of it are no longer lent.
--- It models the code: the calls of a core cite it, and what `run` promises and the laws of courses do not.
+-- The model of the code: what a core ends as, once bytes of it are no longer lent.
 use mir.Syntax.{named}
 use Rattle.std.specs.Prelude.{◌≡◌, []}
 use Rattle.std.specs.Borrow.{Fml, RattleType, MutBor}

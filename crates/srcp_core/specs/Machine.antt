@@ -1,5 +1,4 @@
--- What each call makes of what is held.
--- It models the code: the calls of a core cite it, and what `run` promises and the laws of courses do not.
+-- The model of the code: what each call makes of what is held.
 use Rattle.std.specs.Prelude.{⊤, ◌≡◌, ◌≢◌, ℕ, zero, suc, ◌+◌, ◌*◌, ◌<◌, ◌≤◌, min, max, Bool, true, false, not, ◌&&◌, ◌||◌, ◌==◌, if◌then◌else◌, List, [], ◌∷◌, ◌++◌, map, drop, length, fold, nat_lt, slice_set, Option, Some, None, Result, Ok, Err}
 use Rattle.std.specs.Option.{option_map, option_to_list}
 use Rattle.srcp_info.specs.Line.{reply_line}

@@ -1,5 +1,4 @@
--- Until which moment no row is due.
--- It models the code: the calls of a core cite it, and what `run` promises and the laws of courses do not.
+-- The model of the code: until which moment no row is due.
 use Rattle.std.specs.Prelude.{ℕ, ◌≤◌, min, fold, Option, IfSome}
 use Rattle.std.specs.Option.{option_map_or}
 use Rattle.std.specs.List.{AllByRecursion}

@@ -1,5 +1,4 @@
--- What a run has told so far.
--- It models the code: the calls of a core cite it, and what `run` promises and the laws of courses do not.
+-- The model of the code: what a run has told so far.
 use Rattle.std.specs.Prelude.{ℕ, zero, suc, false, if◌then◌else◌, List, [], ◌∷◌, ◌++◌, length, Option, Some, None, fold}
 use Rattle.std.specs.Prelude.{slice_get, slice_set, slice_index_or}
 use Rattle.srcp_feed.specs.declared.next.Next.{Next}

@@ -1,5 +1,4 @@
--- What a run keeps beside the course of its events, and what comes of one more event.
--- It models the code: the calls of a core cite it, and what `run` promises and the laws of courses do not.
+-- The model of the code: what a run keeps beside the course of its events, and what comes of one more event.
 use Rattle.std.specs.Prelude.{◌≡◌, ◌+◌, ◌++◌, ◌∷◌, [], ℕ, Bool, true, IsTrue, List, map, take, fold, length, min, Option, Some, None}
 use Rattle.std.specs.List.{AllByRecursion}
 use Rattle.srcp_rules.specs.declared.layout.Bus.{Bus}

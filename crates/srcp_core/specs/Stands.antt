@@ -1,5 +1,4 @@
--- What a core holds, and the course that it stands for.
--- It models the code: the calls of a core cite it, and what `run` promises and the laws of courses do not.
+-- The model of the code: what a core holds, and the course that it stands for.
 use Rattle.std.specs.Prelude.{◌≡◌, ℕ, Bool, true, false, ◌&&◌, if◌then◌else◌, List, [], length, filter, nat_lt, Option, Some, None}
 use Rattle.srcp_info.specs.declared.change.Change.{Change}
 use Rattle.srcp_info.specs.declared.change.Cursor.{Cursor}

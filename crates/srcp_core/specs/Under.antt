@@ -1,5 +1,4 @@
--- What memory answers in each event, and what of that the course of the events takes in.
--- A reader has to believe it: what `run` promises, and the laws of courses, cite it.
+-- To be believed: what memory answers in each event, and what of that the course of the events takes in.
 use Rattle.std.specs.Prelude.{ℕ, ◌+◌, min, fold, Bool, true, false, not, ◌&&◌, ◌||◌, if◌then◌else◌, List, [], ◌∷◌, nat_lt, Result, Ok, Err}
 use Rattle.srcp_info.specs.declared.change.Code.{Code}
 use Rattle.srcp_info.specs.declared.change.Code.TheVariants.{C500}

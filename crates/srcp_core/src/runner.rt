@@ -32,8 +32,8 @@ impl From<Memory> for RunFault {
 /// answered in each event (`grants`), with which the record is that of the course of the events (`is`). Then, of each
 /// information session, however its writes were cut: on a still registry it was sent its listing, each device that was
 /// there all the time is listed exactly once, and a client that applies all lines holds the registry once it is settled
-/// (`sessions`). Every other connection was sent its replies alone (`replies`). Rooms add up, and nothing is sent after an
-/// overrun (`rooms`). The registry stayed whole (`registry`). The record counts exactly the answers that refused (`counted`),
+/// (`sessions`). Every other connection was sent its replies alone, rooms add up, and nothing is sent after an overrun
+/// (`connections`). The registry stayed whole (`registry`). The record counts exactly the answers that refused (`counted`),
 /// each of which was asked for (`asked`). Where it counts none, memory gave in each event (`given`), and the course is the
 /// one with ample memory (`laws::ample_memory`).
 ///

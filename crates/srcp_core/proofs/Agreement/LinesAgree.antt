@@ -22,7 +22,7 @@ use Rattle.srcp_core.specs.Connection.{Connection, is_open, given, untold}
 use Rattle.srcp_core.specs.Course.{World, numbered, at_connection, did, is_info, state, history, command_of, ordered, replied as course_replied, entered, goes as course_goes, greeted as course_greeted, ended as course_ended, obeyed as course_obeyed, commanded as course_commanded, answered_as, answered as course_answered, open_connection}
 use Rattle.srcp_core.specs.Handshake.{Greeting, Speaks, Chooses, Goes, Refuses, greets as greets_of}
 use Rattle.srcp_core.specs.Held.{Place, Held, at}
-use Rattle.srcp_core.specs.Machine.{with_unsent, entered_place, carried, changed_at, replied, session_begun, goes, greeted, freed_of, finished, obeyed, one_denied, denied_line, commanded, asked_of, answered, is_panel, panel_for}
+use Rattle.srcp_core.specs.Machine.{with_unsent, entered_place, carried, changed_at, replied, session_begun, goes, greeted, freed_of, finished, obeyed, one_denied, denied_line, commanded, asked_of, answered, panel_for}
 use Rattle.srcp_core.specs.Recording.{key_of}
 use Rattle.srcp_core.specs.Stands.{StandsBy, place_of}
 use Rattle.srcp_core.specs.declared.line.Asked.{Asked}

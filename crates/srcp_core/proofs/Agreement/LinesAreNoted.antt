@@ -1,5 +1,5 @@
 -- What the recorder notes of the answer to a line is what the course gains.
-use Rattle.std.proofs.Common.{◌≡◌, ℕ, zero, suc, ◌+◌, ◌≤◌, Bool, true, false, List, [], ◌∷◌, ◌++◌, map, take, length, refl, ap, sym, ◌∙◌, subst, append_assoc}
+use Rattle.std.proofs.Common.{◌≡◌, ℕ, zero, suc, ◌+◌, ◌≤◌, Bool, true, false, List, [], ◌∷◌, ◌++◌, map, take, length, refl, ap, sym, ◌∙◌, subst}
 use Rattle.std.proofs.lemmas.List.{take-append-le, map-append, length-map}
 use Rattle.std.specs.Option.{option_map}
 use Rattle.std.specs.Prelude.{Option, Some, None, not, ◌||◌, ◌&&◌, ◌==◌, nat_lt, slice_get, Result, Ok, Err, if◌then◌else◌}
@@ -23,10 +23,10 @@ use Rattle.srcp_core.specs.Connection.{Connection, given, sent}
 use Rattle.srcp_core.specs.Course.{World, numbered, with_numbered, at_connection, did, is_info, state, history, command_of, ordered, replied, entered, goes, greeted, ended, obeyed, commanded, answered_as, answered}
 use Rattle.srcp_core.specs.Handshake.{Greeting, Speaks, Chooses, Goes, Refuses, greets as greets_of}
 use Rattle.srcp_core.specs.Held.{Place, Held, at}
-use Rattle.srcp_core.specs.Machine.{asked_of, steps_gone, steps_greeted, steps_commanded, is_panel, steps_answered}
+use Rattle.srcp_core.specs.Machine.{asked_of, steps_gone, steps_greeted, steps_commanded, steps_answered}
 use Rattle.srcp_core.specs.Recording.{Recording, key_of, record_of, changed_record, changed_in, noted, stepped}
 pub use Rattle.srcp_core.specs.Run.{Tells}
-use Rattle.srcp_core.specs.Stands.{StandsBy, place_of}
+use Rattle.srcp_core.specs.Stands.{StandsBy}
 use Rattle.srcp_core.specs.declared.line.Asked.{Asked}
 use Rattle.srcp_core.specs.declared.line.Asked.TheVariants.{Dropped, Greets, Commands}
 use Rattle.srcp_core.specs.declared.record.ConnRecord.{ConnRecord}

@@ -23,7 +23,7 @@ use Rattle.srcp_info.specs.Client.{IsRisingBy}
 use Rattle.srcp_core.specs.Connection.{Connection, History, cursor_at, untold, unsent, sent, given, text, line_of, is_nil, is_open, owed, front, fitting, available, exhausts, items_of, took, given_room, overran}
 use Rattle.srcp_core.specs.Held.{Place}
 use Rattle.srcp_core.specs.Machine.{filled, item_from, feed_in}
-use Rattle.srcp_core.specs.declared.connection.Panel.TheVariants.{Absent, Listening, Overran}
+use Rattle.srcp_core.specs.declared.connection.Panel.TheVariants.{Listening, Overran}
 use Rattle.srcp_core.specs.Recording.{record_of, with_item}
 use Rattle.srcp_core.specs.Stands.{placed, place_of}
 use Rattle.srcp_core.specs.declared.record.ConnRecord.{ConnRecord}

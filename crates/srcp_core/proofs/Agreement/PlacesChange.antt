@@ -1,5 +1,5 @@
 -- What a call makes of the place of one connection.
-use Rattle.std.proofs.Common.{◌≡◌, ℕ, ◌+◌, ◌≤◌, Bool, true, false, cond, List, [], ◌∷◌, ◌++◌, length, length-append, drop, refl, ap, sym, ◌∙◌, arith, append-nil, append_assoc}
+use Rattle.std.proofs.Common.{◌≡◌, ℕ, ◌+◌, ◌≤◌, Bool, true, false, List, [], ◌∷◌, ◌++◌, length, length-append, drop, refl, ap, sym, ◌∙◌, arith, append-nil, append_assoc}
 use Rattle.std.proofs.lemmas.Bool.Decides.{nat_tests}
 use Rattle.std.proofs.lemmas.List.{length_push, drop-append-le}
 use Rattle.std.specs.List.{filter, fold}
@@ -17,7 +17,7 @@ use Rattle.srcp_core.specs.Connection.{Connection, History, cursor_at, untold, u
 use Rattle.srcp_core.specs.Course.{is_info}
 use Rattle.srcp_core.specs.Held.{Place, place_at}
 use Rattle.srcp_core.specs.Machine.{told_place, told_all, told_each, with_unsent, entered_place, panel_for, has_overrun, is_panel}
-use Rattle.srcp_core.specs.declared.connection.Panel.TheVariants.{Absent, Listening, Overran}
+use Rattle.srcp_core.specs.declared.connection.Panel.TheVariants.{Absent}
 use Rattle.srcp_core.specs.Stands.{placed, place_of, panel_at}
 use Rattle.srcp_core.proofs.CourseLaws.Histories.{concerning_by, concerning_push, cursor_by, cursor_later}
 use Rattle.srcp_core.proofs.CourseLaws.ClientHoldsPassedRows.{Fits, tolds, untold_by}

@@ -12,12 +12,12 @@ use Rattle.srcp_rules.specs.declared.layout.Bus.{Bus}
 use Rattle.srcp_rules.specs.Effect.{Effect, effect as effect_of}
 use Rattle.srcp_rules.specs.State.{State}
 use Rattle.srcp_core.specs.Connection.{Connection}
-use Rattle.srcp_core.specs.Course.{World, history, open_connection, command_of, counted, fault, answered as course_answered, happens, new_marks, at_connection, wants_as, denied_lines, denied_fed, denied_in, denied_over}
+use Rattle.srcp_core.specs.Course.{World, open_connection, command_of, counted, fault, answered as course_answered, happens, new_marks, at_connection, wants_as, denied_lines, denied_fed, denied_in, denied_over}
 use Rattle.srcp_core.specs.Handshake.{Greeting, Speaks, Chooses, Goes, Refuses, greets as greets_of}
 use Rattle.srcp_core.specs.Held.{Place, Held, at}
-use Rattle.srcp_core.specs.Machine.{obeyed, freed_of, changed_at, carried, replied, goes, greeted, session_begun, denied_line, commanded, answered, asked_of, is_panel}
+use Rattle.srcp_core.specs.Machine.{obeyed, freed_of, changed_at, carried, replied, goes, greeted, session_begun, denied_line, commanded, answered, asked_of}
 use Rattle.srcp_core.specs.Recording.{key_of}
-use Rattle.srcp_core.specs.Stands.{StandsBy, place_of}
+use Rattle.srcp_core.specs.Stands.{StandsBy}
 use Rattle.srcp_core.specs.Under.{Event, Heard, lines_under, under, denied_by, wants_memory, greeting_wants, reading_wants}
 use Rattle.srcp_core.specs.declared.line.Asked.{Asked}
 use Rattle.srcp_core.specs.declared.line.Asked.TheVariants.{Dropped, Greets, Commands}

@@ -15,7 +15,7 @@ use Rattle.srcp_feed.specs.declared.next.Next.TheVariants.{Told, Listed, Settled
 use Rattle.srcp_info.proofs.ClientLaws.{key_at}
 use Rattle.srcp_info.specs.Client.{IsRisingBy}
 use Rattle.srcp_core.specs.Under.{step_told}
-use Rattle.srcp_core.specs.Connection.{Connection, History, cursor_at, untold, unsent, sent, given, line_of, is_nil, is_open, owed, front, available, items_of, took as took_room, given_room, overran}
+use Rattle.srcp_core.specs.Connection.{Connection, History, unsent, sent, given, line_of, is_nil, is_open, owed, front, available, items_of, took as took_room, given_room, overran}
 use Rattle.srcp_core.specs.Course.{World, numbered, with_numbered, at_connection, history, rows}
 use Rattle.srcp_core.specs.Held.{Place, Held}
 use Rattle.srcp_core.specs.Laws.{AddsUp}

@@ -3,7 +3,7 @@ use Rattle.std.proofs.Common.{◌≡◌, ℕ, zero, suc, List, [], ◌∷◌, ma
 use Rattle.std.proofs.lemmas.List.{take_all}
 use Rattle.std.proofs.Math.Nat.{le_refl}
 use Rattle.std.specs.List.{AllByRecursion}
-use Rattle.std.specs.Prelude.{Some, slice_get, Result, Ok, Err, IfOk}
+use Rattle.std.specs.Prelude.{true, Some, slice_get, Result, Ok, Err, IfOk}
 use Rattle.srcp_rules.specs.declared.layout.Bus.{Bus}
 use Rattle.srcp_rules.specs.Layout.{IsLayout}
 use Rattle.srcp_rules.specs.State.{State, IsWhole, opening}
@@ -13,12 +13,11 @@ use Rattle.srcp_core.proofs.Agreement.MemoryAnswers.{all_moments, none_of_all}
 use Rattle.srcp_core.specs.declared.event.Event.{Event as PlainEvent}
 use Rattle.srcp_core.specs.Connection.{Connection, recorded}
 use Rattle.srcp_core.specs.Course.{World, course, history, numbered, state, state_after}
-use Rattle.srcp_core.specs.Promised.{record_at, RecordedSessions, RecordedReplies, RecordedRooms, IsRecordedRegistry, IsPromised}
-use Rattle.srcp_core.specs.Laws.{IsRecordOf, IsSession, IsPrefixOf, IsWholeWorld, AllMoments, HasMoment, times_listed, without_events}
+use Rattle.srcp_core.specs.Promised.{record_at, IsRecordedSession, IsRecordedConnection, IsRecordedRegistry, IsPromised}
+use Rattle.srcp_core.specs.Laws.{IsRecordOf, IsSession, IsWholeWorld, AllMoments}
 use Rattle.srcp_core.specs.declared.record.ConnRecord.{ConnRecord}
 use Rattle.srcp_core.specs.declared.record.Record.{Record}
 use Rattle.srcp_core.proofs.CourseLaws.EveryCourse.{told_rightly, served_rightly}
-use Rattle.srcp_core.proofs.CourseLaws.SentLinesAreOneList.{all_front}
 
 -- the registry as it is
 whole_now : (buses : List Bus) (w : World) → IsWholeWorld buses w → IsWhole buses (state buses w)
@@ -36,7 +35,8 @@ told_map f (suc n) [] one e = cc
 told_map f (suc zero) (conn ∷ conns) one e = let same : f conn ≡ one = cc in record { conn = conn; there = refl; is = sym same }
 told_map f (suc (suc n)) (conn ∷ conns) one e = let t = told_map f (suc n) conns one e in record { conn = t.conn; there = t.there; is = t.is }
 
-pub told_sessions : (buses : List Bus) (events : List Event) (told : Record) → IsLayout buses → AllMoments events → IsRecordOf buses events told → RecordedSessions buses events told
+pub told_sessions : (buses : List Bus) (events : List Event) (told : Record) → IsLayout buses → AllMoments events → IsRecordOf buses events told
+    → (number : ℕ) (one : ConnRecord) → record_at number told.connections ≡ Some one → one.info ≡ true → IsRecordedSession buses events number one
 told_sessions buses events told layout moments r number one e info =
     let w = course buses events in
     let t = told_map (recorded (history buses w)) number w.connections one (ap (record_at number) (sym r.connections) ∙ e) in
@@ -46,37 +46,13 @@ told_sessions buses events told layout moments r number one e info =
       conn = t.conn;
       session = session;
       is = t.is;
-      still = laws.still layout events number t.conn session;
-      never_twice = laws.never_twice layout events number t.conn session;
-      once = λ first more early whole begins settled device there key own has.
-          ap (λ (c : ConnRecord). times_listed key c.items) t.is
-          ∙ laws.once layout first more number early t.conn begins (subst (λ (es : List Event). IsSession buses es number t.conn) whole session) (all_front HasMoment first more (subst AllMoments whole moments)) settled device there key own has;
-      registry = λ settled. laws.registry layout events number t.conn session moments settled;
-      passed = laws.passed layout events number t.conn session;
-      rising = laws.rising layout events number t.conn session;
-      held = laws.held layout events number t.conn session;
-      lines = laws.lines layout events number t.conn session moments;
+      listed = laws.listed layout events number t.conn session;
+      held = laws.held layout events number t.conn session moments;
     }
 
-pub told_replies : (buses : List Bus) (events : List Event) (told : Record) → IsLayout buses → IsRecordOf buses events told → RecordedReplies buses events told
-told_replies buses events told layout r number one e plain =
-    let w = course buses events in
-    let t = told_map (recorded (history buses w)) number w.connections one (ap (record_at number) (sym r.connections) ∙ e) in
-    let laws = served_rightly buses in
-    let replies = laws.replies layout events number t.conn t.there (sym (ap (λ (c : ConnRecord). c.info) t.is) ∙ plain) in
-    record {
-      conn = t.conn;
-      there = t.there;
-      is = t.is;
-      no_items = ap (λ (c : ConnRecord). c.items) t.is ∙ replies.no_items;
-      front = subst (λ bytes. IsPrefixOf bytes t.conn.out) (sym (ap (λ (c : ConnRecord). c.sent) t.is)) replies.front;
-      all = λ first bytes early whole there info up few.
-          let a = laws.all_replies layout first number bytes early t.conn there info up (subst (λ (es : List Event). numbered number (course buses es).connections ≡ Some t.conn) whole t.there) few in
-          ap (λ (c : ConnRecord). c.sent) t.is ∙ a.all ∙ sym a.replies;
-    }
-
-pub told_rooms : (buses : List Bus) (events : List Event) (told : Record) → IsLayout buses → IsRecordOf buses events told → RecordedRooms buses events told
-told_rooms buses events told layout r number one e =
+pub told_connections : (buses : List Bus) (events : List Event) (told : Record) → IsLayout buses → IsRecordOf buses events told
+    → (number : ℕ) (one : ConnRecord) → record_at number told.connections ≡ Some one → IsRecordedConnection buses events number one
+told_connections buses events told layout r number one e =
     let w = course buses events in
     let t = told_map (recorded (history buses w)) number w.connections one (ap (record_at number) (sym r.connections) ∙ e) in
     let laws = served_rightly buses in
@@ -84,14 +60,8 @@ told_rooms buses events told layout r number one e =
       conn = t.conn;
       there = t.there;
       is = t.is;
-      within = laws.within layout events number t.conn t.there;
-      settles = λ first bytes early whole session up still. laws.settles layout first number bytes early t.conn session up still (subst (λ (es : List Event). numbered number (course buses es).connections ≡ Some t.conn) whole t.there);
-      rooms = λ up. laws.rooms layout events number t.conn t.there up;
-      one_room = λ first a b early whole there up some. ap (λ (es : List Event). without_events (course buses es)) whole ∙ laws.one_room layout first number a b early there up some;
-      overruns = λ info up still changes. laws.overruns layout events number t.conn (record { there = t.there; info = info }) up still changes;
-      no_more = λ first more early whole there over.
-          let n = laws.no_more first more number early t.conn there (subst (λ (es : List Event). numbered number (course buses es).connections ≡ Some t.conn) whole t.there) over in
-          (ap (λ (c : ConnRecord). c.items) t.is ∙ n.items, ap (λ (c : ConnRecord). c.sent) t.is ∙ n.sent_bytes);
+      served = laws.served layout events number t.conn t.there;
+      no_more = laws.no_more events number t.conn t.there;
     }
 
 pub told_registry : (buses : List Bus) (events : List Event) (told : Record) → IsLayout buses → AllMoments events → IsRecordOf buses events told → IsRecordedRegistry buses events told
@@ -118,8 +88,7 @@ promised buses events (Ok told) r plain_moments layout =
       given = λ d. (none_of_all r.grants 0 (sym r.counted ∙ d)).1;
       is = r.is;
       sessions = told_sessions buses all told layout moments r.is;
-      replies = told_replies buses all told layout r.is;
-      rooms = told_rooms buses all told layout r.is;
+      connections = told_connections buses all told layout r.is;
       registry = told_registry buses all told layout moments r.is;
     }
 promised buses events (Err fault) r moments layout = tt

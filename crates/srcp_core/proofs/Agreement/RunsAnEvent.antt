@@ -9,7 +9,7 @@ use Rattle.srcp_rules.specs.Layout.{IsLayout}
 use Rattle.srcp_rules.specs.State.{opening, shown_rows}
 use Rattle.srcp_feed.specs.declared.next.Next.{Next}
 use Rattle.srcp_feed.specs.declared.next.Next.TheVariants.{Told, Listed, Settled}
-use Rattle.srcp_core.specs.Under.{Event, Open, Bytes, Room, At, Shut, Moment, Ended, step_told, under}
+use Rattle.srcp_core.specs.Under.{Event, Open, Room, At, Shut, Moment, Ended, step_told, under}
 use Rattle.srcp_core.specs.declared.event.Event.{Event as PlainEvent}
 use Rattle.srcp_core.specs.declared.event.Event.TheVariants as plain
 use Rattle.srcp_core.specs.declared.record.Step.TheVariants as told
@@ -17,7 +17,7 @@ use Rattle.srcp_core.specs.Connection.{Connection}
 use Rattle.srcp_core.specs.Course.{World, numbered, at_connection, open_connection, did, history, fresh, counted, fault, absent_fault, bytes_fault as course_fault, accepted, shut_as, course}
 use Rattle.srcp_core.specs.Held.{Place, Held, at, open_count}
 use Rattle.srcp_core.specs.Machine.{IsAdmitted, IsNotAdmitted, one_denied, freed_place, freed_of, hung_up, hung_up_from, advanced, live_session, live_session_of, let_out, without_sent, changed_at, changed_in as changed_places_in, filled, unsent_of, unsent_at, item_of, item_at}
-use Rattle.srcp_core.specs.Recording.{Recording, key_of, record_of, opened, shut, stepped, noted, gave, took, without_key, changed_record, changed_in}
+use Rattle.srcp_core.specs.Recording.{Recording, key_of, record_of, opened, shut, stepped, gave, took, without_key, changed_record, changed_in}
 use Rattle.srcp_core.specs.Run.{Tells, Runs, Happened, HappensAs, CountsAsked, count_at, taken_at, taking}
 use Rattle.srcp_core.specs.Stands.{StandsFor, place_of}
 use Rattle.srcp_core.specs.declared.record.ConnRecord.{ConnRecord}

@@ -1,11 +1,11 @@
 -- Bytes that come in a run lead to the course with their event.
-use Rattle.std.proofs.Common.{◌≡◌, ℕ, ◌-◌, ◌<◌, ◌≤◌, Bool, true, false, List, [], ◌∷◌, ◌++◌, length, refl, ap, sym, ◌∙◌, subst}
+use Rattle.std.proofs.Common.{◌≡◌, ℕ, ◌<◌, ◌≤◌, Bool, true, false, List, [], ◌∷◌, ◌++◌, length, refl, ap, sym, ◌∙◌, subst}
 use Rattle.std.proofs.lemmas.Bool.{ltb-false}
 use Rattle.std.specs.List.{fold}
 use Rattle.std.specs.Prelude.{Option, Some, None, not, ◌||◌, nat_lt, if◌then◌else◌}
 use Rattle.srcp_rules.specs.declared.layout.Bus.{Bus}
 use Rattle.srcp_rules.specs.Layout.{IsLayout}
-use Rattle.srcp_core.specs.Under.{Event, Bytes, Piece, Moment, Ended, lines_under, denied_by}
+use Rattle.srcp_core.specs.Under.{Event, Bytes, Piece, lines_under, denied_by}
 use Rattle.srcp_core.specs.declared.event.Event.TheVariants as plain
 use Rattle.srcp_core.specs.declared.record.Step.{Step as PlainStep}
 use Rattle.srcp_core.specs.declared.record.Step.TheVariants as told
@@ -13,7 +13,7 @@ use Rattle.srcp_core.specs.Connection.{Connection, is_nil}
 use Rattle.srcp_core.specs.Course.{World, open_connection, counted, bytes_fault as course_fault, accepted, fed_to, answered as course_answered, new_marks, course, denied_fed}
 use Rattle.srcp_core.specs.Held.{Place, Held, at}
 use Rattle.srcp_core.specs.Machine.{HasRoom, bytes_fault, bytes_fault_from, heard_at, line_answered, steps_of_line, unsent_of, has_overrun}
-use Rattle.srcp_core.specs.Recording.{Recording, key_of, opened, noted}
+use Rattle.srcp_core.specs.Recording.{Recording, key_of, noted}
 use Rattle.srcp_core.specs.Run.{Tells, Runs, Happened, HappensAs}
 use Rattle.srcp_core.specs.Stands.{StandsFor}
 use Rattle.srcp_core.specs.declared.line.Asked.{Asked}

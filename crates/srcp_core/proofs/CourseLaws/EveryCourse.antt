@@ -1,7 +1,12 @@
 -- Information sessions are told rightly, and every connection is served rightly.
+use Rattle.std.proofs.Common.{◌≡◌, ℕ, List, ap, sym, ◌∙◌, subst}
+use Rattle.std.specs.Prelude.{Some}
 use Rattle.srcp_rules.specs.declared.layout.Bus.{Bus}
-use Rattle.std.proofs.Common.{List}
-use Rattle.srcp_core.specs.Laws.{ToldRightly, ServedRightly}
+use Rattle.srcp_rules.specs.Layout.{IsLayout}
+use Rattle.srcp_core.specs.Connection.{Connection}
+use Rattle.srcp_core.specs.Course.{course, numbered}
+use Rattle.srcp_core.specs.Laws.{AllMoments, HasMoment, IsHeldRightly, IsSentNoMore, IsSentNoMoreSince, IsServedRightly, IsSession, ServedRightly, ToldRightly, without_events}
+use Rattle.srcp_core.specs.Under.{Event}
 use Rattle.srcp_core.proofs.CourseLaws.RoomsAddUp.{rooms_add_up, rooms_are_one, sends_all_replies, takes_within}
 use Rattle.srcp_core.proofs.CourseLaws.NothingAfterTheEnd.{sends_no_more}
 use Rattle.srcp_core.proofs.CourseLaws.ListedInOrder.{lists_still, lists_rising, lists_held}
@@ -9,31 +14,63 @@ use Rattle.srcp_core.proofs.CourseLaws.ListedExactlyOnce.{lists_each_once, lists
 use Rattle.srcp_core.proofs.CourseLaws.OverrunAt256.{meets_overruns}
 use Rattle.srcp_core.proofs.CourseLaws.SessionsOfACourse.{holds_passed}
 use Rattle.srcp_core.proofs.CourseLaws.RoomSettles.{sends_replies, settles_after_owed}
-use Rattle.srcp_core.proofs.CourseLaws.SentLinesAreOneList.{always_sends_lines, holds_registry}
+use Rattle.srcp_core.proofs.CourseLaws.SentLinesAreOneList.{all_front, always_sends_lines, holds_registry}
 use Rattle.srcp_core.proofs.CourseLaws.RegistryStaysWhole.{keeps_whole, keeps_keys}
+
+held_rightly : (buses : List Bus) → IsLayout buses → (events : List Event) (number : ℕ) (conn : Connection)
+    → IsSession buses events number conn → AllMoments events → IsHeldRightly buses events number conn
+held_rightly buses layout events number conn session moments = record {
+  lines = always_sends_lines buses layout events number conn session moments;
+  registry = holds_registry buses layout events number conn session moments;
+  once = λ first more early whole begins settled device there key own has.
+      lists_each_once buses layout first more number early conn begins
+      (subst (λ (es : List Event). IsSession buses es number conn) whole session)
+      (all_front HasMoment first more (subst AllMoments whole moments)) settled device there key own has;
+}
 
 pub told_rightly : (buses : List Bus) → ToldRightly buses
 told_rightly buses = record {
-  still = lists_still buses;
-  once = lists_each_once buses;
-  never_twice = lists_none_twice buses;
-  rising = lists_rising buses;
-  held = lists_held buses;
-  passed = holds_passed buses;
-  lines = always_sends_lines buses;
-  registry = holds_registry buses;
+  listed = λ layout events number conn session. record {
+    still = lists_still buses layout events number conn session;
+    never_twice = lists_none_twice buses layout events number conn session;
+    rising = lists_rising buses layout events number conn session;
+    held = lists_held buses layout events number conn session;
+    passed = holds_passed buses layout events number conn session;
+  };
+  held = held_rightly buses;
 }
+
+module _ (buses : List Bus) (events : List Event) (number : ℕ) (conn : Connection)
+    (there : numbered number (course buses events).connections ≡ Some conn) where
+  -- the connection is there, by any name of the events
+  there_by : (es : List Event) → events ≡ es → numbered number (course buses es).connections ≡ Some conn
+  there_by es whole = subst (λ (es : List Event). numbered number (course buses es).connections ≡ Some conn) whole there
+
+  connection_served : IsLayout buses → IsServedRightly buses events number conn
+  connection_served layout = record {
+    replies = sends_replies buses layout events number conn there;
+    all_replies = λ first bytes early whole began plain up few.
+        sends_all_replies buses layout first number bytes early conn began plain up (there_by _ whole) few;
+    within = takes_within buses layout events number conn there;
+    settles = λ first bytes early whole session up still.
+        settles_after_owed buses layout first number bytes early conn session up still (there_by _ whole);
+    rooms = rooms_add_up buses layout events number conn there;
+    one_room = λ first a b early whole began up some.
+        ap (λ (es : List Event). without_events (course buses es)) whole
+        ∙ rooms_are_one buses layout first number a b early began up some;
+    overruns = λ info up still changes.
+        meets_overruns buses layout events number conn (record { there = there; info = info }) up still changes;
+  }
+
+  sent_no_more : IsSentNoMoreSince buses events number conn
+  sent_no_more first more early whole began over =
+      subst (λ (es : List Event). IsSentNoMore buses (course buses es) early conn) (sym whole)
+      (sends_no_more buses first more number early conn began (there_by _ whole) over)
 
 pub served_rightly : (buses : List Bus) → ServedRightly buses
 served_rightly buses = record {
   whole = keeps_whole buses;
   keys = keeps_keys buses;
-  replies = sends_replies buses;
-  all_replies = sends_all_replies buses;
-  within = takes_within buses;
-  settles = settles_after_owed buses;
-  rooms = rooms_add_up buses;
-  one_room = rooms_are_one buses;
-  overruns = meets_overruns buses;
-  no_more = sends_no_more buses;
+  served = λ layout events number conn there. connection_served buses events number conn there layout;
+  no_more = sent_no_more buses;
 }

@@ -23,9 +23,11 @@ use Rattle.srcp_feed.specs.declared.next.Next.TheVariants.{Listed}
 use Rattle.srcp_info.proofs.KeyLaws.{key_cmp_total}
 use Rattle.srcp_info.proofs.ClientLaws.{key_at}
 use Rattle.srcp_feed.proofs.Steps.{lists_one}
-use Rattle.srcp_core.specs.Connection.{Connection, History}
+use Rattle.srcp_rules.specs.Layout.{IsLayout}
+use Rattle.srcp_core.specs.Under.{Event}
+use Rattle.srcp_core.specs.Connection.{Connection, History, is_settled}
 use Rattle.srcp_core.specs.Course.{World, start, happens, course, rows, history, state_after}
-use Rattle.srcp_core.specs.Laws.{OfSessions, listed, has_key, rows_at, listed_row, KeepsKeys, IsThereFrom, ListsNoneTwice, ListsEachOnce}
+use Rattle.srcp_core.specs.Laws.{OfSessions, listed, has_key, rows_at, listed_row, KeepsKeys, IsThereFrom, IsSession, AllMoments, ListsNoneTwice, times_listed}
 use Rattle.srcp_core.specs.declared.record.Item.{Item}
 use Rattle.srcp_core.proofs.CourseLaws.ItemsOnlyGrow.{Grows, AllGrow, grown_at, grown_since}
 use Rattle.srcp_core.proofs.CourseLaws.Histories.{rows_after, cursor_by, cursor_later}
@@ -190,7 +192,12 @@ had buses w conn device key keeps all owned last (suc d) k e low =
     let most : k ≤ length w.steps = omega arith in
     keeps k device key inside (all k low most) owned (had buses w conn device key keeps all owned last d (k + 1) next low')
 
-pub lists_each_once : (buses : List Bus) → ListsEachOnce buses
+pub lists_each_once : (buses : List Bus) → IsLayout buses → (events more : List Event) (number : ℕ) (conn later : Connection)
+    → IsSession buses events number conn → IsSession buses (events ++ more) number later → AllMoments events
+    → is_settled conn (history buses (course buses events)) (rows buses (course buses events)) ≡ true
+    → (device : Device) → IsThereFrom buses (course buses events) conn (length (course buses events).steps) device
+    → (key : Key) → owns device key ≡ true → has_key key (rows buses (course buses events)) ≡ true
+    → times_listed key later.items ≡ 1
 lists_each_once buses layout events more number conn later s t moments settled device all key owned last =
     let w = course buses events in
     let keeps = keeps_keys buses layout events moments in

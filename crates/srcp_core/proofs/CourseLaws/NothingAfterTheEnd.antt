@@ -18,7 +18,7 @@ use Rattle.srcp_core.specs.Under.{Event, Open, Bytes, Room, At, Shut, Step, Obey
 use Rattle.srcp_core.specs.Connection.{Connection, History, heard, told_change, cursor_at, concerning, overran, is_nil, sent, unsent, owed, took, given_room, text}
 use Rattle.srcp_core.specs.Course.{World, fresh, start, numbered, with_numbered, at_connection, if_open, open_connection, did, replied, counted, state, rows, history, entered, goes, greeted, ended, obeyed, commanded, answered_as, answered, order_of, fault, bytes_fault, absent_fault, new_lines, fed_to, shut_as, accepted, or_refused, happens, course}
 use Rattle.srcp_core.specs.Handshake.{Greeting, Speaks, Chooses, Goes, Refuses}
-use Rattle.srcp_core.specs.Laws.{is_over, SendsNoMore}
+use Rattle.srcp_core.specs.Laws.{is_over, IsSentNoMore}
 use Rattle.srcp_core.specs.declared.record.CoreFault.{CoreFault}
 use Rattle.srcp_core.specs.declared.record.CoreFault.TheVariants.{NoSuch, Busy, PieceTooLong, Closing}
 use Rattle.srcp_core.proofs.CourseLaws.Histories.{enumerate_push}
@@ -259,7 +259,10 @@ module _ (buses : List Bus) (n : ℕ) (x : Connection) where
   stopped_all [] v s = s
   stopped_all (event ∷ events) v s = stopped_all events (happens buses v event) (stopped_event event (counted v) (stopped_lies v (counted v) s (lies v s)))
 
-pub sends_no_more : (buses : List Bus) → SendsNoMore buses
+pub sends_no_more : (buses : List Bus) → (events more : List Event) (number : ℕ) (conn later : Connection)
+    → numbered number (course buses events).connections ≡ Some conn
+    → numbered number (course buses (events ++ more)).connections ≡ Some later
+    → is_over conn (history buses (course buses events)) ≡ true → IsSentNoMore buses (course buses (events ++ more)) conn later
 sends_no_more buses events more number conn later there after over =
     let w = course buses events in
     let next : course buses (events ++ more) ≡ fold (happens buses) w more = fold-append (happens buses) start events more in

@@ -10,9 +10,11 @@ use Rattle.srcp_info.specs.declared.change.Change.{Change}
 use Rattle.srcp_rules.specs.declared.layout.Bus.{Bus}
 use Rattle.srcp_rules.specs.State.{opening, shown_rows}
 use Rattle.srcp_feed.specs.Cursor.{concerns}
-use Rattle.srcp_core.specs.Connection.{Connection, History, heard, overran, waiting}
+use Rattle.srcp_rules.specs.Layout.{IsLayout}
+use Rattle.srcp_core.specs.Under.{Event}
+use Rattle.srcp_core.specs.Connection.{Connection, History, heard, is_open, overran, waiting}
 use Rattle.srcp_core.specs.Course.{course, history}
-use Rattle.srcp_core.specs.Laws.{FindsFull, MeetsOverruns}
+use Rattle.srcp_core.specs.Laws.{FindsFull, IsSession, OverrunsWhereFull}
 use Rattle.srcp_core.proofs.CourseLaws.Histories.{concerning_by, concerning_push, cursor_by}
 use Rattle.srcp_core.proofs.CourseLaws.ShownRegistry.{length_history}
 use Rattle.srcp_core.proofs.CourseLaws.SessionsOfACourse.{stands, anything, fits_open, open_shut, untold_open}
@@ -64,7 +66,9 @@ found_full most p n changes f =
 overran_open : (history : History) (conn : Connection) → conn.shut ≡ None → overran conn history ≡ nat_lt 256 (length (untold_by conn.go_step conn.items conn.done history))
 overran_open history conn shut = ap (λ s. nat_lt 256 (length (drop (length (tolds conn.items)) (concerning_by conn.go_step (cursor_by conn.done conn.items) (heard s history))))) shut
 
-pub meets_overruns : (buses : List Bus) → MeetsOverruns buses
+pub meets_overruns : (buses : List Bus) → IsLayout buses → (events : List Event) (number : ℕ) (conn : Connection)
+    → IsSession buses events number conn → is_open conn ≡ true → overran conn (history buses (course buses events)) ≡ false
+    → (changes : List Change) → OverrunsWhereFull buses (course buses events) conn changes
 meets_overruns buses layout events number conn s up fine changes =
     let w = course buses events in
     let h = history buses w in

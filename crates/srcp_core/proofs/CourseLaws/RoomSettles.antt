@@ -15,10 +15,10 @@ use Rattle.srcp_feed.specs.declared.next.Next.{Next}
 use Rattle.srcp_feed.specs.declared.next.Next.TheVariants.{Told, Listed}
 use Rattle.srcp_info.proofs.ClientLaws.{key_at}
 use Rattle.srcp_info.specs.Client.{IsRisingBy}
-use Rattle.srcp_core.specs.Under.{Room}
-use Rattle.srcp_core.specs.Connection.{Connection, History, is_nil, line_of, text, given, unsent, owed, waiting, cursor_at, fitting, available, exhausts, items_of, took, given_room, overran}
+use Rattle.srcp_core.specs.Under.{Event, Room}
+use Rattle.srcp_core.specs.Connection.{Connection, History, is_nil, is_open, line_of, text, given, unsent, owed, waiting, cursor_at, fitting, available, exhausts, items_of, took, given_room, overran}
 use Rattle.srcp_core.specs.Course.{World, start, happens, counted, course, numbered, if_open, open_connection, absent_fault, or_refused, accepted, rows, history}
-use Rattle.srcp_core.specs.Laws.{SendsReplies, GivesOwed, SettlesAfterOwed}
+use Rattle.srcp_core.specs.Laws.{IsSession, IsSentReplies, GivesOwed}
 use Rattle.srcp_core.specs.declared.record.Item.{Item}
 use Rattle.srcp_core.proofs.CourseLaws.LinesHaveBytes.{fitting_full, none_after, owed_full}
 use Rattle.srcp_core.proofs.CourseLaws.Histories.{rows_after, cursor_by}
@@ -29,7 +29,8 @@ use Rattle.srcp_core.proofs.CourseLaws.ClientHoldsPassedRows.{Fits, gives, owed_
 use Rattle.srcp_core.proofs.Agreement.NumbersAndKeys.{numbered_with}
 use Rattle.srcp_core.proofs.CourseLaws.SessionsAreKept.{sound, owed_open, in_order_after}
 
-pub sends_replies : (buses : List Bus) → SendsReplies buses
+pub sends_replies : (buses : List Bus) → IsLayout buses → (events : List Event) (number : ℕ) (conn : Connection) → numbered number (course buses events).connections ≡ Some conn
+    → conn.info ≡ false → IsSentReplies buses conn
 sends_replies buses layout events number conn e plain =
     let s = at_number _ number (course buses events).connections conn (sound buses (opening_in_order buses layout) _ (anything (shown_rows (opening buses 0))) events) e in
     let p = s.plain plain in
@@ -166,7 +167,10 @@ gives_owed buses layout w bytes conn shut info fits = finished (owes_after buses
               );
         }
 
-pub settles_after_owed : (buses : List Bus) → SettlesAfterOwed buses
+pub settles_after_owed : (buses : List Bus) → IsLayout buses → (events : List Event) (number bytes : ℕ) (conn later : Connection)
+    → IsSession buses events number conn → is_open conn ≡ true → overran conn (history buses (course buses events)) ≡ false
+    → numbered number (course buses (events ++ Room number bytes ∷ [])).connections ≡ Some later
+    → GivesOwed buses (course buses events) bytes conn later
 settles_after_owed buses layout events number bytes conn later s up over l =
     let w = course buses events in
     let shut = open_shut conn.shut up in

@@ -18,10 +18,10 @@ use Rattle.srcp_feed.specs.declared.next.Next.TheVariants.{Told, Listed}
 use Rattle.srcp_rules.specs.declared.layout.Bus.{Bus}
 use Rattle.srcp_rules.specs.Layout.{IsLayout}
 use Rattle.srcp_rules.specs.State.{opening, shown_rows}
-use Rattle.srcp_core.specs.Under.{Room}
+use Rattle.srcp_core.specs.Under.{Event, Room}
 use Rattle.srcp_core.specs.Connection.{Connection, History, heard, line_of, front, fitting, is_nil, is_open, is_done_by, items_of, sent, untold, cursor_at, available, exhausts, given, told_change, unsent, text, owed, overran, took, given_room}
 use Rattle.srcp_core.specs.Course.{World, numbered, with_numbered, if_open, counted, absent_fault, or_refused, accepted, start, happens, course, rows, history}
-use Rattle.srcp_core.specs.Laws.{AddsUp, RoomsAddUp, RoomsAreOne, SendsAllReplies, TakesWithin}
+use Rattle.srcp_core.specs.Laws.{AddsUp, without_events}
 use Rattle.srcp_core.specs.declared.record.Item.{Item}
 use Rattle.srcp_core.proofs.CourseLaws.RoomInTwoParts.{took_adds, done_rule, no_bytes}
 use Rattle.srcp_core.proofs.CourseLaws.LinesHaveBytes.{first_empty, owed_full}
@@ -288,14 +288,16 @@ module _ (buses : List Bus) (layout : IsLayout buses) (w : World) (conn : Connec
       zero_plus : (b : ℕ) → 0 + b ≡ b
       zero_plus b = omega arith
 
-pub rooms_add_up : (buses : List Bus) → RoomsAddUp buses
+pub rooms_add_up : (buses : List Bus) → IsLayout buses → (events : List Event) (number : ℕ) (conn : Connection) → numbered number (course buses events).connections ≡ Some conn
+    → is_open conn ≡ true → AddsUp buses (course buses events) conn
 rooms_add_up buses layout events number conn there up =
     let w = course buses events in
     let shut = open_shut conn.shut up in
     let s = at_number _ number w.connections conn (sound buses (opening_in_order buses layout) _ (anything (shown_rows (opening buses 0))) events) there in
     adds_up buses layout w conn shut (fits_open (shown_rows (opening buses 0)) _ (history buses w) conn shut s).0 s.within
 
-pub takes_within : (buses : List Bus) → TakesWithin buses
+pub takes_within : (buses : List Bus) → IsLayout buses → (events : List Event) (number : ℕ) (conn : Connection) → numbered number (course buses events).connections ≡ Some conn
+    → conn.taken ≤ length (given conn)
 takes_within buses layout events number conn there =
     (at_number _ number (course buses events).connections conn (sound buses (opening_in_order buses layout) _ (anything (shown_rows (opening buses 0))) events) there).within
 
@@ -333,18 +335,21 @@ sent_all bytes n nexts conn i e h =
         let c : length (available (unsent conn) nexts) ≡ length (unsent conn) = ap (λ ns. length (available (unsent conn) ns)) e ∙ ap length (append-nil (unsent conn)) in
         omega arith
 
-pub sends_all_replies : (buses : List Bus) → SendsAllReplies buses
+pub sends_all_replies : (buses : List Bus) → IsLayout buses → (events : List Event) (number bytes : ℕ) (conn later : Connection)
+    → numbered number (course buses events).connections ≡ Some conn → conn.info ≡ false → is_open conn ≡ true
+    → numbered number (course buses (events ++ Room number bytes ∷ [])).connections ≡ Some later → length (unsent conn) ≤ bytes
+    → (later.out ≡ conn.out) × (sent later ≡ conn.out)
 sends_all_replies buses layout events number bytes conn later there plain up after room =
     let w = course buses events in
     let shut = open_shut conn.shut up in
     let s = at_number _ number w.connections conn (sound buses (opening_in_order buses layout) _ (anything (shown_rows (opening buses 0))) events) there in
     let p = s.plain plain in
     let next : course buses (events ++ Room number bytes ∷ []) ≡ happens buses w (Room number bytes) = fold-append (happens buses) start events (Room number bytes ∷ []) in
-    let is = after_room buses w number bytes conn later there shut (plain_overran conn (history buses w) p.0 p.1) (ap (λ (v : World). numbered number v.connections) (sym next) ∙ after) in
-    record {
-      replies = ap (λ (c : Connection). c.out) is;
-      all = ap sent is ∙ sent_all bytes (length (history buses w)) (owed conn (history buses w) (rows buses w)) conn p.0 (owed_plain conn (history buses w) (rows buses w) plain) room;
-    }
+    let is = after_room buses w number bytes conn later there shut (plain_overran conn (history buses w) p.0 p.1) (ap (λ (v : World). numbered number v.connections) (sym next) ∙ after) in (
+      ap (λ (c : Connection). c.out) is,
+      ap sent is ∙ sent_all bytes (length (history buses w)) (owed conn (history buses w) (rows buses w)) conn p.0
+          (owed_plain conn (history buses w) (rows buses w) plain) room,
+    )
 
 -- ---- two rooms of a course
 
@@ -362,7 +367,10 @@ room_happens : (buses : List Bus) (w : World) (number bytes : ℕ) (conn : Conne
 room_happens buses w number bytes conn there shut =
     ap (λ o. or_refused buses (absent_fault buses o) (Room number bytes) (counted w)) (ap if_open there ∙ ap (λ s. if is_none s then Some conn else None) shut)
 
-pub rooms_are_one : (buses : List Bus) → RoomsAreOne buses
+pub rooms_are_one : (buses : List Bus) → IsLayout buses → (events : List Event) (number a b : ℕ) (conn : Connection)
+    → numbered number (course buses events).connections ≡ Some conn → is_open conn ≡ true → 0 < b
+    → without_events (course buses (events ++ Room number a ∷ Room number b ∷ []))
+    ≡ without_events (course buses (events ++ Room number (a + b) ∷ []))
 rooms_are_one buses layout events number a b conn there up pb =
     let w = course buses events in
     let shut = open_shut conn.shut up in

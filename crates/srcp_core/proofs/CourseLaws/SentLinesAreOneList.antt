@@ -22,9 +22,10 @@ use Rattle.srcp_rules.specs.Layout.{IsLayout}
 use Rattle.srcp_rules.specs.State.{opening, shown_rows}
 use Rattle.srcp_feed.specs.Cursor.{concerns, said, changed_all}
 use Rattle.srcp_feed.specs.declared.next.Next.TheVariants.{Told, Listed}
-use Rattle.srcp_core.specs.Connection.{History, heard, tells, text}
+use Rattle.srcp_core.specs.Under.{Event}
+use Rattle.srcp_core.specs.Connection.{Connection, History, heard, is_settled, tells, text}
 use Rattle.srcp_core.specs.Course.{course, rows, history}
-use Rattle.srcp_core.specs.Laws.{HoldsRegistryOnceSettled, AlwaysSendsLines, told_bytes}
+use Rattle.srcp_core.specs.Laws.{AllMoments, HoldsRegistry, IsSession, SendsLines, told_bytes}
 use Rattle.srcp_core.specs.declared.record.Item.{Item}
 use Rattle.srcp_core.proofs.CourseLaws.Histories.{rows_after, part, concerning_by, cursor_by}
 use Rattle.srcp_core.proofs.CourseLaws.SessionsOfACourse.{stands, settled_facts, fits_open, sent_whole, text_tells, client_settled}
@@ -92,7 +93,10 @@ opening_told buses layout = shown_tellable buses (opening buses 0) (whole_openin
 -- ---- the bytes sent
 
 -- the client of the bytes sent of a settled session is the registry
-pub holds_registry : (buses : List Bus) → HoldsRegistryOnceSettled buses
+pub holds_registry : (buses : List Bus) → IsLayout buses → (events : List Event) (number : ℕ) (conn : Connection)
+    → IsSession buses events number conn → AllMoments events
+    → is_settled conn (history buses (course buses events)) (rows buses (course buses events)) ≡ true
+    → HoldsRegistry buses (course buses events) conn
 holds_registry buses layout events number conn s moments settled =
     let w = course buses events in
     let facts = settled_facts conn (history buses w) (rows buses w) settled in
@@ -173,7 +177,8 @@ all_heard (Some n) history a = all_take n history a
     all_take (suc n) [] a = tt
     all_take (suc n) (changes ∷ history) a = (a.0, all_take n history a.1)
 
-pub always_sends_lines : (buses : List Bus) → AlwaysSendsLines buses
+pub always_sends_lines : (buses : List Bus) → IsLayout buses → (events : List Event) (number : ℕ) (conn : Connection)
+    → IsSession buses events number conn → AllMoments events → SendsLines buses conn
 always_sends_lines buses layout events number conn s moments =
     let w = course buses events in
     let law = (stands buses layout GivenTold (told_law (shown_rows (opening buses 0)) (opening_told buses layout)) events number conn s).fits.1 in

@@ -1,8 +1,7 @@
-use Rattle.std.proofs.Common.{◌≡◌, ◌+◌, ◌≤◌, List, Some, None, sym, ap, ◌∙◌, subst, arith}
+use Rattle.std.proofs.Common.{◌≡◌, ◌+◌, ◌≤◌, sym, ap, ◌∙◌, subst, arith}
 use Rattle.std.specs.Option.{option_copied_mut}
-use Rattle.std.specs.Prelude.{Option}
-use Rattle.srcp_core.specs.Held.{Held, Place, IsSound, place_at}
-use Rattle.srcp_core.specs.Machine.{session_begun, changed_places, entered_place}
+use Rattle.srcp_core.specs.Held.{Held, IsSound}
+use Rattle.srcp_core.specs.Machine.{session_begun}
 use Rattle.srcp_core.proofs.Invariants.CoreStaysSound.{begun_is, sound_begun}
 use Rattle.srcp_core.proofs.Invariants.PlacesCover.{set_as, none_as}
 use Rattle.srcp_core.proofs.table.Core.begin.Goals as goal

@@ -1,4 +1,4 @@
-use Rattle.std.proofs.Common.{◌≡◌, ◌≤◌, true, Some, sym, ap, ◌∙◌, subst, map}
+use Rattle.std.proofs.Common.{◌≤◌, true, sym, ap, ◌∙◌, subst, map}
 use Rattle.std.specs.Option.{option_copied_mut}
 use Rattle.srcp_rules.specs.Due.{freed}
 use Rattle.srcp_core.specs.Held.{Held, IsSessionAt}
