@@ -20,7 +20,7 @@ pub record CallsLead : Type 0 where
   pub moment : (moment : ℕ) (old new : Held) → new ≡ advanced moment old → LeadsTo (At moment) old new
   pub opened : (key : ℕ) (old new : Held) → IsAdmitted key old new → LeadsToOpen key old new
   pub not_opened : (cause : CoreFault) (old new : Held) → IsNotAdmitted cause old new → LeadsTo (Open false) old new
-  pub taken : (key : ℕ) (piece : List ℕ) (old new : Held) → bytes_fault key piece old ≡ None → IsReceived key piece old new
+  pub accepted : (key : ℕ) (piece : List ℕ) (old new : Held) → bytes_fault key piece old ≡ None → IsReceived key piece old new
       → LeadsOn key piece old new
   pub refused : (key : ℕ) (piece : List ℕ) (old new : Held) (cause : CoreFault) → bytes_fault key piece old ≡ Some cause
       → new ≡ old → LeadsOn key piece old new

@@ -11,11 +11,6 @@ use Rattle.srcp_core.specs.declared.event.Event.{Event as PlainEvent}
 use Rattle.srcp_core.specs.declared.record.ConnRecord.{ConnRecord}
 use Rattle.srcp_core.specs.declared.record.Record.{Record}
 
--- what is told of the connection of that number, the first being 1
-abbrev pub record_at : ℕ → List ConnRecord → Option ConnRecord
-record_at zero tolds = None
-record_at (suc n) tolds = slice_get tolds n
-
 module _ (buses : List Bus) where
   -- what is told of an information session is what came of a connection of the course, which was told rightly
   pub record IsRecordedSession (events : List Event) (number : ℕ) (told : ConnRecord) : Type 0 where
@@ -53,8 +48,8 @@ pub record IsPromised (buses : List Bus) (events : List PlainEvent) (told : Reco
   pub asked : told.denied ≡ denied_over buses 0 start (all_under grants events)
   pub given : told.denied ≡ 0 → AllByRecursion (AllByRecursion IsTrue) grants
   pub is : IsRecordOf buses (all_under grants events) told
-  pub sessions : (number : ℕ) (one : ConnRecord) → record_at number told.connections ≡ Some one → one.info ≡ true
+  pub sessions : (number : ℕ) (one : ConnRecord) → numbered number told.connections ≡ Some one → one.info ≡ true
       → IsRecordedSession buses (all_under grants events) number one
-  pub connections : (number : ℕ) (one : ConnRecord) → record_at number told.connections ≡ Some one
+  pub connections : (number : ℕ) (one : ConnRecord) → numbered number told.connections ≡ Some one
       → IsRecordedConnection buses (all_under grants events) number one
   pub registry : IsRecordedRegistry buses (all_under grants events) told

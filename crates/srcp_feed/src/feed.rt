@@ -15,8 +15,8 @@ use srcp_rules::{Memory, Rows};
 use std::alloc::Global;
 use std::marker::Model;
 
-/// How many changes may wait for one session.
-const MOST_WAITING: usize = 256;
+/// How many changes may wait for one session. SRCP 0.8 has no such limit.
+pub const MOST_WAITING: usize = 256;
 
 /// What one information session is given: the changes that wait, then the next rows of its listing.
 /// It holds how far the listing has come and the changes that wait, and no row.
@@ -29,16 +29,17 @@ pub struct InfoFeed {
 impl Model for InfoFeed {
     ghost use Rattle.std.specs.Prelude.{◌≡◌, ◌≤◌, length};
     ghost use Rattle.srcp_feed.specs.Feed.{Feed};
+    ghost use Rattle.srcp_feed.specs.declared.feed.TheConstants.{MOST_WAITING};
 
     ghost Value = { Feed };
 
     ghost view = { λ f. record { cursor = f.cursor; queue = f.ring.items } };
 
-    ghost invariant = { λ f. (f.ring.capacity ≡ 256) × (length f.ring.items ≤ 256) };
+    ghost invariant = { λ f. (f.ring.capacity ≡ MOST_WAITING) × (length f.ring.items ≤ MOST_WAITING) };
 }
 
 impl InfoFeed {
-    /// A listing at its beginning, for which nothing waits. It takes the memory of a ring of 256 changes,
+    /// A listing at its beginning, for which nothing waits. It takes the memory of a ring of `MOST_WAITING` changes,
     /// and no other call takes any. `Memory` where that is refused.
     pub fn begin<R: Rows>(alloc: Global, _rows: &R) -> Result<InfoFeed, Memory>
         ensures { IfOk result (λ feed. feed ≡ beginning) }
@@ -51,8 +52,8 @@ impl InfoFeed {
     }
 
     /// Tells the session a change of the registry. A change of a row that the listing has passed waits; any
-    /// other is met by the listing. `Overrun` where 256 changes wait already and this one would wait too,
-    /// which leaves the feed as it is.
+    /// other is met by the listing. `Overrun` if `MOST_WAITING` changes wait already and this
+    /// one would wait too, which leaves the feed as it is.
     pub fn tell(&mut self, change: &Change) -> Told
         ensures answer { result ≡ told_answer change.now self.old }
         ensures feed { self.new ≡ told change.now self.old }
@@ -111,10 +112,10 @@ impl InfoFeed {
         self.cursor
     }
 
-    /// How many changes wait, at most 256.
+    /// Returns how many changes wait, at most `MOST_WAITING`.
     pub fn waiting(&self) -> usize
         ensures value { result ≡ length self.now.queue }
-        ensures most { result ≤ 256 }
+        ensures most { result ≤ MOST_WAITING }
     {
         self.ring.len()
     }

@@ -73,7 +73,7 @@ module _ (peer key : ℕ) (old : Held) (told_old : Option (List DoorCall)) (read
       calls_agree.bytes key (giving piece) old buses events keys n s.layout s.named s.stands
       ∙ calls_agree.takes key old (sym ready_is ∙ e) buses events keys n s.layout s.named s.stands (giving piece) few in
       let fine = taken result says received free in
-      let leads : LeadsOn key piece old new = calls_lead.taken key piece old new free fine.1 in
+      let leads : LeadsOn key piece old new = calls_lead.accepted key piece old new free fine.1 in
       record {
         read = Some (record { answer = Ok (got.Bytes count); buffer = buffer; grants = leads.grants });
         adds = adds_one (door.ReadCall peer (Ok (got.Bytes count)) buffer) told_old told_new told tells named;

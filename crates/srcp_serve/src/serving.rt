@@ -9,12 +9,9 @@ mod visit;
 
 use crate::door::{Door, Served};
 use crate::tally::Tally;
-use srcp_core::Core;
+use srcp_core::{Core, MOST_CONNECTIONS};
 use srcp_rules::Rows;
 use visit::{Seat, close, let_go, visit};
-
-/// How many peers may have a place at once.
-const PLACES: usize = 64;
 
 /// Serves the peers of a door for so many turns, over a core that has no connection. In each turn the door is asked for
 /// the moment and for one peer that wants in, and then every peer that has a place is visited, in the order of the
@@ -27,7 +24,7 @@ pub fn serve<R: Rows, D: Door>(core: &mut Core<'_, R>, door: &mut D, turns: u64)
     ensures told { AsksTurns turns (D.told door.old) (D.told door.new) }
     ensures course { ServesCourse turns result.opened core.old (D.told door.old) core.new (D.told door.new) }
 {
-    let mut places = [None; PLACES];
+    let mut places = [None; MOST_CONNECTIONS];
     let mut tally = Tally::new();
     let mut opened = 0;
     for _ in 0..turns {
@@ -53,7 +50,7 @@ fn one_more_if(counts: bool, count: u64) -> u64
 fn turn<R: Rows, D: Door>(
     core: &mut Core<'_, R>,
     door: &mut D,
-    places: &mut [Option<Seat>; PLACES],
+    places: &mut [Option<Seat>; MOST_CONNECTIONS],
     tally: &mut Tally,
 ) -> bool
     requires { tally.old.faults ≤ D.faults door.old }
@@ -71,7 +68,7 @@ fn turn<R: Rows, D: Door>(
 fn visit_places<R: Rows, D: Door>(
     core: &mut Core<'_, R>,
     door: &mut D,
-    places: &mut [Option<Seat>; PLACES],
+    places: &mut [Option<Seat>; MOST_CONNECTIONS],
     tally: &mut Tally,
 )
     requires { tally.old.faults ≤ D.faults door.old }
@@ -79,7 +76,7 @@ fn visit_places<R: Rows, D: Door>(
     ensures told { AsksPeers (D.told door.old) (D.told door.new) }
     ensures course { VisitsPlaces core.old (D.told door.old) places.old core.new (D.told door.new) places.new }
 {
-    for place in 0..PLACES {
+    for place in 0..MOST_CONNECTIONS {
         visit_place(core, door, places, place, tally);
     }
 }
@@ -88,7 +85,7 @@ fn visit_places<R: Rows, D: Door>(
 fn visit_place<R: Rows, D: Door>(
     core: &mut Core<'_, R>,
     door: &mut D,
-    places: &mut [Option<Seat>; PLACES],
+    places: &mut [Option<Seat>; MOST_CONNECTIONS],
     place: usize,
     tally: &mut Tally,
 )
@@ -124,7 +121,7 @@ fn take_moment<R: Rows, D: Door>(core: &mut Core<'_, R>, door: &mut D, tally: &m
 fn let_in<R: Rows, D: Door>(
     core: &mut Core<'_, R>,
     door: &mut D,
-    places: &mut [Option<Seat>; PLACES],
+    places: &mut [Option<Seat>; MOST_CONNECTIONS],
     tally: &mut Tally,
 ) -> bool
     requires { tally.old.faults ≤ D.faults door.old }
@@ -147,7 +144,7 @@ fn seat<R: Rows, D: Door>(
     core: &mut Core<'_, R>,
     door: &mut D,
     peer: u32,
-    places: &mut [Option<Seat>; PLACES],
+    places: &mut [Option<Seat>; MOST_CONNECTIONS],
     tally: &mut Tally,
 ) -> bool
     requires { tally.old.faults ≤ D.faults door.old }
@@ -169,7 +166,7 @@ fn seat<R: Rows, D: Door>(
     true
 }
 
-fn first_free(places: &[Option<Seat>; PLACES]) -> Option<usize>
+fn first_free(places: &[Option<Seat>; MOST_CONNECTIONS]) -> Option<usize>
     ensures { result ≡ position is_none places.now }
 {
     places.iter().position(|place| place.is_none())

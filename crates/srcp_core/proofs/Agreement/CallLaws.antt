@@ -11,7 +11,7 @@ use Rattle.srcp_core.proofs.Agreement.MemoryAnswers.{counts}
 use Rattle.srcp_core.proofs.Agreement.CallsFollowTheCourse.{first_stands, at_leads, open_leads, not_open_leads, out_leads, shut_leads}
 use Rattle.srcp_core.proofs.Agreement.CallsFollowTheCourse.{sent_leads, sent_none, lent_leads}
 use Rattle.srcp_core.proofs.Agreement.NothingIsLent.{none_agrees}
-use Rattle.srcp_core.proofs.Agreement.PiecesFollowTheCourse.{taken_leads, refused_leads, received_denied}
+use Rattle.srcp_core.proofs.Agreement.PiecesFollowTheCourse.{accepted_leads, refused_leads, received_denied}
 use Rattle.srcp_core.proofs.Agreement.RunsAnEvent.{shut_count}
 
 pub calls_lead : CallsLead
@@ -20,7 +20,7 @@ calls_lead = record {
   moment = at_leads;
   opened = open_leads;
   not_opened = not_open_leads;
-  taken = taken_leads;
+  accepted = accepted_leads;
   refused = refused_leads;
   lent = out_leads;
   sent = sent_leads;

@@ -16,7 +16,7 @@ use Rattle.srcp_core.specs.declared.record.CoreFault.TheVariants.{Full, Memory a
 use Rattle.srcp_core.proofs.Agreement.EventsAgree.{stands_counted, full_fault}
 use Rattle.srcp_core.proofs.Agreement.PiecesAgree.{set_same}
 use Rattle.srcp_core.proofs.Agreement.RecordIsOfTheCourse.{runs_on, runs_start}
-use Rattle.srcp_core.proofs.Agreement.RunsAnEvent.{fine_course, open_with, full_happens, memory_with, at_happens, shut_happens, with_end, shut_keys, gives_first, room_happens, taking_keys}
+use Rattle.srcp_core.proofs.Agreement.RunsAnEvent.{fine_course, open_with, open_refused, memory_with, at_happens, shut_happens, with_end, shut_keys, gives_first, room_happens, taking_keys}
 use Rattle.srcp_core.proofs.CourseLaws.SessionsOfACourse.{opening_in_order}
 use Rattle.srcp_core.proofs.Agreement.StandsAfterAChange.{found_at}
 use Rattle.srcp_core.proofs.Agreement.RoomsAgree.{filled_kept, taken_kept, Kept}
@@ -47,7 +47,7 @@ first_stands buses held first = (runs_start buses nothing_recorded held refl fir
 full_leads : (old new : Held) → open_count old ≡ 64 → new ≡ old → LeadsTo (Open false) old new
 full_leads old new full same buses events keys layout s =
     let w = course buses events in
-    let h = (full_happens (telling keys w) old new full same).happens buses events layout (runs_telling buses keys old w s) in
+    let h = (open_refused (telling keys w) old new Full (full, same)).happens buses events layout (runs_telling buses keys old w s) in
     (runs_on buses events (Open false) (Some Full) (length events + 1) (telling keys w) new refl (full_fault buses keys old (counted w) (stands_counted buses keys old w s) full false, h.1)).stands
 
 memory_leads : (old new : Held) → open_count old < 64 → new ≡ one_denied old → LeadsTo (Open false) old new

@@ -64,9 +64,9 @@ lines_read key piece first (granted ∷ grants) before counted a = lines_read ke
 
 -- ---- the whole piece
 
-pub taken_leads : (key : ℕ) (piece : List ℕ) (old new : Held) → bytes_fault key piece old ≡ None → IsReceived key piece old new
+pub accepted_leads : (key : ℕ) (piece : List ℕ) (old new : Held) → bytes_fault key piece old ≡ None → IsReceived key piece old new
     → LeadsOn key piece old new
-taken_leads key piece old new free received =
+accepted_leads key piece old new free received =
     let reached = lines_answered key piece received.grants old in
     let a = lines_read key piece old received.grants (0, old) received.counted (record { grants = []; counted = refl; is = λ n first_r named. record { told = first_r; keys = refl; reads = reads_with_none n key piece first_r old named free } }) in
     let counted : new.denied ≡ denied_by old.denied a.grants = ap (λ (x : Option (ℕ × Asked) × Held). x.1.denied) received.rest ∙ heard_denied key piece reached.0 reached.1 (at reached.1 key) ∙ a.counted in

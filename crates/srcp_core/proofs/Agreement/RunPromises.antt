@@ -13,7 +13,7 @@ use Rattle.srcp_core.proofs.Agreement.MemoryAnswers.{all_moments, none_of_all}
 use Rattle.srcp_core.specs.declared.event.Event.{Event as PlainEvent}
 use Rattle.srcp_core.specs.Connection.{Connection, recorded}
 use Rattle.srcp_core.specs.Course.{World, course, history, numbered, state, state_after}
-use Rattle.srcp_core.specs.Promised.{record_at, IsRecordedSession, IsRecordedConnection, IsRecordedRegistry, IsPromised}
+use Rattle.srcp_core.specs.Promised.{IsRecordedSession, IsRecordedConnection, IsRecordedRegistry, IsPromised}
 use Rattle.srcp_core.specs.Laws.{IsRecordOf, IsSession, IsWholeWorld, AllMoments}
 use Rattle.srcp_core.specs.declared.record.ConnRecord.{ConnRecord}
 use Rattle.srcp_core.specs.declared.record.Record.{Record}
@@ -29,17 +29,17 @@ record Told (f : Connection → ConnRecord) (number : ℕ) (conns : List Connect
   there : numbered number conns ≡ Some conn
   is : one ≡ f conn
 
-told_map : (f : Connection → ConnRecord) (number : ℕ) (conns : List Connection) (one : ConnRecord) → record_at number (map f conns) ≡ Some one → Told f number conns one
+told_map : (f : Connection → ConnRecord) (number : ℕ) (conns : List Connection) (one : ConnRecord) → numbered number (map f conns) ≡ Some one → Told f number conns one
 told_map f zero conns one e = cc
 told_map f (suc n) [] one e = cc
 told_map f (suc zero) (conn ∷ conns) one e = let same : f conn ≡ one = cc in record { conn = conn; there = refl; is = sym same }
 told_map f (suc (suc n)) (conn ∷ conns) one e = let t = told_map f (suc n) conns one e in record { conn = t.conn; there = t.there; is = t.is }
 
 pub told_sessions : (buses : List Bus) (events : List Event) (told : Record) → IsLayout buses → AllMoments events → IsRecordOf buses events told
-    → (number : ℕ) (one : ConnRecord) → record_at number told.connections ≡ Some one → one.info ≡ true → IsRecordedSession buses events number one
+    → (number : ℕ) (one : ConnRecord) → numbered number told.connections ≡ Some one → one.info ≡ true → IsRecordedSession buses events number one
 told_sessions buses events told layout moments r number one e info =
     let w = course buses events in
-    let t = told_map (recorded (history buses w)) number w.connections one (ap (record_at number) (sym r.connections) ∙ e) in
+    let t = told_map (recorded (history buses w)) number w.connections one (ap (numbered number) (sym r.connections) ∙ e) in
     let session : IsSession buses events number t.conn = record { there = t.there; info = sym (ap (λ (c : ConnRecord). c.info) t.is) ∙ info } in
     let laws = told_rightly buses in
     record {
@@ -51,10 +51,10 @@ told_sessions buses events told layout moments r number one e info =
     }
 
 pub told_connections : (buses : List Bus) (events : List Event) (told : Record) → IsLayout buses → IsRecordOf buses events told
-    → (number : ℕ) (one : ConnRecord) → record_at number told.connections ≡ Some one → IsRecordedConnection buses events number one
+    → (number : ℕ) (one : ConnRecord) → numbered number told.connections ≡ Some one → IsRecordedConnection buses events number one
 told_connections buses events told layout r number one e =
     let w = course buses events in
-    let t = told_map (recorded (history buses w)) number w.connections one (ap (record_at number) (sym r.connections) ∙ e) in
+    let t = told_map (recorded (history buses w)) number w.connections one (ap (numbered number) (sym r.connections) ∙ e) in
     let laws = served_rightly buses in
     record {
       conn = t.conn;

@@ -68,15 +68,16 @@ open_with key r old new a buses events layout s =
 pub open_happens : (key : ℕ) (r : Recording) (old new : Held) → IsAdmitted key old new → HappensAs plain.Open None r old (opened key r) new
 open_happens key r old new a = record { grants = []; counted = ap (λ (x : Held). x.denied) a.rest; asked = none_asked plain.Open r old new (ap (λ (x : Held). x.denied) a.rest); happens = open_with key r old new a }
 
-pub full_happens : (r : Recording) (old new : Held) → open_count old ≡ 64 → new ≡ old → HappensAs plain.Open (Some Full) r old r new
-full_happens r old new full same = record {
+-- an event that the course refuses, and that asks for no memory, changes nothing
+pub refused_happens : (event : PlainEvent) (cause : CoreFault) (r : Recording) (held : Held)
+    → ((buses : List Bus) (events : List Event) → IsLayout buses → StandsFor buses r.keys held (counted (course buses events))
+        → fault buses (counted (course buses events)) (under [] event) ≡ Some cause)
+    → HappensAs event (Some cause) r held r held
+refused_happens event cause r held why = record {
   grants = [];
-  counted = ap (λ (x : Held). x.denied) same;
-  asked = none_asked (plain.Open) r old new (ap (λ (x : Held). x.denied) same);
-  happens = λ buses events layout s.
-      let w = counted (course buses events) in
-      let c = runs_counted buses r old (course buses events) s in
-      (full_fault buses r.keys old w c.stands full true, subst (λ (x : Held). Runs buses r x w) (sym same) c);
+  counted = refl;
+  asked = none_asked event r held held refl;
+  happens = λ buses events layout s. let c = runs_counted buses r held (course buses events) s in (why buses events layout c.stands, c);
 }
 
 -- memory was refused
@@ -103,7 +104,9 @@ memory_happens r old new room same = record {
 -- no connection was opened
 pub open_refused : (r : Recording) (old new : Held) (cause : CoreFault) → IsNotAdmitted cause old new
     → HappensAs plain.Open (Some cause) r old r new
-open_refused r old new Full is = full_happens r old new is.0 is.1
+open_refused r old new Full is =
+    subst (λ (x : Held). HappensAs plain.Open (Some Full) r old r x) (sym is.1)
+    (refused_happens plain.Open Full r old (λ buses events layout s. full_fault buses r.keys old (counted (course buses events)) s is.0 true))
 open_refused r old new MemoryFault is = memory_happens r old new is.0 is.1
 open_refused r old new other is = absurd is
 
@@ -129,41 +132,25 @@ at_happens moment r old new now is now_is = record {
 
 -- ---- a number that no open connection has
 
-absent_bytes : (buses : List Bus) (w : World) (n : ℕ) (piece : List ℕ) → open_connection w n ≡ None → course_fault buses w (open_connection w n) piece ≡ Some NoSuch
-absent_bytes buses w n piece e = ap (λ o. course_fault buses w o piece) e
+-- there is none of that number
+none_of : (n : ℕ) (r : Recording) (held : Held) → key_of n r.keys ≡ None → (buses : List Bus) (events : List Event)
+    → StandsFor buses r.keys held (counted (course buses events)) → open_connection (counted (course buses events)) n ≡ None
+none_of n r held none buses events s = absent_at buses (λ n fed. fed) r.keys held (counted (course buses events)) n s none
 
-pub no_bytes_happens : (n : ℕ) (piece : List ℕ) (r : Recording) (held : Held) → key_of n r.keys ≡ None → HappensAs (plain.Bytes n piece) (Some NoSuch) r held r held
-no_bytes_happens n piece r held none = record {
-  grants = [];
-  counted = refl;
-  asked = none_asked (plain.Bytes n piece) r held held (refl);
-  happens = λ buses events layout s.
-      let w = counted (course buses events) in
-      let c = runs_counted buses r held (course buses events) s in
-      (absent_bytes buses w n piece (absent_at buses (λ n fed. fed) r.keys held w n c.stands none), c);
-}
+pub no_bytes_happens : (n : ℕ) (piece : List ℕ) (r : Recording) (held : Held) → key_of n r.keys ≡ None
+    → HappensAs (plain.Bytes n piece) (Some NoSuch) r held r held
+no_bytes_happens n piece r held none = refused_happens (plain.Bytes n piece) NoSuch r held
+    (λ buses events layout s. ap (λ o. course_fault buses (counted (course buses events)) o piece) (none_of n r held none buses events s))
 
-pub no_room_happens : (n bytes : ℕ) (r : Recording) (held : Held) → key_of n r.keys ≡ None → HappensAs (plain.Room n bytes) (Some NoSuch) r held r held
-no_room_happens n bytes r held none = record {
-  grants = [];
-  counted = refl;
-  asked = none_asked (plain.Room n bytes) r held held (refl);
-  happens = λ buses events layout s.
-      let w = counted (course buses events) in
-      let c = runs_counted buses r held (course buses events) s in
-      (ap (absent_fault buses) (absent_at buses (λ n fed. fed) r.keys held w n c.stands none), c);
-}
+pub no_room_happens : (n bytes : ℕ) (r : Recording) (held : Held) → key_of n r.keys ≡ None
+    → HappensAs (plain.Room n bytes) (Some NoSuch) r held r held
+no_room_happens n bytes r held none = refused_happens (plain.Room n bytes) NoSuch r held
+    (λ buses events layout s. ap (absent_fault buses) (none_of n r held none buses events s))
 
-pub no_shut_happens : (n : ℕ) (r : Recording) (held : Held) → key_of n r.keys ≡ None → HappensAs (plain.Shut n) (Some NoSuch) r held r held
-no_shut_happens n r held none = record {
-  grants = [];
-  counted = refl;
-  asked = none_asked (plain.Shut n) r held held (refl);
-  happens = λ buses events layout s.
-      let w = counted (course buses events) in
-      let c = runs_counted buses r held (course buses events) s in
-      (ap (absent_fault buses) (absent_at buses (λ n fed. fed) r.keys held w n c.stands none), c);
-}
+pub no_shut_happens : (n : ℕ) (r : Recording) (held : Held) → key_of n r.keys ≡ None
+    → HappensAs (plain.Shut n) (Some NoSuch) r held r held
+no_shut_happens n r held none = refused_happens (plain.Shut n) NoSuch r held
+    (λ buses events layout s. ap (absent_fault buses) (none_of n r held none buses events s))
 
 -- ---- a connection is shut
 

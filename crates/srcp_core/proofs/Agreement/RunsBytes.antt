@@ -26,18 +26,13 @@ use Rattle.srcp_core.proofs.Agreement.LinesAreNoted.{tells_same}
 use Rattle.srcp_core.proofs.Agreement.PiecesAgree.{accepting, IsUpTo, world_upto, lined, lines_ended, piece_begun}
 use Rattle.srcp_core.proofs.CourseLaws.SessionsOfACourse.{opening_in_order}
 use Rattle.srcp_core.proofs.Agreement.StandsAfterAChange.{found_at}
-use Rattle.srcp_core.proofs.Agreement.RunsAnEvent.{fine_course, none_asked, runs_counted}
+use Rattle.srcp_core.proofs.Agreement.RunsAnEvent.{fine_course, refused_happens, runs_counted}
 
 pub bytes_refused : (n key : ℕ) (piece : List ℕ) (r : Recording) (held : Held) (cause : CoreFault) → key_of n r.keys ≡ Some key → bytes_fault key piece held ≡ Some cause → HappensAs (plain.Bytes n piece) (Some cause) r held r held
-bytes_refused n key piece r held cause named e = record {
-  grants = [];
-  counted = refl;
-  asked = none_asked (plain.Bytes n piece) r held held (refl);
-  happens = λ buses events layout s.
-      let w = counted (course buses events) in
-      let c = runs_counted buses r held (course buses events) s in
-      (sym (fault_same buses (opening_in_order buses layout) (λ n fed. fed) r.keys held w n key piece (fine_course buses layout events) c.stands named) ∙ e, c);
-}
+bytes_refused n key piece r held cause named e = refused_happens (plain.Bytes n piece) cause r held
+    (λ buses events layout s.
+        let w = counted (course buses events) in
+        sym (fault_same buses (opening_in_order buses layout) (λ n fed. fed) r.keys held w n key piece (fine_course buses layout events) s named) ∙ e)
 
 -- where bytes are not refused there is room for their answers
 pub bytes_room : (key : ℕ) (piece : List ℕ) (held : Held) → bytes_fault key piece held ≡ None → (length piece ≤ 256) × HasRoom key piece 0 held

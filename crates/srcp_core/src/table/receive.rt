@@ -15,7 +15,7 @@ impl<'a, R: Rows> Core<'a, R> {
     /// session are dropped. Fails with the first of these that applies, and then nothing changes: `NoSuch` if there is
     /// no such connection, `Closing` if it ended or overran, `Busy` while bytes of it are unsent, `PieceTooLong` for more
     /// than 256 bytes. Its laws are
-    /// `taken`, `refused`, `bytes` and `takes` of `laws::calls_follow`.
+    /// `accepted`, `refused`, `bytes` and `takes` of `laws::calls_follow`.
     pub fn receive(&mut self, conn: usize, piece: &[u8]) -> Result<(), CoreFault>
         ensures fault { MatchResult result (λ _. bytes_fault conn piece.now self.old ≡ None) (λ fault. bytes_fault conn piece.now self.old ≡ Some fault) }
         ensures refused { OnErr result (self.new ≡ self.old) }

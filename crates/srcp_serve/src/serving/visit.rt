@@ -7,11 +7,8 @@ ghost use Rattle.srcp_serve.specs.Visits.{Closes, Exchanges, LetsGo, ReadsIn, Vi
 
 use crate::door::{Door, Got};
 use crate::tally::Tally;
-use srcp_core::Core;
+use srcp_core::{Core, MOST_IN_PIECE};
 use srcp_rules::Rows;
-
-/// How many bytes are read of a peer in a turn.
-const MOST_READ: usize = 256;
 
 /// How many times a peer is written to in a turn.
 const MOST_WRITES: u32 = 300;
@@ -121,7 +118,7 @@ fn read_in<R: Rows, D: Door>(
     if !core.ready(seat.key) {
         return true;
     }
-    let mut buffer = [0; MOST_READ];
+    let mut buffer = [0; MOST_IN_PIECE];
     match door.read(seat.peer, &mut buffer) {
         Ok(Got::Bytes(count)) => core.receive(seat.key, &buffer[..count]).is_ok(),
         Ok(Got::Nothing) => true,

@@ -7,9 +7,8 @@ use Rattle.srcp_core.proofs.table.Core.reply.Goals as goal
 
 pub invariant_of-self-2 : goal.invariant_of-self-2
 invariant_of-self-2 g c =
-    let held : Held = record { buses = c.self.inside.layout.now; rows = g.R.Rows.state c.self.inside.rows; moment = c.self.inside.moment; last_id = c.self.inside.last_id; places = c.self.inside.connections.slots; denied = c.self.inside.denied } in
-    let there : at held c.args.conn ≡ Some c.in-Some.connection.now = sym c.get_mut.ensures.value ∙ ap option_copied_mut c.in-Some.is in (
-      sound_place c.args.conn held c.in-Some.connection.now c.reply.new.self there (subst (IsMild c.in-Some.connection.now) (sym c.reply.ensures) (record { session = refl; ended = λ h. h })) c.self.invariant.0,
+    let there = sym c.get_mut.ensures.value ∙ ap option_copied_mut c.in-Some.is in (
+      sound_place c.args.conn _ c.in-Some.connection.now c.reply.new.self there (subst (IsMild c.in-Some.connection.now) (sym c.reply.ensures) (record { session = refl; ended = λ h. h })) c.self.invariant.0,
       c.self.invariant.1,
       c.self.invariant.2,
     )
