@@ -3,14 +3,12 @@ use Rattle.std.specs.Prelude.{◌≡◌, ℕ, ◌+◌, ◌≤◌, Bool, true, fa
 use Rattle.std.specs.Option.{option_map_or}
 use Rattle.srcp_rules.specs.declared.layout.Bus.{Bus}
 use Rattle.srcp_rules.specs.Layout.{IsLayout}
-use Rattle.srcp_core.specs.Connection.{Connection, is_settled, overran, unsent, finish}
+use Rattle.srcp_core.specs.Connection.{Connection, is_settled, overran, unsent, finish, is_last}
 use Rattle.srcp_core.specs.Course.{World, course, fault, history, open_connection, rows}
 use Rattle.srcp_core.specs.Held.{Held, open_count}
 use Rattle.srcp_core.specs.Recording.{key_of}
 use Rattle.srcp_core.specs.Stands.{StandsFor}
 use Rattle.srcp_core.specs.Under.{Event, Bytes, Piece}
-use Rattle.srcp_core.specs.declared.record.Finish.{Finish}
-use Rattle.srcp_core.specs.declared.record.Finish.TheVariants as finish
 
 -- this holds of the course of any events that the core stands for
 abbrev pub OfCourse : Held → (List Bus → List Event → Type 0) → Type 0
@@ -32,13 +30,6 @@ NamesNewest key held = (buses : List Bus) (events : List Event) (keys : List (Op
 abbrev pub CountsOpen : Held → Type 0
 CountsOpen held = (buses : List Bus) (events : List Event) (keys : List (Option ℕ))
     → StandsFor buses keys held (course buses events) → count_by is_some keys ≡ open_count held
-
--- a connection that stands so is to be closed
-abbrev pub is_last : Finish → Bool
-is_last finish.Live = false
-is_last finish.Closing = true
-is_last finish.Overrun = true
-is_last finish.Shut = false
 
 module _ (buses : List Bus) where
   -- the open connection of that number is to be closed: it overran, or it ended and all its replies are taken

@@ -3,11 +3,11 @@ use Rattle.std.specs.Prelude.{◌≡◌, ℕ, ◌<◌, ◌≤◌, true, false, L
 use Rattle.srcp_rules.specs.declared.layout.Bus.{Bus}
 use Rattle.srcp_core.specs.Agrees.{OfCourse, OfConnection, NamesNewest, CountsOpen, TakesPieces}
 use Rattle.srcp_core.specs.Agrees.{closes as closes_in, lent as lent_in, lends_none as lends_none_in}
-use Rattle.srcp_core.specs.Connection.{is_nil}
+use Rattle.srcp_core.specs.Connection.{is_nil, is_last}
 use Rattle.srcp_core.specs.Course.{course, fault}
 use Rattle.srcp_core.specs.Held.{Held, at}
 use Rattle.srcp_core.specs.Machine.{IsAdmitted, IsNotAdmitted, IsReceived, opening_held, bytes_fault, advanced, hung_up}
-use Rattle.srcp_core.specs.Machine.{let_out, unsent_at, changed_at, without_sent, is_closing}
+use Rattle.srcp_core.specs.Machine.{let_out, unsent_at, changed_at, without_sent, finish_at}
 use Rattle.srcp_core.specs.Run.{LeadsTo, LeadsAt, LeadsOn, LeadsToFree, LeadsToOpen}
 use Rattle.srcp_core.specs.Stands.{StandsFor}
 use Rattle.srcp_core.specs.Under.{Open, Bytes, Room, At, Shut, Piece}
@@ -48,7 +48,7 @@ pub record CallsAgree : Type 0 where
   pub takes : (key : ℕ) (held : Held) → is_none (bytes_fault key [] held) ≡ true
       → OfConnection key held (λ buses events n. TakesPieces buses (course buses events) n)
   pub closes : (key : ℕ) (held : Held)
-      → OfConnection key held (λ buses events n. is_closing key held ≡ closes_in buses (course buses events) n)
+      → OfConnection key held (λ buses events n. is_last (finish_at key held) ≡ closes_in buses (course buses events) n)
   pub lends : (key : ℕ) (held : Held)
       → OfConnection key held
       (λ buses events n. unsent_at key (let_out key held) ≡ lent_in buses (course buses (events ++ Room n 0 ∷ [])) n)

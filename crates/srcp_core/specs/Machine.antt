@@ -376,15 +376,6 @@ pub record IsReceived (key : ℕ) (piece : List ℕ) (old new : Held) : Type 0 w
   pub counted : CountsEach key piece (0, old) grants
   pub rest : (None, new) ≡ heard_at key piece (lines_answered key piece grants old).0 (lines_answered key piece grants old).1
 
--- it overran, or it ended and all replies are taken
-abbrev pub is_closing_from : Option Place → Bool
-is_closing_from None = false
-is_closing_from (Some p) = has_overrun p.panel || (p.ended && is_nil p.unsent)
-
--- the same of the connection of that key
-abbrev pub is_closing : ℕ → Held → Bool
-is_closing key held = is_closing_from (at held key)
-
 -- the session of a connection, where it has one that did not end
 abbrev pub live_session_of : Option Place → Option ℕ
 live_session_of None = None

@@ -1,5 +1,5 @@
 -- To be believed: what a run promises of the connections that it tells of, and of the registry.
-use Rattle.std.specs.Prelude.{◌≡◌, ℕ, zero, suc, Bool, true, IsTrue, List, length, fold, slice_get, Option, Some, None}
+use Rattle.std.specs.Prelude.{◌≡◌, ℕ, Bool, true, IsTrue, List, length, fold, Some}
 use Rattle.std.specs.List.{AllByRecursion}
 use Rattle.srcp_rules.specs.declared.layout.Bus.{Bus}
 use Rattle.srcp_rules.specs.State.{IsWhole}

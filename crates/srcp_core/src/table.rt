@@ -1,6 +1,7 @@
 //! The core: the registry, and the connections with their sessions.
 ghost use Rattle.std.specs.Prelude.{◌≡◌, ◌≤◌, IfOk, IfErr, is_none, []};
-ghost use Rattle.srcp_core.specs.Machine.{opening_held, IsAdmitted, IsNotAdmitted, is_closing, bytes_fault};
+ghost use Rattle.srcp_core.specs.Connection.{is_last};
+ghost use Rattle.srcp_core.specs.Machine.{opening_held, IsAdmitted, IsNotAdmitted, finish_at, bytes_fault};
 
 mod answer;
 mod calls;
@@ -13,7 +14,7 @@ mod walk;
 use crate::connection::Connection;
 use crate::limits::MOST_CONNECTIONS;
 use crate::quiet::Timed;
-use crate::record::CoreFault;
+use crate::record::{CoreFault, Finish};
 use slab::Slab;
 use srcp_rules::{Layout, Memory, Rows};
 use std::alloc::Global;
@@ -126,11 +127,8 @@ impl<'a, R: Rows> Core<'a, R> {
     /// Whether the connection is to be closed: it overran, or its session ended by its own command and all replies
     /// are taken. False where there is no such connection. Its law is `closes` of `laws::calls_follow`.
     pub fn closing(&self, conn: usize) -> bool
-        ensures { result ≡ is_closing conn self.now }
+        ensures { result ≡ is_last (finish_at conn self.now) }
     {
-        match self.connections.get(conn) {
-            Some(connection) => connection.overran() || connection.is_done(),
-            None => false,
-        }
+        matches!(self.finish(conn), Finish::Overrun | Finish::Closing)
     }
 }

@@ -4,26 +4,26 @@ use Rattle.std.proofs.lemmas.Option.{none-some}
 use Rattle.std.proofs.lemmas.Bool.{le-ltb}
 use Rattle.std.specs.List.{filter}
 use Rattle.std.specs.Option.{option_map_or}
-use Rattle.std.specs.Prelude.{Option, Some, None, is_none, is_some, count_by, nat_lt, slice_get, slice_index_or, not, ◌&&◌, ◌||◌, if◌then◌else◌, IsSome}
+use Rattle.std.specs.Prelude.{Option, Some, None, is_none, is_some, count_by, nat_lt, slice_get, slice_index_or, not, ◌||◌, if◌then◌else◌, IsSome}
 use Rattle.srcp_rules.specs.declared.layout.Bus.{Bus}
 use Rattle.srcp_rules.specs.Layout.{IsLayout}
 use Rattle.srcp_rules.specs.State.{opening, shown_rows}
 use Rattle.srcp_core.specs.Under.{Event, Open, Bytes, Room, Shut, Piece}
-use Rattle.srcp_core.specs.Agrees.{OfCourse, OfConnection, NamesNewest, CountsOpen, TakesPieces, is_last, closes, lent_of, lent}
-use Rattle.srcp_core.specs.Connection.{Connection, is_open, is_nil, overran, unsent, finish}
+use Rattle.srcp_core.specs.Agrees.{OfCourse, OfConnection, NamesNewest, CountsOpen, TakesPieces, closes, lent_of, lent}
+use Rattle.srcp_core.specs.Connection.{Connection, is_open, is_nil, overran, unsent, finish, is_last}
 use Rattle.srcp_core.specs.Course.{World, course, fault, absent_fault, history, open_connection}
 use Rattle.srcp_core.specs.Held.{Place, Held, at}
-use Rattle.srcp_core.specs.Machine.{IsAdmitted, IsNotAdmitted, bytes_fault, bytes_fault_from, is_closing, is_closing_from, unsent_at, unsent_of, let_out, has_overrun}
+use Rattle.srcp_core.specs.Machine.{IsAdmitted, IsNotAdmitted, bytes_fault, bytes_fault_from, finish_at, unsent_at, unsent_of, let_out, has_overrun}
 use Rattle.srcp_core.specs.Recording.{key_of}
 use Rattle.srcp_core.specs.Stands.{StandsFor, place_of}
 use Rattle.srcp_core.specs.declared.record.CoreFault.{CoreFault}
 use Rattle.srcp_core.specs.declared.record.CoreFault.TheVariants.{Full, Memory as MemoryFault, Busy, PieceTooLong, Closing as ClosingFault}
-use Rattle.srcp_core.specs.declared.record.Finish.TheVariants.{Live, Closing, Overrun, Shut as ShutFinish}
 use Rattle.srcp_core.proofs.Agreement.LinesAgree.{IsFine}
 use Rattle.srcp_core.proofs.Agreement.EventsAgree.{over_is, fault_same, full_fault, free_fault}
 use Rattle.srcp_core.proofs.Agreement.CallsFollowTheCourse.{out_stands}
+use Rattle.srcp_core.proofs.Agreement.RecordIsOfTheCourse.{finish_is}
 use Rattle.srcp_core.proofs.Agreement.NumbersAndKeys.{key_push_last, opens_cons}
-use Rattle.srcp_core.proofs.Agreement.PlacesChange.{is_over_place, place_overran, place_unsent, place_given_up}
+use Rattle.srcp_core.proofs.Agreement.PlacesChange.{is_over_place, place_unsent, place_given_up}
 use Rattle.srcp_core.proofs.CourseLaws.SessionsOfACourse.{anything, at_number, opening_in_order}
 use Rattle.srcp_core.proofs.Agreement.StandsAfterAChange.{Anything, Fine, Found, found_at}
 use Rattle.srcp_core.proofs.Invariants.EveryPlaceIsTold.{count_by_cons}
@@ -89,37 +89,16 @@ module _ (buses : List Bus) (layout : IsLayout buses) (events : List Event) (key
   is_there : at held key ≡ None → ⊥
   is_there gone = none-some (place_of its.reader (history buses w) its.conn) (sym gone ∙ its.place)
 
-  -- its place, by what is known of that
-  last_is : (p : Place) → at held key ≡ Some p → has_overrun p.panel ≡ overran its.conn (history buses w) → p.ended ≡ its.conn.ended → (overran its.conn (history buses w) ≡ false → p.unsent ≡ unsent its.conn)
-      → is_closing key held ≡ (overran its.conn (history buses w) || (its.conn.ended && is_nil (unsent its.conn)))
-  last_is p here over ended bytes =
-      ap is_closing_from here ∙ ap (λ t. t || (p.ended && is_nil p.unsent)) over ∙ ap (λ t. overran its.conn (history buses w) || (t && is_nil p.unsent)) ended
-      ∙ by (overran its.conn (history buses w)) bytes
-    where
-      by : (t : Bool) → (t ≡ false → p.unsent ≡ unsent its.conn) → (t || (its.conn.ended && is_nil p.unsent)) ≡ (t || (its.conn.ended && is_nil (unsent its.conn)))
-      by true h = refl
-      by false h = ap (λ bytes. its.conn.ended && is_nil bytes) (h refl)
-
   abbrev its_place : Place
   its_place = place_of its.reader (history buses w) its.conn
-
-  overran_is : has_overrun its_place.panel ≡ overran its.conn (history buses w)
-  overran_is = place_overran its.reader (history buses w) its.conn ∙ sym its_over
 
   unsent_is : overran its.conn (history buses w) ≡ false → its_place.unsent ≡ unsent its.conn
   unsent_is still = place_unsent its.reader (history buses w) its.conn (sym its_over ∙ still)
 
-  closing_is : is_closing key held ≡ closes buses w n
+  closing_is : is_last (finish_at key held) ≡ closes buses w n
   closing_is =
-      last_is its_place its.place overran_is refl unsent_is
-      ∙ by (overran its.conn (history buses w)) (its.conn.ended && is_nil (unsent its.conn))
-      ∙ ap (λ t. is_last (if t then (if overran its.conn (history buses w) then Overrun else (if its.conn.ended && is_nil (unsent its.conn) then Closing else Live)) else ShutFinish)) (sym its.up)
+      ap is_last (finish_is buses layout keys held events s n key its.reader its.conn its.there its.up its.place)
       ∙ ap (λ o. option_map_or (λ (conn : Connection). is_last (finish conn (history buses w))) o false) (sym its.opened)
-    where
-      by : (over over_now : Bool) → (over || over_now) ≡ is_last (if over then Overrun else (if over_now then Closing else Live))
-      by true over_now = refl
-      by false true = refl
-      by false false = refl
 
   lent_is : unsent_at key held ≡ lent buses w n
   lent_is =
@@ -161,7 +140,7 @@ takes_agrees key held accepts buses events keys n layout named s piece few =
         by false true e = ap (λ t. if t then Some PieceTooLong else None) (le-ltb 256 (length piece.bytes) few)
 
 pub closes_agrees : (key : ℕ) (held : Held)
-    → OfConnection key held (λ buses events n. is_closing key held ≡ closes buses (course buses events) n)
+    → OfConnection key held (λ buses events n. is_last (finish_at key held) ≡ closes buses (course buses events) n)
 closes_agrees key held buses events keys n layout named s = closing_is buses layout events keys n key named held s
 
 pub lends_agrees : (key : ℕ) (held : Held)

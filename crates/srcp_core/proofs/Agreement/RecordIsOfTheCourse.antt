@@ -14,12 +14,13 @@ use Rattle.srcp_rules.specs.State.{opening, shown_rows}
 use Rattle.srcp_rules.specs.Effect.{Effect}
 use Rattle.srcp_core.specs.Under.{Event, Open, Bytes, Room, At, Shut, Obeyed, Began, Ended, Heard, Order, effect, greets, Piece, under, all_under, denied_by}
 use Rattle.srcp_core.specs.declared.event.Event.{Event as PlainEvent}
-use Rattle.srcp_core.specs.Connection.{Connection, History, is_open, is_nil, overran, unsent, recorded}
+use Rattle.srcp_core.specs.Connection.{Connection, History, is_open, is_nil, overran, unsent, finish, recorded}
 use Rattle.srcp_core.specs.Course.{World, start, numbered, at_connection, did, state, history, counted, fault, open_connection, order_of, replied, entered, goes, greeted, ended, obeyed, commanded, answered_as, answered, new_lines, fed_to, shut_as, accepted, or_refused, happens, course, denied_in, denied_over}
+use Rattle.srcp_text.specs.Reading.{Reading}
 use Rattle.srcp_core.specs.Handshake.{Greeting, Speaks, Chooses, Goes, Refuses}
-use Rattle.srcp_core.specs.Held.{Place, Held, at}
+use Rattle.srcp_core.specs.Held.{Held, at}
 use Rattle.srcp_core.specs.Laws.{IsRecordOf}
-use Rattle.srcp_core.specs.Machine.{opening_held, finish_at, finish_from, has_overrun}
+use Rattle.srcp_core.specs.Machine.{opening_held, finish_at, finish_from}
 use Rattle.srcp_core.specs.Recording.{Recording, key_of, record_of, changed_record, changed_in, finished, finished_by, with_refusal, nothing_recorded}
 use Rattle.srcp_core.specs.Run.{Runs, Happened, HappensAs, FollowsAs, RunsUnder}
 use Rattle.srcp_core.proofs.Agreement.RefusalsAreCounted.{denied_over_push}
@@ -104,15 +105,22 @@ module _ (buses : List Bus) (layout : IsLayout buses) (keys : List (Option ℕ))
   abbrev w : World
   w = course buses events
 
-  stands_as : (key : ℕ) (conn : Connection) (p : Place) → at held key ≡ Some p → has_overrun p.panel ≡ overran conn (history buses w) → p.ended ≡ conn.ended → (overran conn (history buses w) ≡ false → p.unsent ≡ unsent conn)
-      → finish_at key held ≡ (if overran conn (history buses w) then Overrun else (if conn.ended && is_nil (unsent conn) then Closing else Live))
-  stands_as key conn p here over ended bytes =
+  -- an open connection stands in what is held as in the course
+  pub finish_is : (n key : ℕ) (reader : Reading) (conn : Connection) → numbered n w.connections ≡ Some conn → is_open conn ≡ true
+      → at held key ≡ Some (place_of reader (history buses w) conn) → finish_at key held ≡ finish conn (history buses w)
+  finish_is n key reader conn e o here =
+      let p = place_of reader (history buses w) conn in
+      let fine = sound buses (opening_in_order buses layout) Anything (anything (shown_rows (opening buses 0))) events in
+      let f : Fine buses (history buses w) conn = at_number (Fine buses (history buses w)) n w.connections conn fine e in
+      let over = over_is buses (history buses w) conn (open_shut conn.shut o) f in
       ap finish_from here
-      ∙ ap (λ t. if t then Overrun else (if p.ended && is_nil p.unsent then Closing else Live)) over
-      ∙ ap (λ t. if overran conn (history buses w) then Overrun else (if t && is_nil p.unsent then Closing else Live)) ended
-      ∙ by (overran conn (history buses w)) bytes
+      ∙ ap (λ t. if t then Overrun else (if conn.ended && is_nil p.unsent then Closing else Live)) (place_overran reader (history buses w) conn ∙ sym over)
+      ∙ by (overran conn (history buses w)) (λ still. place_unsent reader (history buses w) conn (sym over ∙ still))
+      ∙ ap (λ t. if t then (if overran conn (history buses w) then Overrun else (if conn.ended && is_nil (unsent conn) then Closing else Live)) else ShutFinish) (sym o)
     where
-      by : (t : Bool) → (t ≡ false → p.unsent ≡ unsent conn) → (if t then Overrun else (if conn.ended && is_nil p.unsent then Closing else Live)) ≡ (if t then Overrun else (if conn.ended && is_nil (unsent conn) then Closing else Live))
+      by : (t : Bool) → (t ≡ false → (place_of reader (history buses w) conn).unsent ≡ unsent conn)
+          → (if t then Overrun else (if conn.ended && is_nil (place_of reader (history buses w) conn).unsent then Closing else Live))
+          ≡ (if t then Overrun else (if conn.ended && is_nil (unsent conn) then Closing else Live))
       by true h = refl
       by false h = ap (λ bytes. if conn.ended && is_nil bytes then Closing else Live) (h refl)
 
@@ -126,12 +134,8 @@ module _ (buses : List Bus) (layout : IsLayout buses) (keys : List (Option ℕ))
           ∙ ap (λ t. record (record_of conn) { finish = if t then (if overran conn (history buses w) then Overrun else (if conn.ended && is_nil (unsent conn) then Closing else Live)) else ShutFinish }) (sym o)
       by true o =
           let a = s.opens n conn e o in
-          let f : Fine buses (history buses w) conn = at_number (Fine buses (history buses w)) n w.connections conn (sound buses (opening_in_order buses layout) Anything (anything (shown_rows (opening buses 0))) events) e in
-          let over = over_is buses (history buses w) conn (open_shut conn.shut o) f in
           ap (λ k. finished_by held k (record_of conn)) a.named
-          ∙ ap (λ (finish : Finish). record (record_of conn) { finish = finish })
-          (stands_as a.key conn (place_of a.reader (history buses w) conn) a.place (place_overran a.reader (history buses w) conn ∙ sym over) refl (λ still. place_unsent a.reader (history buses w) conn (sym over ∙ still)))
-          ∙ ap (λ t. record (record_of conn) { finish = if t then (if overran conn (history buses w) then Overrun else (if conn.ended && is_nil (unsent conn) then Closing else Live)) else ShutFinish }) (sym o)
+          ∙ ap (λ (finish : Finish). record (record_of conn) { finish = finish }) (finish_is n a.key a.reader conn e o a.place)
 
   pub all_finished : finished held keys (map record_of w.connections) ≡ map (recorded (history buses w)) w.connections
   all_finished = finished_is (history buses w) held keys w.connections s.long (λ k conn e. one_finished (suc k) conn e)

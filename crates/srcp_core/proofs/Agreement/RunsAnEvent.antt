@@ -71,7 +71,7 @@ open_happens key r old new a = record { grants = []; counted = ap (λ (x : Held)
 -- an event that the course refuses, and that asks for no memory, changes nothing
 pub refused_happens : (event : PlainEvent) (cause : CoreFault) (r : Recording) (held : Held)
     → ((buses : List Bus) (events : List Event) → IsLayout buses → StandsFor buses r.keys held (counted (course buses events))
-        → fault buses (counted (course buses events)) (under [] event) ≡ Some cause)
+    → fault buses (counted (course buses events)) (under [] event) ≡ Some cause)
     → HappensAs event (Some cause) r held r held
 refused_happens event cause r held why = record {
   grants = [];

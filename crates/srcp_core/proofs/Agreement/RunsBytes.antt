@@ -31,8 +31,8 @@ use Rattle.srcp_core.proofs.Agreement.RunsAnEvent.{fine_course, refused_happens,
 pub bytes_refused : (n key : ℕ) (piece : List ℕ) (r : Recording) (held : Held) (cause : CoreFault) → key_of n r.keys ≡ Some key → bytes_fault key piece held ≡ Some cause → HappensAs (plain.Bytes n piece) (Some cause) r held r held
 bytes_refused n key piece r held cause named e = refused_happens (plain.Bytes n piece) cause r held
     (λ buses events layout s.
-        let w = counted (course buses events) in
-        sym (fault_same buses (opening_in_order buses layout) (λ n fed. fed) r.keys held w n key piece (fine_course buses layout events) s named) ∙ e)
+    let w = counted (course buses events) in
+    sym (fault_same buses (opening_in_order buses layout) (λ n fed. fed) r.keys held w n key piece (fine_course buses layout events) s named) ∙ e)
 
 -- where bytes are not refused there is room for their answers
 pub bytes_room : (key : ℕ) (piece : List ℕ) (held : Held) → bytes_fault key piece held ≡ None → (length piece ≤ 256) × HasRoom key piece 0 held

@@ -1,7 +1,6 @@
-use Rattle.std.proofs.Common.{◌≡◌, Some, sym, ap, ◌∙◌, subst}
+use Rattle.std.proofs.Common.{sym, ap, ◌∙◌, subst}
 use Rattle.std.specs.Option.{option_copied_mut}
 use Rattle.srcp_rules.specs.State.{shown_rows}
-use Rattle.srcp_core.specs.Held.{Held, at}
 use Rattle.srcp_core.proofs.Invariants.PlacesCover.{IsMild}
 use Rattle.srcp_core.proofs.Invariants.CoreStaysSound.{filled_mild, sound_place}
 use Rattle.srcp_core.proofs.table.Core.fill.Goals as goal

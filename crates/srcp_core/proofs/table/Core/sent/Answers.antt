@@ -1,6 +1,5 @@
-use Rattle.std.proofs.Common.{◌≡◌, Some, refl, sym, ap, ◌∙◌, subst}
+use Rattle.std.proofs.Common.{refl, sym, ap, ◌∙◌, subst}
 use Rattle.std.specs.Option.{option_copied_mut}
-use Rattle.srcp_core.specs.Held.{Held, at}
 use Rattle.srcp_core.proofs.Invariants.PlacesCover.{IsMild}
 use Rattle.srcp_core.proofs.Invariants.CoreStaysSound.{sound_place}
 use Rattle.srcp_core.proofs.table.Core.sent.Goals as goal
