@@ -13,26 +13,26 @@ use Rattle.srcp_core.specs.declared.record.Record.{Record}
 
 module _ (buses : List Bus) where
   -- what is told of an information session is what came of a connection of the course, which was told rightly
-  pub record IsRecordedSession (events : List Event) (number : ℕ) (told : ConnRecord) : Type 0 where
+  pub record IsRecordedSession (events : List Event) (number : ℕ) (one : ConnRecord) : Type 0 where
     pub conn : Connection
     pub session : IsSession buses events number conn
-    pub is : told ≡ recorded (history buses (course buses events)) conn
+    pub is : one ≡ recorded (history buses (course buses events)) conn
     pub listed : IsListedRightly buses (course buses events) conn
     pub held : IsHeldRightly buses events number conn
 
   -- what is told of any connection is what came of a connection of the course, which was served rightly, and was sent nothing
   -- after an overrun or a shut
-  pub record IsRecordedConnection (events : List Event) (number : ℕ) (told : ConnRecord) : Type 0 where
+  pub record IsRecordedConnection (events : List Event) (number : ℕ) (one : ConnRecord) : Type 0 where
     pub conn : Connection
     pub there : numbered number (course buses events).connections ≡ Some conn
-    pub is : told ≡ recorded (history buses (course buses events)) conn
+    pub is : one ≡ recorded (history buses (course buses events)) conn
     pub served : IsServedRightly buses events number conn
     pub no_more : IsSentNoMoreSince buses events number conn
 
   -- the rows that are told are a whole registry, as it was after each step, and no step gave a device that was there a
   -- key that it had not
-  pub record IsRecordedRegistry (events : List Event) (told : Record) : Type 0 where
-    pub rows_whole : IsWhole buses told.rows
+  pub record IsRecordedRegistry (events : List Event) (run : Record) : Type 0 where
+    pub rows_whole : IsWhole buses run.rows
     pub world : IsWholeWorld buses (course buses events)
     pub keys : KeepsKeys buses (course buses events)
 
@@ -41,15 +41,15 @@ module _ (buses : List Bus) where
 -- what memory answered in each event, with which the record is that of the course of the events, and tells of it what it promises;
 -- the record counts exactly the answers that refused, up to the greatest u64, and these are all asked for in that course;
 -- where it counts none each answer gave, and the course is that of the events where memory gives all
-pub record IsPromised (buses : List Bus) (events : List PlainEvent) (told : Record) : Type 0 where
+pub record IsPromised (buses : List Bus) (events : List PlainEvent) (run : Record) : Type 0 where
   pub grants : List (List Bool)
   pub count : length grants ≡ length events
-  pub counted : told.denied ≡ fold denied_by 0 grants
-  pub asked : told.denied ≡ denied_over buses 0 start (all_under grants events)
-  pub given : told.denied ≡ 0 → AllByRecursion (AllByRecursion IsTrue) grants
-  pub is : IsRecordOf buses (all_under grants events) told
-  pub sessions : (number : ℕ) (one : ConnRecord) → numbered number told.connections ≡ Some one → one.info ≡ true
+  pub counted : run.denied ≡ fold denied_by 0 grants
+  pub asked : run.denied ≡ denied_over buses 0 start (all_under grants events)
+  pub given : run.denied ≡ 0 → AllByRecursion (AllByRecursion IsTrue) grants
+  pub is : IsRecordOf buses (all_under grants events) run
+  pub sessions : (number : ℕ) (one : ConnRecord) → numbered number run.connections ≡ Some one → one.info ≡ true
       → IsRecordedSession buses (all_under grants events) number one
-  pub connections : (number : ℕ) (one : ConnRecord) → numbered number told.connections ≡ Some one
+  pub connections : (number : ℕ) (one : ConnRecord) → numbered number run.connections ≡ Some one
       → IsRecordedConnection buses (all_under grants events) number one
-  pub registry : IsRecordedRegistry buses (all_under grants events) told
+  pub registry : IsRecordedRegistry buses (all_under grants events) run

@@ -38,7 +38,7 @@ record_of conn = record { session = conn.session; info = conn.info; go_step = co
 -- what is told of the connection of that number is changed, where there is one
 abbrev pub changed_in : ℕ → (ConnRecord → ConnRecord) → List ConnRecord → Option ConnRecord → List ConnRecord
 changed_in index change records None = records
-changed_in index change records (Some told) = slice_set records index (change told)
+changed_in index change records (Some one) = slice_set records index (change one)
 
 -- the same, by the number alone
 abbrev pub changed_record : ℕ → (ConnRecord → ConnRecord) → List ConnRecord → List ConnRecord
@@ -59,7 +59,7 @@ opened key r = record r { keys = r.keys ++ Some key ∷ []; connections = r.conn
 
 -- a connection was shut
 abbrev pub shut : ℕ → Recording → Recording
-shut n r = changed n (λ told. record told { finish = Shut }) (record r { keys = without_key n r.keys })
+shut n r = changed n (λ one. record one { finish = Shut }) (record r { keys = without_key n r.keys })
 
 -- the registry took steps
 abbrev pub stepped : List Step → Recording → Recording
@@ -68,17 +68,17 @@ stepped steps r = record r { steps = r.steps ++ steps }
 -- a session began, where the step is that
 abbrev pub began : ℕ → Step → Recording → Recording
 began n (Obeyed session moment command) r = r
-began n (Began session moment mode) r = changed n (λ told. record told { session = session; info = is_info mode; go_step = length r.steps }) r
+began n (Began session moment mode) r = changed n (λ one. record one { session = session; info = is_info mode; go_step = length r.steps }) r
 began n (Moment moment) r = r
 began n (Ended session moment) r = r
 
 -- a line was answered by these steps
 abbrev pub noted : ℕ → List Step → Recording → Recording
-noted n steps r = fold (λ told step. began n step (stepped (step ∷ []) told)) r steps
+noted n steps r = fold (λ before step. began n step (stepped (step ∷ []) before)) r steps
 
 -- a line was given, after so many steps
 abbrev pub with_item : ℕ → Next → ConnRecord → ConnRecord
-with_item steps what told = record told { items = told.items ++ record { steps = steps; what = what } ∷ [] }
+with_item steps what one = record one { items = one.items ++ record { steps = steps; what = what } ∷ [] }
 
 -- an information session was given this, if anything; where nothing is left there is no line
 abbrev pub gave : ℕ → Option Next → Recording → Recording
@@ -89,18 +89,18 @@ gave n (Some Settled) r = r
 
 -- these bytes were taken
 abbrev pub took : ℕ → List ℕ → Recording → Recording
-took n bytes r = changed n (λ told. record told { sent = told.sent ++ bytes }) r
+took n bytes r = changed n (λ one. record one { sent = one.sent ++ bytes }) r
 
 -- how each open connection stands in the end
 abbrev pub finished_by : Held → Option ℕ → ConnRecord → ConnRecord
-finished_by held None told = told
-finished_by held (Some key) told = record told { finish = finish_at key held }
+finished_by held None one = one
+finished_by held (Some key) one = record one { finish = finish_at key held }
 
 -- how all of them stand in the end
 abbrev pub finished : Held → List (Option ℕ) → List ConnRecord → List ConnRecord
-finished held [] tolds = tolds
+finished held [] records = records
 finished held (key ∷ keys) [] = []
-finished held (key ∷ keys) (told ∷ tolds) = finished_by held key told ∷ finished held keys tolds
+finished held (key ∷ keys) (one ∷ records) = finished_by held key one ∷ finished held keys records
 
 -- the event of that number was refused
 abbrev pub with_refusal : ℕ → CoreFault → Recording → Recording

@@ -111,12 +111,12 @@ pub record RunsUnder (buses : List Bus) (events : List PlainEvent) (r : Recordin
   pub runs : Runs buses r held (course buses (all_under grants events))
 
 -- what memory answered in each event of a run, where its record is that of the course of the events under these answers
-pub record RunsRecord (buses : List Bus) (events : List PlainEvent) (told : Record) : Type 0 where
+pub record RunsRecord (buses : List Bus) (events : List PlainEvent) (run : Record) : Type 0 where
   pub grants : List (List Bool)
   pub count : length grants ≡ length events
-  pub counted : told.denied ≡ fold denied_by 0 grants
-  pub asked : told.denied ≡ denied_over buses 0 start (all_under grants events)
-  pub is : IsRecordOf buses (all_under grants events) told
+  pub counted : run.denied ≡ fold denied_by 0 grants
+  pub asked : run.denied ≡ denied_over buses 0 start (all_under grants events)
+  pub is : IsRecordOf buses (all_under grants events) run
 
 -- the moment that an event tells has 64 bits
 abbrev pub HasPlainMoment : PlainEvent → Type 0

@@ -146,12 +146,12 @@ impl Recorder {
 
     /// The record of the run, by how the core stands at the end.
     pub(crate) fn record<R: Rows>(mut self, core: &Core<'_, R>) -> Result<Record, Memory>
-        ensures well_formed { IfOk result (λ told. AllByRecursion (λ row. IsWellFormedShown row.shown) told.rows) }
-        ensures steps { IfOk result (λ told. told.steps ≡ self.steps) }
-        ensures refused { IfOk result (λ told. told.refused ≡ self.refused) }
-        ensures connections { IfOk result (λ told. told.connections ≡ finished core.now self.keys self.connections) }
-        ensures rows { IfOk result (λ told. told.rows ≡ core.now.rows) }
-        ensures denied { IfOk result (λ told. told.denied ≡ core.now.denied) }
+        ensures well_formed { IfOk result (λ run. AllByRecursion (λ row. IsWellFormedShown row.shown) run.rows) }
+        ensures steps { IfOk result (λ run. run.steps ≡ self.steps) }
+        ensures refused { IfOk result (λ run. run.refused ≡ self.refused) }
+        ensures connections { IfOk result (λ run. run.connections ≡ finished core.now self.keys self.connections) }
+        ensures rows { IfOk result (λ run. run.rows ≡ core.now.rows) }
+        ensures denied { IfOk result (λ run. run.denied ≡ core.now.denied) }
     {
         finish_all(&self.keys, &mut self.connections, core);
         Ok(Record {
@@ -193,7 +193,7 @@ fn free(keys: &mut Vec<Option<usize>>, conn: usize)
 
 /// A session of the connection of the number began.
 fn begin(connections: &mut Vec<ConnRecord>, conn: usize, session: u32, mode: Mode, go_step: usize)
-    ensures { connections.new.items ≡ changed_record conn (λ told. record told { session = session; info = is_info mode; go_step = go_step }) connections.old.items }
+    ensures { connections.new.items ≡ changed_record conn (λ one. record one { session = session; info = is_info mode; go_step = go_step }) connections.old.items }
 {
     let Some(index) = conn.checked_sub(1) else {
         return;
@@ -225,7 +225,7 @@ fn give(
 
 /// Bytes of the connection of the number were taken.
 fn take(connections: &mut Vec<ConnRecord>, conn: usize, bytes: &[u8]) -> Result<(), Memory>
-    ensures { OnOk result (connections.new.items ≡ changed_record conn (λ told. record told { sent = told.sent ++ bytes.now }) connections.old.items) }
+    ensures { OnOk result (connections.new.items ≡ changed_record conn (λ one. record one { sent = one.sent ++ bytes.now }) connections.old.items) }
 {
     let Some(index) = conn.checked_sub(1) else {
         return Ok(());
@@ -238,7 +238,7 @@ fn take(connections: &mut Vec<ConnRecord>, conn: usize, bytes: &[u8]) -> Result<
 
 /// How the connection of the number stands.
 fn finish(connections: &mut Vec<ConnRecord>, conn: usize, finish: Finish)
-    ensures { connections.new.items ≡ changed_record conn (λ told. record told { finish = finish }) connections.old.items }
+    ensures { connections.new.items ≡ changed_record conn (λ one. record one { finish = finish }) connections.old.items }
 {
     let Some(index) = conn.checked_sub(1) else {
         return;

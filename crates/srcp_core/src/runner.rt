@@ -40,16 +40,16 @@ impl From<Memory> for RunFault {
 /// # Errors
 /// `Memory` where memory was refused to the core when it was made, or to the record.
 pub fn run<R: Rows>(alloc: Global, layout: &Layout, events: &[Event]) -> Result<Record, RunFault>
-    ensures well_formed { IfOk result (λ told. AllByRecursion (λ row. IsWellFormedShown row.shown) told.rows) }
-    ensures promised { IfOk result (λ told. IsPromised layout.now events.now told) }
+    ensures well_formed { IfOk result (λ run. AllByRecursion (λ row. IsWellFormedShown row.shown) run.rows) }
+    ensures promised { IfOk result (λ run. IsPromised layout.now events.now run) }
 {
     carry_out::<R>(alloc, layout, events)
 }
 
 /// Carries out all events.
 fn carry_out<R: Rows>(alloc: Global, layout: &Layout, events: &[Event]) -> Result<Record, RunFault>
-    ensures well_formed { IfOk result (λ told. AllByRecursion (λ row. IsWellFormedShown row.shown) told.rows) }
-    ensures record { IfOk result (λ told. RunsRecord layout.now events.now told) }
+    ensures well_formed { IfOk result (λ run. AllByRecursion (λ row. IsWellFormedShown row.shown) run.rows) }
+    ensures record { IfOk result (λ run. RunsRecord layout.now events.now run) }
     ensures moments { IfOk result (λ _. PlainMoments events.now) }
     ensures laid_out { IfOk result (λ _. IsLayout layout.now) }
 {
