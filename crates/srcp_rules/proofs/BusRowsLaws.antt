@@ -22,13 +22,13 @@ use Rattle.srcp_info.proofs.ClientLaws.{all_put, put_over, rising_put}
 use Rattle.srcp_rules.specs.State.{State, IsRising, fb_device, first_row, has_row, power_device, put_row, row_after, row_at, without}
 use Rattle.srcp_rules.specs.Rows.{put_rows}
 use Rattle.srcp_rules.specs.declared.nested.bus_rows.BusRows.{BusRows}
-use Rattle.srcp_rules.specs.Nested.{AreOfDevice, AreOfGroup, AreRowsOfBus, AreSorted, IsIn, bus_groups, bus_rows, device_rows, entry_at, group_rows}
+use Rattle.srcp_rules.specs.Nested.{AreDevices, AreOfDevice, AreOfGroup, AreRowsOfBus, AreSorted, IsIn, bus_groups, bus_rows, device_rows, entry_at, group_rows}
 use Rattle.srcp_rules.proofs.FindLaws.{each-weaken}
 use Rattle.srcp_rules.proofs.ListedLaws.{IsTagged, each-listed, row_at-listed}
 use Rattle.srcp_rules.proofs.KeyLaws.{same_key, same_key-true}
 use Rattle.srcp_rules.proofs.StateLaws.{row_key}
 use Rattle.srcp_rules.proofs.OrderLaws.{address_order, group_order, owns-other}
-use Rattle.srcp_rules.proofs.TaggedLaws.{listed-put_row, listed-put_rows, listed-without, listed-without_none}
+use Rattle.srcp_rules.proofs.TaggedLaws.{listed-put_row, listed-put_rows, listed-without}
 use Rattle.srcp_rules.proofs.DeviceLaws.{devices_in_group, whole}
 
 abbrev place_of : Key → ℕ
@@ -41,8 +41,11 @@ by_place rows = map (λ g. (group_place g, group_rows rows g)) bus_groups
 places_rise : (rows : BusRows) → AreSorted (by_place rows)
 unfolding IsStrictlySortedBy
 places_rise rows = (
-  (refl, (refl, (refl, (refl, (refl, tt))))),
-  ((refl, (refl, (refl, (refl, tt)))), ((refl, (refl, (refl, tt))), ((refl, (refl, tt)), ((refl, tt), (tt, tt))))),
+  (refl, (refl, (refl, (refl, (refl, (refl, tt)))))),
+  (
+    (refl, (refl, (refl, (refl, (refl, tt))))),
+    ((refl, (refl, (refl, (refl, tt)))), ((refl, (refl, (refl, tt))), ((refl, (refl, tt)), ((refl, tt), (tt, tt))))),
+  ),
 )
 
 -- what follows where a call succeeds
@@ -110,10 +113,11 @@ row_after-then cursor xs ys None r e h =
 row_after-then cursor xs ys (Some row) r e h =
     ap option_copied h ∙ ap (λ o. option_or o (row_after cursor ys)) e ∙ sym (find-append (λ row. not (has_reached cursor row.shown.key)) xs ys)
 
-pub append_six : (a b c d e f : State) → ((((a ++ b) ++ c) ++ d) ++ e) ++ f ≡ a ++ (b ++ (c ++ (d ++ (e ++ (f ++ [])))))
-append_six a b c d e f =
-    append_assoc (((a ++ b) ++ c) ++ d) e f ∙ append_assoc ((a ++ b) ++ c) d (e ++ f) ∙ append_assoc (a ++ b) c (d ++ (e ++ f)) ∙ append_assoc a b (c ++ (d ++ (e ++ f)))
-    ∙ ap (λ rows. a ++ (b ++ (c ++ (d ++ (e ++ rows))))) (sym (append-nil f))
+pub append_seven : (a b c d e f g : State) → (((((a ++ b) ++ c) ++ d) ++ e) ++ f) ++ g ≡ a ++ (b ++ (c ++ (d ++ (e ++ (f ++ (g ++ []))))))
+append_seven a b c d e f g =
+    append_assoc ((((a ++ b) ++ c) ++ d) ++ e) f g ∙ append_assoc (((a ++ b) ++ c) ++ d) e (f ++ g) ∙ append_assoc ((a ++ b) ++ c) d (e ++ (f ++ g))
+    ∙ append_assoc (a ++ b) c (d ++ (e ++ (f ++ g))) ∙ append_assoc a b (c ++ (d ++ (e ++ (f ++ g))))
+    ∙ ap (λ rows. a ++ (b ++ (c ++ (d ++ (e ++ (f ++ rows)))))) (sym (append-nil g))
 
 -- ---- the groups of a bus
 
@@ -129,25 +133,27 @@ module _ (bus : ℕ) where
 
   module _ (rows : BusRows) (are : AreRowsOfBus bus rows) where
     tagged : AllByRecursion (IsTagged whole place_of OnBus) (by_place rows)
-    tagged = (
-      placed group.Power (group_rows rows group.Power) are.power.each,
-      (
-        placed group.Gl (group_rows rows group.Gl) (devices_in_group bus group.Gl rows.locomotives.by_address.entries are.locomotives),
-        (
-          placed group.Ga (group_rows rows group.Ga) (devices_in_group bus group.Ga rows.accessories.by_address.entries are.accessories),
+    tagged =
+        let devices : (g : Group) (es : List (ℕ × State)) → AreDevices bus g es → AllByRecursion (λ row. OnBus row.shown.key × (place_of row.shown.key ≡ group_place g)) (device_rows es) =
+        λ g es h. placed g (device_rows es) (devices_in_group bus g es h) in (
+          devices group.Session rows.sessions.by_address.entries are.sessions,
           (
-            placed group.Fb (group_rows rows group.Fb) are.feedback.each,
+            placed group.Power (group_rows rows group.Power) are.power.each,
             (
-              placed group.LockGl (group_rows rows group.LockGl) (devices_in_group bus group.LockGl rows.locomotive_locks.by_address.entries are.locomotive_locks),
+              devices group.Gl rows.locomotives.by_address.entries are.locomotives,
               (
-                placed group.LockGa (group_rows rows group.LockGa) (devices_in_group bus group.LockGa rows.accessory_locks.by_address.entries are.accessory_locks),
-                tt,
+                devices group.Ga rows.accessories.by_address.entries are.accessories,
+                (
+                  placed group.Fb (group_rows rows group.Fb) are.feedback.each,
+                  (
+                    devices group.LockGl rows.locomotive_locks.by_address.entries are.locomotive_locks,
+                    (devices group.LockGa rows.accessory_locks.by_address.entries are.accessory_locks, tt),
+                  ),
+                ),
               ),
             ),
           ),
-        ),
-      ),
-    )
+        )
 
     -- each row is of the bus
     pub rows_on_bus : AllByRecursion (λ row. OnBus row.shown.key) (bus_rows rows)
@@ -201,8 +207,3 @@ module _ (bus : ℕ) where
     without-group device g after here with_group is =
         ap device_rows with_group.0
         ∙ listed-without whole place_of OnBus in_order device (group_place g) (λ key x h. apart device key (λ e. h (e ∙ ap group_place here))) (by_place rows) tagged (places_rise rows) (group_rows rows g) (group_rows after g) with_group.1 is
-
-    -- a bus has no sessions
-    pub without-session : (device : Device) → device.group ≡ group.Session → bus_rows rows ≡ without device (bus_rows rows)
-    without-session device e =
-        listed-without_none whole place_of OnBus in_order device 0 (λ key x h. apart device key (λ f. h (f ∙ ap group_place e))) (by_place rows) tagged (places_rise rows) refl

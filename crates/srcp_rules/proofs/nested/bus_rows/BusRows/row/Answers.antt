@@ -5,7 +5,7 @@ use Rattle.srcp_rules.proofs.BusRowsLaws.{row_at-group, slice-option_to_list}
 use Rattle.srcp_rules.proofs.nested.bus_rows.BusRows.row.Goals as goal
 
 pub returns-in-Session : goal.returns-in-Session
-returns-in-Session c = sym (row_at-group c.requires.0 c.args.self.now c.requires.1 c.args.key.now group.Session c.in-Session.is)
+returns-in-Session c = c.row.ensures ∙ sym (row_at-group c.requires.0 c.args.self.now c.requires.1 c.args.key.now group.Session c.in-Session.is)
 
 pub returns-in-Power : goal.returns-in-Power
 returns-in-Power c =
@@ -17,7 +17,7 @@ pub returns-in-Fb : goal.returns-in-Fb
 returns-in-Fb c = c.row_in-in-Fb.ensures ∙ ap (row_at c.args.key.now) c.deref.ensures.value ∙ sym (row_at-group c.requires.0 c.args.self.now c.requires.1 c.args.key.now group.Fb c.in-Fb.is)
 
 pub returns-in-Gl : goal.returns-in-Gl
-returns-in-Gl c = c.row.ensures ∙ sym (row_at-group c.requires.0 c.args.self.now c.requires.1 c.args.key.now group.Gl c.in-Gl.is)
+returns-in-Gl c = c.row-in-Gl.ensures ∙ sym (row_at-group c.requires.0 c.args.self.now c.requires.1 c.args.key.now group.Gl c.in-Gl.is)
 
 pub returns-in-Ga : goal.returns-in-Ga
 returns-in-Ga c = c.row-in-Ga.ensures ∙ sym (row_at-group c.requires.0 c.args.self.now c.requires.1 c.args.key.now group.Ga c.in-Ga.is)
