@@ -21,7 +21,7 @@ use std::alloc::Global;
 use std::collections::BTreeMap;
 use std::marker::Model;
 
-/// The rows of a registry: a record of rows for each bus, of which the first is the server's own.
+/// The rows of a registry: a record of rows for each bus. The first is that of the server's own bus.
 #[derive(Drop)]
 pub struct Nested {
     buses: Vec<Bus>,
@@ -92,7 +92,7 @@ impl Rows for Nested {
     }
 }
 
-/// The rows of the server's own bus and of each bus of a layout at the moment 0.
+/// Makes the rows of the server's own bus and of each bus of a layout, as they are at the moment 0.
 fn opening_buses(alloc: Global, layout: &Layout) -> Result<BTreeMap<u8, BusRows>, Memory>
     ensures each { IfOk result (λ buses. AllByRecursion (λ e. AreRowsOfBus e.0 e.1) buses.entries) }
     ensures sorted { IfOk result (λ buses. AreSorted buses.entries) }

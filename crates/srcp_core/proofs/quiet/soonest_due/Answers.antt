@@ -15,7 +15,8 @@ pub loop-row-smaller : goal.loop-row-smaller
 loop-row-smaller g c =
     let buses = g.R.Rows.buses c.args.rows.now in
     let state = g.R.Rows.state c.args.rows.now in
-    rw c.past-at.ensures (fewer_past buses c.loop-row.at state c.requires.rising (each_of buses state c.requires) c.in-Some.row.now (sym c.in-Some.ensures) c.may_be_due.result)
+    let each = each_of buses state c.requires in
+    rw c.past-at.ensures (fewer_past buses c.loop-row.at state c.requires.rising each c.in-Some.row.now (sym c.in-Some.ensures) _)
 
 pub loop-row-preserved : goal.loop-row-preserved
 loop-row-preserved g c =
@@ -23,7 +24,8 @@ loop-row-preserved g c =
     let state = g.R.Rows.state c.args.rows.now in
     ap (λ (at : Cursor). soonest c.sooner-soonest.result (beyond at state)) c.past-at.ensures
     ∙ ap (λ moment. soonest moment (beyond (past c.may_be_due.result c.in-Some.row.now.shown.key) state)) c.sooner-soonest.ensures
-    ∙ soonest_on buses c.loop-row.soonest c.loop-row.at state c.in-Some.row.now c.requires.rising (each_of buses state c.requires) (sym c.in-Some.ensures) c.may_be_due.result (sym c.may_be_due.ensures)
+    ∙ soonest_on buses c.loop-row.soonest c.loop-row.at state c.in-Some.row.now c.requires.rising (each_of buses state c.requires)
+    (sym c.in-Some.ensures) c.may_be_due.result (sym c.may_be_due.ensures)
     ∙ c.loop-row.invariant
 
 pub returns : goal.returns

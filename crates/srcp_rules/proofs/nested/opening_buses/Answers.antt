@@ -15,7 +15,10 @@ use Rattle.srcp_rules.proofs.nested.opening_buses.Goals as goal
 
 -- the server's number is below all others
 rises : (buses : List Bus) → IsLayout buses → Rising (server ∷ buses)
-rises buses layout = (each-weaken {P = IsBus} (λ bus h. h.number.0) buses layout.each, rising_buses buses (sorted_from_strictly_increasing _ layout.rising))
+rises buses layout = (
+  each-weaken {P = IsBus} (λ bus h. h.number.0) buses layout.each,
+  rising_buses buses (sorted_from_strictly_increasing _ layout.rising),
+)
 
 pub add_bus-requires : goal.add_bus-requires
 add_bus-requires c = subst (λ ns. AllByRecursion (λ n. n < 0) ns) (sym (ap keys_of c.new-buses.ensures.empty)) tt
@@ -37,7 +40,8 @@ add_bus-requires-in-loop-bus c =
     let place = c.loop-bus.bus-index in
     let layout : IsLayout items = subst IsLayout (sym c.buses-bus-items.ensures.all) c.buses-bus-items.ensures.laid_out in
     let bus = slice_index_or items place server in
-    subst (AllByRecursion (λ n. n < bus.number)) (sym c.loop-bus.invariant.numbers) (before_rising (server ∷ items) (rises items layout) (suc place) server (omega (arith, c.loop-bus-test.true)))
+    let below = before_rising (server ∷ items) (rises items layout) (suc place) server (omega (arith, c.loop-bus-test.true)) in
+    subst (AllByRecursion (λ n. n < bus.number)) (sym c.loop-bus.invariant.numbers) below
 
 pub loop-bus-preserved : goal.loop-bus-preserved
 loop-bus-preserved c =
@@ -52,7 +56,8 @@ loop-bus-preserved c =
       each = subst (AllByRecursion (λ e. AreRowsOfBus e.0 e.1)) (sym is) (all_append (λ e. AreRowsOfBus e.0 e.1) before ((bus.number, rows) ∷ []) c.loop-bus.invariant.each (c.in_ok-rows.ensures.bus, tt));
       sorted = c.in_ok-add_bus-2.ensures.sorted;
       numbers = ap keys_of is ∙ map-append (λ e. e.0) before ((bus.number, rows) ∷ []) ∙ ap (λ ns. ns ++ bus.number ∷ []) c.loop-bus.invariant.numbers
-          ∙ sym (ap (λ bs. map (λ (b : Bus). b.number) (server ∷ bs)) more ∙ map-append (λ (b : Bus). b.number) (server ∷ take place items) (bus ∷ []));
+          ∙ sym (ap (λ bs. 0 ∷ map (λ (b : Bus). b.number) bs) more
+          ∙ map-append (λ (b : Bus). b.number) (server ∷ take place items) (bus ∷ []));
       rows = ap (listed bus_rows) is ∙ flat_map_last (λ e. bus_rows e.1) before (bus.number, rows) ∙ (λ i. c.loop-bus.invariant.rows i ++ c.in_ok-rows.ensures.rows i)
           ∙ sym (ap (flat_map (opening_on 0)) more ∙ flat_map_last (opening_on 0) (take place items) bus);
     }

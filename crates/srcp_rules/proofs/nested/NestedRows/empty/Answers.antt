@@ -16,5 +16,6 @@ invariant_of-result c =
       sorted = by_number.sorted;
       numbers = by_number.numbers ∙ ap (λ buses. map (λ (bus : Bus). bus.number) (server ∷ buses)) (sym same);
       stays = λ device never count.
-          ap (is_there device) by_number.rows ∙ stays-opening layout c.buses.ensures.laid_out device never (subst (λ buses. 0 < row_count buses device) same count);
+          let here = subst (λ buses. 0 < row_count buses device) same count in
+          ap (is_there device) by_number.rows ∙ stays-opening layout c.buses.ensures.laid_out device never here;
     }

@@ -13,7 +13,6 @@ use Rattle.srcp_rules.proofs.nested.NestedRows.row_after.Goals as goal
 pub loop-number-init : goal.loop-number-init
 loop-number-init c =
     let inside = c.self.inside in
-    let buses = inside.buses.items in
     let es = inside.by_number.entries in
     let cursor = c.args.cursor in
     let from = c.first_bus.result in
@@ -26,7 +25,7 @@ loop-number-init c =
       finite = tt;
       each = subst (AllByRecursion (λ e. AreRowsOfBus e.0 e.1)) (sym is) (each-between (λ e. AreRowsOfBus e.0 e.1) from es c.self.invariant.each);
       rest = sym (ap (λ (kept : Kept). row_after cursor kept.state) c.self.view_is)
-          ∙ row_after-buses buses es c.self.invariant cursor from c.first_bus.ensures
+          ∙ row_after-buses c.self.invariant cursor from c.first_bus.ensures
           ∙ ap (λ fs. row_after cursor (listed bus_rows fs)) (sym is);
     }
 
@@ -35,7 +34,8 @@ row_after-requires c = (subst (AllByRecursion (λ e. AreRowsOfBus e.0 e.1)) c.in
 
 pub returns-in-Some-row_after : goal.returns-in-Some-row_after
 returns-in-Some-row_after c =
-    first_has bus_rows c.args.cursor c.loop-number.number-iterator c.next.new.self (c.in-Some.number.now, c.in-Some.rows.now) c.in-Some.ensures.steps c.in-Some-row_after.row.now c.in-Some-row_after.ensures
+    first_has bus_rows c.args.cursor c.loop-number.number-iterator c.next.new.self (c.in-Some.number.now, c.in-Some.rows.now)
+    c.in-Some.ensures.steps c.in-Some-row_after.row.now c.in-Some-row_after.ensures
     ∙ sym c.loop-number.invariant.rest
 
 pub loop-number-preserved : goal.loop-number-preserved
@@ -44,5 +44,6 @@ loop-number-preserved c = record {
   finite = tt;
   each = (subst (AllByRecursion (λ e. AreRowsOfBus e.0 e.1)) c.in-Some.ensures.steps c.loop-number.invariant.each).1;
   rest = c.loop-number.invariant.rest
-      ∙ first_has_none bus_rows c.args.cursor c.loop-number.number-iterator c.next.new.self (c.in-Some.number.now, c.in-Some.rows.now) c.in-Some.ensures.steps c.in_default.ensures;
+      ∙ first_has_none bus_rows c.args.cursor c.loop-number.number-iterator c.next.new.self (c.in-Some.number.now, c.in-Some.rows.now)
+      c.in-Some.ensures.steps c.in_default.ensures;
 }

@@ -6,44 +6,36 @@ use Rattle.srcp_rules.proofs.NestedLaws.{found_bus, layout-set, put_row-bus, row
 use Rattle.srcp_rules.proofs.nested.NestedRows.set.Goals as goal
 
 pub set-requires-clause-bus : goal.set-requires-clause-bus
-set-requires-clause-bus c =
-    let inside = c.self.inside in
-    found_bus inside.buses.items inside.by_number.entries c.self.invariant c.args.row.shown.key.bus c.in-Some.rows.now c.in-Some.ensures.value
+set-requires-clause-bus c = found_bus c.self.invariant c.in-Some.ensures.value
 
 pub set-requires-clause-there : goal.set-requires-clause-there
 set-requires-clause-there c =
-    let inside = c.self.inside in
     let key = c.args.row.shown.key in
-    ap is_some (row_at-bus inside.buses.items inside.by_number.entries c.self.invariant key c.in-Some.rows.now c.in-Some.ensures.value)
+    ap is_some (row_at-bus c.self.invariant key c.in-Some.ensures.value)
     ∙ ap (λ (kept : Kept). has_row key kept.state) c.self.view_is
     ∙ c.requires.there
 
 pub invariant_of-self-2 : goal.invariant_of-self-2
 invariant_of-self-2 c =
-    let inside = c.self.inside in
-    let buses = inside.buses.items in
-    let es = inside.by_number.entries in
     let row = c.args.row in
     let after = c.set.new.self in
     let held = c.get_mut.follows.holds after in
     let new = (c.get_mut.follows.lender after).entries in
-    layout-set buses es c.self.invariant row.shown.key.bus after new c.set.ensures.bus held.0 held.4
-    (stays-put_row buses es c.self.invariant row (listed bus_rows new)
-    (ap (listed bus_rows) held.0 ∙ put_row-bus buses es c.self.invariant row c.in-Some.rows.now after c.in-Some.ensures.value c.set.ensures.rows))
+    layout-set c.self.invariant row.shown.key.bus after new c.set.ensures.bus held.0 held.4
+    (stays-put_row c.self.invariant row (listed bus_rows new)
+    (ap (listed bus_rows) held.0 ∙ put_row-bus c.self.invariant row after c.in-Some.ensures.value c.set.ensures.rows))
 
 pub returns-clause-rows : goal.returns-clause-rows
 returns-clause-rows c =
-    let inside = c.self.inside in
     let row = c.args.row in
     let after = c.set.new.self in
     ap (listed bus_rows) (c.get_mut.follows.holds after).0
-    ∙ put_row-bus inside.buses.items inside.by_number.entries c.self.invariant row c.in-Some.rows.now after c.in-Some.ensures.value c.set.ensures.rows
+    ∙ put_row-bus c.self.invariant row after c.in-Some.ensures.value c.set.ensures.rows
     ∙ ap (λ (kept : Kept). put_row row kept.state) c.self.view_is
 
 -- the row is there, and so is its bus
 pub returns-in_default-clause-rows : goal.returns-in_default-clause-rows
 returns-in_default-clause-rows c =
-    let inside = c.self.inside in
     let key = c.args.row.shown.key in
     let there = ap (λ (kept : Kept). has_row key kept.state) c.self.view_is ∙ c.requires.there in
-    absurd (true≢false (sym there ∙ sym (ap is_some (row_at-no_bus inside.buses.items inside.by_number.entries c.self.invariant key c.in_default.ensures.value))))
+    absurd (true≢false (sym there ∙ sym (ap is_some (row_at-no_bus c.self.invariant key c.in_default.ensures.value))))

@@ -10,90 +10,76 @@ use Rattle.srcp_rules.proofs.BusRowsLaws.{has_row-group, of_group-put_row, put_r
 use Rattle.srcp_rules.proofs.nested.bus_rows.BusRows.set.Goals as goal
 
 -- what the devices of the group ask for
-asked : (key : Key) (rows : BusRows) → AreRowsOfBus key.bus rows → (g : Group) → key.group ≡ g → (ds : List (ℕ × State)) → AreDevices key.bus g ds → has_row key (bus_rows rows) ≡ true
+asked : (key : Key) {rows : BusRows} → AreRowsOfBus key.bus rows → {g : Group} → key.group ≡ g → {ds : List (ℕ × State)}
+    → AreDevices key.bus g ds → has_row key (bus_rows rows) ≡ true
     → AreDevices key.bus key.group ds × (has_row key (group_rows rows g) ≡ true)
-asked key rows are g is ds h there = (subst (λ (g : Group). AreDevices key.bus g ds) (sym is) h, sym (has_row-group key.bus rows are key g is) ∙ there)
+asked key are is {ds} h there = (subst (λ (g : Group). AreDevices key.bus g ds) (sym is) h, sym (has_row-group are key is) ∙ there)
 
 pub set-requires : goal.set-requires
 set-requires c =
-    let rows = c.args.self.now in
-    let a = asked c.args.row.shown.key rows c.requires.bus group.Session c.in-Session.is rows.sessions.by_address.entries c.requires.bus.sessions c.requires.there in
+    let a = asked c.args.row.shown.key c.requires.bus c.in-Session.is c.requires.bus.sessions c.requires.there in
     (omega arith, (a.0, (a.1, omega arith)))
 
 pub set-requires-in-Gl : goal.set-requires-in-Gl
 set-requires-in-Gl c =
-    let rows = c.args.self.now in
-    let a = asked c.args.row.shown.key rows c.requires.bus group.Gl c.in-Gl.is rows.locomotives.by_address.entries c.requires.bus.locomotives c.requires.there in
+    let a = asked c.args.row.shown.key c.requires.bus c.in-Gl.is c.requires.bus.locomotives c.requires.there in
     (omega arith, (a.0, (a.1, omega arith)))
 
 pub set-requires-in-Ga : goal.set-requires-in-Ga
 set-requires-in-Ga c =
-    let rows = c.args.self.now in
-    let a = asked c.args.row.shown.key rows c.requires.bus group.Ga c.in-Ga.is rows.accessories.by_address.entries c.requires.bus.accessories c.requires.there in
+    let a = asked c.args.row.shown.key c.requires.bus c.in-Ga.is c.requires.bus.accessories c.requires.there in
     (omega arith, (a.0, (a.1, omega arith)))
 
 pub set-requires-in-LockGl : goal.set-requires-in-LockGl
 set-requires-in-LockGl c =
-    let rows = c.args.self.now in
-    let a = asked c.args.row.shown.key rows c.requires.bus group.LockGl c.in-LockGl.is rows.locomotive_locks.by_address.entries c.requires.bus.locomotive_locks c.requires.there in
+    let a = asked c.args.row.shown.key c.requires.bus c.in-LockGl.is c.requires.bus.locomotive_locks c.requires.there in
     (omega arith, (a.0, (a.1, omega arith)))
 
 pub set-requires-in-LockGa : goal.set-requires-in-LockGa
 set-requires-in-LockGa c =
-    let rows = c.args.self.now in
-    let a = asked c.args.row.shown.key rows c.requires.bus group.LockGa c.in-LockGa.is rows.accessory_locks.by_address.entries c.requires.bus.accessory_locks c.requires.there in
+    let a = asked c.args.row.shown.key c.requires.bus c.in-LockGa.is c.requires.bus.accessory_locks c.requires.there in
     (omega arith, (a.0, (a.1, omega arith)))
 
 pub set_in-requires-clause-there : goal.set_in-requires-clause-there
-set_in-requires-clause-there c =
-    let key = c.args.row.shown.key in
-    sym (has_row-group key.bus c.args.self.now c.requires.bus key group.Fb c.in-Fb.is) ∙ c.requires.there
+set_in-requires-clause-there c = sym (has_row-group c.requires.bus c.args.row.shown.key c.in-Fb.is) ∙ c.requires.there
 
 pub returns-in-Power-clause-rows : goal.returns-in-Power-clause-rows
 returns-in-Power-clause-rows c =
     let row = c.args.row in
-    let key = row.shown.key in
     let rows = c.args.self.now in
     let after : BusRows = record rows { power = Some row } in
-    let there = sym (has_row-group key.bus rows c.requires.bus key group.Power c.in-Power.is) ∙ c.requires.there in
-    put_row-group key.bus rows c.requires.bus row group.Power after (refl, c.in-Power.is) (refl, refl) (put_row-option_to_list rows.power row there)
+    let there = sym (has_row-group c.requires.bus row.shown.key c.in-Power.is) ∙ c.requires.there in
+    put_row-group c.requires.bus row after (refl, c.in-Power.is) (refl, refl) (put_row-option_to_list rows.power row there)
 
 pub returns-in-Session-clause-rows : goal.returns-in-Session-clause-rows
 returns-in-Session-clause-rows c =
-    let row = c.args.row in
-    let rows = c.args.self.now in
-    put_row-group row.shown.key.bus rows c.requires.bus row group.Session (record rows { sessions = c.set.new.self }) (refl, c.in-Session.is) (refl, refl) c.set.ensures.rows
+    let after : BusRows = record c.args.self.now { sessions = c.set.new.self } in
+    put_row-group c.requires.bus c.args.row after (refl, c.in-Session.is) (refl, refl) c.set.ensures.rows
 
 pub returns-in-Gl-clause-rows : goal.returns-in-Gl-clause-rows
 returns-in-Gl-clause-rows c =
-    let row = c.args.row in
-    let rows = c.args.self.now in
-    put_row-group row.shown.key.bus rows c.requires.bus row group.Gl (record rows { locomotives = c.set-in-Gl.new.self }) (refl, c.in-Gl.is) (refl, refl) c.set-in-Gl.ensures.rows
+    let after : BusRows = record c.args.self.now { locomotives = c.set-in-Gl.new.self } in
+    put_row-group c.requires.bus c.args.row after (refl, c.in-Gl.is) (refl, refl) c.set-in-Gl.ensures.rows
 
 pub returns-in-Ga-clause-rows : goal.returns-in-Ga-clause-rows
 returns-in-Ga-clause-rows c =
-    let row = c.args.row in
-    let rows = c.args.self.now in
-    put_row-group row.shown.key.bus rows c.requires.bus row group.Ga (record rows { accessories = c.set-in-Ga.new.self }) (refl, c.in-Ga.is) (refl, refl) c.set-in-Ga.ensures.rows
+    let after : BusRows = record c.args.self.now { accessories = c.set-in-Ga.new.self } in
+    put_row-group c.requires.bus c.args.row after (refl, c.in-Ga.is) (refl, refl) c.set-in-Ga.ensures.rows
 
 pub returns-in-LockGl-clause-rows : goal.returns-in-LockGl-clause-rows
 returns-in-LockGl-clause-rows c =
-    let row = c.args.row in
-    let rows = c.args.self.now in
-    put_row-group row.shown.key.bus rows c.requires.bus row group.LockGl (record rows { locomotive_locks = c.set-in-LockGl.new.self }) (refl, c.in-LockGl.is) (refl, refl) c.set-in-LockGl.ensures.rows
+    let after : BusRows = record c.args.self.now { locomotive_locks = c.set-in-LockGl.new.self } in
+    put_row-group c.requires.bus c.args.row after (refl, c.in-LockGl.is) (refl, refl) c.set-in-LockGl.ensures.rows
 
 pub returns-in-LockGa-clause-rows : goal.returns-in-LockGa-clause-rows
 returns-in-LockGa-clause-rows c =
-    let row = c.args.row in
-    let rows = c.args.self.now in
-    put_row-group row.shown.key.bus rows c.requires.bus row group.LockGa (record rows { accessory_locks = c.set-in-LockGa.new.self }) (refl, c.in-LockGa.is) (refl, refl) c.set-in-LockGa.ensures.rows
+    let after : BusRows = record c.args.self.now { accessory_locks = c.set-in-LockGa.new.self } in
+    put_row-group c.requires.bus c.args.row after (refl, c.in-LockGa.is) (refl, refl) c.set-in-LockGa.ensures.rows
 
 pub returns-in-Fb-clause-rows : goal.returns-in-Fb-clause-rows
 returns-in-Fb-clause-rows c =
-    let row = c.args.row in
-    let rows = c.args.self.now in
-    let after : BusRows = record rows { feedback = c.set_in.new.rows } in
-    put_row-group row.shown.key.bus rows c.requires.bus row group.Fb after (refl, c.in-Fb.is) (refl, refl) c.set_in.ensures
+    let after : BusRows = record c.args.self.now { feedback = c.set_in.new.rows } in
+    put_row-group c.requires.bus c.args.row after (refl, c.in-Fb.is) (refl, refl) c.set_in.ensures
 
 pub returns-in-Fb-clause-bus : goal.returns-in-Fb-clause-bus
 returns-in-Fb-clause-bus c =
