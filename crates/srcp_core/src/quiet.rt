@@ -2,11 +2,10 @@
 ghost use Rattle.std.specs.Prelude.{◌≡◌, true, []};
 ghost use Rattle.srcp_core.specs.Quiet.{sooner, soonest};
 ghost use Rattle.srcp_rules.specs.Due.{due};
-ghost use Rattle.srcp_rules.specs.Sought.{may_be_due, past};
 ghost use Rattle.srcp_rules.specs.State.{IsWhole};
 
-use srcp_info::{Cursor, Device, Group, Key, Row};
-use srcp_rules::{Layout, Memory, Rows};
+use srcp_info::{Cursor, Device, Key, Row};
+use srcp_rules::{Layout, Memory, Rows, may_be_due, past};
 use std::alloc::Global;
 use std::marker::Model;
 
@@ -111,21 +110,8 @@ fn soonest_due<R: Rows>(rows: &R) -> u64
     let mut at = Cursor::Start;
     while let Some(row) = rows.row_after(at) {
         soonest = sooner(soonest, row.due);
-        at = past(row.shown.key);
+        let key = row.shown.key;
+        at = past(key, may_be_due(key.group));
     }
     soonest
-}
-
-/// A cursor past the row at the key, and past the rest of its group on its bus where no row is ever due.
-fn past(key: Key) -> Cursor
-    ensures { result ≡ past (may_be_due key.group) key }
-{
-    match key.group {
-        Group::Ga | Group::LockGl | Group::LockGa => Cursor::After(key),
-        _ => Cursor::After(Key {
-            address: u32::MAX,
-            port: u8::MAX,
-            ..key
-        }),
-    }
 }

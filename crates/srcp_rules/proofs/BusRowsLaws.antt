@@ -22,13 +22,13 @@ use Rattle.srcp_info.proofs.ClientLaws.{all_put, put_over, rising_put}
 use Rattle.srcp_rules.specs.State.{State, IsRising, fb_device, first_row, has_row, power_device, put_row, row_after, row_at, without}
 use Rattle.srcp_rules.specs.Rows.{put_rows}
 use Rattle.srcp_rules.specs.declared.nested.bus_rows.BusRows.{BusRows}
-use Rattle.srcp_rules.specs.Nested.{AreOfDevice, AreOfGroup, AreRowsOfBus, AreSorted, IsIn, bus_groups, bus_rows, device_rows, entry_at, group_rows}
+use Rattle.srcp_rules.specs.Nested.{AreDevices, AreOfDevice, AreOfGroup, AreRowsOfBus, AreSorted, IsIn, bus_groups, bus_rows, device_rows, entry_at, group_rows}
 use Rattle.srcp_rules.proofs.FindLaws.{each-weaken}
 use Rattle.srcp_rules.proofs.ListedLaws.{IsTagged, each-listed, row_at-listed}
 use Rattle.srcp_rules.proofs.KeyLaws.{same_key, same_key-true}
 use Rattle.srcp_rules.proofs.StateLaws.{row_key}
 use Rattle.srcp_rules.proofs.OrderLaws.{address_order, group_order, owns-other}
-use Rattle.srcp_rules.proofs.TaggedLaws.{listed-put_row, listed-put_rows, listed-without, listed-without_none}
+use Rattle.srcp_rules.proofs.TaggedLaws.{listed-put_row, listed-put_rows, listed-without}
 use Rattle.srcp_rules.proofs.DeviceLaws.{devices_in_group, whole}
 
 abbrev place_of : Key → ℕ
@@ -41,8 +41,11 @@ by_place rows = map (λ g. (group_place g, group_rows rows g)) bus_groups
 places_rise : (rows : BusRows) → AreSorted (by_place rows)
 unfolding IsStrictlySortedBy
 places_rise rows = (
-  (refl, (refl, (refl, (refl, (refl, tt))))),
-  ((refl, (refl, (refl, (refl, tt)))), ((refl, (refl, (refl, tt))), ((refl, (refl, tt)), ((refl, tt), (tt, tt))))),
+  (refl, (refl, (refl, (refl, (refl, (refl, tt)))))),
+  (
+    (refl, (refl, (refl, (refl, (refl, tt))))),
+    ((refl, (refl, (refl, (refl, tt)))), ((refl, (refl, (refl, tt))), ((refl, (refl, tt)), ((refl, tt), (tt, tt))))),
+  ),
 )
 
 -- what follows where a call succeeds
@@ -62,23 +65,27 @@ pub slice-option_to_list : (o : Option Row) (rows : State) → MatchOption o (ro
 slice-option_to_list None rows h = h
 slice-option_to_list (Some row) rows h = h
 
-set_one : (row other : Row) (c : Bool) → same_key other.shown.key row.shown.key ≡ c → is_some (cond c (Some other) None) ≡ true → row ∷ [] ≡ put_row row (other ∷ [])
+set_one : (row other : Row) (c : Bool) → same_key other.shown.key row.shown.key ≡ c → is_some (cond c (Some other) None) ≡ true
+    → row ∷ [] ≡ put_row row (other ∷ [])
 set_one row other true e h = sym (put_over row_key row [] other [] (same_key-true other.shown.key row.shown.key e) tt tt)
 set_one row other false e h = absurd (true≢false (sym h))
 
 -- the one row that is there is set
-pub put_row-option_to_list : (o : Option Row) (row : Row) → has_row row.shown.key (option_to_list o) ≡ true → row ∷ [] ≡ put_row row (option_to_list o)
+pub put_row-option_to_list : (o : Option Row) (row : Row) → has_row row.shown.key (option_to_list o) ≡ true
+    → row ∷ [] ≡ put_row row (option_to_list o)
 put_row-option_to_list None row h = absurd (true≢false (sym h))
 put_row-option_to_list (Some other) row h = set_one row other (same_key other.shown.key row.shown.key) refl h
 
 -- ---- the rows of one group
 
-pub of_group-put_row : (bus : ℕ) (g : Group) (row : Row) (rows : State) → IsIn bus g row.shown.key → AreOfGroup bus g rows → AreOfGroup bus g (put_row row rows)
+pub of_group-put_row : (bus : ℕ) (g : Group) (row : Row) (rows : State) → IsIn bus g row.shown.key → AreOfGroup bus g rows
+    → AreOfGroup bus g (put_row row rows)
 of_group-put_row bus g row rows here h = record { rising = rising_put row_key row rows h.rising; each = all_put row_key (λ other. IsIn bus g other.shown.key) row rows here h.each }
 
 -- ---- the rows that begin with the registry
 
-pub power_of_group : (bus : ℕ) (on : Bool) → AreOfGroup bus group.Power (option_to_list (cond on (Some (first_row 0 (power_device bus) (value.Power false []))) None))
+pub power_of_group : (bus : ℕ) (on : Bool)
+    → AreOfGroup bus group.Power (option_to_list (cond on (Some (first_row 0 (power_device bus) (value.Power false []))) None))
 power_of_group bus true = record { rising = (tt, tt); each = ((refl, refl), tt) }
 power_of_group bus false = record { rising = tt; each = tt }
 
@@ -86,7 +93,8 @@ module _ (bus : ℕ) where
   abbrev fb_row : ℕ → Row
   fb_row port = first_row 0 (fb_device bus port) (value.Fb false)
 
-  fb_after : (first from n : ℕ) → first < from → AllByRecursion (λ row. key_cmp (fb_row first).shown.key row.shown.key ≡ Less) (map fb_row (range_with_len from n))
+  fb_after : (first from n : ℕ) → first < from
+      → AllByRecursion (λ row. key_cmp (fb_row first).shown.key row.shown.key ≡ Less) (map fb_row (range_with_len from n))
   fb_after first from zero h = tt
   fb_after first from (suc n) h = (address_order (fb_row first).shown.key (fb_row from).shown.key refl refl h, fb_after first (from + 1) n (omega (arith, h)))
 
@@ -104,16 +112,18 @@ module _ (bus : ℕ) where
 -- ---- walking along groups
 
 -- the row after a cursor in two lists, where the second is looked at only if the first has none
-pub row_after-then : (cursor : Cursor) (xs ys : State) (o r : Option (Bor Row)) → option_copied o ≡ row_after cursor xs → MatchOption o (option_copied r ≡ row_after cursor ys) (λ row. r ≡ Some row) → option_copied r ≡ row_after cursor (xs ++ ys)
+pub row_after-then : (cursor : Cursor) (xs ys : State) (o r : Option (Bor Row)) → option_copied o ≡ row_after cursor xs
+    → MatchOption o (option_copied r ≡ row_after cursor ys) (λ row. r ≡ Some row) → option_copied r ≡ row_after cursor (xs ++ ys)
 row_after-then cursor xs ys None r e h =
     h ∙ ap (λ o. option_or o (row_after cursor ys)) e ∙ sym (find-append (λ row. not (has_reached cursor row.shown.key)) xs ys)
 row_after-then cursor xs ys (Some row) r e h =
     ap option_copied h ∙ ap (λ o. option_or o (row_after cursor ys)) e ∙ sym (find-append (λ row. not (has_reached cursor row.shown.key)) xs ys)
 
-pub append_six : (a b c d e f : State) → ((((a ++ b) ++ c) ++ d) ++ e) ++ f ≡ a ++ (b ++ (c ++ (d ++ (e ++ (f ++ [])))))
-append_six a b c d e f =
-    append_assoc (((a ++ b) ++ c) ++ d) e f ∙ append_assoc ((a ++ b) ++ c) d (e ++ f) ∙ append_assoc (a ++ b) c (d ++ (e ++ f)) ∙ append_assoc a b (c ++ (d ++ (e ++ f)))
-    ∙ ap (λ rows. a ++ (b ++ (c ++ (d ++ (e ++ rows))))) (sym (append-nil f))
+pub append_seven : (a b c d e f g : State) → (((((a ++ b) ++ c) ++ d) ++ e) ++ f) ++ g ≡ a ++ (b ++ (c ++ (d ++ (e ++ (f ++ (g ++ []))))))
+append_seven a b c d e f g =
+    append_assoc ((((a ++ b) ++ c) ++ d) ++ e) f g ∙ append_assoc (((a ++ b) ++ c) ++ d) e (f ++ g)
+    ∙ append_assoc ((a ++ b) ++ c) d (e ++ (f ++ g)) ∙ append_assoc (a ++ b) c (d ++ (e ++ (f ++ g)))
+    ∙ append_assoc a b (c ++ (d ++ (e ++ (f ++ g)))) ∙ ap (λ rows. a ++ (b ++ (c ++ (d ++ (e ++ (f ++ rows)))))) (sym (append-nil g))
 
 -- ---- the groups of a bus
 
@@ -124,85 +134,98 @@ module _ (bus : ℕ) where
   in_order : (a b : Key) → OnBus a → OnBus b → place_of a < place_of b → key_cmp a b ≡ Less
   in_order a b x y h = group_order a b (x ∙ sym y) h
 
-  placed : (g : Group) (rows : State) → AllByRecursion (λ row. IsIn bus g row.shown.key) rows → AllByRecursion (λ row. OnBus row.shown.key × (place_of row.shown.key ≡ group_place g)) rows
+  abbrev Placed : Group → State → Type 0
+  Placed g rows = AllByRecursion (λ row. OnBus row.shown.key × (place_of row.shown.key ≡ group_place g)) rows
+
+  placed : (g : Group) (rows : State) → AllByRecursion (λ row. IsIn bus g row.shown.key) rows → Placed g rows
   placed g rows h = each-weaken {P = λ row. IsIn bus g row.shown.key} (λ row t. (t.0, ap group_place t.1)) rows h
 
-  module _ (rows : BusRows) (are : AreRowsOfBus bus rows) where
-    tagged : AllByRecursion (IsTagged whole place_of OnBus) (by_place rows)
-    tagged = (
-      placed group.Power (group_rows rows group.Power) are.power.each,
-      (
-        placed group.Gl (group_rows rows group.Gl) (devices_in_group bus group.Gl rows.locomotives.by_address.entries are.locomotives),
+module _ {bus : ℕ} {rows : BusRows} (are : AreRowsOfBus bus rows) where
+  tagged : AllByRecursion (IsTagged whole place_of (OnBus bus)) (by_place rows)
+  tagged =
+      let devices : (g : Group) (es : List (ℕ × State)) → AreDevices bus g es → Placed bus g (device_rows es) =
+      λ g es h. placed bus g (device_rows es) (devices_in_group bus g es h) in (
+        devices group.Session rows.sessions.by_address.entries are.sessions,
         (
-          placed group.Ga (group_rows rows group.Ga) (devices_in_group bus group.Ga rows.accessories.by_address.entries are.accessories),
+          placed bus group.Power (group_rows rows group.Power) are.power.each,
           (
-            placed group.Fb (group_rows rows group.Fb) are.feedback.each,
+            devices group.Gl rows.locomotives.by_address.entries are.locomotives,
             (
-              placed group.LockGl (group_rows rows group.LockGl) (devices_in_group bus group.LockGl rows.locomotive_locks.by_address.entries are.locomotive_locks),
+              devices group.Ga rows.accessories.by_address.entries are.accessories,
               (
-                placed group.LockGa (group_rows rows group.LockGa) (devices_in_group bus group.LockGa rows.accessory_locks.by_address.entries are.accessory_locks),
-                tt,
+                placed bus group.Fb (group_rows rows group.Fb) are.feedback.each,
+                (
+                  devices group.LockGl rows.locomotive_locks.by_address.entries are.locomotive_locks,
+                  (devices group.LockGa rows.accessory_locks.by_address.entries are.accessory_locks, tt),
+                ),
               ),
             ),
           ),
         ),
-      ),
-    )
+      )
 
-    -- each row is of the bus
-    pub rows_on_bus : AllByRecursion (λ row. OnBus row.shown.key) (bus_rows rows)
-    rows_on_bus = each-listed whole (λ row. OnBus row.shown.key) (by_place rows)
-        (each-weaken {P = IsTagged whole place_of OnBus} (λ e h. each-weaken {P = λ row. OnBus row.shown.key × (place_of row.shown.key ≡ e.0)} (λ row t. t.0) e.1 h) (by_place rows) tagged)
+  -- each row is of the bus
+  pub rows_on_bus : AllByRecursion (λ row. OnBus bus row.shown.key) (bus_rows rows)
+  rows_on_bus = each-listed whole (λ row. OnBus bus row.shown.key) (by_place rows)
+      (each-weaken {P = IsTagged whole place_of (OnBus bus)}
+      (λ e h. each-weaken {P = λ row. OnBus bus row.shown.key × (place_of row.shown.key ≡ e.0)} (λ row t. t.0) e.1 h) (by_place rows) tagged)
 
-    -- the row at a key is that of its group
-    row_at-place : (key : Key) → row_at key (bus_rows rows) ≡ option_map_or (λ state. row_at key state) (entry_at (place_of key) (by_place rows)) None
-    row_at-place key = row_at-listed whole place_of OnBus key (by_place rows) tagged (places_rise rows)
+  -- the row at a key is that of its group
+  row_at-place : (key : Key)
+      → row_at key (bus_rows rows) ≡ option_map_or (λ state. row_at key state) (entry_at (place_of key) (by_place rows)) None
+  row_at-place key = row_at-listed whole place_of (OnBus bus) key (by_place rows) tagged (places_rise rows)
 
-    in_group : (key : Key) (g : Group) → option_map_or (λ state. row_at key state) (entry_at (group_place g) (by_place rows)) None ≡ row_at key (group_rows rows g)
-    in_group key group.Session = refl
-    in_group key group.Power = refl
-    in_group key group.Gl = refl
-    in_group key group.Ga = refl
-    in_group key group.Fb = refl
-    in_group key group.LockGl = refl
-    in_group key group.LockGa = refl
+  in_group : (key : Key) (g : Group)
+      → option_map_or (λ state. row_at key state) (entry_at (group_place g) (by_place rows)) None ≡ row_at key (group_rows rows g)
+  in_group key group.Session = refl
+  in_group key group.Power = refl
+  in_group key group.Gl = refl
+  in_group key group.Ga = refl
+  in_group key group.Fb = refl
+  in_group key group.LockGl = refl
+  in_group key group.LockGa = refl
 
-    pub row_at-group : (key : Key) (g : Group) → key.group ≡ g → row_at key (bus_rows rows) ≡ row_at key (group_rows rows g)
-    row_at-group key g e = row_at-place key ∙ ap (λ (h : Group). option_map_or (λ state. row_at key state) (entry_at (group_place h) (by_place rows)) None) e ∙ in_group key g
+  pub row_at-group : (key : Key) {g : Group} → key.group ≡ g → row_at key (bus_rows rows) ≡ row_at key (group_rows rows g)
+  row_at-group key {g} e =
+      row_at-place key
+      ∙ ap (λ (h : Group). option_map_or (λ state. row_at key state) (entry_at (group_place h) (by_place rows)) None) e
+      ∙ in_group key g
 
-    pub has_row-group : (key : Key) (g : Group) → key.group ≡ g → has_row key (bus_rows rows) ≡ has_row key (group_rows rows g)
-    has_row-group key g e = ap is_some (row_at-group key g e)
+  pub has_row-group : (key : Key) {g : Group} → key.group ≡ g → has_row key (bus_rows rows) ≡ has_row key (group_rows rows g)
+  has_row-group key e = ap is_some (row_at-group key e)
 
-    -- ---- changes of one group
+  -- ---- changes of one group
 
-    -- the rows after those of one group are others
-    abbrev pub WithGroup : Group → BusRows → Type 0
-    WithGroup g after =
-        (by_place after ≡ set_value (is_at (nat_cmp (group_place g))) (by_place rows) (group_rows after g)) × (entry_at (group_place g) (by_place rows) ≡ Some (group_rows rows g))
+  -- the rows after those of one group are others
+  abbrev pub WithGroup : Group → BusRows → Type 0
+  WithGroup g after =
+      (by_place after ≡ set_value (is_at (nat_cmp (group_place g))) (by_place rows) (group_rows after g))
+      × (entry_at (group_place g) (by_place rows) ≡ Some (group_rows rows g))
 
-    pub put_row-group : (row : Row) (g : Group) (after : BusRows) → IsIn bus g row.shown.key → WithGroup g after → group_rows after g ≡ put_row row (group_rows rows g) → bus_rows after ≡ put_row row (bus_rows rows)
-    put_row-group row g after here with_group is =
-        let n : group_place g ≡ place_of row.shown.key = ap group_place (sym here.1) in
-        ap device_rows with_group.0
-        ∙ ap (λ m. device_rows (set_value (is_at (nat_cmp m)) (by_place rows) (group_rows after g))) n
-        ∙ listed-put_row whole place_of OnBus in_order row here.0 (by_place rows) tagged (places_rise rows) (group_rows rows g) (group_rows after g) (ap (λ m. entry_at m (by_place rows)) (sym n) ∙ with_group.1) is
+  pub put_row-group : (row : Row) {g : Group} (after : BusRows) → IsIn bus g row.shown.key → WithGroup g after
+      → group_rows after g ≡ put_row row (group_rows rows g) → bus_rows after ≡ put_row row (bus_rows rows)
+  put_row-group row {g} after here with_group is =
+      let n : group_place g ≡ place_of row.shown.key = ap group_place (sym here.1) in
+      ap device_rows with_group.0
+      ∙ ap (λ m. device_rows (set_value (is_at (nat_cmp m)) (by_place rows) (group_rows after g))) n
+      ∙ listed-put_row whole place_of (OnBus bus) (in_order bus) row here.0 (by_place rows) tagged (places_rise rows)
+      (group_rows rows g) (group_rows after g) (ap (λ m. entry_at m (by_place rows)) (sym n) ∙ with_group.1) is
 
-    pub put_rows-group : (added : State) (g : Group) (address : ℕ) (after : BusRows) → AreOfDevice bus g address added → WithGroup g after → group_rows after g ≡ put_rows added (group_rows rows g) → bus_rows after ≡ put_rows added (bus_rows rows)
-    put_rows-group added g address after new with_group is =
-        ap device_rows with_group.0
-        ∙ listed-put_rows whole place_of OnBus in_order (group_place g) added
-        (placed g added (each-weaken {P = λ row. IsIn bus g row.shown.key × (row.shown.key.address ≡ address)} (λ row t. t.0) added new.each)) (by_place rows) tagged (places_rise rows) (group_rows rows g) (group_rows after g) with_group.1 is
+  pub put_rows-group : {added : State} {g : Group} {address : ℕ} (after : BusRows) → AreOfDevice bus g address added → WithGroup g after
+      → group_rows after g ≡ put_rows added (group_rows rows g) → bus_rows after ≡ put_rows added (bus_rows rows)
+  put_rows-group {added} {g} {address} after new with_group is =
+      ap device_rows with_group.0
+      ∙ listed-put_rows whole place_of (OnBus bus) (in_order bus) (group_place g) added
+      (placed bus g added (each-weaken {P = λ row. IsIn bus g row.shown.key × (row.shown.key.address ≡ address)} (λ row t. t.0) added new.each))
+      (by_place rows) tagged (places_rise rows) (group_rows rows g) (group_rows after g) with_group.1 is
 
-    -- a device does not own rows of another group
-    apart : (device : Device) (key : Key) → (place_of key ≡ group_place device.group → ⊥) → owns device key ≡ false
-    apart device key h = owns-other device key (λ e. h (ap (λ (d : Device). group_place d.group) e))
+  -- a device does not own rows of another group
+  apart : (device : Device) (key : Key) → (place_of key ≡ group_place device.group → ⊥) → owns device key ≡ false
+  apart device key h = owns-other device key (λ e. h (ap (λ (d : Device). group_place d.group) e))
 
-    pub without-group : (device : Device) (g : Group) (after : BusRows) → device.group ≡ g → WithGroup g after → group_rows after g ≡ without device (group_rows rows g) → bus_rows after ≡ without device (bus_rows rows)
-    without-group device g after here with_group is =
-        ap device_rows with_group.0
-        ∙ listed-without whole place_of OnBus in_order device (group_place g) (λ key x h. apart device key (λ e. h (e ∙ ap group_place here))) (by_place rows) tagged (places_rise rows) (group_rows rows g) (group_rows after g) with_group.1 is
-
-    -- a bus has no sessions
-    pub without-session : (device : Device) → device.group ≡ group.Session → bus_rows rows ≡ without device (bus_rows rows)
-    without-session device e =
-        listed-without_none whole place_of OnBus in_order device 0 (λ key x h. apart device key (λ f. h (f ∙ ap group_place e))) (by_place rows) tagged (places_rise rows) refl
+  pub without-group : (device : Device) {g : Group} (after : BusRows) → device.group ≡ g → WithGroup g after
+      → group_rows after g ≡ without device (group_rows rows g) → bus_rows after ≡ without device (bus_rows rows)
+  without-group device {g} after here with_group is =
+      ap device_rows with_group.0
+      ∙ listed-without whole place_of (OnBus bus) (in_order bus) device (group_place g)
+      (λ key x h. apart device key (λ e. h (e ∙ ap group_place here))) (by_place rows) tagged (places_rise rows) (group_rows rows g) (group_rows after g) with_group.1 is

@@ -1,5 +1,5 @@
 -- The rows of all buses: look-ups, changes, and how they begin.
-use Rattle.std.specs.Prelude.{◌≡◌, ℕ, zero, suc, ◌+◌, ◌<◌, Bool, true, false, ◌&&◌, ◌==◌, cond, is_some, not, List, [], ◌∷◌, ◌++◌, length, map, flat_map, take, drop, find, slice_index_or, Option, Some, None, IsTrue, Result, Ok, Err, OnOk, OnErr}
+use Rattle.std.specs.Prelude.{◌≡◌, ℕ, zero, suc, ◌<◌, Bool, true, false, ◌&&◌, ◌==◌, cond, is_some, List, [], ◌∷◌, ◌++◌, length, map, flat_map, take, drop, find, slice_index_or, Option, Some, None, IsTrue, Result, Ok, Err, OnOk, OnErr}
 use Rattle.std.proofs.Common.{refl, sym, ap, subst, ◌∙◌, arith, append_assoc, true≢false}
 use Rattle.std.proofs.lemmas.Bool.{eqb-true}
 use Rattle.std.proofs.lemmas.Cmp.{nat_cmp_total, tied_itself}
@@ -21,24 +21,21 @@ use Rattle.srcp_info.specs.declared.change.Row.{Row}
 use Rattle.srcp_info.specs.declared.change.Cursor.{Cursor}
 use Rattle.srcp_info.specs.Key.{key_cmp, first_key, has_reached, owns}
 use Rattle.srcp_info.specs.WellFormed.{can_go}
-use Rattle.srcp_info.proofs.ClientLaws.{filter_every}
 use Rattle.srcp_rules.specs.declared.layout.Bus.{Bus}
-use Rattle.srcp_rules.specs.Layout.{IsBus, IsLayout, bus_at, is_within, row_count, rows_if, rows_on, server}
+use Rattle.srcp_rules.specs.Layout.{IsLayout, bus_at, row_count, rows_on, server}
 use Rattle.srcp_rules.specs.State.{State, fb_device, has_row, is_there, key_at, opening, power_device, put_row, row_at, row_after, without}
 use Rattle.srcp_rules.specs.Rows.{put_rows}
 use Rattle.srcp_rules.specs.declared.nested.bus_rows.BusRows.{BusRows}
-use Rattle.srcp_rules.specs.Nested.{AreDevices, AreRowsOfBus, AreRowsOfLayout, AreSorted, IsIn, all_rows, bus_rows, device_rows, entry_at, listed}
-use Rattle.srcp_rules.proofs.FindLaws.{each-weaken, found_holds}
-use Rattle.srcp_rules.proofs.LayoutLaws.{between, within_step}
+use Rattle.srcp_rules.specs.Nested.{AreRowsOfBus, AreRowsOfLayout, AreSorted, bus_rows, entry_at, listed}
+use Rattle.srcp_rules.proofs.FindLaws.{each-weaken}
+use Rattle.srcp_rules.proofs.LayoutLaws.{within_step}
 use Rattle.srcp_rules.proofs.OpeningLaws.{Rising, opening_whole}
 use Rattle.srcp_rules.proofs.PlaceLaws.{each_at}
-use Rattle.srcp_rules.proofs.StateLaws.{has_row-put_row, row_at_key, row_at-without}
+use Rattle.srcp_rules.proofs.StateLaws.{has_row-put_row, row_at-without}
 use Rattle.srcp_rules.proofs.PutRowsLaws.{has_row-put_rows}
-use Rattle.srcp_rules.proofs.KeyLaws.{same_key}
-use Rattle.srcp_rules.proofs.OrderLaws.{bus_order, greater, less, owns-other}
-use Rattle.srcp_rules.proofs.ListedLaws.{IsTagged, Above, Below, each-set_value, entry_holds, listed_above, row_at-listed, row_after-listed}
-use Rattle.srcp_rules.proofs.TaggedLaws.{add_left, add_right, drop_left, drop_right, listed-put_row, listed-put_rows, listed-same, listed-without, listed-without_none, put_left, put_right, row_at-left, row_at-right}
-use Rattle.srcp_rules.proofs.DeviceLaws.{devices_in_group}
+use Rattle.srcp_rules.proofs.OrderLaws.{bus_order, greater, owns-other}
+use Rattle.srcp_rules.proofs.ListedLaws.{IsTagged, each-set_value, entry_holds, row_at-listed, row_after-listed}
+use Rattle.srcp_rules.proofs.TaggedLaws.{listed-put_row, listed-put_rows, listed-same, listed-without, listed-without_none}
 use Rattle.srcp_rules.proofs.BusRowsLaws.{rows_on_bus}
 
 abbrev Any : Key → Type 0
@@ -54,15 +51,7 @@ in_order a b x y h = bus_order a b h
 apart : (device : Device) (key : Key) → Any key → (bus_of key ≡ device.bus → ⊥) → owns device key ≡ false
 apart device key x h = owns-other device key (λ e. h (ap (λ (d : Device). d.bus) e))
 
-some_bus : (n : ℕ) → (n ≡ 0 → ⊥) → 0 < n
-some_bus zero h = absurd (h refl)
-some_bus (suc n) h = omega arith
-
 -- ---- numbers of records
-
-positive : (buses : List Bus) → AllByRecursion IsBus buses → AllByRecursion (λ n. nat_cmp 0 n ≡ Less) (map (λ bus. bus.number) buses)
-positive [] h = tt
-positive (bus ∷ buses) h = let low = h.0.number.0 in (less 0 bus.number (omega (arith, low)), positive buses h.1)
 
 choose : {X : Type 0} (c : Bool) (xs ys : List (ℕ × X)) → keys_of (cond c xs ys) ≡ cond c (keys_of xs) (keys_of ys)
 choose true xs ys = refl
@@ -82,125 +71,74 @@ keys_of-set_value n w (e ∷ es) =
 
 -- ---- the records of a layout
 
-module _ (buses : List Bus) (sessions : List (ℕ × State)) (es : List (ℕ × BusRows)) (are : AreRowsOfLayout buses sessions es) where
+module _ {buses : List Bus} {es : List (ℕ × BusRows)} (are : AreRowsOfLayout buses es) where
   tagged : AllByRecursion (IsTagged bus_rows bus_of Any) es
-  tagged = each-weaken {P = λ e. AreRowsOfBus e.0 e.1} (λ e h. each-weaken {P = λ row. row.shown.key.bus ≡ e.0} (λ row t. (tt, t)) (bus_rows e.1) (rows_on_bus e.0 e.1 h)) es are.each
-
-  above : AllByRecursion (λ n. nat_cmp 0 n ≡ Less) (keys_of es)
-  above = subst (AllByRecursion (λ n. nat_cmp 0 n ≡ Less)) (sym are.numbers) (positive buses are.laid_out.each)
-
-  buses_above : (n : ℕ) → n ≡ 0 → Above bus_rows bus_of Any n (listed bus_rows es)
-  buses_above n e = subst (λ m. Above bus_rows bus_of Any m (listed bus_rows es)) (sym e) (listed_above bus_rows bus_of Any 0 es tagged above)
-
-  sessions_below : (n : ℕ) → (n ≡ 0 → ⊥) → Below bus_rows bus_of Any n (device_rows sessions)
-  sessions_below n h =
-      let some = some_bus n h in
-      each-weaken {P = λ row. IsIn 0 group.Session row.shown.key} (λ row t. let e = t.0 in (tt, lower row.shown.key.bus n e some)) (device_rows sessions) (devices_in_group 0 group.Session sessions are.server)
-    where
-      lower : (m n : ℕ) → m ≡ 0 → 0 < n → m < n
-      lower m n e h = omega (arith, e, h)
+  tagged =
+      each-weaken {P = λ e. AreRowsOfBus e.0 e.1}
+      (λ e h. each-weaken {P = λ row. row.shown.key.bus ≡ e.0} (λ row t. (tt, t)) (bus_rows e.1) (rows_on_bus h)) es are.each
 
   -- the record that is found
-  pub found_bus : (n : ℕ) (rows : BusRows) → Some rows ≡ entry_at n es → AreRowsOfBus n rows
-  found_bus n rows e = entry_holds AreRowsOfBus n es are.each rows (sym e)
+  pub found_bus : {n : ℕ} {rows : BusRows} → Some rows ≡ entry_at n es → AreRowsOfBus n rows
+  found_bus {n} {rows} e = entry_holds AreRowsOfBus n es are.each rows (sym e)
 
   -- ---- looking up
 
-  pub row_at-sessions : (key : Key) → key.bus ≡ 0 → row_at key (all_rows sessions es) ≡ row_at key (device_rows sessions)
-  row_at-sessions key e = row_at-left bus_rows bus_of Any in_order key (device_rows sessions) (listed bus_rows es) (buses_above key.bus e)
+  row_at-buses : (key : Key)
+      → row_at key (listed bus_rows es) ≡ option_map_or (λ rows. row_at key (bus_rows rows)) (entry_at key.bus es) None
+  row_at-buses key = row_at-listed bus_rows bus_of Any key es tagged are.sorted
 
-  row_at-buses : (key : Key) → (key.bus ≡ 0 → ⊥) → row_at key (all_rows sessions es) ≡ option_map_or (λ rows. row_at key (bus_rows rows)) (entry_at key.bus es) None
-  row_at-buses key h =
-      row_at-right bus_rows bus_of Any in_order key (device_rows sessions) (listed bus_rows es) (sessions_below key.bus h)
-      ∙ row_at-listed bus_rows bus_of Any key es tagged are.sorted
+  pub row_at-bus : (key : Key) {rows : BusRows} → Some rows ≡ entry_at key.bus es
+      → row_at key (bus_rows rows) ≡ row_at key (listed bus_rows es)
+  row_at-bus key e = ap (λ o. option_map_or (λ r. row_at key (bus_rows r)) o None) e ∙ sym (row_at-buses key)
 
-  pub row_at-bus : (key : Key) → (key.bus ≡ 0 → ⊥) → (rows : BusRows) → Some rows ≡ entry_at key.bus es → row_at key (bus_rows rows) ≡ row_at key (all_rows sessions es)
-  row_at-bus key h rows e = ap (λ o. option_map_or (λ r. row_at key (bus_rows r)) o None) e ∙ sym (row_at-buses key h)
-
-  pub row_at-no_bus : (key : Key) → (key.bus ≡ 0 → ⊥) → None ≡ entry_at key.bus es → None ≡ row_at key (all_rows sessions es)
-  row_at-no_bus key h e = ap (λ o. option_map_or (λ r. row_at key (bus_rows r)) o None) e ∙ sym (row_at-buses key h)
+  pub row_at-no_bus : (key : Key) → None ≡ entry_at key.bus es → None ≡ row_at key (listed bus_rows es)
+  row_at-no_bus key e = ap (λ o. option_map_or (λ r. row_at key (bus_rows r)) o None) e ∙ sym (row_at-buses key)
 
   pub row_after-buses : (cursor : Cursor) (from : ℕ) → ((key : Key) → key.bus < from → has_reached cursor key ≡ true)
       → row_after cursor (listed bus_rows es) ≡ row_after cursor (listed bus_rows (entries_between nat_cmp (Included from) Unbounded es))
   row_after-buses cursor from reached = row_after-listed bus_rows bus_of Any cursor from (λ key any h. reached key h) es tagged
 
-  -- a row of bus 0 is a session's
-  session_by : (key : Key) (o : Option Row) → row_at key (device_rows sessions) ≡ o → is_some o ≡ true → key.group ≡ group.Session
-  session_by key None e h = absurd (true≢false (sym h))
-  session_by key (Some row) e h =
-      let here : IsIn 0 group.Session row.shown.key =
-      found_holds (λ other. IsIn 0 group.Session other.shown.key) (λ other. same_key other.shown.key key) (device_rows sessions) (devices_in_group 0 group.Session sessions are.server) row e in
-      sym (ap (λ (k : Key). k.group) (row_at_key key (device_rows sessions) row e)) ∙ here.1
-
-  pub is_session : (key : Key) → key.bus ≡ 0 → has_row key (all_rows sessions es) ≡ true → key.group ≡ group.Session
-  is_session key e h = session_by key (row_at key (device_rows sessions)) refl (sym (ap is_some (row_at-sessions key e)) ∙ h)
-
   -- ---- setting a row
 
-  pub put_row-sessions : (row : Row) (after : List (ℕ × State)) → row.shown.key.bus ≡ 0 → device_rows after ≡ put_row row (device_rows sessions) → all_rows after es ≡ put_row row (all_rows sessions es)
-  put_row-sessions row after e is =
-      ap (λ rows. rows ++ listed bus_rows es) is ∙ sym (put_left bus_rows bus_of Any in_order row tt (device_rows sessions) (listed bus_rows es) (buses_above row.shown.key.bus e))
-
-  pub put_row-bus : (row : Row) → (row.shown.key.bus ≡ 0 → ⊥) → (rows after : BusRows) → Some rows ≡ entry_at row.shown.key.bus es → bus_rows after ≡ put_row row (bus_rows rows)
-      → all_rows sessions (set_value (is_at (nat_cmp row.shown.key.bus)) es after) ≡ put_row row (all_rows sessions es)
-  put_row-bus row h rows after e is =
-      ap (λ state. device_rows sessions ++ state) (listed-put_row bus_rows bus_of Any in_order row tt es tagged are.sorted rows after (sym e) is)
-      ∙ sym (put_right bus_rows bus_of Any in_order row tt (device_rows sessions) (listed bus_rows es) (sessions_below row.shown.key.bus h))
+  pub put_row-bus : (row : Row) {rows : BusRows} (after : BusRows) → Some rows ≡ entry_at row.shown.key.bus es
+      → bus_rows after ≡ put_row row (bus_rows rows)
+      → listed bus_rows (set_value (is_at (nat_cmp row.shown.key.bus)) es after) ≡ put_row row (listed bus_rows es)
+  put_row-bus row {rows} after e is = listed-put_row bus_rows bus_of Any in_order row tt es tagged are.sorted rows after (sym e) is
 
   -- ---- taking out a device
 
-  pub without-sessions : (device : Device) (after : List (ℕ × State)) → device.bus ≡ 0 → device_rows after ≡ without device (device_rows sessions) → all_rows after es ≡ without device (all_rows sessions es)
-  without-sessions device after e is =
-      ap (λ rows. rows ++ listed bus_rows es) is ∙ sym (drop_left bus_rows bus_of Any in_order device device.bus (apart device) (device_rows sessions) (listed bus_rows es) (buses_above device.bus e))
+  pub without-bus : (device : Device) {rows : BusRows} (after : BusRows) → Some rows ≡ entry_at device.bus es
+      → bus_rows after ≡ without device (bus_rows rows)
+      → listed bus_rows (set_value (is_at (nat_cmp device.bus)) es after) ≡ without device (listed bus_rows es)
+  without-bus device {rows} after e is =
+      listed-without bus_rows bus_of Any in_order device device.bus (apart device) es tagged are.sorted rows after (sym e) is
 
-  -- the server has no devices of other groups
-  pub without-server : (device : Device) → device.bus ≡ 0 → (device.group ≡ group.Session → ⊥) → all_rows sessions es ≡ without device (all_rows sessions es)
-  without-server device e h =
-      without-sessions device sessions e
-      (sym (filter_every (λ row. not (owns device row.shown.key)) (device_rows sessions)
-      (each-weaken {P = λ row. IsIn 0 group.Session row.shown.key} (λ row t. ap not (owns-other device row.shown.key (λ p. h (sym (ap (λ (d : Device). d.group) p) ∙ t.1)))) (device_rows sessions) (devices_in_group 0 group.Session sessions are.server))))
-
-  pub without-bus : (device : Device) → (device.bus ≡ 0 → ⊥) → (rows after : BusRows) → Some rows ≡ entry_at device.bus es → bus_rows after ≡ without device (bus_rows rows)
-      → all_rows sessions (set_value (is_at (nat_cmp device.bus)) es after) ≡ without device (all_rows sessions es)
-  without-bus device h rows after e is =
-      ap (λ state. device_rows sessions ++ state) (listed-without bus_rows bus_of Any in_order device device.bus (apart device) es tagged are.sorted rows after (sym e) is)
-      ∙ sym (drop_right bus_rows bus_of Any in_order device device.bus (apart device) (device_rows sessions) (listed bus_rows es) (sessions_below device.bus h))
-
-  pub without-no_bus : (device : Device) → (device.bus ≡ 0 → ⊥) → None ≡ entry_at device.bus es → all_rows sessions es ≡ without device (all_rows sessions es)
-  without-no_bus device h e =
-      ap (λ state. device_rows sessions ++ state) (listed-without_none bus_rows bus_of Any in_order device device.bus (apart device) es tagged are.sorted (sym e))
-      ∙ sym (drop_right bus_rows bus_of Any in_order device device.bus (apart device) (device_rows sessions) (listed bus_rows es) (sessions_below device.bus h))
+  pub without-no_bus : (device : Device) → None ≡ entry_at device.bus es → listed bus_rows es ≡ without device (listed bus_rows es)
+  without-no_bus device e = listed-without_none bus_rows bus_of Any in_order device device.bus (apart device) es tagged are.sorted (sym e)
 
   -- ---- adding a device
 
-  module _ (n : ℕ) (added : State) (new : AllByRecursion (λ row. row.shown.key.bus ≡ n) added) where
-    new_rows : AllByRecursion (λ row. Any row.shown.key × (bus_of row.shown.key ≡ n)) added
-    new_rows = each-weaken {P = λ row. row.shown.key.bus ≡ n} (λ row t. (tt, t)) added new
+  pub put_rows-bus : (n : ℕ) (added : State) → AllByRecursion (λ row. row.shown.key.bus ≡ n) added → {rows : BusRows} (after : BusRows)
+      → Some rows ≡ entry_at n es
+      → bus_rows after ≡ put_rows added (bus_rows rows)
+      → listed bus_rows (set_value (is_at (nat_cmp n)) es after) ≡ put_rows added (listed bus_rows es)
+  put_rows-bus n added new {rows} after e is =
+      let each = each-weaken {P = λ row. row.shown.key.bus ≡ n} (λ row t. (tt, t)) added new in
+      listed-put_rows bus_rows bus_of Any in_order n added each es tagged are.sorted rows after (sym e) is
 
-    pub put_rows-sessions : (after : List (ℕ × State)) → n ≡ 0 → device_rows after ≡ put_rows added (device_rows sessions) → all_rows after es ≡ put_rows added (all_rows sessions es)
-    put_rows-sessions after e is =
-        ap (λ rows. rows ++ listed bus_rows es) is ∙ sym (add_left bus_rows bus_of Any in_order n added new_rows (device_rows sessions) (listed bus_rows es) (buses_above n e))
-
-    pub put_rows-bus : (n ≡ 0 → ⊥) → (rows after : BusRows) → Some rows ≡ entry_at n es → bus_rows after ≡ put_rows added (bus_rows rows) → all_rows sessions (set_value (is_at (nat_cmp n)) es after) ≡ put_rows added (all_rows sessions es)
-    put_rows-bus h rows after e is =
-        ap (λ state. device_rows sessions ++ state) (listed-put_rows bus_rows bus_of Any in_order n added new_rows es tagged are.sorted rows after (sym e) is)
-        ∙ sym (add_right bus_rows bus_of Any in_order n added new_rows (device_rows sessions) (listed bus_rows es) (sessions_below n h))
-
-  pub same-bus : (n : ℕ) (rows after : BusRows) → Some rows ≡ entry_at n es → bus_rows after ≡ bus_rows rows → all_rows sessions (set_value (is_at (nat_cmp n)) es after) ≡ all_rows sessions es
-  same-bus n rows after e is = ap (λ state. device_rows sessions ++ state) (listed-same bus_rows bus_of Any in_order n es tagged are.sorted rows after (sym e) is)
+  pub same-bus : (n : ℕ) {rows : BusRows} (after : BusRows) → Some rows ≡ entry_at n es → bus_rows after ≡ bus_rows rows
+      → listed bus_rows (set_value (is_at (nat_cmp n)) es after) ≡ listed bus_rows es
+  same-bus n {rows} after e is = listed-same bus_rows bus_of Any in_order n es tagged are.sorted rows after (sym e) is
 
   -- ---- the records after a change
 
   abbrev Stays : State → Type 0
   Stays state = (device : Device) → can_go device.group ≡ false → 0 < row_count buses device → IsTrue (is_there device state)
 
-  pub layout-sessions : (after : List (ℕ × State)) → AreDevices 0 group.Session after → Stays (all_rows after es) → AreRowsOfLayout buses after es
-  layout-sessions after h stays = record { laid_out = are.laid_out; server = h; each = are.each; sorted = are.sorted; numbers = are.numbers; stays = stays }
-
-  pub layout-set : (n : ℕ) (rows : BusRows) (new : List (ℕ × BusRows)) → AreRowsOfBus n rows → new ≡ set_value (is_at (nat_cmp n)) es rows → AreSorted new → Stays (all_rows sessions new) → AreRowsOfLayout buses sessions new
+  pub layout-set : (n : ℕ) (rows : BusRows) (new : List (ℕ × BusRows)) → AreRowsOfBus n rows → new ≡ set_value (is_at (nat_cmp n)) es rows
+      → AreSorted new → Stays (listed bus_rows new) → AreRowsOfLayout buses new
   layout-set n rows new h is sorted stays = record {
     laid_out = are.laid_out;
-    server = are.server;
     each = subst (AllByRecursion (λ e. AreRowsOfBus e.0 e.1)) (sym is) (each-set_value AreRowsOfBus n rows h es are.each);
     sorted = sorted;
     numbers = ap keys_of is ∙ keys_of-set_value n rows es ∙ are.numbers;
@@ -208,86 +146,73 @@ module _ (buses : List Bus) (sessions : List (ℕ × State)) (es : List (ℕ × 
   }
 
   -- what never goes is still there
-  pub stays-put_row : (row : Row) (state : State) → state ≡ put_row row (all_rows sessions es) → Stays state
-  stays-put_row row state is device never count = ap (has_row (first_key device)) is ∙ has_row-put_row (first_key device) row (all_rows sessions es) (are.stays device never count)
+  pub stays-put_row : (row : Row) (state : State) → state ≡ put_row row (listed bus_rows es) → Stays state
+  stays-put_row row state is device never count =
+      ap (has_row (first_key device)) is ∙ has_row-put_row (first_key device) row (listed bus_rows es) (are.stays device never count)
 
-  stays-put_rows : (added state : State) → state ≡ put_rows added (all_rows sessions es) → Stays state
-  stays-put_rows added state is device never count = ap (has_row (first_key device)) is ∙ has_row-put_rows (first_key device) added (all_rows sessions es) (are.stays device never count)
+  stays-put_rows : (added state : State) → state ≡ put_rows added (listed bus_rows es) → Stays state
+  stays-put_rows added state is device never count =
+      ap (has_row (first_key device)) is ∙ has_row-put_rows (first_key device) added (listed bus_rows es) (are.stays device never count)
 
-  stays-same : (state : State) → state ≡ all_rows sessions es → Stays state
+  stays-same : (state : State) → state ≡ listed bus_rows es → Stays state
   stays-same state is device never count = ap (has_row (first_key device)) is ∙ are.stays device never count
 
-  pub stays-added : {E : Type 0} (added state : State) (r : Result (Unit {0}) E) → OnOk r (state ≡ put_rows added (all_rows sessions es)) → OnErr r (state ≡ all_rows sessions es) → Stays state
+  pub stays-added : {E : Type 0} (added state : State) (r : Result (Unit {0}) E) → OnOk r (state ≡ put_rows added (listed bus_rows es))
+      → OnErr r (state ≡ listed bus_rows es) → Stays state
   stays-added added state (Ok u) e f = stays-put_rows added state e
   stays-added added state (Err x) e f = stays-same state f
 
-  pub stays-without : (gone : Device) → can_go gone.group ≡ true → (state : State) → state ≡ without gone (all_rows sessions es) → Stays state
+  pub stays-without : (gone : Device) → can_go gone.group ≡ true → (state : State) → state ≡ without gone (listed bus_rows es) → Stays state
   stays-without gone goes state is device never count =
       let kept : owns gone (first_key device) ≡ false = owns-other gone (first_key device) (λ e. true≢false (sym goes ∙ sym (ap (λ (d : Device). can_go d.group) e) ∙ never)) in
       ap (has_row (first_key device)) is
-      ∙ ap is_some (row_at-without (first_key device) gone (all_rows sessions es) ∙ ap (λ c. cond c None (row_at (first_key device) (all_rows sessions es))) kept)
+      ∙ ap is_some (row_at-without (first_key device) gone (listed bus_rows es)
+      ∙ ap (λ c. cond c None (row_at (first_key device) (listed bus_rows es))) kept)
       ∙ are.stays device never count
 
   -- ---- a device of the layout that is not there
 
-  goes_by : (device : Device) (c : Bool) → can_go device.group ≡ c → 0 < row_count buses device → has_row (key_at device 0) (all_rows sessions es) ≡ false → can_go device.group ≡ true
+  goes_by : (device : Device) (c : Bool) → can_go device.group ≡ c → 0 < row_count buses device
+      → has_row (key_at device 0) (listed bus_rows es) ≡ false → can_go device.group ≡ true
   goes_by device true e count free = e
   goes_by device false e count free = absurd (true≢false (sym (are.stays device e count) ∙ free))
 
   -- its group comes and goes
-  pub comes : (device : Device) → 0 < row_count buses device → has_row (key_at device 0) (all_rows sessions es) ≡ false → can_go device.group ≡ true
+  pub comes : (device : Device) → 0 < row_count buses device → has_row (key_at device 0) (listed bus_rows es) ≡ false
+      → can_go device.group ≡ true
   comes device count free = goes_by device (can_go device.group) refl count free
 
 -- ---- devices of a layout
 
-module _ (buses : List Bus) where
-  nothing : (a count : ℕ) → 0 < rows_if (is_within 1 0 a) count → ⊥
-  nothing a count h = let b = between 1 0 a (within_step (is_within 1 0 a) count h) in let low = b.0 in let high = b.1 in omega (arith, low, high)
+found_step : {X : Type 0} (n m : ℕ) (x : X) (o : Option X) (c : Bool) → (m == n) ≡ c → (c ≡ false → is_some o ≡ true)
+    → is_some (cond (is_eq (nat_cmp n m)) (Some x) o) ≡ true
+found_step n m x o true e h = ap (λ r. is_some (cond (is_eq r) (Some x) o)) (ap (nat_cmp n) (eqb-true m n e) ∙ tied_itself nat_cmp_total n)
+found_step n m x o false e h = here_or (is_eq (nat_cmp n m)) (h refl)
+  where
+    here_or : (b : Bool) → is_some o ≡ true → is_some (cond b (Some x) o) ≡ true
+    here_or true h = refl
+    here_or false h = h
 
-  session_on : (g : Group) (a : ℕ) → 0 < rows_on server g a → g ≡ group.Session
-  session_on group.Session a h = refl
-  session_on group.Power a h = absurd (omega (arith, h))
-  session_on group.Gl a h = absurd (nothing a 2 h)
-  session_on group.Ga a h = absurd (nothing a (1 + 0) h)
-  session_on group.Fb a h = absurd (nothing a 1 h)
-  session_on group.LockGl a h = absurd (nothing a 1 h)
-  session_on group.LockGa a h = absurd (nothing a 1 h)
+entry_found : (bs : List Bus) (es : List (ℕ × BusRows)) (n : ℕ) → keys_of es ≡ map (λ bus. bus.number) bs
+    → is_some (find (λ bus. bus.number == n) bs) ≡ true → is_some (entry_at n es) ≡ true
+entry_found [] es n e h = absurd (true≢false (sym h))
+entry_found (b ∷ bs) [] n e h = absurd (let l : length (b.number ∷ map (λ bus. bus.number) bs) ≡ 0 = ap length (sym e) in omega (arith, l))
+entry_found (b ∷ bs) (x ∷ es) n e h =
+    let first : x.0 ≡ b.number = ap (λ ks. slice_index_or ks 0 x.0) e in
+    let rest : keys_of es ≡ map (λ bus. bus.number) bs = ap (drop 1) e in
+    found_step n x.0 x.1 (entry_at n es) (x.0 == n) refl
+    (λ other.
+    entry_found bs es n rest
+    (sym (ap (λ c. is_some (cond c (Some b) (find (λ bus. bus.number == n) bs))) (ap (λ m. m == n) (sym first) ∙ other)) ∙ h))
 
-  -- the server has sessions alone
-  pub server_group : (device : Device) → device.bus ≡ 0 → 0 < row_count buses device → device.group ≡ group.Session
-  server_group device e h =
-      session_on device.group device.address
-      (subst (λ n. 0 < option_map_or (λ bus. rows_on bus device.group device.address) (find (λ bus. bus.number == n) (server ∷ buses)) 0) e h)
-
-  found_step : {X : Type 0} (n m : ℕ) (x : X) (o : Option X) (c : Bool) → (m == n) ≡ c → (c ≡ false → is_some o ≡ true) → is_some (cond (is_eq (nat_cmp n m)) (Some x) o) ≡ true
-  found_step n m x o true e h = ap (λ r. is_some (cond (is_eq r) (Some x) o)) (ap (nat_cmp n) (eqb-true m n e) ∙ tied_itself nat_cmp_total n)
-  found_step n m x o false e h = here_or (is_eq (nat_cmp n m)) (h refl)
-    where
-      here_or : (b : Bool) → is_some o ≡ true → is_some (cond b (Some x) o) ≡ true
-      here_or true h = refl
-      here_or false h = h
-
-  entry_found : (bs : List Bus) (es : List (ℕ × BusRows)) (n : ℕ) → keys_of es ≡ map (λ bus. bus.number) bs → is_some (find (λ bus. bus.number == n) bs) ≡ true → is_some (entry_at n es) ≡ true
-  entry_found [] es n e h = absurd (true≢false (sym h))
-  entry_found (b ∷ bs) [] n e h = absurd (let l : length (b.number ∷ map (λ bus. bus.number) bs) ≡ 0 = ap length (sym e) in omega (arith, l))
-  entry_found (b ∷ bs) (x ∷ es) n e h =
-      let first : x.0 ≡ b.number = ap (λ ks. slice_index_or ks 0 x.0) e in
-      let rest : keys_of es ≡ map (λ bus. bus.number) bs = ap (drop 1) e in
-      found_step n x.0 x.1 (entry_at n es) (x.0 == n) refl
-      (λ other. entry_found bs es n rest (sym (ap (λ c. is_some (cond c (Some b) (find (λ bus. bus.number == n) bs))) (ap (λ m. m == n) (sym first) ∙ other)) ∙ h))
-
-  found_bus_by : (n : ℕ) (c : Bool) → (0 == n) ≡ c → (n ≡ 0 → ⊥) → (P : Bus → ℕ) → 0 < option_map_or P (cond c (Some server) (find (λ bus. bus.number == n) buses)) 0 → is_some (find (λ bus. bus.number == n) buses) ≡ true
-  found_bus_by n true e h P count = absurd (h (sym (eqb-true 0 n e)))
-  found_bus_by n false e h P count = by (find (λ bus. bus.number == n) buses) count
-    where
-      by : (o : Option Bus) → 0 < option_map_or P o 0 → is_some o ≡ true
-      by None c = absurd (omega (arith, c))
-      by (Some bus) c = refl
-
-  -- the bus of a device has its record
-  pub has_record : (sessions : List (ℕ × State)) (es : List (ℕ × BusRows)) → AreRowsOfLayout buses sessions es → (device : Device) → (device.bus ≡ 0 → ⊥) → 0 < row_count buses device → is_some (entry_at device.bus es) ≡ true
-  has_record sessions es are device h count =
-      entry_found buses es device.bus are.numbers (found_bus_by device.bus (0 == device.bus) refl h (λ bus. rows_on bus device.group device.address) count)
+-- the bus of a device has its record
+pub has_record : {buses : List Bus} {es : List (ℕ × BusRows)} → AreRowsOfLayout buses es → (device : Device) → 0 < row_count buses device
+    → is_some (entry_at device.bus es) ≡ true
+has_record {buses} {es} are device count = entry_found (server ∷ buses) es device.bus are.numbers (by (bus_at buses device.bus) count)
+  where
+    by : (o : Option Bus) → 0 < option_map_or (λ bus. rows_on bus device.group device.address) o 0 → is_some o ≡ true
+    by None c = absurd (omega (arith, c))
+    by (Some bus) c = refl
 
 -- ---- how they begin
 
@@ -299,7 +224,8 @@ module _ {X : Type 0} (n : ℕ) (x : X) where
       ap (λ o. match_ordering o ((n, x) ∷ e ∷ es) ((e.0, x) ∷ es) (e ∷ insert_entry nat_cmp es n x)) (greater n e.0 h.0)
       ∙ ap (λ fs. e ∷ fs) (insert_entry-last es h.1)
 
-pub before_rising : (bs : List Bus) → Rising bs → (i : ℕ) (d : Bus) → i < length bs → AllByRecursion (λ n. n < (slice_index_or bs i d).number) (map (λ bus. bus.number) (take i bs))
+pub before_rising : (bs : List Bus) → Rising bs → (i : ℕ) (d : Bus) → i < length bs
+    → AllByRecursion (λ n. n < (slice_index_or bs i d).number) (map (λ bus. bus.number) (take i bs))
 before_rising [] r i d h = absurd (omega (arith, h))
 before_rising (b ∷ bs) r zero d h = tt
 before_rising (b ∷ bs) r (suc i) d h = (each_at (λ c. b.number < c.number) bs r.0 i d (omega (arith, h)), before_rising bs r.1 i d (omega (arith, h)))
@@ -317,7 +243,8 @@ power_address : (a : ℕ) (o : Option Bus) → 0 < option_map_or (λ bus. rows_o
 power_address a None h = absurd (omega (arith, h))
 power_address a (Some bus) h = eqb-true a 0 (second_so bus.power (a == 0) (within_step (bus.power && a == 0) 1 h))
 
-stays_on : (buses : List Bus) → IsLayout buses → (device : Device) (g : Group) → device.group ≡ g → can_go g ≡ false → 0 < row_count buses device → is_there device (opening buses 0) ≡ true
+stays_on : (buses : List Bus) → IsLayout buses → (device : Device) (g : Group) → device.group ≡ g → can_go g ≡ false
+    → 0 < row_count buses device → is_there device (opening buses 0) ≡ true
 stays_on buses layout device group.Session e never count = absurd (true≢false never)
 stays_on buses layout device group.Power e never count =
     let zeroth = power_address device.address (bus_at buses device.bus) (subst (λ g. 0 < option_map_or (λ bus. rows_on bus g device.address) (bus_at buses device.bus) 0) e count) in
@@ -331,5 +258,6 @@ stays_on buses layout device group.Fb e never count =
 stays_on buses layout device group.LockGl e never count = absurd (true≢false never)
 stays_on buses layout device group.LockGa e never count = absurd (true≢false never)
 
-pub stays-opening : (buses : List Bus) → IsLayout buses → (device : Device) → can_go device.group ≡ false → 0 < row_count buses device → is_there device (opening buses 0) ≡ true
+pub stays-opening : (buses : List Bus) → IsLayout buses → (device : Device) → can_go device.group ≡ false → 0 < row_count buses device
+    → is_there device (opening buses 0) ≡ true
 stays-opening buses layout device never count = stays_on buses layout device device.group refl never count

@@ -10,35 +10,21 @@ use Rattle.srcp_info.specs.declared.key.Key.{Key}
 use Rattle.srcp_info.specs.declared.key.Device.{Device}
 use Rattle.srcp_info.specs.declared.change.Row.{Row}
 use Rattle.srcp_info.specs.Key.{key_cmp, owns}
-use Rattle.srcp_rules.specs.State.{State, put_row, row_at, without}
+use Rattle.srcp_rules.specs.State.{State, put_row, without}
 use Rattle.srcp_rules.specs.Rows.{put_rows}
 use Rattle.srcp_rules.specs.Nested.{AreSorted, entry_at, listed}
 use Rattle.srcp_rules.proofs.FindLaws.{each-weaken}
-use Rattle.srcp_rules.proofs.KeyLaws.{same_key}
-use Rattle.srcp_rules.proofs.PutLaws.{find_past, find_before, put_row-before, put_row-past, put_rows-before, put_rows-past, without-before, without-past}
-use Rattle.srcp_rules.proofs.ListedLaws.{IsTagged, Above, Below, listed-absent, listed-insert_entry, listed-remove_entry, listed-set_value, other_key, unequal}
+use Rattle.srcp_rules.proofs.PutLaws.{put_row-before, put_row-past, put_rows-before, put_rows-past, without-before, without-past}
+use Rattle.srcp_rules.proofs.ListedLaws.{IsTagged, Above, Below, listed-absent, listed-insert_entry, listed-remove_entry, listed-set_value, unequal}
 
 module _ {X : Type 0} (rows : X → State) (tag : Key → ℕ) (P : Key → Type 0) (order : (a b : Key) → P a → P b → tag a < tag b → key_cmp a b ≡ Less) where
-  -- ---- looking up
-
-  -- a key is not among rows above it or below it
-  pub row_at-left : (key : Key) (xs ys : State) → Above rows tag P (tag key) ys → row_at key (xs ++ ys) ≡ row_at key xs
-  row_at-left key xs ys h =
-      find_before (λ row. same_key row.shown.key key) xs ys
-      (each-weaken {P = λ y. P y.shown.key × (tag key < tag y.shown.key)} (λ y t. other_key tag y.shown.key key (λ e. unequal (tag key) (tag y.shown.key) t.1 e) (same_key y.shown.key key) refl) ys h)
-
-  pub row_at-right : (key : Key) (xs ys : State) → Below rows tag P (tag key) xs → row_at key (xs ++ ys) ≡ row_at key ys
-  row_at-right key xs ys h =
-      find_past (λ row. same_key row.shown.key key) xs ys
-      (each-weaken {P = λ x. P x.shown.key × (tag x.shown.key < tag key)} (λ x t. other_key tag x.shown.key key (λ e. unequal (tag x.shown.key) (tag key) t.1 (sym e)) (same_key x.shown.key key) refl) xs h)
-
   -- ---- setting a row
 
   module _ (row : Row) (here : P row.shown.key) where
-    pub put_left : (xs ys : State) → Above rows tag P (tag row.shown.key) ys → put_row row (xs ++ ys) ≡ put_row row xs ++ ys
+    put_left : (xs ys : State) → Above rows tag P (tag row.shown.key) ys → put_row row (xs ++ ys) ≡ put_row row xs ++ ys
     put_left xs ys h = put_row-before row xs ys (each-weaken {P = λ y. P y.shown.key × (tag row.shown.key < tag y.shown.key)} (λ y t. order row.shown.key y.shown.key here t.0 t.1) ys h)
 
-    pub put_right : (xs ys : State) → Below rows tag P (tag row.shown.key) xs → put_row row (xs ++ ys) ≡ xs ++ put_row row ys
+    put_right : (xs ys : State) → Below rows tag P (tag row.shown.key) xs → put_row row (xs ++ ys) ≡ xs ++ put_row row ys
     put_right xs ys h = put_row-past row xs ys (each-weaken {P = λ x. P x.shown.key × (tag x.shown.key < tag row.shown.key)} (λ x t. order x.shown.key row.shown.key t.0 here t.1) xs h)
 
     pub listed-put_row : (es : List (ℕ × X)) → AllByRecursion (IsTagged rows tag P) es → AreSorted es → (x w : X) → entry_at (tag row.shown.key) es ≡ Some x → rows w ≡ put_row row (rows x)
@@ -48,10 +34,10 @@ module _ {X : Type 0} (rows : X → State) (tag : Key → ℕ) (P : Key → Type
   -- ---- taking out a device
 
   module _ (device : Device) (n : ℕ) (apart : (key : Key) → P key → (tag key ≡ n → ⊥) → owns device key ≡ false) where
-    pub drop_left : (xs ys : State) → Above rows tag P n ys → without device (xs ++ ys) ≡ without device xs ++ ys
+    drop_left : (xs ys : State) → Above rows tag P n ys → without device (xs ++ ys) ≡ without device xs ++ ys
     drop_left xs ys h = without-before device xs ys (each-weaken {P = λ y. P y.shown.key × (n < tag y.shown.key)} (λ y t. apart y.shown.key t.0 (λ e. unequal n (tag y.shown.key) t.1 e)) ys h)
 
-    pub drop_right : (xs ys : State) → Below rows tag P n xs → without device (xs ++ ys) ≡ xs ++ without device ys
+    drop_right : (xs ys : State) → Below rows tag P n xs → without device (xs ++ ys) ≡ xs ++ without device ys
     drop_right xs ys h = without-past device xs ys (each-weaken {P = λ x. P x.shown.key × (tag x.shown.key < n)} (λ x t. apart x.shown.key t.0 (λ e. unequal (tag x.shown.key) n t.1 (sym e))) xs h)
 
     pub listed-without : (es : List (ℕ × X)) → AllByRecursion (IsTagged rows tag P) es → AreSorted es → (x w : X) → entry_at n es ≡ Some x → rows w ≡ without device (rows x)
@@ -68,7 +54,7 @@ module _ {X : Type 0} (rows : X → State) (tag : Key → ℕ) (P : Key → Type
   -- ---- adding a device
 
   module _ (n : ℕ) (added : State) (new : AllByRecursion (λ row. P row.shown.key × (tag row.shown.key ≡ n)) added) where
-    pub add_left : (xs ys : State) → Above rows tag P n ys → put_rows added (xs ++ ys) ≡ put_rows added xs ++ ys
+    add_left : (xs ys : State) → Above rows tag P n ys → put_rows added (xs ++ ys) ≡ put_rows added xs ++ ys
     add_left xs ys h =
         put_rows-before added xs ys
         (each-weaken {P = λ row. P row.shown.key × (tag row.shown.key ≡ n)}
@@ -77,7 +63,7 @@ module _ {X : Type 0} (rows : X → State) (tag : Key → ℕ) (P : Key → Type
         below : (l m n : ℕ) → l ≡ m → m < n → l < n
         below l m n e h = omega (arith, e, h)
 
-    pub add_right : (xs ys : State) → Below rows tag P n xs → put_rows added (xs ++ ys) ≡ xs ++ put_rows added ys
+    add_right : (xs ys : State) → Below rows tag P n xs → put_rows added (xs ++ ys) ≡ xs ++ put_rows added ys
     add_right xs ys h =
         put_rows-past added xs ys
         (each-weaken {P = λ row. P row.shown.key × (tag row.shown.key ≡ n)}

@@ -1,5 +1,5 @@
 -- How a keeper lays out rows: a record for each bus, and in it the devices that come and go by address.
-use Rattle.std.specs.Prelude.{◌≡◌, ℕ, ◌<◌, false, IsTrue, List, [], ◌∷◌, ◌++◌, length, map, flat_map, Option}
+use Rattle.std.specs.Prelude.{◌≡◌, ℕ, ◌<◌, false, IsTrue, List, [], ◌∷◌, length, map, flat_map, Option}
 use Rattle.std.specs.List.{AllByRecursion}
 use Rattle.std.specs.List.Sorted.{IsStrictlySortedBy}
 use Rattle.std.specs.Map.{keys_of, lookup}
@@ -12,7 +12,7 @@ use Rattle.srcp_info.specs.declared.key.Group.TheVariants.{Session, Power, Gl, G
 use Rattle.srcp_info.specs.declared.key.Device.{Device}
 use Rattle.srcp_info.specs.WellFormed.{can_go}
 use Rattle.srcp_rules.specs.declared.layout.Bus.{Bus}
-use Rattle.srcp_rules.specs.Layout.{IsLayout, row_count}
+use Rattle.srcp_rules.specs.Layout.{IsLayout, row_count, server}
 use Rattle.srcp_rules.specs.State.{State, IsRising, is_there}
 use Rattle.srcp_rules.specs.declared.nested.bus_rows.BusRows.{BusRows}
 
@@ -60,6 +60,7 @@ pub record AreOfGroup (bus : ℕ) (group : Group) (rows : State) : Type 0 where
 
 -- these are rows of the bus, each in its group
 pub record AreRowsOfBus (bus : ℕ) (rows : BusRows) : Type 0 where
+  pub sessions : AreDevices bus Session rows.sessions.by_address.entries
   pub power : AreOfGroup bus Power (option_to_list rows.power)
   pub locomotives : AreDevices bus Gl rows.locomotives.by_address.entries
   pub accessories : AreDevices bus Ga rows.accessories.by_address.entries
@@ -69,11 +70,11 @@ pub record AreRowsOfBus (bus : ℕ) (rows : BusRows) : Type 0 where
 
 -- the groups of a bus, in the order of a listing
 abbrev pub bus_groups : List Group
-bus_groups = Power ∷ Gl ∷ Ga ∷ Fb ∷ LockGl ∷ LockGa ∷ []
+bus_groups = Session ∷ Power ∷ Gl ∷ Ga ∷ Fb ∷ LockGl ∷ LockGa ∷ []
 
 -- the rows of one group of a bus
 abbrev pub group_rows : BusRows → Group → State
-group_rows rows Session = []
+group_rows rows Session = device_rows rows.sessions.by_address.entries
 group_rows rows Power = option_to_list rows.power
 group_rows rows Gl = device_rows rows.locomotives.by_address.entries
 group_rows rows Ga = device_rows rows.accessories.by_address.entries
@@ -93,17 +94,12 @@ most_rows other = 1
 
 -- ---- the rows of all buses
 
--- the rows of the server's own bus, and then those of each bus by number
-abbrev pub all_rows : (sessions : List (ℕ × State)) → List (ℕ × BusRows) → State
-all_rows sessions buses = device_rows sessions ++ listed bus_rows buses
-
--- these are the sessions of a registry and the rows of each of its buses
-pub record AreRowsOfLayout (buses : List Bus) (sessions : List (ℕ × State)) (rows : List (ℕ × BusRows)) : Type 0 where
+-- these are the rows of the server's own bus and of each bus of the layout
+pub record AreRowsOfLayout (buses : List Bus) (rows : List (ℕ × BusRows)) : Type 0 where
   pub laid_out : IsLayout buses
-  pub server : AreDevices 0 Session sessions
   pub each : AllByRecursion (λ e. AreRowsOfBus e.0 e.1) rows
   pub sorted : AreSorted rows
-  pub numbers : keys_of rows ≡ map (λ bus. bus.number) buses
+  pub numbers : keys_of rows ≡ map (λ bus. bus.number) (server ∷ buses)
   -- what never goes is there
   pub stays : (device : Device) → can_go device.group ≡ false → 0 < row_count buses device
-      → IsTrue (is_there device (all_rows sessions rows))
+      → IsTrue (is_there device (listed bus_rows rows))

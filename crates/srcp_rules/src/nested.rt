@@ -3,6 +3,7 @@ ghost use Rattle.std.specs.List.{AllByRecursion};
 ghost use Rattle.std.specs.Map.{keys_of};
 ghost use Rattle.srcp_info.specs.declared.key.Key.{Key};
 ghost use Rattle.srcp_info.specs.Key.{has_reached};
+ghost use Rattle.srcp_rules.specs.Layout.{server};
 ghost use Rattle.srcp_rules.specs.State.{opening};
 ghost use Rattle.srcp_rules.specs.Nested.{AreRowsOfBus, AreSorted, bus_rows, listed};
 
@@ -12,21 +13,18 @@ mod devices;
 
 use crate::layout::{Bus, Layout};
 use crate::nested::bus_rows::BusRows;
-use crate::nested::devices::Devices;
 use crate::obeyed::Memory;
 use crate::on_bus::SERVER;
 use crate::rows::Rows;
-use srcp_info::{Cursor, Device, Group, Key, Row};
+use srcp_info::{Cursor, Device, Key, Row};
 use std::alloc::Global;
 use std::collections::BTreeMap;
 use std::marker::Model;
 
-/// The rows of a registry: the sessions, and a record of rows for each bus.
+/// The rows of a registry: a record of rows for each bus. The first is that of the server's own bus.
 #[derive(Drop)]
 pub struct Nested {
     buses: Vec<Bus>,
-    /// The rows of the server's own bus.
-    sessions: Devices<1>,
     by_number: BTreeMap<u8, BusRows>,
 }
 
@@ -35,11 +33,11 @@ impl Model for Nested {
 
     ghost Value = { Kept };
 
-    ghost use Rattle.srcp_rules.specs.Nested.{AreRowsOfLayout, all_rows};
+    ghost use Rattle.srcp_rules.specs.Nested.{AreRowsOfLayout, bus_rows, listed};
 
-    ghost view = { λ n. record { buses = n.buses.items; state = all_rows n.sessions.by_address.entries n.by_number.entries } };
+    ghost view = { λ n. record { buses = n.buses.items; state = listed bus_rows n.by_number.entries } };
 
-    ghost invariant = { λ n. AreRowsOfLayout n.buses.items n.sessions.by_address.entries n.by_number.entries };
+    ghost invariant = { λ n. AreRowsOfLayout n.buses.items n.by_number.entries };
 }
 
 impl Rows for Nested {
@@ -50,17 +48,10 @@ impl Rows for Nested {
     fn empty(alloc: Global, layout: &Layout) -> Result<Self, Memory> {
         let buses = Vec::from_slice(alloc, layout.buses())?;
         let by_number = opening_buses(alloc, layout)?;
-        Ok(Nested {
-            buses,
-            sessions: Devices::new(alloc),
-            by_number,
-        })
+        Ok(Nested { buses, by_number })
     }
 
     fn row(&self, key: &Key) -> Option<&Row> {
-        if key.bus == SERVER.number {
-            return self.sessions.row(key);
-        }
         match self.by_number.get(&key.bus) {
             Some(rows) => rows.row(key),
             None => None,
@@ -68,12 +59,6 @@ impl Rows for Nested {
     }
 
     fn row_after(&self, cursor: Cursor) -> Option<&Row> {
-        if let Some(row) = self
-            .sessions
-            .row_after(SERVER.number, Group::Session, cursor)
-        {
-            return Some(row);
-        }
         for (number, rows) in self.by_number.range(first_bus(cursor)..) {
             if let Some(row) = rows.row_after(*number, cursor) {
                 return Some(row);
@@ -86,9 +71,6 @@ impl Rows for Nested {
         let Some(first) = added.first() else {
             return Ok(());
         };
-        if first.shown.key.bus == SERVER.number {
-            return self.sessions.add(first, added);
-        }
         match self.by_number.get_mut(&first.shown.key.bus) {
             Some(rows) => rows.add(first, added),
             None => unreachable!(),
@@ -96,32 +78,30 @@ impl Rows for Nested {
     }
 
     fn set(&mut self, row: Row) {
-        if row.shown.key.bus == SERVER.number {
-            self.sessions.set(row);
-        } else if let Some(rows) = self.by_number.get_mut(&row.shown.key.bus) {
-            rows.set(row);
-        }
+        let Some(rows) = self.by_number.get_mut(&row.shown.key.bus) else {
+            return;
+        };
+        rows.set(row);
     }
 
     fn drop_device(&mut self, device: Device) {
-        if device.bus == SERVER.number {
-            if let Group::Session = device.group {
-                self.sessions.drop_device(device);
-            }
-        } else if let Some(rows) = self.by_number.get_mut(&device.bus) {
-            rows.drop_device(device);
-        }
+        let Some(rows) = self.by_number.get_mut(&device.bus) else {
+            return;
+        };
+        rows.drop_device(device);
     }
 }
 
-/// The rows of each bus of a layout at the moment 0.
+/// Makes the rows of the server's own bus and of each bus of a layout, as they are at the moment 0.
 fn opening_buses(alloc: Global, layout: &Layout) -> Result<BTreeMap<u8, BusRows>, Memory>
     ensures each { IfOk result (λ buses. AllByRecursion (λ e. AreRowsOfBus e.0 e.1) buses.entries) }
     ensures sorted { IfOk result (λ buses. AreSorted buses.entries) }
-    ensures numbers { IfOk result (λ buses. keys_of buses.entries ≡ map (λ bus. bus.number) layout.now) }
+    ensures numbers { IfOk result (λ buses. keys_of buses.entries ≡ map (λ bus. bus.number) (server ∷ layout.now)) }
     ensures rows { IfOk result (λ buses. listed bus_rows buses.entries ≡ opening layout.now 0) }
 {
     let mut buses = BTreeMap::new(alloc);
+    let server = BusRows::opening(alloc, &SERVER)?;
+    add_bus(&mut buses, SERVER.number, server)?;
     for bus in layout.buses() {
         let rows = BusRows::opening(alloc, bus)?;
         add_bus(&mut buses, bus.number, rows)?;

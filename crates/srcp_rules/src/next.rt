@@ -1,7 +1,7 @@
 ghost use Rattle.std.specs.Prelude.{◌≡◌, ◌≤◌, IfSome, option_copied, option_map, slice_get};
 ghost use Rattle.srcp_info.specs.WellFormed.{IsWellFormed};
 ghost use Rattle.srcp_rules.specs.Due.{due_after, due_change, freed};
-ghost use Rattle.srcp_rules.specs.Sought.{is_sought, may_be_in, past, sought_after};
+ghost use Rattle.srcp_rules.specs.Sought.{is_sought, may_be_due, may_be_in, past, sought_after};
 ghost use Rattle.srcp_rules.specs.State.{AddsNoRow, IsWhole, MayFall, row_at, updated, updated_if};
 
 use crate::device::session_device;
@@ -101,24 +101,32 @@ impl Sought {
         ensures { result ≡ may_be_in self.now group }
     {
         match self {
-            Sought::Due(_) => matches!(group, Group::Ga | Group::LockGl | Group::LockGa),
+            Sought::Due(_) => may_be_due(group),
             Sought::HeldBy(_) => matches!(group, Group::LockGl | Group::LockGa),
         }
     }
+}
 
-    /// A cursor past the row at the key, and past the rest of its group on its bus where none of that is sought.
-    fn past(&self, key: Key) -> Cursor
-        ensures { result ≡ past (may_be_in self.now key.group) key }
-    {
-        if self.may_be_in(key.group) {
-            Cursor::After(key)
-        } else {
-            Cursor::After(Key {
-                address: u32::MAX,
-                port: u8::MAX,
-                ..key
-            })
-        }
+/// Returns whether a row of this group may be due at some moment.
+pub fn may_be_due(group: Group) -> bool
+    ensures { result ≡ may_be_due group }
+{
+    matches!(group, Group::Ga | Group::LockGl | Group::LockGa)
+}
+
+/// Returns a cursor past the row at the key. Where no row of its group counts, the cursor is past
+/// the whole group on its bus.
+pub fn past(key: Key, counts: bool) -> Cursor
+    ensures { result ≡ past counts key }
+{
+    if counts {
+        Cursor::After(key)
+    } else {
+        Cursor::After(Key {
+            address: u32::MAX,
+            port: u8::MAX,
+            ..key
+        })
     }
 }
 
@@ -132,7 +140,8 @@ fn first_after<R: Rows>(rows: &R, cursor: Cursor, sought: Sought) -> Option<&Row
         if sought.is_met_by(row) {
             return Some(row);
         }
-        at = sought.past(row.shown.key);
+        let key = row.shown.key;
+        at = past(key, sought.may_be_in(key.group));
     }
     None
 }

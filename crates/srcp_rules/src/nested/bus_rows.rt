@@ -1,7 +1,6 @@
-ghost use Rattle.std.specs.Prelude.{◌≡◌, ◌≢◌, ◌≤◌, ℕ, false, map, IsTrue, IfOk, OnOk, OnErr, length, option_copied};
+ghost use Rattle.std.specs.Prelude.{◌≡◌, ◌≤◌, ℕ, false, map, IsTrue, IfOk, OnOk, OnErr, length, option_copied};
 ghost use Rattle.std.specs.List.{range_with_len};
 ghost use Rattle.srcp_info.specs.declared.value.Value.TheVariants as value;
-ghost use Rattle.srcp_info.specs.declared.key.Group.TheVariants as group;
 ghost use Rattle.srcp_info.specs.Key.{device_of};
 ghost use Rattle.srcp_info.specs.WellFormed.{can_go};
 ghost use Rattle.srcp_rules.specs.Rows.{put_rows};
@@ -20,6 +19,8 @@ use std::alloc::Global;
 /// The rows of one bus.
 #[derive(Drop)]
 pub(crate) struct BusRows {
+    /// The sessions, which the server's own bus alone has.
+    sessions: Devices<1>,
     /// Its power row, if the bus has one.
     power: Option<Row>,
     locomotives: Devices<2>,
@@ -38,6 +39,7 @@ impl BusRows {
     {
         let feedback = feedback_rows(alloc, bus)?;
         Ok(BusRows {
+            sessions: Devices::new(alloc),
             power: power_row(bus),
             locomotives: Devices::new(alloc),
             accessories: Devices::new(alloc),
@@ -53,7 +55,7 @@ impl BusRows {
         ensures { option_copied result ≡ row_at key.now (bus_rows self.now) }
     {
         match key.group {
-            Group::Session => None,
+            Group::Session => self.sessions.row(key),
             Group::Power => row_in(self.power.as_slice(), key),
             Group::Gl => self.locomotives.row(key),
             Group::Ga => self.accessories.row(key),
@@ -68,7 +70,10 @@ impl BusRows {
         requires { AreRowsOfBus bus self.now }
         ensures { option_copied result ≡ row_after cursor (bus_rows self.now) }
     {
-        row_after_in(self.power.as_slice(), cursor)
+        let power = self.power.as_slice();
+        self.sessions
+            .row_after(bus, Group::Session, cursor)
+            .or_else(|| row_after_in(power, cursor))
             .or_else(|| self.locomotives.row_after(bus, Group::Gl, cursor))
             .or_else(|| self.accessories.row_after(bus, Group::Ga, cursor))
             .or_else(|| row_after_in(&self.feedback, cursor))
@@ -80,7 +85,6 @@ impl BusRows {
     pub(crate) fn add(&mut self, first: &Row, added: &[Row]) -> Result<(), Memory>
         requires bus { AreRowsOfBus first.now.shown.key.bus self.old }
         requires comes { IsTrue (can_go first.now.shown.key.group) }
-        requires no_session { first.now.shown.key.group ≢ group.Session }
         requires device { AreOfDevice first.now.shown.key.bus first.now.shown.key.group first.now.shown.key.address added.now }
         requires few { length added.now ≤ most_rows first.now.shown.key.group }
         requires free { (port : ℕ) → has_row (key_at (device_of first.now.shown.key) port) (bus_rows self.old) ≡ false }
@@ -89,11 +93,12 @@ impl BusRows {
         ensures bus { AreRowsOfBus first.now.shown.key.bus self.new }
     {
         match first.shown.key.group {
+            Group::Session => self.sessions.add(first, added),
             Group::Gl => self.locomotives.add(first, added),
             Group::Ga => self.accessories.add(first, added),
             Group::LockGl => self.locomotive_locks.add(first, added),
             Group::LockGa => self.accessory_locks.add(first, added),
-            Group::Session | Group::Power | Group::Fb => unreachable!(),
+            Group::Power | Group::Fb => unreachable!(),
         }
     }
 
@@ -105,7 +110,7 @@ impl BusRows {
         ensures bus { AreRowsOfBus row.shown.key.bus self.new }
     {
         match row.shown.key.group {
-            Group::Session => {}
+            Group::Session => self.sessions.set(row),
             Group::Power => self.power = Some(row),
             Group::Gl => self.locomotives.set(row),
             Group::Ga => self.accessories.set(row),
@@ -123,11 +128,12 @@ impl BusRows {
         ensures bus { AreRowsOfBus device.bus self.new }
     {
         match device.group {
+            Group::Session => self.sessions.drop_device(device),
             Group::Gl => self.locomotives.drop_device(device),
             Group::Ga => self.accessories.drop_device(device),
             Group::LockGl => self.locomotive_locks.drop_device(device),
             Group::LockGa => self.accessory_locks.drop_device(device),
-            Group::Session | Group::Power | Group::Fb => {}
+            Group::Power | Group::Fb => {}
         }
     }
 }

@@ -1,10 +1,7 @@
-use Rattle.std.proofs.Common.{◌<◌, ◌++◌, map, sym, ap, subst, ◌∙◌}
-use Rattle.srcp_info.specs.declared.key.Group.TheVariants as group
+use Rattle.std.proofs.Common.{◌<◌, ◌∷◌, map, sym, ap, subst, ◌∙◌}
 use Rattle.srcp_rules.specs.declared.layout.Bus.{Bus}
-use Rattle.srcp_rules.specs.Layout.{IsLayout, row_count}
+use Rattle.srcp_rules.specs.Layout.{IsLayout, row_count, server}
 use Rattle.srcp_rules.specs.State.{is_there}
-use Rattle.srcp_rules.specs.Nested.{device_rows}
-use Rattle.srcp_rules.proofs.DeviceLaws.{no_devices}
 use Rattle.srcp_rules.proofs.NestedLaws.{stays-opening}
 use Rattle.srcp_rules.proofs.nested.NestedRows.empty.Goals as goal
 
@@ -15,10 +12,10 @@ invariant_of-result c =
     let by_number = c.in_ok-by_number.ensures in
     record {
       laid_out = subst IsLayout (sym same) c.buses.ensures.laid_out;
-      server = no_devices 0 group.Session c.new.result.by_address.entries c.new.ensures;
       each = by_number.each;
       sorted = by_number.sorted;
-      numbers = by_number.numbers ∙ ap (map (λ (bus : Bus). bus.number)) (sym same);
+      numbers = by_number.numbers ∙ ap (λ buses. map (λ (bus : Bus). bus.number) (server ∷ buses)) (sym same);
       stays = λ device never count.
-          ap (is_there device) (λ i. device_rows (c.new.ensures i) ++ by_number.rows i) ∙ stays-opening layout c.buses.ensures.laid_out device never (subst (λ buses. 0 < row_count buses device) same count);
+          let here = subst (λ buses. 0 < row_count buses device) same count in
+          ap (is_there device) by_number.rows ∙ stays-opening layout c.buses.ensures.laid_out device never here;
     }

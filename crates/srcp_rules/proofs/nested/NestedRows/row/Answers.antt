@@ -1,30 +1,18 @@
-use Rattle.std.proofs.Common.{sym, ap, ◌∙◌}
+use Rattle.std.proofs.Common.{ap, ◌∙◌}
 use Rattle.srcp_rules.specs.State.{row_at}
 use Rattle.srcp_rules.specs.Rows.{Kept}
-use Rattle.srcp_rules.proofs.NestedLaws.{found_bus, row_at-bus, row_at-no_bus, row_at-sessions}
+use Rattle.srcp_rules.proofs.NestedLaws.{found_bus, row_at-bus, row_at-no_bus}
 use Rattle.srcp_rules.proofs.nested.NestedRows.row.Goals as goal
 
-pub returns-then-key : goal.returns-then-key
-returns-then-key c =
-    let inside = c.self.inside in
-    let key = c.args.key.now in
-    c.row.ensures ∙ sym (row_at-sessions inside.buses.items inside.sessions.by_address.entries inside.by_number.entries c.self.invariant key c.if-key.true) ∙ ap (λ (kept : Kept). row_at key kept.state) c.self.view_is
-
-pub row-requires-in-Some : goal.row-requires-in-Some
-row-requires-in-Some c =
-    let inside = c.self.inside in
-    let key = c.args.key.now in
-    (key.bus, found_bus inside.buses.items inside.sessions.by_address.entries inside.by_number.entries c.self.invariant key.bus c.in-Some.rows.now c.in-Some.ensures.value)
+pub row-requires : goal.row-requires
+row-requires c = (c.args.key.now.bus, found_bus c.self.invariant c.in-Some.ensures.value)
 
 pub returns-in-Some : goal.returns-in-Some
 returns-in-Some c =
-    let inside = c.self.inside in
     let key = c.args.key.now in
-    c.row-in-Some.ensures ∙ row_at-bus inside.buses.items inside.sessions.by_address.entries inside.by_number.entries c.self.invariant key c.if-key.false c.in-Some.rows.now c.in-Some.ensures.value
-    ∙ ap (λ (kept : Kept). row_at key kept.state) c.self.view_is
+    c.row.ensures ∙ row_at-bus c.self.invariant key c.in-Some.ensures.value ∙ ap (λ (kept : Kept). row_at key kept.state) c.self.view_is
 
 pub returns-in-None : goal.returns-in-None
 returns-in-None c =
-    let inside = c.self.inside in
     let key = c.args.key.now in
-    row_at-no_bus inside.buses.items inside.sessions.by_address.entries inside.by_number.entries c.self.invariant key c.if-key.false c.in-None.ensures.value ∙ ap (λ (kept : Kept). row_at key kept.state) c.self.view_is
+    row_at-no_bus c.self.invariant key c.in-None.ensures.value ∙ ap (λ (kept : Kept). row_at key kept.state) c.self.view_is

@@ -1,34 +1,18 @@
-use Rattle.std.proofs.Common.{◌≡◌, not, sym, ap, subst, ◌∙◌}
-use Rattle.std.proofs.lemmas.List.Folds.{find-append}
+use Rattle.std.proofs.Common.{◌≡◌, sym, ap, subst, ◌∙◌}
 use Rattle.std.specs.List.{AllByRecursion}
-use Rattle.std.specs.Option.{option_or}
 use Rattle.std.specs.Ordering.{nat_cmp}
 use Rattle.std.specs.BTreeMap.Range.{entries_between}
 use Rattle.std.specs.declared.ops.Bound.TheVariants.{Included, Unbounded}
-use Rattle.srcp_info.specs.Key.{has_reached}
 use Rattle.srcp_rules.specs.State.{row_after}
 use Rattle.srcp_rules.specs.Rows.{Kept}
-use Rattle.srcp_rules.specs.Nested.{AreRowsOfBus, bus_rows, device_rows, listed}
+use Rattle.srcp_rules.specs.Nested.{AreRowsOfBus, bus_rows, listed}
 use Rattle.srcp_rules.proofs.ListedLaws.{each-between, first_has, first_has_none}
 use Rattle.srcp_rules.proofs.NestedLaws.{row_after-buses}
 use Rattle.srcp_rules.proofs.nested.NestedRows.row_after.Goals as goal
 
-pub returns-in-Some : goal.returns-in-Some
-returns-in-Some c =
-    let inside = c.self.inside in
-    let buses = inside.buses.items in
-    let sessions = inside.sessions.by_address.entries in
-    let es = inside.by_number.entries in
-    let cursor = c.args.cursor in
-    ap (λ o. option_or o (row_after cursor (listed bus_rows es))) c.in-Some.ensures
-    ∙ sym (find-append (λ row. not (has_reached cursor row.shown.key)) (device_rows sessions) (listed bus_rows es))
-    ∙ ap (λ (kept : Kept). row_after cursor kept.state) c.self.view_is
-
 pub loop-number-init : goal.loop-number-init
 loop-number-init c =
     let inside = c.self.inside in
-    let buses = inside.buses.items in
-    let sessions = inside.sessions.by_address.entries in
     let es = inside.by_number.entries in
     let cursor = c.args.cursor in
     let from = c.first_bus.result in
@@ -41,25 +25,25 @@ loop-number-init c =
       finite = tt;
       each = subst (AllByRecursion (λ e. AreRowsOfBus e.0 e.1)) (sym is) (each-between (λ e. AreRowsOfBus e.0 e.1) from es c.self.invariant.each);
       rest = sym (ap (λ (kept : Kept). row_after cursor kept.state) c.self.view_is)
-          ∙ find-append (λ row. not (has_reached cursor row.shown.key)) (device_rows sessions) (listed bus_rows es)
-          ∙ ap (λ o. option_or o (row_after cursor (listed bus_rows es))) (sym c.in_default.ensures)
-          ∙ row_after-buses buses sessions es c.self.invariant cursor from c.first_bus.ensures
+          ∙ row_after-buses c.self.invariant cursor from c.first_bus.ensures
           ∙ ap (λ fs. row_after cursor (listed bus_rows fs)) (sym is);
     }
 
-pub row_after-requires-in-loop-number : goal.row_after-requires-in-loop-number
-row_after-requires-in-loop-number c = (subst (AllByRecursion (λ e. AreRowsOfBus e.0 e.1)) c.in-Some-2.ensures.steps c.loop-number.invariant.each).0
+pub row_after-requires : goal.row_after-requires
+row_after-requires c = (subst (AllByRecursion (λ e. AreRowsOfBus e.0 e.1)) c.in-Some.ensures.steps c.loop-number.invariant.each).0
 
 pub returns-in-Some-row_after : goal.returns-in-Some-row_after
 returns-in-Some-row_after c =
-    first_has bus_rows c.args.cursor c.loop-number.number-iterator c.next.new.self (c.in-Some-2.number.now, c.in-Some-2.rows.now) c.in-Some-2.ensures.steps c.in-Some-row_after.row.now c.in-Some-row_after.ensures
+    first_has bus_rows c.args.cursor c.loop-number.number-iterator c.next.new.self (c.in-Some.number.now, c.in-Some.rows.now)
+    c.in-Some.ensures.steps c.in-Some-row_after.row.now c.in-Some-row_after.ensures
     ∙ sym c.loop-number.invariant.rest
 
 pub loop-number-preserved : goal.loop-number-preserved
 loop-number-preserved c = record {
   can = tt;
   finite = tt;
-  each = (subst (AllByRecursion (λ e. AreRowsOfBus e.0 e.1)) c.in-Some-2.ensures.steps c.loop-number.invariant.each).1;
+  each = (subst (AllByRecursion (λ e. AreRowsOfBus e.0 e.1)) c.in-Some.ensures.steps c.loop-number.invariant.each).1;
   rest = c.loop-number.invariant.rest
-      ∙ first_has_none bus_rows c.args.cursor c.loop-number.number-iterator c.next.new.self (c.in-Some-2.number.now, c.in-Some-2.rows.now) c.in-Some-2.ensures.steps c.in_default-row_after.ensures;
+      ∙ first_has_none bus_rows c.args.cursor c.loop-number.number-iterator c.next.new.self (c.in-Some.number.now, c.in-Some.rows.now)
+      c.in-Some.ensures.steps c.in_default.ensures;
 }

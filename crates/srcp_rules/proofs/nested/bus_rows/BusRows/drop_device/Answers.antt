@@ -1,47 +1,38 @@
 use Rattle.std.proofs.Common.{refl, sym, ap, ◌∙◌, true≢false, inl, inr}
-use Rattle.srcp_info.specs.declared.key.Group.TheVariants as group
 use Rattle.srcp_info.specs.WellFormed.{can_go}
 use Rattle.srcp_rules.specs.declared.nested.bus_rows.BusRows.{BusRows}
-use Rattle.srcp_rules.proofs.BusRowsLaws.{without-group, without-session}
+use Rattle.srcp_rules.proofs.BusRowsLaws.{without-group}
 use Rattle.srcp_rules.proofs.nested.bus_rows.BusRows.drop_device.Goals as goal
+
+pub returns-in-Session-clause-rows : goal.returns-in-Session-clause-rows
+returns-in-Session-clause-rows c =
+    let after : BusRows = record c.args.self.now { sessions = c.drop_device.new.self } in
+    without-group c.requires.bus c.args.device after c.in-Session.is (refl, refl) c.drop_device.ensures.rows
 
 pub returns-in-Gl-clause-rows : goal.returns-in-Gl-clause-rows
 returns-in-Gl-clause-rows c =
-    let device = c.args.device in
-    let rows = c.args.self.now in
-    let after : BusRows = record rows { locomotives = c.drop_device.new.self } in
-    without-group device.bus rows c.requires.bus device group.Gl after c.in-Gl.is (refl, refl) c.drop_device.ensures.rows
+    let after : BusRows = record c.args.self.now { locomotives = c.drop_device-in-Gl.new.self } in
+    without-group c.requires.bus c.args.device after c.in-Gl.is (refl, refl) c.drop_device-in-Gl.ensures.rows
 
 pub returns-in-Ga-clause-rows : goal.returns-in-Ga-clause-rows
 returns-in-Ga-clause-rows c =
-    let device = c.args.device in
-    let rows = c.args.self.now in
-    let after : BusRows = record rows { accessories = c.drop_device-in-Ga.new.self } in
-    without-group device.bus rows c.requires.bus device group.Ga after c.in-Ga.is (refl, refl) c.drop_device-in-Ga.ensures.rows
+    let after : BusRows = record c.args.self.now { accessories = c.drop_device-in-Ga.new.self } in
+    without-group c.requires.bus c.args.device after c.in-Ga.is (refl, refl) c.drop_device-in-Ga.ensures.rows
 
 pub returns-in-LockGl-clause-rows : goal.returns-in-LockGl-clause-rows
 returns-in-LockGl-clause-rows c =
-    let device = c.args.device in
-    let rows = c.args.self.now in
-    let after : BusRows = record rows { locomotive_locks = c.drop_device-in-LockGl.new.self } in
-    without-group device.bus rows c.requires.bus device group.LockGl after c.in-LockGl.is (refl, refl) c.drop_device-in-LockGl.ensures.rows
+    let after : BusRows = record c.args.self.now { locomotive_locks = c.drop_device-in-LockGl.new.self } in
+    without-group c.requires.bus c.args.device after c.in-LockGl.is (refl, refl) c.drop_device-in-LockGl.ensures.rows
 
 pub returns-in-LockGa-clause-rows : goal.returns-in-LockGa-clause-rows
 returns-in-LockGa-clause-rows c =
-    let device = c.args.device in
-    let rows = c.args.self.now in
-    let after : BusRows = record rows { accessory_locks = c.drop_device-in-LockGa.new.self } in
-    without-group device.bus rows c.requires.bus device group.LockGa after c.in-LockGa.is (refl, refl) c.drop_device-in-LockGa.ensures.rows
+    let after : BusRows = record c.args.self.now { accessory_locks = c.drop_device-in-LockGa.new.self } in
+    without-group c.requires.bus c.args.device after c.in-LockGa.is (refl, refl) c.drop_device-in-LockGa.ensures.rows
 
--- a bus has no sessions, and the power and the feedback ports never go
-pub returns-in-Session-clause-rows : goal.returns-in-Session-clause-rows
-returns-in-Session-clause-rows c =
-    let device = c.args.device in
-    elim c.in-Session.is [
-      | inl session ↦ without-session device.bus c.args.self.now c.requires.bus device session
-      | inr stays ↦ absurd
-          (elim stays [
-            | inl power ↦ true≢false (sym c.requires.goes ∙ ap can_go power)
-            | inr fb ↦ true≢false (sym c.requires.goes ∙ ap can_go fb)
-          ])
-    ]
+-- the power and the feedback ports never go
+pub returns-in-Power-clause-rows : goal.returns-in-Power-clause-rows
+returns-in-Power-clause-rows c = absurd
+    (elim c.in-Power.is [
+      | inl power ↦ true≢false (sym c.requires.goes ∙ ap can_go power)
+      | inr fb ↦ true≢false (sym c.requires.goes ∙ ap can_go fb)
+    ])
