@@ -18,7 +18,15 @@ use crate::limits::{LAST_ID, MOST_UNSENT};
 use crate::line::{Asked, LineRecord};
 use crate::record::Step;
 use srcp_info::{Code, LONGEST_LINE, LONGEST_SHORT_REPLY, Mode, Reply};
-use srcp_rules::{Command, Memory, Obeyed, Rows, begin_session, obey};
+use srcp_rules::{Command, Memory, Rows, begin_session, obey};
+
+/// What is left to do of a command whose changes were told.
+#[derive(Drop)]
+struct Outcome {
+    reply: Reply,
+    /// Whether the command ends its session.
+    ends: bool,
+}
 
 impl<'a, R: Rows> Core<'a, R> {
     /// Answers what a line asks for.
@@ -166,9 +174,9 @@ impl<'a, R: Rows> Core<'a, R> {
         }
     }
 
-    /// Carries out a command, and tells every connection its changes. `None` where a growth was refused, and then
+    /// Carries out a command, and tells every connection its changes. Returns `None` if a growth was refused, and then
     /// nothing changes.
-    fn carry_out(&mut self, session: u32, command: &Command) -> Option<Obeyed>
+    fn carry_out(&mut self, session: u32, command: &Command) -> Option<Outcome>
         requires row { is_there (session_device session) self.old.rows ≡ true }
         requires command { IsCommandOf self.old.buses command.now }
         ensures refused { IfNone result (self.new ≡ self.old) }
@@ -183,7 +191,10 @@ impl<'a, R: Rows> Core<'a, R> {
             return None;
         }
         tell_each(&mut self.connections, obeyed.changes.as_slice());
-        Some(obeyed)
+        Some(Outcome {
+            reply: obeyed.reply,
+            ends: obeyed.ends,
+        })
     }
 
     /// Ends a session by its own command: its locks are taken out, and its own row.
