@@ -9,7 +9,7 @@ from pathlib import Path
 from serving import SECONDS, WELCOME, Client, rows_of, served
 
 REPLIES = 200_000
-ROWS = 2_000
+ROWS = 6_000
 SESSIONS = 32
 PANELS = 8
 LEAVERS = 100
@@ -95,28 +95,46 @@ def peers_that_reset_leave_their_places(program):
             peer.socket.sendall(b"GET 1 POWER\n" * 2000 * (count % 2))
             peer.socket.setsockopt(socket.SOL_SOCKET, socket.SO_LINGER, RESET)
             peer.close()
-        time.sleep(1)
-        for place in range(64):
+        end, kept = time.monotonic() + SECONDS, []
+        while len(kept) < 64:
             peer = socket.create_connection(("127.0.0.1", port), timeout=SECONDS)
-            if peer.recv(100) != WELCOME:
-                return f"place {place} is not free"
-            kept = [peer] if place == 0 else [*kept, peer]
+            if peer.recv(100) == WELCOME:
+                kept.append(peer)
+            elif time.monotonic() > end:
+                return f"{64 - len(kept)} places are not free after {SECONDS} s"
+            else:
+                time.sleep(0.1)
     return None
 
 
+def small_socket(port):
+    """A connection that takes little at once, so that the server's writes to it are cut short."""
+    small = socket.socket()
+    small.settimeout(SECONDS)
+    small.setsockopt(socket.SOL_SOCKET, socket.SO_RCVBUF, 4096)
+    small.setsockopt(socket.IPPROTO_TCP, socket.TCP_MAXSEG, 536)
+    small.connect(("127.0.0.1", port))
+    return small
+
+
 def half_closed_panel_is_served(program):
-    """A panel that sends no more is listed every row, and then the stream ends."""
+    """A panel that sends no more, and reads slowly, is listed every row, and then the stream ends."""
     with served(program) as (port, _):
         throttle = Client(port, "COMMAND")
         throttle.asks_many([f"INIT 1 GL {address} N 1 28 5" for address in range(1, ROWS + 1)])
-        with socket.create_connection(("127.0.0.1", port), timeout=SECONDS) as panel:
+        with small_socket(port) as panel:
             panel.sendall(b"SET CONNECTIONMODE SRCP INFO\nGO\n")
             panel.shutdown(socket.SHUT_WR)
-            told = b"".join(iter(lambda: panel.recv(1 << 20), b""))
+            pieces = [b"-"]
+            while pieces[-1]:
+                # Meanwhile what may be sent to it fills up.
+                time.sleep(0.1 if len(pieces) % 20 == 1 else 0)
+                pieces.append(panel.recv(2048))
         listed = Client(port, "INFO").hears_until(b" 1 FB 8 0\n")
     # Before its rows come the welcome line and two replies.
-    got, want = len(rows_of(told)) - 3, len(rows_of(listed))
-    return None if got == want else f"{got} of {want} lines"
+    got, want = rows_of(b"".join(pieces[1:]))[3:], rows_of(listed)
+    wrong = next((pair for pair in zip(got, want) if pair[0] != pair[1]), None)
+    return None if got == want else f"{len(got)} of {len(want)} lines; the first that differs {wrong}"
 
 
 def reads_to_the_end(panel, ended):
