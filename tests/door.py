@@ -1,4 +1,5 @@
 """What the door over sockets does with connections, bytes and time, seen from outside."""
+import os
 import re
 import socket
 import threading
@@ -8,9 +9,10 @@ from pathlib import Path
 from serving import SECONDS, WELCOME, Client, rows_of, served
 
 REPLIES = 200_000
-ROWS = 2_000
+ROWS = 6_000
 SESSIONS = 32
 PANELS = 8
+LEAVERS = 100
 RESET = b"\1\0\0\0\0\0\0\0"
 
 
@@ -86,33 +88,53 @@ def slow_reader_gets_every_byte(program):
 
 
 def peers_that_reset_leave_their_places(program):
+    """Also where the server finds that out by a write, since each second peer has sent commands."""
     with served(program) as (port, _):
-        for _ in range(80):
+        for count in range(160):
             peer = Client(port, "COMMAND")
+            peer.socket.sendall(b"GET 1 POWER\n" * 2000 * (count % 2))
             peer.socket.setsockopt(socket.SOL_SOCKET, socket.SO_LINGER, RESET)
             peer.close()
-        time.sleep(1)
-        for place in range(64):
+        end, kept = time.monotonic() + SECONDS, []
+        while len(kept) < 64:
             peer = socket.create_connection(("127.0.0.1", port), timeout=SECONDS)
-            if peer.recv(100) != WELCOME:
-                return f"place {place} is not free"
-            kept = [peer] if place == 0 else [*kept, peer]
+            if peer.recv(100) == WELCOME:
+                kept.append(peer)
+            elif time.monotonic() > end:
+                return f"{64 - len(kept)} places are not free after {SECONDS} s"
+            else:
+                time.sleep(0.1)
     return None
 
 
+def small_socket(port):
+    """A connection that takes little at once, so that the server's writes to it are cut short."""
+    small = socket.socket()
+    small.settimeout(SECONDS)
+    small.setsockopt(socket.SOL_SOCKET, socket.SO_RCVBUF, 4096)
+    small.setsockopt(socket.IPPROTO_TCP, socket.TCP_MAXSEG, 536)
+    small.connect(("127.0.0.1", port))
+    return small
+
+
 def half_closed_panel_is_served(program):
-    """A panel that sends no more is listed every row, and then the stream ends."""
+    """A panel that sends no more, and reads slowly, is listed every row, and then the stream ends."""
     with served(program) as (port, _):
         throttle = Client(port, "COMMAND")
         throttle.asks_many([f"INIT 1 GL {address} N 1 28 5" for address in range(1, ROWS + 1)])
-        with socket.create_connection(("127.0.0.1", port), timeout=SECONDS) as panel:
+        with small_socket(port) as panel:
             panel.sendall(b"SET CONNECTIONMODE SRCP INFO\nGO\n")
             panel.shutdown(socket.SHUT_WR)
-            told = b"".join(iter(lambda: panel.recv(1 << 20), b""))
+            pieces = [b"-"]
+            while pieces[-1]:
+                # Meanwhile what may be sent to it fills up.
+                time.sleep(0.1 if len(pieces) % 20 == 1 else 0)
+                pieces.append(panel.recv(2048))
         listed = Client(port, "INFO").hears_until(b" 1 FB 8 0\n")
     # Before its rows come the welcome line and two replies.
-    got, want = len(rows_of(told)) - 3, len(rows_of(listed))
-    return None if got == want else f"{got} of {want} lines"
+    got, want = rows_of(b"".join(pieces[1:]))[3:], rows_of(listed)
+    wrong = next((pair for pair in zip(got, want) if pair[0] != pair[1]), None)
+    return None if got == want else f"{len(got)} of {len(want)} lines; the first that differs {wrong}"
 
 
 def reads_to_the_end(panel, ended):
@@ -154,6 +176,61 @@ def panels_that_read_are_kept(program):
     return f"{len(closed)} of {PANELS} panels were closed" if closed else None
 
 
+def changes_without_end(throttle):
+    """Sends changes as fast as they are taken, until the connection is shut."""
+    changes = b"".join(b"SET 1 FB 1 %d\n" % (turn % 2) for turn in range(1000))
+    try:
+        while True:
+            throttle.socket.sendall(changes)
+    except OSError:
+        pass
+
+
+def panels_that_leave_in_midst_of_changes(program):
+    """They half-close and then close. Each place is free again, though no turn has nothing to write to its panel."""
+    with served(program) as (port, _):
+        throttle = Client(port, "COMMAND")
+        threads = [threading.Thread(target=changes_without_end, args=(throttle,)),
+                   threading.Thread(target=reads_to_the_end, args=(throttle, []))]
+        for thread in threads:
+            thread.start()
+        came = 0
+        try:
+            for came in range(1, LEAVERS + 1):
+                with socket.create_connection(("127.0.0.1", port), timeout=SECONDS) as panel:
+                    panel.sendall(b"SET CONNECTIONMODE SRCP INFO\nGO\n")
+                    if panel.recv(len(WELCOME), socket.MSG_WAITALL) != WELCOME:
+                        return f"the panel {came} finds no place"
+                    panel.shutdown(socket.SHUT_WR)
+                    time.sleep(0.02)
+        finally:
+            throttle.socket.shutdown(socket.SHUT_RDWR)
+            for thread in threads:
+                thread.join()
+    return None
+
+
+def peers_that_were_let_go_and_stay(program):
+    """Sessions that end themselves, and whose clients close nothing: the server keeps 64 of them at most, and none for
+    longer than 10 seconds."""
+    with served(program) as (port, server):
+        def descriptors():
+            return len(os.listdir(f"/proc/{server.pid}/fd"))
+
+        stayer = Client(port, "COMMAND")
+        before, leavers, most = descriptors(), [], 0
+        for _ in range(LEAVERS):
+            leavers.append(Client(port, "COMMAND"))
+            leavers[-1].asks("TERM 0 SESSION")
+            most = max(most, descriptors() - before)
+        if not LEAVERS / 4 < most < 70:
+            return f"{most} descriptors are kept for {LEAVERS} peers"
+        time.sleep(10.5)
+        left, reply = descriptors() - before, stayer.asks("GET 1 POWER")
+    got, want = (max(left, 0), reply), (0, "100 INFO 1 POWER OFF")
+    return None if got == want else f"after 10 seconds: descriptors that are kept, and a reply: {got}"
+
+
 DOOR_CASES = (listens_on_the_loopback_alone, stamps_are_the_time, pulse_ends_in_time, end_of_a_session_is_answered,
               slow_reader_gets_every_byte, peers_that_reset_leave_their_places, half_closed_panel_is_served,
-              panels_that_read_are_kept)
+              panels_that_read_are_kept, panels_that_leave_in_midst_of_changes, peers_that_were_let_go_and_stay)

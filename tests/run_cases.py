@@ -16,18 +16,21 @@ import subprocess
 import sys
 import tempfile
 import time
+import traceback
 from functools import partial
 from pathlib import Path
 
 from clients import CLIENT_CASES
 from door import DOOR_CASES
+from faults import FAULT_CASES
 from inputs import INPUT_CASES
 from pages import PAGE_CASES
 from run_script import RUN_SCRIPT_CASES
 from serving import SERVING_CASES
 from tables import TABLE_CASES
 
-CASES = Path(__file__).resolve().parent / "cases"
+TESTS = Path(__file__).resolve().parent
+CASES = TESTS / "cases"
 INPUT_LIMIT = 16_777_216
 CONFIG_LIMIT = 1_048_576
 SECONDS = 300
@@ -222,14 +225,23 @@ STREAM_CASES = (input_past_its_limit, input_at_its_limit, input_that_cannot_be_r
                 words_that_are_unknown, word_that_is_no_text, configuration_at_its_limit, configuration_past_its_limit,
                 script_past_its_limit, script_at_its_limit, script_that_cannot_be_read, run_that_cannot_be_written,
                 run_in_little_memory, full_bus_that_stalls_nobody)
-ALL_CASES = (STREAM_CASES + TABLE_CASES + INPUT_CASES + SERVING_CASES + DOOR_CASES + CLIENT_CASES + PAGE_CASES
-             + RUN_SCRIPT_CASES)
+ALL_CASES = (STREAM_CASES + TABLE_CASES + INPUT_CASES + SERVING_CASES + DOOR_CASES + FAULT_CASES + CLIENT_CASES
+             + PAGE_CASES + RUN_SCRIPT_CASES)
 
 
 def cases_by_name():
     """Each case by its name, as a function of the program that returns why the case fails, or None."""
     cases = {folder.name: partial(run_case, folder) for folder in sorted(CASES.iterdir()) if folder.is_dir()}
     return cases | {case.__name__.replace("_", "-"): case for case in ALL_CASES}
+
+
+def fault_of(case, program):
+    """Why a case fails, or None. One that stops, as where nothing comes for too long, fails at the line where it stood."""
+    try:
+        return case(program)
+    except Exception as stop:
+        stood = [frame for frame in traceback.extract_tb(stop.__traceback__) if frame.filename.startswith(str(TESTS))][-1]
+        return f"{stop!r} at {Path(stood.filename).name}:{stood.lineno}: {stood.line}"
 
 
 def main():
@@ -240,7 +252,7 @@ def main():
     if unknown := [name for name in names if name not in cases]:
         sys.exit(f"no such case: {' '.join(unknown)}")
     program = str(Path(program).resolve())
-    results = [(name, cases[name](program)) for name in names or cases]
+    results = [(name, fault_of(cases[name], program)) for name in names or cases]
     failed = [(name, fault) for name, fault in results if fault]
     for name, fault in failed:
         print(f"FAIL {name}: {fault}")

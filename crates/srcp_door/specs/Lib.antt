@@ -1,4 +1,5 @@
 pub mod Ahead
 pub mod Ends
+pub mod Handing
 pub mod Moments
 pub mod Pacing

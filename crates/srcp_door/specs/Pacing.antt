@@ -1,8 +1,10 @@
 -- How much lines weigh, and what is seen of the pacing.
-use Rattle.std.specs.Prelude.{ℕ, Bool, List, ◌+◌, ◌==◌, ◌||◌, cond, fold, count_by}
+use Rattle.std.specs.Prelude.{ℕ, Bool, List, ◌+◌, ◌-◌, ◌^◌, ◌==◌, ◌||◌, ◌&&◌, not, cond, min, fold, count_by}
 use Rattle.srcp_door.specs.declared.pacing.Line.{Line}
 use Rattle.srcp_door.specs.declared.pacing.Line.TheVariants.{Ended, Light, Heavy}
 use Rattle.srcp_door.specs.declared.pacing.Seen.{Seen}
+use Rattle.srcp_door.specs.declared.pacing.Share.{Share}
+use Rattle.srcp_door.specs.declared.replies.Replies.{Replies}
 
 -- how much may still be let through in this turn, whether a peer was refused its first line, and whether the end of a
 -- peer may still be told
@@ -41,6 +43,26 @@ seen_of line bytes = fold seen_after (record { line = line; weight = 0 }) bytes
 abbrev pub weight_of : Line → List ℕ → ℕ
 weight_of line bytes = (seen_of line bytes).weight
 
+-- a peer's share after bytes were handed out to it: it has its mark where a line ends in them
+abbrev pub share_after : Share → List ℕ → Share
+share_after share handed = record {
+  line = (seen_of share.line handed).line;
+  mark = share.mark || not (weight_of share.line handed == 0);
+}
+
+-- the pacing after bytes were handed out to a peer, where `more` says that some were kept back: the peer was refused its
+-- first line where it has no mark then
+abbrev pub budget_after : Budget → Share → List ℕ → Bool → Budget
+budget_after budget share handed more = record {
+  left = budget.left - weight_of share.line handed;
+  refused = budget.refused || (more && not (share_after share handed).mark);
+  end = budget.end;
+}
+
 -- how many lines end in bytes
 abbrev pub lines : List ℕ → ℕ
 lines bytes = count_by (λ byte. byte == 10) bytes
+
+-- what a peer is owed after it sent bytes
+abbrev pub owed_after : Replies → List ℕ → Replies
+owed_after replies sent = record { owed = min (replies.owed + lines sent) (2 ^ 64 - 1); panel = replies.panel }

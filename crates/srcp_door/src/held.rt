@@ -2,6 +2,7 @@
 
 ghost use Rattle.std.specs.Prelude.{◌≡◌, ◌≢◌, ◌↔◌, ◌<◌, ◌≤◌, ◌-◌, ◌++◌, ◌==◌, [], ℕ, IfOk, length, take, drop, min};
 ghost use Rattle.std.specs.Io.KnownBytes.{Appends, Keeps, append_known};
+ghost use Rattle.srcp_door.specs.Handing.{refusal_told};
 
 use std::alloc::{AllocError, Global};
 use std::io::{ErrorKind, Write};
@@ -42,6 +43,19 @@ pub enum HandedOver {
     Again,
     /// The writer takes no more.
     Lost,
+}
+
+impl HandedOver {
+    /// Returns what a write that failed makes of the bytes.
+    fn refused(fault: ErrorKind) -> HandedOver
+        ensures { result ≡ refusal_told fault }
+    {
+        match fault {
+            ErrorKind::WouldBlock => HandedOver::Later,
+            ErrorKind::Interrupted => HandedOver::Again,
+            _ => HandedOver::Lost,
+        }
+    }
 }
 
 impl<const MOST: usize> Held<MOST> {
@@ -121,9 +135,7 @@ impl<const MOST: usize> Held<MOST> {
         match writer.write(&self.bytes) {
             Ok(0) => HandedOver::Lost,
             Ok(count) => self.after(count),
-            Err(fault) if fault.kind() == ErrorKind::WouldBlock => HandedOver::Later,
-            Err(fault) if fault.kind() == ErrorKind::Interrupted => HandedOver::Again,
-            Err(_) => HandedOver::Lost,
+            Err(fault) => HandedOver::refused(fault.kind()),
         }
     }
 

@@ -1,12 +1,13 @@
 //! What a door keeps of a peer, without its socket.
 
-ghost use Rattle.std.specs.Prelude.{◌≡◌, ◌≢◌, ◌↔◌, ◌<◌, ◌≤◌, ◌+◌, ◌-◌, ◌++◌, ◌==◌, ◌⊎◌, [], true, false, not, cond, Bool, ℕ, IfOk, IfSome, IfNone, IsTrue, length, take, drop, min};
+ghost use Rattle.std.specs.Prelude.{◌≡◌, ◌≢◌, ◌↔◌, ◌<◌, ◌≤◌, ◌+◌, ◌-◌, ◌++◌, ◌==◌, ◌⊎◌, ◌||◌, [], true, false, not, cond, Bool, ℕ, IfOk, IfSome, IfNone, IsTrue, length, take, drop, min};
 ghost use Rattle.std.specs.Io.KnownBytes.{Keeps, append_known, prepend_known};
 ghost use Rattle.srcp_door.specs.Ahead.{Ahead, given};
-ghost use Rattle.srcp_door.specs.Pacing.{Budget, lines, seen_of, weight_of};
-ghost use Rattle.srcp_door.specs.Ends.{begun, written};
+ghost use Rattle.srcp_door.specs.Pacing.{Budget, budget_after, lines, owed_after, share_after, weight_of};
+ghost use Rattle.srcp_door.specs.Ends.{begun, due_end, is_told, written};
 ghost use Rattle.srcp_door.specs.declared.ending.Ending.{Ending};
 ghost use Rattle.srcp_door.specs.declared.read_ahead.Input.{Input};
+ghost use Rattle.srcp_door.specs.declared.pacing.Line.{Line};
 
 use crate::ending::Ending;
 use crate::held::{Gathered, HandedOver, Held, MOST_GATHERED};
@@ -40,8 +41,7 @@ impl Link {
     /// # Errors
     /// Where memory is refused.
     pub fn new(alloc: Global) -> Result<Link, AllocError>
-        ensures { IfOk result (λ link. (link.gathered ≡ []) × (link.ahead.bytes ≡ []) × (link.ending ≡ Ending.Open)
-            × (link.share.mark ≡ true) × (link.lost ≡ false)) }
+        ensures { IfOk result (λ link. link ≡ record { gathered = []; ahead = record { bytes = []; input = Input.Open }; ending = Ending.Open; share = record { line = Line.Ended; mark = true }; replies = record { owed = 1; panel = false }; lost = false }) }
     {
         Ok(Link {
             gathered: Held::new(alloc)?,
@@ -101,29 +101,28 @@ impl Link {
     /// Moves what was read into the buffer, as far as the turn's lines go. Where nothing is held, tells its end where that is
     /// due and the turn told no other.
     pub fn read(&mut self, pacing: &mut Pacing, buffer: &mut [u8]) -> Given
-        ensures bytes { self.old.ahead.bytes ≡ given result buffer.new ++ self.new.ahead.bytes }
-        ensures spent { weight_of self.old.share.line (given result buffer.new) + pacing.new.left ≡ pacing.old.left }
-        ensures line { self.new.share.line ≡ (seen_of self.old.share.line (given result buffer.new)).line }
-        ensures most { length (given result buffer.new) ≤ MOST_PIECE }
-        ensures count { (n : ℕ) → result ≡ Given.Bytes n → (0 < n) × (n ≤ length buffer.old) }
+        ensures bytes { self.old.ahead ≡ record { bytes = given result buffer.new ++ self.new.ahead.bytes; input = self.new.ahead.input } }
+        ensures count { (n : ℕ) → result ≡ Given.Bytes n → (0 < n) × (n ≤ min (length buffer.old) MOST_PIECE) }
+        ensures few { weight_of self.old.share.line (given result buffer.new) ≤ cond self.old.share.mark 0 pacing.old.left }
         ensures all { length (given result buffer.new) < min (min (length buffer.old) MOST_PIECE) (length self.old.ahead.bytes)
             → (self.old.share.mark ≡ true) ⊎ (pacing.new.left < HEAVY) }
-        ensures ended { result ≡ Given.Ended → (self.old.ahead.bytes ≡ []) × (self.old.ending ≡ Ending.Told) × (pacing.old.end ≡ true) × (pacing.new.end ≡ false) }
-        ensures told { self.old.ahead.bytes ≡ [] → pacing.old.end ≡ true → (self.old.lost ≡ true) ⊎ (self.old.ending ≡ Ending.Told) → result ≢ Given.Nothing }
-        ensures failed { result ≡ Given.Failed → (self.old.ahead.bytes ≡ []) × ((self.old.lost ≡ true) ⊎ (self.old.ahead.input ≡ Input.Failed)) × (pacing.old.end ≡ true) × (pacing.new.end ≡ false) }
-        ensures others { self.new ≡ record { gathered = self.old.gathered; ahead = self.new.ahead; ending = self.old.ending; share = self.new.share; replies = self.new.replies; lost = self.old.lost } }
+        ensures told { self.old.ahead.bytes ≡ [] → (self.new ≡ self.old)
+            × (result ≡ cond pacing.old.end (due_end self.old.lost self.old.ahead.input self.old.ending) Given.Nothing)
+            × (pacing.new ≡ record { left = pacing.old.left; refused = pacing.old.refused; end = cond (is_told result) false pacing.old.end }) }
+        ensures handed { self.old.ahead.bytes ≢ [] → (is_told result ≡ not (length (given result buffer.new) == 0))
+            × (self.new ≡ record { gathered = self.old.gathered; ahead = self.new.ahead; ending = self.old.ending; share = share_after self.old.share (given result buffer.new); replies = owed_after self.old.replies (given result buffer.new); lost = self.old.lost })
+            × (pacing.new ≡ budget_after pacing.old self.old.share (given result buffer.new)
+            (not (length (given result buffer.new) == min (min (length buffer.old) MOST_PIECE) (length self.old.ahead.bytes)))) }
         ensures len { length buffer.new ≡ length buffer.old }
     {
         if self.ahead.is_empty() {
             return self.told_end(pacing);
         }
         let within = buffer.len().min(MOST_PIECE);
-        let most = pacing.allow(&mut self.share, self.ahead.piece(within));
-        let given = self.ahead.hand_out(most, buffer);
-        if let Given::Bytes(count) = given {
-            self.replies.sent(&buffer[..count]);
-        }
-        given
+        let piece = self.ahead.piece(within);
+        let most = pacing.allow(&mut self.share, piece);
+        self.replies.sent(&piece[..most]);
+        self.ahead.hand_out(most, buffer)
     }
 
     /// Returns whether a read has something to hand out or to tell now or in the next turn.
@@ -146,11 +145,8 @@ impl Link {
 
     /// Returns what is told where nothing is held of it.
     fn told_end(&self, pacing: &mut Pacing) -> Given
-        ensures bytes { (n : ℕ) → result ≢ Given.Bytes n }
-        ensures left { pacing.new.left ≡ pacing.old.left }
-        ensures ended { result ≡ Given.Ended → (self.now.ending ≡ Ending.Told) × (pacing.old.end ≡ true) × (pacing.new.end ≡ false) }
-        ensures failed { result ≡ Given.Failed → ((self.now.lost ≡ true) ⊎ (self.now.ahead.input ≡ Input.Failed)) × (pacing.old.end ≡ true) × (pacing.new.end ≡ false) }
-        ensures told { pacing.old.end ≡ true → (self.now.lost ≡ true) ⊎ (self.now.ending ≡ Ending.Told) → result ≢ Given.Nothing }
+        ensures result { result ≡ cond pacing.old.end (due_end self.now.lost self.now.ahead.input self.now.ending) Given.Nothing }
+        ensures pacing { pacing.new ≡ record { left = pacing.old.left; refused = pacing.old.refused; end = cond (is_told result) false pacing.old.end } }
     {
         let due = self.due_end();
         if due == Given::Nothing || !pacing.allow_end() {
@@ -161,10 +157,7 @@ impl Link {
 
     /// Returns what is due to be told where nothing is held of it.
     fn due_end(&self) -> Given
-        ensures bytes { (n : ℕ) → result ≢ Given.Bytes n }
-        ensures ended { result ≡ Given.Ended → self.now.ending ≡ Ending.Told }
-        ensures failed { result ≡ Given.Failed ↔ ((self.now.lost ≡ true) ⊎ (self.now.ahead.input ≡ Input.Failed)) }
-        ensures nothing { result ≡ Given.Nothing → (self.now.ending ≢ Ending.Told) × (self.now.lost ≡ false) }
+        ensures { result ≡ due_end self.now.lost self.now.ahead.input self.now.ending }
     {
         if self.lost || self.ahead.input() == Input::Failed {
             Given::Failed
@@ -179,7 +172,9 @@ impl Link {
     pub fn write(&mut self, bytes: &[u8]) -> usize
         ensures count { result ≡ cond self.old.lost (length bytes.now) (min (length bytes.now) (MOST_GATHERED - length self.old.gathered)) }
         ensures gathered { self.new.gathered ≡ cond self.old.lost self.old.gathered (self.old.gathered ++ take result bytes.now) }
-        ensures others { self.new ≡ record { gathered = self.new.gathered; ahead = self.old.ahead; ending = self.new.ending; share = self.old.share; replies = self.new.replies; lost = self.old.lost } }
+        ensures panel { IsTrue self.new.replies.panel ↔ (IsTrue self.old.replies.panel ⊎ ((self.old.lost ≡ false) × (self.old.replies.owed < lines (take result bytes.now)))) }
+        ensures owed { self.new.replies.owed ≡ cond (self.old.lost || self.old.replies.panel) self.old.replies.owed (self.old.replies.owed - lines (take result bytes.now)) }
+        ensures others { self.new ≡ record { gathered = self.new.gathered; ahead = self.old.ahead; ending = written self.old.ending; share = self.old.share; replies = self.new.replies; lost = self.old.lost } }
     {
         self.ending = self.ending.written();
         if self.lost {

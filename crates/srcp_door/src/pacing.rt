@@ -1,7 +1,7 @@
 //! How many lines are let through in a turn.
 
-ghost use Rattle.std.specs.Prelude.{◌≡◌, ◌<◌, ◌≤◌, ◌+◌, ◌↔◌, ◌⊎◌, true, false, cond, IsTrue, length, slice_index, take};
-ghost use Rattle.srcp_door.specs.Pacing.{Budget, line_weight, line_after, seen_after, seen_of, weight_of};
+ghost use Rattle.std.specs.Prelude.{◌≡◌, ◌<◌, ◌≤◌, ◌+◌, ◌↔◌, ◌⊎◌, ◌==◌, true, false, not, cond, IsTrue, length, slice_index, take};
+ghost use Rattle.srcp_door.specs.Pacing.{Budget, line_weight, line_after, seen_after, seen_of, weight_of, share_after, budget_after};
 
 use std::marker::Model;
 
@@ -145,13 +145,10 @@ impl Pacing {
     /// gets a line gets its mark. Bytes that end no line may always be handed out.
     pub fn allow(&mut self, share: &mut Share, piece: &[u8]) -> usize
         ensures within { result ≤ length piece.now }
-        ensures spent { weight_of share.old.line (take result piece.now) + self.new.left ≡ self.old.left }
-        ensures line { share.new.line ≡ (seen_of share.old.line (take result piece.now)).line }
+        ensures few { weight_of share.old.line (take result piece.now) ≤ cond share.old.mark 0 self.old.left }
         ensures most { result < length piece.now → (slice_index piece.now result ≡ 10) × ((share.old.mark ≡ true) ⊎ (self.new.left < HEAVY)) }
-        ensures served { share.old.mark ≡ true → weight_of share.old.line (take result piece.now) ≡ 0 }
-        ensures mark { IsTrue share.new.mark ↔ (IsTrue share.old.mark ⊎ (0 < weight_of share.old.line (take result piece.now))) }
-        ensures refused { IsTrue self.new.refused ↔ (IsTrue self.old.refused ⊎ (share.new.mark ≡ false) × (result < length piece.now)) }
-        ensures end { self.new.end ≡ self.old.end }
+        ensures share { share.new ≡ share_after share.old (take result piece.now) }
+        ensures budget { self.new ≡ budget_after self.old share.old (take result piece.now) (not (result == length piece.now)) }
         ensures fair { IsTrue self.new.refused → self.new.left < HEAVY }
     {
         let most = if share.mark { 0 } else { self.left };

@@ -3,7 +3,7 @@
 ghost use Rattle.std.specs.Prelude.{◌≡◌, ◌≢◌, ◌↔◌, ◌<◌, ◌≤◌, ◌++◌, ◌⊎◌, [], ℕ, List, IfOk, IsTrue, length, take, drop, min};
 ghost use Rattle.std.specs.Io.{StartsWith};
 ghost use Rattle.std.specs.Io.KnownBytes.{Consumes, IsAtEnd, Keeps, prepend_known};
-ghost use Rattle.srcp_door.specs.Ahead.{Ahead, given};
+ghost use Rattle.srcp_door.specs.Ahead.{Ahead, fault_seen, fault_told, given};
 
 use crate::held::Held;
 use std::alloc::{AllocError, Global};
@@ -112,9 +112,19 @@ impl ReadAhead {
                 self.held.take(&piece[..count]);
                 Filled::Something
             }
-            Err(fault) if fault.kind() == ErrorKind::WouldBlock => Filled::Later,
-            Err(fault) if fault.kind() == ErrorKind::Interrupted => Filled::Again,
-            Err(_) => {
+            Err(fault) => self.hear(fault.kind()),
+        }
+    }
+
+    /// Notes that a read failed, and returns what that makes of it.
+    fn hear(&mut self, fault: ErrorKind) -> Filled
+        ensures told { result ≡ fault_told fault }
+        ensures seen { self.new ≡ fault_seen self.old fault }
+    {
+        match fault {
+            ErrorKind::WouldBlock => Filled::Later,
+            ErrorKind::Interrupted => Filled::Again,
+            _ => {
                 self.input = Input::Failed;
                 Filled::Something
             }

@@ -1,7 +1,7 @@
 //! Whether a peer is a panel.
 
-ghost use Rattle.std.specs.Prelude.{◌≡◌, ◌<◌, ◌-◌, ◌+◌, ◌↔◌, ◌⊎◌, ◌^◌, false, IsTrue, min};
-ghost use Rattle.srcp_door.specs.Pacing.{lines};
+ghost use Rattle.std.specs.Prelude.{◌≡◌, ◌<◌, ◌-◌, ◌↔◌, ◌⊎◌, false, IsTrue};
+ghost use Rattle.srcp_door.specs.Pacing.{lines, owed_after};
 
 /// What ends a line.
 const LINE_END: u8 = b'\n';
@@ -29,7 +29,7 @@ impl Replies {
 
     /// Adds the lines that end in bytes that the peer sent.
     pub fn sent(&mut self, bytes: &[u8])
-        ensures { self.new ≡ record { owed = min (self.old.owed + lines bytes.now) (2 ^ 64 - 1); panel = self.old.panel } }
+        ensures { self.new ≡ owed_after self.old bytes.now }
     {
         self.owed = self.owed.saturating_add(lines_of(bytes));
     }

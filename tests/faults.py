@@ -1,0 +1,162 @@
+"""What the server does where the system refuses a call: a signal ends it, waiting fails, or no descriptor is left."""
+import ctypes
+import errno
+import fcntl
+import os
+import resource
+import select
+import socket
+import struct
+import threading
+import time
+from collections import Counter
+from contextlib import contextmanager
+from pathlib import Path
+
+from serving import SECONDS, WELCOME, Client, served
+
+# Calls by their numbers on x86-64.
+RECEIVE, SEND, WAIT = 45, 44, 232
+# Words of prctl and seccomp.
+NO_NEW_PRIVILEGES, SECCOMP, SET_FILTER, NEW_LISTENER = 38, 317, 1, 8
+ASK, ALLOW, NEXT_CALL, ANSWER, CARRY_ON = 0x7FC00000, 0x7FFF0000, 0xC0502100, 0xC0182101, 1
+COMMANDS = 300
+
+
+class Filter(ctypes.Structure):
+    _fields_ = [("count", ctypes.c_ushort), ("steps", ctypes.c_char_p)]
+
+
+def filter_of(calls):
+    """The filter that asks about these calls and allows all others."""
+    load = struct.pack("HBBI", 0x20, 0, 0, 0)
+    compares = [struct.pack("HBBI", 0x15, left, 0, call) for left, call in zip(range(len(calls), 0, -1), calls)]
+    ends = [struct.pack("HBBI", 0x06, 0, 0, word) for word in (ALLOW, ASK)]
+    steps = [load, *compares, *ends]
+    return Filter(len(steps), b"".join(steps))
+
+
+def ask_about(calls, to):
+    """Has the system ask about these calls of this process from now on; sends the descriptor at which it asks."""
+    c = ctypes.CDLL(None, use_errno=True)
+    c.prctl(NO_NEW_PRIVILEGES, 1, 0, 0, 0)
+    asked = c.syscall(SECCOMP, SET_FILTER, NEW_LISTENER, ctypes.byref(filter_of(calls)))
+    if asked < 0:
+        raise OSError(ctypes.get_errno(), "seccomp")
+    socket.send_fds(to, [b"x"], [asked])
+
+
+def answer_calls(here, fault_of, ended):
+    """Answers each call by the error that `fault_of` gives for its number; where that is 0, the call is carried out."""
+    _, (asked,), _, _ = socket.recv_fds(here, 1, 1)
+    ready = select.poll()
+    ready.register(asked, select.POLLIN)
+    while not ended.is_set():
+        if not any(event & select.POLLIN for _, event in ready.poll(50)):
+            continue
+        try:
+            call = bytearray(80)
+            fcntl.ioctl(asked, NEXT_CALL, call)
+            identity, number = struct.unpack_from("Q8xi", call)
+            fault = fault_of(number)
+            fcntl.ioctl(asked, ANSWER, struct.pack("QqiI", identity, 0, -fault, 0 if fault else CARRY_ON))
+        except OSError as gone:
+            # The process ended while it was asked about.
+            if gone.errno not in (errno.ENOENT, errno.EINTR):
+                raise
+    os.close(asked)
+
+
+@contextmanager
+def served_with_faults(program, calls, fault_of):
+    """A server whose calls of these numbers fail by the error that `fault_of` gives, unless that is 0."""
+    here, there = socket.socketpair()
+    ended = threading.Event()
+    here.settimeout(SECONDS)
+    answerer = threading.Thread(target=answer_calls, args=(here, fault_of, ended))
+    with here, there:
+        answerer.start()
+        try:
+            with served(program, prepare=lambda: ask_about(calls, there)) as running:
+                yield running
+        finally:
+            ended.set()
+            answerer.join()
+
+
+def processor_share(server, seconds):
+    """Which share of a processor a process takes for so long."""
+    def taken():
+        fields = Path(f"/proc/{server.pid}/stat").read_text().rsplit(")", 1)[1].split()
+        return (int(fields[11]) + int(fields[12])) / os.sysconf("SC_CLK_TCK")
+
+    before, begun = taken(), time.monotonic()
+    time.sleep(seconds)
+    return (taken() - before) / (time.monotonic() - begun)
+
+
+def calls_that_are_interrupted(program):
+    """Of the reads and the writes of sockets each second one is interrupted: all is answered, and a panel is told all."""
+    calls = Counter()
+
+    def fault_of(call):
+        calls[call] += 1
+        return errno.EINTR if calls[call] % 2 else 0
+
+    with served_with_faults(program, (RECEIVE, SEND), fault_of) as (port, _):
+        try:
+            throttle, panel = Client(port, "COMMAND"), Client(port, "INFO")
+            panel.hears_until(b" 100 INFO 1 FB 8 0\n")
+            replies = Counter(throttle.asks(f"SET 1 FB 8 {turn % 2}") for turn in range(1, COMMANDS + 1))
+            throttle.asks("SET 1 POWER ON last")
+            told = panel.hears_until(b" 100 INFO 1 POWER ON last\n").count(b" 100 INFO 1 FB 8 ")
+        except (OSError, EOFError) as fault:
+            return f"after {calls[RECEIVE]} reads and {calls[SEND]} writes: {fault!r}"
+    got = told - 1, replies
+    return None if got == (COMMANDS, {"200 OK": COMMANDS}) else f"a panel was told, and commands are answered {got}"
+
+
+def wait_that_fails(program):
+    """Where the system refuses to wait, the server rests and tries again."""
+    calls, refuses = Counter(), threading.Event()
+
+    def fault_of(call):
+        calls[call] += 1
+        return errno.EBADF if refuses.is_set() else 0
+
+    with served_with_faults(program, (WAIT,), fault_of) as (port, server):
+        throttle = Client(port, "COMMAND")
+        refuses.set()
+        before = calls[WAIT]
+        share = processor_share(server, 1)
+        tries = calls[WAIT] - before
+        refuses.clear()
+        reply = throttle.asks("GET 1 POWER")
+    if share > 0.2 or not 0 < tries < 500:
+        return f"it waits {tries} times a second, and takes {share:.0%} of a processor"
+    return None if reply == "100 INFO 1 POWER OFF" else f"then a command is answered {reply}"
+
+
+def accept_that_is_refused(program):
+    """Where no descriptor is left, those who are in are served, and who waits is let in once there is one."""
+    with served(program) as (port, server):
+        throttle = Client(port, "COMMAND")
+        limits = resource.prlimit(server.pid, resource.RLIMIT_NOFILE)
+        resource.prlimit(server.pid, resource.RLIMIT_NOFILE, (0, limits[1]))
+        with socket.create_connection(("127.0.0.1", port), timeout=SECONDS) as newcomer:
+            share = processor_share(server, 1)
+            reply = throttle.asks("GET 1 POWER")
+            newcomer.settimeout(0.1)
+            try:
+                return f"without a descriptor it was told {newcomer.recv(100)!r}"
+            except TimeoutError:
+                pass
+            resource.prlimit(server.pid, resource.RLIMIT_NOFILE, limits)
+            newcomer.settimeout(SECONDS)
+            told = newcomer.recv(100)
+    if share > 0.2 or reply != "100 INFO 1 POWER OFF":
+        return f"it takes {share:.0%} of a processor, and a command is answered {reply}"
+    return None if told == WELCOME else f"with a descriptor it was told {told!r}"
+
+
+FAULT_CASES = (calls_that_are_interrupted, wait_that_fails, accept_that_is_refused)
