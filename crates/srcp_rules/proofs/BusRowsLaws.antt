@@ -168,7 +168,8 @@ module _ {bus : ℕ} {rows : BusRows} (are : AreRowsOfBus bus rows) where
   pub rows_on_bus : AllByRecursion (λ row. OnBus bus row.shown.key) (bus_rows rows)
   rows_on_bus = each-listed whole (λ row. OnBus bus row.shown.key) (by_place rows)
       (each-weaken {P = IsTagged whole place_of (OnBus bus)}
-      (λ e h. each-weaken {P = λ row. OnBus bus row.shown.key × (place_of row.shown.key ≡ e.0)} (λ row t. t.0) e.1 h) (by_place rows) tagged)
+      (λ e h. each-weaken {P = λ row. OnBus bus row.shown.key × (place_of row.shown.key ≡ e.0)} (λ row t. t.0) e.1 h)
+      (by_place rows) tagged)
 
   -- the row at a key is that of its group
   row_at-place : (key : Key)
@@ -216,7 +217,8 @@ module _ {bus : ℕ} {rows : BusRows} (are : AreRowsOfBus bus rows) where
   put_rows-group {added} {g} {address} after new with_group is =
       ap device_rows with_group.0
       ∙ listed-put_rows whole place_of (OnBus bus) (in_order bus) (group_place g) added
-      (placed bus g added (each-weaken {P = λ row. IsIn bus g row.shown.key × (row.shown.key.address ≡ address)} (λ row t. t.0) added new.each))
+      (placed bus g added
+      (each-weaken {P = λ row. IsIn bus g row.shown.key × (row.shown.key.address ≡ address)} (λ row t. t.0) added new.each))
       (by_place rows) tagged (places_rise rows) (group_rows rows g) (group_rows after g) with_group.1 is
 
   -- a device does not own rows of another group
@@ -228,4 +230,5 @@ module _ {bus : ℕ} {rows : BusRows} (are : AreRowsOfBus bus rows) where
   without-group device {g} after here with_group is =
       ap device_rows with_group.0
       ∙ listed-without whole place_of (OnBus bus) (in_order bus) device (group_place g)
-      (λ key x h. apart device key (λ e. h (e ∙ ap group_place here))) (by_place rows) tagged (places_rise rows) (group_rows rows g) (group_rows after g) with_group.1 is
+      (λ key x h. apart device key (λ e. h (e ∙ ap group_place here)))
+      (by_place rows) tagged (places_rise rows) (group_rows rows g) (group_rows after g) with_group.1 is
