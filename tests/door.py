@@ -153,14 +153,14 @@ def pipelines(throttle, address, end):
         throttle.asks_many([f"SET 1 GL {address} 1 {speed % 29} 28" for speed in range(100)])
 
 
-def panels_that_read_are_kept(program):
-    """However many sessions send without end, no panel that reads is closed."""
+def closed_panels(program, count, seconds):
+    """How many of so many panels that read are closed while sessions send for so long."""
     with served(program) as (port, _):
         first = Client(port, "COMMAND")
         first.asks(*(f"INIT 1 GL {address} N 1 28 5" for address in range(1, SESSIONS + 1)))
-        panels = [Client(port, "INFO") for _ in range(PANELS)]
+        panels = [Client(port, "INFO") for _ in range(count)]
         throttles = [Client(port, "COMMAND") for _ in range(SESSIONS)]
-        ended, end = [], time.monotonic() + 3
+        ended, end = [], time.monotonic() + seconds
         readers = [threading.Thread(target=reads_to_the_end, args=(panel, ended)) for panel in panels]
         senders = [threading.Thread(target=pipelines, args=(throttle, address, end))
                    for address, throttle in enumerate(throttles, 1)]
@@ -173,7 +173,13 @@ def panels_that_read_are_kept(program):
             panel.socket.shutdown(socket.SHUT_RDWR)
         for thread in readers:
             thread.join()
-    return f"{len(closed)} of {PANELS} panels were closed" if closed else None
+    return len(closed)
+
+
+def panels_that_read_are_kept(program):
+    """However many sessions send without end, no panel that reads is closed."""
+    closed = closed_panels(program, PANELS, 3)
+    return f"{closed} of {PANELS} panels were closed" if closed else None
 
 
 def changes_without_end(throttle):
