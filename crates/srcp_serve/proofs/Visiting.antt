@@ -11,7 +11,8 @@ use Rattle.std.specs.Prelude.{◌||◌, ◌&&◌, nat_lt, if◌then◌else◌}
 use Rattle.srcp_rules.specs.declared.layout.Bus.{Bus}
 use Rattle.srcp_core.specs.Course.{course}
 use Rattle.srcp_core.specs.Held.{Held}
-use Rattle.srcp_core.specs.Machine.{hung_up, is_closing as is_closing_at}
+use Rattle.srcp_core.specs.Connection.{is_last}
+use Rattle.srcp_core.specs.Machine.{hung_up, finish_at}
 use Rattle.srcp_core.specs.Recording.{without_key}
 use Rattle.srcp_core.specs.Stands.{StandsFor}
 use Rattle.srcp_core.specs.Under.{Event, Piece, Bytes, Room, Shut, denied_by}
@@ -239,7 +240,7 @@ module _ (peer key : ℕ) (old mid : Held) (told_old told_mid : Option (List Doo
   pub exchanges_lost : ReadsIn peer key old told_old mid told_mid false → Exchanges peer key old told_old mid told_mid false
   exchanges_lost reads buses events keys n told s is = exchanged_lost buses events keys n peer old told_old told mid (reads buses events keys n told s is)
 
-  pub visit_stays : (closing : Bool) → Exchanges peer key old told_old mid told_mid true → closing ≡ is_closing_at key mid → closing ≡ false → Visits peer key old told_old mid told_mid true
+  pub visit_stays : (closing : Bool) → Exchanges peer key old told_old mid told_mid true → closing ≡ is_last (finish_at key mid) → closing ≡ false → Visits peer key old told_old mid told_mid true
   visit_stays closing exchanges says open_still buses events keys n told s is =
       let x = exchanges buses events keys n told s is in
       visited_stays buses events keys n peer old told_old told mid x (sym (says ∙ calls_agree.closes key mid buses (events ++ exchange n x.calls) keys n s.layout s.named x.stands) ∙ open_still)
@@ -260,7 +261,7 @@ module _ (peer key : ℕ) (old mid : Held) (told_old told_mid : Option (List Doo
           visited_goes buses events keys n peer old told_old told_mid w.before told mid new false w.was same x (ap (λ t. t || is_closing buses n (events ++ exchange n x.calls)) x.loses_is)
           (goes buses (events ++ exchange n x.calls) keys n told (record { layout = s.layout; named = s.named; stands = x.stands }) is)
 
-      pub visit_closed : (closing : Bool) → Exchanges peer key old told_old mid told_mid true → closing ≡ is_closing_at key mid → closing ≡ true → Visits peer key old told_old new told_new false
+      pub visit_closed : (closing : Bool) → Exchanges peer key old told_old mid told_mid true → closing ≡ is_last (finish_at key mid) → closing ≡ true → Visits peer key old told_old new told_new false
       visit_closed closing exchanges says ends buses events keys n told s is =
           let w = (asks told is).adds in
           let x = exchanges buses events keys n w.before s w.was in
