@@ -2,7 +2,8 @@
 
 use crate::memory_io::Source;
 use srcp_rules::{Flat, Layout, Nested, Rows};
-use srcp_tool::{ToolFault, read_layout, replay};
+use srcp_layout_file::read_layout;
+use srcp_tool::{ToolFault, replay};
 use std::alloc::Global;
 use std::test::Fail;
 use std::vec::Vec;
