@@ -1,5 +1,5 @@
 -- Worked lines, computed by the definitions.
-use Rattle.std.proofs.Common.{◌≡◌, ℕ, true, false, [], ◌∷◌, Ok, Err, codes, refl}
+use Rattle.std.proofs.Common.{◌≡◌, true, [], ◌∷◌, Ok, codes, refl}
 use Rattle.std.specs.Prelude.{None}
 use Rattle.std.specs.Fmt.{digits}
 use Rattle.clap.specs.Walk.{walked}

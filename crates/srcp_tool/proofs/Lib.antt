@@ -2,3 +2,4 @@ mod Examples
 pub mod ArgumentLaws
 pub mod Mirrorings
 pub mod Replays
+pub mod Writings

@@ -1,17 +1,14 @@
 -- What the program writes.
-use Rattle.std.specs.Prelude.{◌≡◌, ℕ, ◌+◌, ◌<◌, ◌≤◌, Bool, false, ◌&&◌, ◌==◌, nat_lt, if◌then◌else◌, List, [], ◌∷◌, ◌++◌, map, take, flat_map, length, Option, Result, Ok, Err, codes, decimal, ⊤}
+use Rattle.std.specs.Prelude.{◌≡◌, ℕ, ◌+◌, ◌<◌, ◌≤◌, false, nat_lt, if◌then◌else◌, List, [], ◌++◌, map, take, flat_map, length, Option, Result, Ok, Err, codes, ⊤}
 use Rattle.std.specs.Io.KnownBytes.{Appends}
-use Rattle.std.specs.List.{enumerate_from, list_any, AllByRecursion}
-use Rattle.srcp_text.specs.Marks.{rest, is_lf}
-use Rattle.srcp_text.specs.Words.{is_empty}
+use Rattle.std.specs.List.{list_any, AllByRecursion}
+use Rattle.srcp_text.specs.Marks.{is_lf}
 use Rattle.srcp_info.specs.Client.{client, listing, HoldsLines}
-use Rattle.srcp_info.specs.Line.{line, spaced}
+use Rattle.srcp_info.specs.Line.{line}
 use Rattle.srcp_info.specs.Read.{IsLineOf}
 use Rattle.srcp_info.specs.WellFormed.{IsWellFormed}
 use Rattle.srcp_info.specs.declared.change.Change.{Change}
-use Rattle.srcp_info.specs.declared.change.Row.{Row}
 use Rattle.srcp_info.specs.declared.change.Shown.{Shown}
-use Rattle.srcp_rules.specs.State.{shown_rows}
 use Rattle.srcp_rules.specs.declared.layout.Bus.{Bus}
 use Rattle.srcp_core.specs.Connection.{recorded}
 use Rattle.srcp_core.specs.Course.{course, history, state}

@@ -35,5 +35,5 @@ pub fn check<W: Write>(alloc: Global, bytes: &[u8], writer: &mut W) -> Result<()
         result (W.contents writer.old) (W.contents writer.new) }
 {
     let text = check_text(alloc, bytes)?;
-    write_whole(writer, &text)
+    write_whole(writer, text.as_slice())
 }

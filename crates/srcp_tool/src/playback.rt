@@ -56,7 +56,7 @@ pub fn replay<K: Rows, R: Read, W: Write>(
 {
     let input = read_input(alloc, reader)?;
     let text = replay_text::<K>(alloc, layout, &input)?;
-    write_whole(writer, &text)
+    write_whole(writer, text.as_slice())
 }
 
 /// The events of a script.

@@ -71,7 +71,7 @@ pub fn mirror<R: Read, W: Write>(
 {
     let mirror = read_lines(alloc, reader)?;
     let text = print_listing(alloc, mirror.rows())?;
-    write_whole(writer, &text)
+    write_whole(writer, text.as_slice())
 }
 
 /// Applies the lines of the input up to its end. The first line that is refused is told at the end

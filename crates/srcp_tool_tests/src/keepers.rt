@@ -1,8 +1,8 @@
 //! One run over both keepers of rows.
 
 use crate::memory_io::Source;
-use srcp_rules::{Flat, Layout, Nested, Rows};
 use srcp_layout_file::read_layout;
+use srcp_rules::{Flat, Layout, Nested, Rows};
 use srcp_tool::{ToolFault, replay};
 use std::alloc::Global;
 use std::test::Fail;
