@@ -8,8 +8,8 @@ use srcp_core::{ConnRecord, Item, Record, run};
 use srcp_feed::Next;
 use srcp_info::{Change, Row, write_change};
 use srcp_rules::Rows;
+use srcp_script::read_script;
 use srcp_text::LineBuf;
-use srcp_tool::read_script;
 use std::alloc::Global;
 use std::io::{self, Write};
 

@@ -1,6 +1,6 @@
 //! What came of a trial.
 use srcp_rules::{LayoutFault, Memory};
-use srcp_tool::ScriptFault;
+use srcp_script::ScriptFault;
 use std::alloc::{AllocError, AllocFailed};
 use std::fmt;
 

@@ -3,7 +3,7 @@ use crate::calls::one_bus;
 use crate::outcome::{Outcome, Refused};
 use srcp_core::{CoreFault, Record, run};
 use srcp_rules::Rows;
-use srcp_tool::read_script;
+use srcp_script::read_script;
 use std::alloc::Global;
 use std::vec::Vec;
 

@@ -7,9 +7,10 @@ ghost use Rattle.srcp_tool.specs.Faults.{fault_status, fault_text};
 
 use clap::error::ErrorKind;
 use srcp_core::Core;
+use srcp_layout_file::read_layout;
 use srcp_rules::{Bus, Layout, Nested};
 use srcp_serve::{ListenFault, SocketDoor, serve};
-use srcp_tool::{Tool, ToolFault, check, mirror, read_config, read_layout, read_words, replay};
+use srcp_tool::{Tool, ToolFault, check, mirror, read_config, read_words, replay};
 use std::alloc::Global;
 use std::io::{Read, Write};
 use std::net::Net;

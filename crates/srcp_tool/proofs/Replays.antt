@@ -9,7 +9,8 @@ use Rattle.srcp_core.specs.Under.{all_under, step_told}
 use Rattle.srcp_core.specs.declared.event.Event.{Event}
 use Rattle.srcp_core.specs.declared.record.Record.{Record}
 use Rattle.srcp_core.proofs.Agreement.MemoryAnswers.{gives_as_if}
-use Rattle.srcp_tool.specs.Output.{printed, replayed, run_of}
+use Rattle.srcp_script.specs.Output.{printed}
+use Rattle.srcp_tool.specs.Output.{replayed, run_of}
 
 -- where no growth was refused it gives what it gives where memory gives all
 pub run_is : (buses : List Bus) (events : List Event) (told : Record) → IsPromised buses events told → told.denied ≡ 0 → told ≡ run_of buses events

@@ -1,44 +1,13 @@
 -- What the program tells of a fault, and the status with which it ends.
 use Rattle.std.specs.Prelude.{ℕ, List, ◌++◌, codes, decimal}
-use Rattle.srcp_tool.specs.declared.config.Field.{Field}
-use Rattle.srcp_tool.specs.declared.config.Field.TheVariants as field
-use Rattle.srcp_tool.specs.declared.config.ConfigFault.{ConfigFault}
-use Rattle.srcp_tool.specs.declared.config.ConfigFault.TheVariants as config
-use Rattle.srcp_tool.specs.declared.script.Cause.{Cause}
-use Rattle.srcp_tool.specs.declared.script.Cause.TheVariants as cause
+use Rattle.srcp_layout_file.specs.Faults.{config_text}
+use Rattle.srcp_layout_file.specs.declared.config.ConfigFault.{ConfigFault}
+use Rattle.srcp_layout_file.specs.declared.config.ConfigFault.TheVariants as config
+use Rattle.srcp_script.specs.Faults.{script_text}
+use Rattle.srcp_script.specs.declared.script.Cause.{Cause}
+use Rattle.srcp_script.specs.declared.script.Cause.TheVariants as cause
 use Rattle.srcp_tool.specs.declared.fault.ToolFault.{ToolFault}
 use Rattle.srcp_tool.specs.declared.fault.ToolFault.TheVariants as fault
-
--- the key as a configuration writes it
-abbrev pub field_key : Field → List ℕ
-field_key field.Port = codes "port"
-field_key field.Bus = codes "bus"
-field_key field.Number = codes "number"
-field_key field.Groups = codes "groups"
-field_key field.GlMax = codes "gl_max"
-field_key field.GaMax = codes "ga_max"
-field_key field.GaPorts = codes "ga_ports"
-field_key field.FbPorts = codes "fb_ports"
-
--- want of memory is told alike wherever it comes
-abbrev pub out_of_memory : List ℕ
-out_of_memory = codes "out of memory"
-
--- what is told of a configuration
-abbrev pub config_text : ConfigFault → List ℕ
-config_text config.NotToml = codes "config: not TOML"
-config_text (config.Missing field) = codes "config: " ++ field_key field ++ codes " missing"
-config_text (config.OutOfRange field) = codes "config: " ++ field_key field ++ codes " out of range"
-config_text (config.Twice bus) = codes "config: bus " ++ decimal bus ++ codes " twice"
-config_text config.UnknownGroup = codes "config: unknown group"
-config_text config.Memory = out_of_memory
-
--- what is told of a line of a script
-abbrev pub script_text : (line : ℕ) → Cause → List ℕ
-script_text line cause.Word = codes "script line " ++ decimal line ++ codes ": unknown event"
-script_text line cause.Number = codes "script line " ++ decimal line ++ codes ": wrong number"
-script_text line cause.Escape = codes "script line " ++ decimal line ++ codes ": wrong escape"
-script_text line cause.Memory = out_of_memory
 
 -- what is told of a fault
 abbrev pub fault_text : ToolFault → List ℕ
@@ -47,7 +16,7 @@ fault_text fault.Output = codes "cannot write"
 fault_text fault.TooLarge = codes "input too large"
 fault_text (fault.Script at) = script_text at.line at.cause
 fault_text (fault.Line line) = codes "mirror line " ++ decimal line ++ codes ": not an information line"
-fault_text fault.Memory = out_of_memory
+fault_text fault.Memory = codes "out of memory"
 fault_text (fault.Config what) = config_text what
 fault_text fault.Unreadable = codes "cannot read the configuration"
 fault_text fault.Listen = codes "cannot listen"

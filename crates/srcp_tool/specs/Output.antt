@@ -1,83 +1,31 @@
 -- What the program writes.
-use Rattle.std.specs.Prelude.{◌≡◌, ℕ, ◌+◌, ◌<◌, ◌≤◌, Bool, false, ◌&&◌, ◌==◌, nat_lt, if◌then◌else◌, List, [], ◌∷◌, ◌++◌, map, take, flat_map, length, Option, Result, Ok, Err, codes, decimal, ⊤}
+use Rattle.std.specs.Prelude.{◌≡◌, ℕ, ◌+◌, ◌<◌, ◌≤◌, false, nat_lt, if◌then◌else◌, List, [], ◌++◌, map, take, flat_map, length, Option, Result, Ok, Err, codes, ⊤}
 use Rattle.std.specs.Io.KnownBytes.{Appends}
-use Rattle.std.specs.List.{enumerate_from, list_any, AllByRecursion}
-use Rattle.srcp_text.specs.Marks.{rest, is_lf}
-use Rattle.srcp_text.specs.Words.{is_empty}
+use Rattle.std.specs.List.{list_any, AllByRecursion}
+use Rattle.srcp_text.specs.Marks.{is_lf}
 use Rattle.srcp_info.specs.Client.{client, listing, HoldsLines}
-use Rattle.srcp_info.specs.Line.{line, spaced}
+use Rattle.srcp_info.specs.Line.{line}
 use Rattle.srcp_info.specs.Read.{IsLineOf}
 use Rattle.srcp_info.specs.WellFormed.{IsWellFormed}
 use Rattle.srcp_info.specs.declared.change.Change.{Change}
-use Rattle.srcp_info.specs.declared.change.Row.{Row}
 use Rattle.srcp_info.specs.declared.change.Shown.{Shown}
-use Rattle.srcp_rules.specs.State.{shown_rows}
 use Rattle.srcp_rules.specs.declared.layout.Bus.{Bus}
 use Rattle.srcp_core.specs.Connection.{recorded}
 use Rattle.srcp_core.specs.Course.{course, history, state}
 use Rattle.srcp_core.specs.Under.{all_under, step_told}
 use Rattle.srcp_core.specs.declared.event.Event.{Event}
-use Rattle.srcp_core.specs.declared.record.ConnRecord.{ConnRecord}
-use Rattle.srcp_core.specs.declared.record.CoreFault.{CoreFault}
-use Rattle.srcp_core.specs.declared.record.CoreFault.TheVariants as fault
-use Rattle.srcp_core.specs.declared.record.Finish.{Finish}
-use Rattle.srcp_core.specs.declared.record.Finish.TheVariants as finish
 use Rattle.srcp_core.specs.declared.record.Record.{Record}
-use Rattle.srcp_core.specs.declared.record.Refusal.{Refusal}
-use Rattle.srcp_tool.specs.Document.{config_of}
-use Rattle.srcp_tool.specs.Script.{script}
-use Rattle.srcp_tool.specs.declared.config.Config.{Config}
-use Rattle.srcp_tool.specs.declared.config.ConfigFault.{ConfigFault}
+use Rattle.srcp_layout_file.specs.Document.{config_of}
+use Rattle.srcp_layout_file.specs.Output.{checked}
+use Rattle.srcp_script.specs.Output.{printed}
+use Rattle.srcp_script.specs.Script.{script}
+use Rattle.srcp_layout_file.specs.declared.config.Config.{Config}
+use Rattle.srcp_layout_file.specs.declared.config.ConfigFault.{ConfigFault}
 use Rattle.srcp_tool.specs.declared.fault.ToolFault.{ToolFault}
 use Rattle.srcp_tool.specs.declared.fault.ToolFault.TheVariants.{Input, Output, TooLarge, Script, Line, Memory, Config as ConfigIs, Unreadable}
-use Rattle.srcp_tool.specs.declared.script.ScriptFault.{ScriptFault}
+use Rattle.srcp_script.specs.declared.script.ScriptFault.{ScriptFault}
 
 -- ---- replay: what a run gave
-
--- how a connection stands at the end
-abbrev pub finish_word : Finish → List ℕ
-finish_word finish.Live = codes "open"
-finish_word finish.Closing = codes "closing"
-finish_word finish.Overrun = codes "overrun"
-finish_word finish.Shut = codes "shut"
-
--- why an event was refused
-abbrev pub fault_word : CoreFault → List ℕ
-fault_word fault.Full = codes "Full"
-fault_word fault.Memory = codes "Memory"
-fault_word fault.NoSuch = codes "NoSuch"
-fault_word fault.Busy = codes "Busy"
-fault_word fault.PieceTooLong = codes "PieceTooLong"
-fault_word fault.Closing = codes "Closing"
-
--- the bytes, and an LF where the last line has none
-abbrev pub ended : List ℕ → List ℕ
-ended bytes = if is_empty (rest bytes) then bytes else bytes ++ codes "\n"
-
--- a connection with its number: how many bytes it was sent, and how it stands
-abbrev pub connection_line : ℕ → ConnRecord → List ℕ
-connection_line number conn =
-    spaced (codes "connection" ∷ decimal number ∷ decimal (length conn.sent) ∷ finish_word conn.finish ∷ [])
-
--- and what it was sent
-abbrev pub connection_lines : ℕ × ConnRecord → List ℕ
-connection_lines (number, conn) = connection_line number conn ++ ended conn.sent
-
--- an event that was refused, by its number
-abbrev pub refusal_line : Refusal → List ℕ
-refusal_line refusal = spaced (codes "refused" ∷ decimal refusal.event ∷ fault_word refusal.fault ∷ [])
-
--- how many rows there are
-abbrev pub rows_line : List Row → List ℕ
-rows_line rows = spaced (codes "rows" ∷ decimal (length rows) ∷ [])
-
--- what `replay` prints: each connection, the refused events, and the rows
-abbrev pub printed : Record → List ℕ
-printed run =
-    flat_map connection_lines (enumerate_from 1 run.connections)
-    ++ flat_map refusal_line run.refused
-    ++ rows_line run.rows
-    ++ listing (shown_rows run.rows)
 
 -- what a run of these events gives where memory gives all
 abbrev pub run_of : List Bus → List Event → Record
@@ -140,34 +88,6 @@ RefusesInput input other = ⊥
 -- the bytes that a configuration may have
 abbrev pub config_limit : ℕ
 config_limit = 1048576
-
--- a group's name and how many devices it has, where it has any
-abbrev pub group_words : (name : List ℕ) → ℕ → List (List ℕ)
-group_words name count = if count == 0 then [] else name ∷ decimal count ∷ []
-
--- the ports of an accessory are told where there are more than two
-abbrev pub port_words : Bus → List (List ℕ)
-port_words bus = if nat_lt 0 bus.ga_max && nat_lt 2 bus.ga_ports then codes "PORTS" ∷ decimal bus.ga_ports ∷ [] else []
-
--- the word of a bus that has POWER
-abbrev pub power_words : Bool → List (List ℕ)
-power_words power = if power then codes "POWER" ∷ [] else []
-
--- a bus, with its groups
-abbrev pub bus_line : Bus → List ℕ
-bus_line bus = spaced (codes "bus" ∷ decimal bus.number ∷ (power_words bus.power
-    ++ group_words (codes "GL") bus.gl_max
-    ++ group_words (codes "GA") bus.ga_max
-    ++ port_words bus
-    ++ group_words (codes "FB") bus.fb_ports))
-
--- the port
-abbrev pub port_line : (port : ℕ) → List ℕ
-port_line port = spaced (codes "port" ∷ decimal port ∷ [])
-
--- what `check` prints
-abbrev pub checked : Config → List ℕ
-checked config = port_line config.port ++ flat_map bus_line config.layout
 
 -- what is printed for a configuration, or why it is refused
 abbrev pub checked_or : Result Config ConfigFault → Result (List ℕ) ToolFault

@@ -1,11 +1,11 @@
 //! Why the program stops, what it tells of it, and the status with which it ends.
 
 ghost use Rattle.std.specs.Prelude.{◌≡◌, Some};
-ghost use Rattle.srcp_tool.specs.Faults.{field_key, config_text, script_text, fault_text, fault_status, stops_at};
+ghost use Rattle.srcp_tool.specs.Faults.{fault_text, fault_status, stops_at};
 
-use crate::config::{ConfigFault, Field};
-use crate::script::{Cause, ScriptFault};
 use srcp_core::RunFault;
+use srcp_layout_file::ConfigFault;
+use srcp_script::{Cause, ScriptFault};
 use std::alloc::AllocError;
 use std::fmt;
 use thiserror::Error;
@@ -32,57 +32,6 @@ pub enum ToolFault {
     Unreadable,
     /// The port cannot be listened on.
     Listen,
-}
-
-/// The key as a configuration writes it.
-pub(crate) fn key_of(field: Field) -> &'static str
-    ensures { result.now ≡ field_key field }
-{
-    match field {
-        Field::Port => "port",
-        Field::Bus => "bus",
-        Field::Number => "number",
-        Field::Groups => "groups",
-        Field::GlMax => "gl_max",
-        Field::GaMax => "ga_max",
-        Field::GaPorts => "ga_ports",
-        Field::FbPorts => "fb_ports",
-    }
-}
-
-impl fmt::Display for ScriptFault {
-    ghost output = { λ x. Some (script_text x.line x.cause) };
-
-    fn fmt<W: fmt::Write>(&self, f: &mut fmt::Formatter<W>) -> fmt::Result {
-        let line = self.line;
-        match self.cause {
-            Cause::Word => write!(f, "script line {line}: unknown event"),
-            Cause::Number => write!(f, "script line {line}: wrong number"),
-            Cause::Escape => write!(f, "script line {line}: wrong escape"),
-            Cause::Memory => write!(f, "out of memory"),
-        }
-    }
-}
-
-impl fmt::Display for ConfigFault {
-    ghost output = { λ x. Some (config_text x) };
-
-    fn fmt<W: fmt::Write>(&self, f: &mut fmt::Formatter<W>) -> fmt::Result {
-        match self {
-            ConfigFault::NotToml => write!(f, "config: not TOML"),
-            ConfigFault::Missing(field) => {
-                let key = key_of(*field);
-                write!(f, "config: {key} missing")
-            }
-            ConfigFault::OutOfRange(field) => {
-                let key = key_of(*field);
-                write!(f, "config: {key} out of range")
-            }
-            ConfigFault::Twice(bus) => write!(f, "config: bus {bus} twice"),
-            ConfigFault::UnknownGroup => write!(f, "config: unknown group"),
-            ConfigFault::Memory => write!(f, "out of memory"),
-        }
-    }
 }
 
 impl fmt::Display for ToolFault {

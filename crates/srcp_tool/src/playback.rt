@@ -4,15 +4,15 @@ ghost use Rattle.std.specs.Prelude.{◌≡◌, List, IfOk, IfErr, IfSome};
 ghost use Rattle.std.specs.List.{AllByRecursion};
 ghost use Rattle.srcp_info.specs.WellFormed.{IsWellFormedShown};
 ghost use Rattle.srcp_rules.specs.declared.layout.Bus.{Bus};
-ghost use Rattle.srcp_tool.specs.Output.{RefusesFor, Writes, printed, run_of, replayed};
+ghost use Rattle.srcp_script.specs.Output.{printed};
+ghost use Rattle.srcp_tool.specs.Output.{RefusesFor, Writes, run_of, replayed};
 
 use crate::fault::ToolFault;
 use crate::input::{INPUT_LIMIT, read_input};
 use crate::output::write_whole;
-use crate::print::print;
-use crate::script::read_script;
 use srcp_core::{Event, Record, run};
 use srcp_rules::{Layout, Rows};
+use srcp_script::{print_record, read_script};
 use std::alloc::Global;
 use std::io::{Read, Write};
 use std::vec::Vec;
@@ -56,7 +56,7 @@ pub fn replay<K: Rows, R: Read, W: Write>(
 {
     let input = read_input(alloc, reader)?;
     let text = replay_text::<K>(alloc, layout, &input)?;
-    write_whole(writer, &text)
+    write_whole(writer, text.as_slice())
 }
 
 /// The events of a script.
@@ -89,6 +89,6 @@ fn print_run(alloc: Global, run: &Record) -> Result<Vec<u8>, ToolFault>
     if run.denied > 0 {
         return Err(ToolFault::Memory);
     }
-    let text = print(alloc, run)?;
+    let text = print_record(alloc, run)?;
     Ok(text)
 }

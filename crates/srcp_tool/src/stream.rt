@@ -13,9 +13,9 @@ mod lines;
 use crate::fault::ToolFault;
 use crate::input::{INPUT_LIMIT, PIECE, read_piece};
 use crate::output::write_whole;
-use crate::print::print_shown;
 use lines::MirroredLines;
 use srcp_info::{Mirror, MirrorFault, Shown};
+use srcp_script::print_shown;
 use std::alloc::{AllocError, Global};
 use std::io::{Read, Write};
 use std::vec::Vec;
@@ -71,7 +71,7 @@ pub fn mirror<R: Read, W: Write>(
 {
     let mirror = read_lines(alloc, reader)?;
     let text = print_listing(alloc, mirror.rows())?;
-    write_whole(writer, &text)
+    write_whole(writer, text.as_slice())
 }
 
 /// Applies the lines of the input up to its end. The first line that is refused is told at the end

@@ -1,7 +1,8 @@
 //! Checking a configuration. The cases of `tests/tables.py` check more of them.
 
 use crate::memory_io::Source;
-use srcp_tool::{ConfigFault, Field, ToolFault, check, read_config};
+use srcp_layout_file::{ConfigFault, Field};
+use srcp_tool::{ToolFault, check, read_config};
 use std::test::Fail;
 use std::vec::Vec;
 

@@ -1,6 +1,6 @@
 //! What a configuration says. The cases of `tests/tables.py` say why one is refused.
 
-use srcp_tool::read_layout;
+use srcp_layout_file::read_layout;
 use std::alloc::Global;
 
 const FOUR_GROUPS: &[u8] = b"port = 4303

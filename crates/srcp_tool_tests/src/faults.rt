@@ -1,6 +1,8 @@
 //! What the program tells of a fault, and its status.
 
-use srcp_tool::{Cause, ConfigFault, Field, ScriptFault, ToolFault};
+use srcp_layout_file::{ConfigFault, Field};
+use srcp_script::{Cause, ScriptFault};
+use srcp_tool::ToolFault;
 use std::test::Fail;
 
 #[test]

@@ -1,8 +1,9 @@
 //! One run over both keepers of rows.
 
 use crate::memory_io::Source;
+use srcp_layout_file::read_layout;
 use srcp_rules::{Flat, Layout, Nested, Rows};
-use srcp_tool::{ToolFault, read_layout, replay};
+use srcp_tool::{ToolFault, replay};
 use std::alloc::Global;
 use std::test::Fail;
 use std::vec::Vec;

@@ -1,4 +1,4 @@
-//! Tests of `srcp_tool`. They stand here so that it is proved once.
+//! Tests of `srcp_tool`, `srcp_script` and `srcp_layout_file`. They stand here so that those are proved once.
 #![tactic(auto)]
 
 #[cfg(test)]

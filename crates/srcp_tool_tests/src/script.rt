@@ -1,7 +1,8 @@
 //! Reading scripts. The cases of `tests/tables.py` say which scripts are refused.
 
 use srcp_core::Event;
-use srcp_tool::{Cause, ScriptFault, ToolFault, read_script};
+use srcp_script::{Cause, ScriptFault, read_script};
+use srcp_tool::ToolFault;
 use std::test::Fail;
 
 #[test]

@@ -3,7 +3,8 @@
 use crate::memory_io::{Sink, Source};
 use crate::mirroring::ROWS;
 use srcp_rules::{Flat, Layout};
-use srcp_tool::{Cause, ScriptFault, ToolFault, check, mirror, read_config, read_script, replay};
+use srcp_script::{Cause, ScriptFault, read_script};
+use srcp_tool::{ToolFault, check, mirror, read_config, replay};
 use std::alloc::Global;
 use std::test::Fail;
 use std::vec::Vec;

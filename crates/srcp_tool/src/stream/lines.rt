@@ -4,9 +4,9 @@ ghost use Rattle.std.specs.Prelude.{◌≡◌, ◌+◌, ◌^◌, ◌<◌, ◌≤
 ghost use Rattle.srcp_tool.specs.Mirroring.{HasTaken};
 ghost use Rattle.srcp_tool.specs.Output.{RefusesLine};
 
-use crate::cut::cut_at;
 use crate::stream::begun::BegunLine;
 use srcp_info::{Mirror, MirrorFault};
+use srcp_script::cut_at;
 use std::alloc::Global;
 
 /// The rows that the whole lines of a stream tell of, how many lines those were, and the line that has

@@ -1,0 +1,162 @@
+-- What a configuration says: from the bytes of a TOML document to the port and the buses, or to the first fault.
+use Rattle.std.specs.Prelude.{ℕ, Bool, false, ◌||◌, if◌then◌else◌, List, [], ◌∷◌, Option, Some, None, Result, Ok, Err, pos, codes}
+use Rattle.std.specs.Str.{bytes_eq, is_utf8}
+use Rattle.toml.specs.Parse.{parse_document}
+use Rattle.toml.specs.Data.{Data, string, integer, array, table, Items, no_items, item, Members, get_member}
+use Rattle.srcp_rules.specs.Layout.{has_number, is_within, with_bus}
+use Rattle.srcp_rules.specs.declared.layout.Bus.{Bus}
+use Rattle.srcp_layout_file.specs.Faults.{field_key}
+use Rattle.srcp_layout_file.specs.Gives.{◌>>=◌}
+use Rattle.srcp_layout_file.specs.declared.config.Config.{Config}
+use Rattle.srcp_layout_file.specs.declared.config.ConfigFault.{ConfigFault}
+use Rattle.srcp_layout_file.specs.declared.config.ConfigFault.TheVariants as fault
+use Rattle.srcp_layout_file.specs.declared.config.Field.{Field}
+use Rattle.srcp_layout_file.specs.declared.config.Field.TheVariants as field
+use Rattle.srcp_layout_file.specs.declared.document.groups.Groups.{Groups}
+
+-- what may be read, or the first fault
+abbrev pub Reading : Type 0 → Type 0
+Reading A = Result A ConfigFault
+
+-- ---- values
+
+-- an integer from low to high
+abbrev pub ranged : (low high : ℕ) → Field → Data → Reading ℕ
+ranged low high of (integer (pos n)) = if is_within low high n then Ok n else Err (fault.OutOfRange of)
+ranged low high of other = Err (fault.OutOfRange of)
+
+-- the values of an array in their order
+abbrev pub list_of : Items → List Data
+list_of no_items = []
+list_of (item value values) = value ∷ list_of values
+
+-- the values of an array
+abbrev pub array_in : Field → Data → Reading (List Data)
+array_in of (array values) = Ok (list_of values)
+array_in of other = Err (fault.OutOfRange of)
+
+-- ---- keys
+
+-- a value that must be there
+abbrev pub required_in : Field → Option Data → Reading Data
+required_in of None = Err (fault.Missing of)
+required_in of (Some value) = Ok value
+
+-- the value at the key, which must be there
+abbrev pub required : Field → Members → Reading Data
+required of members = required_in of (get_member (field_key of) members)
+
+-- the integer, or the default where there is no value
+abbrev pub or_default : (default low high : ℕ) → Field → Option Data → Reading ℕ
+or_default default low high of None = Ok default
+or_default default low high of (Some value) = ranged low high of value
+
+-- the integer at the key, or the default where it is not given
+abbrev pub given_or : (default low high : ℕ) → Field → Members → Reading ℕ
+given_or default low high of members = or_default default low high of (get_member (field_key of) members)
+
+-- the integer at the key, which must be there
+abbrev pub number_in : (low high : ℕ) → Field → Members → Reading ℕ
+number_in low high of members = required of members >>= ranged low high of
+
+-- ---- groups
+
+-- the text is that name
+abbrev pub is_named : (name text : List ℕ) → Bool
+is_named name text = bytes_eq text name
+
+-- one of the four groups has that name
+abbrev pub is_group : List ℕ → Bool
+is_group text = is_named (codes "POWER") text
+    || (is_named (codes "GL") text || (is_named (codes "GA") text || is_named (codes "FB") text))
+
+-- the name of one of the four groups
+abbrev pub group_in : Data → Reading (List ℕ)
+group_in (string text) = if is_group text then Ok text else Err fault.UnknownGroup
+group_in other = Err (fault.OutOfRange field.Groups)
+
+-- none of the four groups
+abbrev pub no_groups : Groups
+no_groups = record { power = false; gl = false; ga = false; fb = false }
+
+-- the groups and the one of this name, which count once however often they are named
+abbrev pub with_group : Groups → List ℕ → Groups
+with_group groups text = record {
+  power = groups.power || is_named (codes "POWER") text;
+  gl = groups.gl || is_named (codes "GL") text;
+  ga = groups.ga || is_named (codes "GA") text;
+  fb = groups.fb || is_named (codes "FB") text;
+}
+
+-- the groups before, and these from left to right
+abbrev pub groups_in : Groups → List Data → Reading Groups
+groups_in before [] = Ok before
+groups_in before (value ∷ values) = do
+  text ← group_in value
+  groups_in (with_group before text) values
+
+-- what is read only where the bus has the group
+abbrev pub where_named : {A : Type 0} → Bool → (otherwise : A) → Reading A → Reading A
+where_named is_there otherwise reading = if is_there then reading else Ok otherwise
+
+-- ---- buses
+
+-- the number of a bus that is not there yet
+abbrev pub new_number : List Bus → ℕ → Reading ℕ
+new_number buses number = if has_number buses number then Err (fault.Twice number) else Ok number
+
+-- the number of a bus beside those before it
+abbrev pub number_beside : List Bus → Members → Reading ℕ
+number_beside before members = number_in 1 250 field.Number members >>= new_number before
+
+-- a bus beside those before it: its number, its groups, and what these need
+abbrev pub bus_of : List Bus → Members → Reading Bus
+bus_of before members = do
+  number ← number_beside before members
+  groups ← required field.Groups members >>= (λ value. array_in field.Groups value >>= groups_in no_groups)
+  gl_max ← where_named groups.gl 0 (number_in 1 10239 field.GlMax members)
+  ga_max ← where_named groups.ga 0 (number_in 1 2044 field.GaMax members)
+  ga_ports ← where_named groups.ga 2 (given_or 2 2 8 field.GaPorts members)
+  fb_ports ← where_named groups.fb 0 (number_in 1 4096 field.FbPorts members)
+  Ok (record {
+    number = number;
+    power = groups.power;
+    gl_max = gl_max;
+    ga_max = ga_max;
+    ga_ports = ga_ports;
+    fb_ports = fb_ports;
+  })
+
+-- a bus is a table
+abbrev pub bus_in : List Bus → Data → Reading Bus
+bus_in before (table members) = bus_of before members
+bus_in before other = Err (fault.OutOfRange field.Bus)
+
+-- the buses before, and these in the order of the document
+abbrev pub buses_in : List Bus → List Data → Reading (List Bus)
+buses_in before [] = Ok before
+buses_in before (value ∷ values) = do
+  bus ← bus_in before value
+  buses_in (with_bus bus before) values
+
+-- ---- documents
+
+-- what a document says
+abbrev pub config_in : Members → Reading Config
+config_in members = do
+  port ← given_or 4303 1 65535 field.Port members
+  buses ← required field.Bus members >>= (λ value. array_in field.Bus value >>= buses_in [])
+  Ok (record { port = port; layout = buses })
+
+-- the members of a document, where the bytes are one
+abbrev pub parsed : Option Members → Reading Members
+parsed None = Err fault.NotToml
+parsed (Some members) = Ok members
+
+-- the document that the bytes write
+abbrev pub document : List ℕ → Reading Members
+document bytes = if is_utf8 bytes then parsed (parse_document bytes) else Err fault.NotToml
+
+-- what the bytes of a configuration say
+abbrev pub config_of : List ℕ → Reading Config
+config_of bytes = document bytes >>= config_in

@@ -1,0 +1,4 @@
+pub mod Document
+pub mod Faults
+pub mod Gives
+pub mod Output

@@ -1,0 +1,126 @@
+//! A configuration, read from a TOML document.
+
+ghost use Rattle.std.specs.Prelude.{◌≡◌, ◌≤◌, [], false, map, IfOk};
+ghost use Rattle.toml.specs.View.{table_view, view as data_of};
+ghost use Rattle.srcp_rules.specs.Layout.{IsBus, has_number};
+ghost use Rattle.srcp_layout_file.specs.Gives.{Gives};
+ghost use Rattle.srcp_layout_file.specs.declared.config.Field.TheVariants as field;
+ghost use Rattle.srcp_layout_file.specs.Document.{config_of, config_in, buses_in, bus_in, bus_of, number_beside, given_or, where_named};
+
+mod groups;
+mod member;
+
+use crate::config::{Config, ConfigFault, Field};
+use groups::groups_in;
+use member::{array_in, given_or, number_in, number_where, required};
+use srcp_info::{GREATEST_FB, GREATEST_GA, GREATEST_GL};
+use srcp_rules::{Bus, Layout, LayoutFault};
+use std::alloc::Global;
+use toml::{Table, Value};
+
+/// What the bytes of a configuration say: a TOML document with a port and buses. Keys that are not
+/// named here are not read.
+///
+/// # Errors
+/// The first fault, in this order: the document (`NotToml`); the port; the buses; and then bus by bus
+/// in the order of the document its number, whether a bus before it has that number (`Twice`), its
+/// groups from left to right, and what these need: gl_max, ga_max, ga_ports, fb_ports. `Memory` where
+/// a growth was refused.
+pub fn read_layout(alloc: Global, bytes: &[u8]) -> Result<Config, ConfigFault>
+    ensures { Gives (λ config. config) ConfigFault.Memory result (config_of bytes.now) }
+{
+    match toml::table_from_slice(alloc, bytes) {
+        Ok(members) => read_document(alloc, &members),
+        Err(fault) if fault.is_memory() => Err(ConfigFault::Memory),
+        Err(_) => Err(ConfigFault::NotToml),
+    }
+}
+
+/// What a document says.
+fn read_document(alloc: Global, members: &Table) -> Result<Config, ConfigFault>
+    ensures { Gives (λ config. config) ConfigFault.Memory result (config_in (table_view members.now)) }
+{
+    let port = given_or(members, Field::Port, 4303, 1, 65535)?;
+    let buses = array_in(required(members, Field::Bus)?, Field::Bus)?;
+    let layout = read_buses(alloc, buses)?;
+    Ok(Config {
+        port: port as u16,
+        layout,
+    })
+}
+
+/// The buses, in the order of the document.
+fn read_buses(alloc: Global, values: &[Value]) -> Result<Layout, ConfigFault>
+    ensures { Gives (λ layout. layout) ConfigFault.Memory result (buses_in [] (map data_of values.now)) }
+{
+    let mut layout = Layout::new(alloc);
+    for value in values {
+        let bus = bus_in(&layout, value)?;
+        match layout.add(bus) {
+            Ok(()) => {}
+            Err(LayoutFault::Memory) => return Err(ConfigFault::Memory),
+            Err(LayoutFault::OutOfRange | LayoutFault::Twice) => unreachable!(),
+        }
+    }
+    Ok(layout)
+}
+
+/// A bus beside those before it.
+fn bus_in(before: &Layout, value: &Value) -> Result<Bus, ConfigFault>
+    ensures bus { result ≡ bus_in before.now (data_of value.now) }
+    ensures new { IfOk result (λ bus. IsBus bus × (has_number before.now bus.number ≡ false)) }
+{
+    match value.as_table() {
+        Some(members) => bus_of(before, members),
+        None => Err(ConfigFault::OutOfRange(Field::Bus)),
+    }
+}
+
+/// Its number, its groups, and what these need.
+fn bus_of(before: &Layout, members: &Table) -> Result<Bus, ConfigFault>
+    ensures bus { result ≡ bus_of before.now (table_view members.now) }
+    ensures new { IfOk result (λ bus. IsBus bus × (has_number before.now bus.number ≡ false)) }
+{
+    let number = number_beside(before, members)?;
+    let groups = groups_in(array_in(required(members, Field::Groups)?, Field::Groups)?)?;
+    let gl_max = number_where(groups.gl, members, Field::GlMax, 1, GREATEST_GL)?;
+    let ga_max = number_where(groups.ga, members, Field::GaMax, 1, GREATEST_GA)?;
+    let ga_ports = ports_where(groups.ga, members)?;
+    let fb_ports = number_where(groups.fb, members, Field::FbPorts, 1, GREATEST_FB)?;
+    Ok(Bus {
+        number,
+        power: groups.power,
+        gl_max,
+        ga_max,
+        ga_ports,
+        fb_ports,
+    })
+}
+
+/// The number of a bus that is not there yet.
+fn number_beside(before: &Layout, members: &Table) -> Result<u8, ConfigFault>
+    ensures number { result ≡ number_beside before.now (table_view members.now) }
+    ensures new { IfOk result (λ number.
+        (1 ≤ number) × (number ≤ 250) × (has_number before.now number ≡ false)) }
+{
+    let number = number_in(members, Field::Number, 1, 250)? as u8;
+    if before.bus(number).is_some() {
+        Err(ConfigFault::Twice(number))
+    } else {
+        Ok(number)
+    }
+}
+
+/// How many ports an accessory has, which is read only where the bus has accessories.
+fn ports_where(is_there: bool, members: &Table) -> Result<u8, ConfigFault>
+    ensures ports { result
+        ≡ where_named is_there 2 (given_or 2 2 8 field.GaPorts (table_view members.now)) }
+    ensures within { IfOk result (λ ports. (2 ≤ ports) × (ports ≤ 8)) }
+{
+    if is_there {
+        let ports = given_or(members, Field::GaPorts, 2, 2, 8)?;
+        Ok(ports as u8)
+    } else {
+        Ok(2)
+    }
+}

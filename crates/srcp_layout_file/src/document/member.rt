@@ -1,0 +1,104 @@
+//! A value of a table: whether it is there, and of the type and within the limits that its key asks for.
+
+ghost use Rattle.std.specs.Prelude.{◌≡◌, ◌≤◌, map, option_map, IfOk};
+ghost use Rattle.toml.specs.Data.{get_member};
+ghost use Rattle.toml.specs.View.{table_view, view as data_of};
+ghost use Rattle.srcp_layout_file.specs.Faults.{field_key};
+ghost use Rattle.srcp_layout_file.specs.Gives.{Shows};
+ghost use Rattle.srcp_layout_file.specs.Document.{ranged, array_in, required, given_or, number_in, where_named};
+
+use crate::config::{ConfigFault, Field};
+use crate::fault::key_of;
+use toml::{Table, Value};
+
+/// The value at the key.
+fn find_member(members: &Table, field: Field) -> Option<&Value>
+    ensures { option_map (λ value. data_of value.now) result
+        ≡ get_member (field_key field) (table_view members.now) }
+{
+    members.get(key_of(field))
+}
+
+/// The value at the key, which must be there.
+pub(super) fn required(members: &Table, field: Field) -> Result<&Value, ConfigFault>
+    ensures { Shows (λ value. data_of value.now) result (required field (table_view members.now)) }
+{
+    match find_member(members, field) {
+        Some(value) => Ok(value),
+        None => Err(ConfigFault::Missing(field)),
+    }
+}
+
+/// The values of an array.
+pub(super) fn array_in(value: &Value, field: Field) -> Result<&[Value], ConfigFault>
+    ensures { Shows (λ values. map data_of values.now) result (array_in field (data_of value.now)) }
+{
+    match value.as_array() {
+        Some(values) => Ok(values.as_slice()),
+        None => Err(ConfigFault::OutOfRange(field)),
+    }
+}
+
+/// An integer from low to high.
+fn ranged(value: &Value, field: Field, low: u32, high: u32) -> Result<u32, ConfigFault>
+    ensures value { result ≡ ranged low high field (data_of value.now) }
+    ensures within { IfOk result (λ n. (low ≤ n) × (n ≤ high)) }
+{
+    match value.as_integer() {
+        Some(n) => match u32::try_from(n) {
+            Ok(n) if low <= n && n <= high => Ok(n),
+            _ => Err(ConfigFault::OutOfRange(field)),
+        },
+        None => Err(ConfigFault::OutOfRange(field)),
+    }
+}
+
+/// The integer at the key, which must be there.
+pub(super) fn number_in(
+    members: &Table,
+    field: Field,
+    low: u32,
+    high: u32,
+) -> Result<u32, ConfigFault>
+    ensures value { result ≡ number_in low high field (table_view members.now) }
+    ensures within { IfOk result (λ n. (low ≤ n) × (n ≤ high)) }
+{
+    ranged(required(members, field)?, field, low, high)
+}
+
+/// The integer at the key, or the default where it is not given.
+pub(super) fn given_or(
+    members: &Table,
+    field: Field,
+    default: u32,
+    low: u32,
+    high: u32,
+) -> Result<u32, ConfigFault>
+    requires { (low ≤ default) × (default ≤ high) }
+    ensures value { result ≡ given_or default low high field (table_view members.now) }
+    ensures within { IfOk result (λ n. (low ≤ n) × (n ≤ high)) }
+{
+    match find_member(members, field) {
+        Some(value) => ranged(value, field, low, high),
+        None => Ok(default),
+    }
+}
+
+/// The integer at the key, which is read only where the bus has the group: 0 where it does not.
+pub(super) fn number_where(
+    is_there: bool,
+    members: &Table,
+    field: Field,
+    low: u32,
+    high: u32,
+) -> Result<u32, ConfigFault>
+    ensures value { result
+        ≡ where_named is_there 0 (number_in low high field (table_view members.now)) }
+    ensures within { IfOk result (λ n. n ≤ high) }
+{
+    if is_there {
+        number_in(members, field, low, high)
+    } else {
+        Ok(0)
+    }
+}

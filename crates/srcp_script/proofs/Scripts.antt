@@ -1,0 +1,38 @@
+-- A script line by line.
+use Rattle.std.proofs.Common.{◌≡◌, ℕ, ◌+◌, true, false, List, [], ◌∷◌, ◌++◌, refl, sym, ap, append_assoc}
+use Rattle.std.specs.Prelude.{Result, Ok, Err, filter, not}
+use Rattle.std.specs.List.{enumerate_from, slice_split}
+use Rattle.srcp_text.specs.Marks.{is_lf}
+use Rattle.srcp_core.specs.declared.event.Event.{Event}
+use Rattle.srcp_script.specs.Script.{◌>>=◌, script, is_skipped, event_of, events_in}
+use Rattle.srcp_script.specs.declared.script.Cause.{Cause}
+use Rattle.srcp_script.specs.declared.script.ScriptFault.{ScriptFault}
+
+-- these events, and then those
+abbrev pub behind_events : List Event → Result (List Event) ScriptFault → Result (List Event) ScriptFault
+behind_events events (Ok more) = Ok (events ++ more)
+behind_events events (Err fault) = Err fault
+
+-- what the lines of a text say that follow so many others
+abbrev pub events_from : (before : ℕ) → List (List ℕ) → Result (List Event) ScriptFault
+events_from before parts = events_in (filter (λ line. not (is_skipped line.1)) (enumerate_from (before + 1) parts))
+
+pub script-events_from : (bytes : List ℕ) → script bytes ≡ behind_events [] (events_from 0 (slice_split is_lf bytes))
+script-events_from bytes = same (events_from 0 (slice_split is_lf bytes))
+  where
+    same : (all : Result (List Event) ScriptFault) → all ≡ behind_events [] all
+    same (Ok events) = refl
+    same (Err fault) = refl
+
+pub line_skipped : (before : ℕ) (line : List ℕ) (lines : List (List ℕ)) → is_skipped line ≡ true → events_from before (line ∷ lines) ≡ events_from (before + 1) lines
+line_skipped before line lines skipped = rw skipped refl
+
+pub line_faulty : (before : ℕ) (line : List ℕ) (lines : List (List ℕ)) (events : List Event) (cause : Cause) → is_skipped line ≡ false → event_of line ≡ Err cause → behind_events events (events_from before (line ∷ lines)) ≡ Err (record { line = before + 1; cause = cause })
+line_faulty before line lines events cause counts wrong = rw (counts, wrong) refl
+
+pub line_read : (before : ℕ) (line : List ℕ) (lines : List (List ℕ)) (events : List Event) (event : Event) → is_skipped line ≡ false → event_of line ≡ Ok event → behind_events events (events_from before (line ∷ lines)) ≡ behind_events (events ++ event ∷ []) (events_from (before + 1) lines)
+line_read before line lines events event counts reads = rw (counts, reads) (pushed (events_from (before + 1) lines))
+  where
+    pushed : (more : Result (List Event) ScriptFault) → behind_events events (more >>= (λ rest. Ok (event ∷ rest))) ≡ behind_events (events ++ event ∷ []) more
+    pushed (Ok rest) = ap Ok (sym (append_assoc events (event ∷ []) rest))
+    pushed (Err fault) = refl

@@ -1,0 +1,90 @@
+//! The bytes that a text of a script writes.
+
+ghost use Rattle.std.specs.Prelude.{◌≡◌, ◌≢◌, ◌+◌, ◌*◌, ◌<◌, ◌∷◌, length, IfOk, IfErr, IfSome, MatchOption, Some, None};
+ghost use Rattle.std.specs.Char.{digit_value};
+ghost use Rattle.std.specs.Option.{SomeIff};
+ghost use Rattle.srcp_script.specs.Script.{unescaped, after};
+
+use crate::script::Cause;
+use std::alloc::Global;
+use std::vec::Vec;
+
+/// The bytes that a text writes: `\n`, `\r`, `\t`, `\\` and `\xHH` stand for one byte each, any other
+/// byte for itself.
+///
+/// # Errors
+/// `Escape` where a backslash is followed by something else, `Memory` where a growth was refused.
+pub(super) fn unescape(alloc: Global, text: &[u8]) -> Result<Vec<u8>, Cause>
+    ensures bytes { IfOk result (λ bytes. unescaped text.now ≡ Some bytes.items) }
+    ensures causes { IfErr result (λ cause. cause ≢ Cause.Memory → cause ≡ Cause.Escape) }
+    ensures refused { IfErr result (λ cause. cause ≢ Cause.Memory → unescaped text.now ≡ None) }
+{
+    let mut bytes = Vec::new(alloc);
+    let mut rest = text;
+    while !rest.is_empty() {
+        let (byte, behind) = first_byte(rest).ok_or(Cause::Escape)?;
+        bytes.push(byte).map_err(|_| Cause::Memory)?;
+        rest = behind;
+    }
+    Ok(bytes)
+}
+
+/// The first byte that a text writes and what stands behind it; None for a wrong escape.
+fn first_byte(text: &[u8]) -> Option<(u8, &[u8])>
+    requires { 0 < length text.now }
+    ensures first { MatchOption result (unescaped text.now ≡ None) (λ first.
+        unescaped text.now ≡ after first.0 (unescaped first.1.now)) }
+    ensures shorter { IfSome result (λ first. length first.1.now < length text.now) }
+{
+    let byte = text[0];
+    let behind = &text[1..];
+    if byte == b'\\' {
+        escaped_byte(behind)
+    } else {
+        Some((byte, behind))
+    }
+}
+
+/// The byte that a text behind a backslash writes, and what stands behind that.
+fn escaped_byte(text: &[u8]) -> Option<(u8, &[u8])>
+    ensures first { MatchOption result (unescaped (92 ∷ text.now) ≡ None) (λ first.
+        unescaped (92 ∷ text.now) ≡ after first.0 (unescaped first.1.now)) }
+    ensures shorter { IfSome result (λ first. length first.1.now < length text.now) }
+{
+    let [letter, behind @ ..] = text else {
+        return None;
+    };
+    match letter {
+        b'n' => Some((b'\n', behind)),
+        b'r' => Some((b'\r', behind)),
+        b't' => Some((b'\t', behind)),
+        b'\\' => Some((b'\\', behind)),
+        b'x' => hex_byte(behind),
+        _ => None,
+    }
+}
+
+/// The byte that two hexadecimal digits write, and what stands behind them.
+fn hex_byte(text: &[u8]) -> Option<(u8, &[u8])>
+    ensures first { MatchOption result (unescaped (92 ∷ 120 ∷ text.now) ≡ None) (λ first.
+        unescaped (92 ∷ 120 ∷ text.now) ≡ after first.0 (unescaped first.1.now)) }
+    ensures shorter { IfSome result (λ first. length first.1.now < length text.now) }
+{
+    if text.len() < 2 {
+        return None;
+    }
+    match byte_of_digits(text[0], text[1]) {
+        Some(byte) => Some((byte, &text[2..])),
+        None => None,
+    }
+}
+
+/// The byte that two hexadecimal digits of any case write.
+fn byte_of_digits(high: u8, low: u8) -> Option<u8>
+    ensures { SomeIff result ((digit_value high < 16) × (digit_value low < 16))
+        (digit_value high * 16 + digit_value low) }
+{
+    let high = char::from(high).to_digit(16)?;
+    let low = char::from(low).to_digit(16)?;
+    Some((high * 16 + low) as u8)
+}

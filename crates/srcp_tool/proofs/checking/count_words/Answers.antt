@@ -1,5 +1,0 @@
-use Rattle.std.proofs.Common.{rules, append-nil}
-use Rattle.srcp_tool.proofs.checking.count_words.Goals as goal
-
-pub returns : goal.returns
-returns c = simp append-nil (search rules)
