@@ -1,7 +1,7 @@
-//! One trial of what a refused growth leaves, for `tests/run_out_of_memory.py`. Standard input names the trial and says how many
-//! growths are made before it. `rt try --fail-alloc N` refuses the Nth growth of a program, so this says which growth of the
-//! trial is refused. What came of it is printed. The lines behind the first are the script of a listing, which prints its
-//! record before that. Without a name all trials that want no script are made, and each has to be granted.
+//! One trial of what is left if memory is refused, for `tests/run_out_of_memory.py`. Standard input names the trial and says how
+//! many growths are made before it. `rt try --fail-alloc N` refuses the Nth growth of a program, so this says which growth of
+//! the trial is refused. The program prints what came of it. The lines behind the first are the script of a listing, which
+//! prints its record before that. Without a name all trials that want no script are made, and each has to be granted.
 #![tactic(auto)]
 
 mod calls;

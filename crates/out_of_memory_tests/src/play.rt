@@ -62,7 +62,7 @@ const LOCK_TOLD: &[u8] = b"1.000 100 INFO 1 LOCK ";
 /// The reply to the SET of a lock.
 const LOCK_ACCEPTED: &[u8] = b"1.000 200 OK";
 
-/// How many lines were answered 500 in a run, and how many connections were refused for want of memory.
+/// Returns how many lines of a run were answered 500, and how many connections were refused memory.
 fn refusals(record: &Record) -> usize {
     let count = lines_like(record, b"0.000 500 ").saturating_add(lines_like(record, b"1.000 500 "));
     let refused = record.refused.as_slice();

@@ -21,7 +21,7 @@ use std::marker::Model;
 /// What the server says first: the welcome line of SRCP 0.8, with our own name and version.
 const WELCOME: &[u8] = b"srcp_server 1.0; SRCP 0.8.4; SRCPOTHER 0.8.3\n";
 
-/// What a connection is told of changes.
+/// Which changes a connection is told.
 #[derive(Drop)]
 pub(crate) enum Panel {
     /// Nothing: it has no information session.

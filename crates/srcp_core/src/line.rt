@@ -1,4 +1,4 @@
-//! What a line asks for, and what a recorded run is told of it.
+//! What a line asks for, and what a recorded run notes of it.
 ghost use Rattle.std.specs.Prelude.{◌≡◌, true, false, Some, None};
 
 use crate::handshake::Greeting;
@@ -23,7 +23,7 @@ pub(crate) enum Asked {
     },
 }
 
-/// What a recorded run is told of a line.
+/// What a recorded run notes of a line.
 #[derive(Clone, Copy)]
 pub(crate) struct LineRecord {
     /// Whether memory was given to the line; true where it asked for none.

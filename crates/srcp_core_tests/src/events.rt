@@ -31,7 +31,7 @@ pub(crate) fn begin(
     Ok(())
 }
 
-/// Whether the same is told of two connections.
+/// Returns whether a record says the same of two connections.
 pub(crate) fn is_same_connection(one: &ConnRecord, other: &ConnRecord) -> bool {
     one.session == other.session
         && one.info == other.info

@@ -37,7 +37,7 @@ fn assert_mirrored(
     Ok(())
 }
 
-/// Devices are made, a panel is told of them, and no growth is refused.
+/// Devices are made, a panel gets their rows, and no growth is refused.
 fn assert_granted(rt: &impl Abort, alloc: Global, core: &mut Core<'_, Flat>) -> Result<(), Fail> {
     let command = open_command(alloc, core)?;
     make_devices(rt, alloc, core, command)?;

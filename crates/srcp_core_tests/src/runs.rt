@@ -128,14 +128,14 @@ fn items_of_the_evening() -> [Item; 6] {
     ]
 }
 
-/// What is told of the panel.
+/// The record of the panel.
 fn assert_panel(rt: &impl Abort, panel: &ConnRecord) {
     assert_eq!(rt; (panel.session, panel.info, panel.go_step), (1, true, 1));
     assert_eq!(rt; panel.items.as_slice(), items_of_the_evening().as_slice());
     assert_eq!(rt; panel.sent.as_slice(), PANEL_SENT);
 }
 
-/// What is told of the command session.
+/// The record of the command session.
 fn assert_command(rt: &impl Abort, command: &ConnRecord) {
     assert_eq!(rt;
         (command.session, command.info, command.go_step),
@@ -145,7 +145,7 @@ fn assert_command(rt: &impl Abort, command: &ConnRecord) {
     assert_eq!(rt; command.sent.as_slice(), COMMAND_SENT);
 }
 
-/// What is told of both.
+/// The records of both.
 fn assert_sessions(rt: &impl Abort, record: &Record) -> Result<(), Fail> {
     let [panel, command] = record.connections.as_slice() else {
         return Err(Fail::from("not two connections"));

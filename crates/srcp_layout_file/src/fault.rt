@@ -1,4 +1,4 @@
-//! What is told of a configuration that is refused.
+//! The texts of the faults of a configuration.
 
 ghost use Rattle.std.specs.Prelude.{◌≡◌, Some};
 ghost use Rattle.srcp_layout_file.specs.Faults.{config_text, field_key};

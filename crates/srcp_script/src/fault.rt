@@ -1,4 +1,4 @@
-//! What is told of a script that is refused.
+//! The texts of the faults of a script.
 
 ghost use Rattle.std.specs.Prelude.{Some};
 ghost use Rattle.srcp_script.specs.Faults.{script_text};

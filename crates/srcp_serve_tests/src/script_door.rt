@@ -104,7 +104,7 @@ impl<'a> ScriptDoor<'a> {
         Ok(())
     }
 
-    /// What the peer that came in this place was written; nothing where none did.
+    /// Returns what was written to the peer of this place, and no bytes if it has none.
     pub(crate) fn written(&self, place: usize) -> &[u8] {
         match self.peers.get(place) {
             Some(peer) => peer.written.as_slice(),

@@ -45,7 +45,7 @@ fn serve_and_run(
     Ok((served, told))
 }
 
-/// What a connection of a run was sent; nothing where there is no such connection.
+/// Returns what a connection of a run was sent, and no bytes if there is no such connection.
 fn sent(told: &Record, place: usize) -> &[u8] {
     match told.connections.as_slice().get(place) {
         Some(conn) => conn.sent.as_slice(),
