@@ -27,18 +27,22 @@ impl From<Memory> for RunFault {
     }
 }
 
-/// Carries out the events over the registry of the layout, from moment 0 on and with session ids from 1 on, and tells
-/// what came of them. An event that is refused changes nothing, and the run goes on. Of every run there is what memory
-/// answered in each event (`grants`), with which the record is that of the course of the events (`is`). Then, of each
-/// information session, however its writes were cut: on a still registry it was sent its listing, each device that was
-/// there all the time is listed exactly once, and a client that applies all lines holds the registry once it is settled
-/// (`sessions`). Every other connection was sent its replies alone, rooms add up, and nothing is sent after an overrun
-/// (`connections`). The registry stayed whole (`registry`). The record counts exactly the answers that refused (`counted`),
-/// each of which was asked for (`asked`). Where it counts none, memory gave in each event (`given`), and the course is the
-/// one with ample memory (`laws::ample_memory`).
+/// Carries out the events over the registry of the layout, from moment 0 on and with session ids from 1 on, and returns what
+/// came of them. An event that is refused changes nothing, and the run goes on.
+///
+/// `promised` says of every run that there is what memory answered in each event (`grants`), and of the events under it:
+/// - The record is that of their course (`is`).
+/// - Each information session was told rightly, however its writes were cut (`sessions`). On a still registry it was sent its
+///   listing, each device that was there all the time is listed exactly once, and a client that applies all lines holds the
+///   registry once it is settled.
+/// - Each connection was served rightly (`connections`). One that is no information session was sent its replies alone, rooms
+///   add up, and nothing was sent after an overrun.
+/// - The registry stayed whole (`registry`).
+/// - The record counts exactly the answers that refused (`counted`), each of which was asked for (`asked`). If it counts none,
+///   memory gave in each event (`given`), and the course is the one with ample memory (`laws::ample_memory`).
 ///
 /// # Errors
-/// `Memory` where memory was refused to the core when it was made, or to the record.
+/// `Memory` if memory was refused to the core when it was made, or to the record.
 pub fn run<R: Rows>(alloc: Global, layout: &Layout, events: &[Event]) -> Result<Record, RunFault>
     ensures well_formed { IfOk result (λ run. AllByRecursion (λ row. IsWellFormedShown row.shown) run.rows) }
     ensures promised { IfOk result (λ run. IsPromised layout.now events.now run) }

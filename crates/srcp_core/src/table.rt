@@ -65,10 +65,12 @@ impl<'a, R: Rows> Model for Core<'a, R> {
 }
 
 impl<'a, R: Rows> Core<'a, R> {
-    /// The registry of the layout as it begins, at a moment in milliseconds, and no connection. Each bus with power
-    /// has it off and each feedback port is 0 from the start, stamped with that moment. `last_id` is the session id
-    /// that was used last, 0 where none was. It takes the memory of the registry and of 64 places; `Memory` where
-    /// that is refused. Its law is `first` of `laws::calls_follow`.
+    /// Returns a core with the registry of the layout as it begins, at a moment in milliseconds, and with no connection. Each
+    /// bus with power has it off and each feedback port is 0, stamped with that moment. `last_id` is the session id that was
+    /// used last, or 0. Its law is `first` of `laws::calls_follow`.
+    ///
+    /// # Errors
+    /// `Memory` if memory is refused to the registry or to the 64 places of connections.
     pub fn new(
         alloc: Global,
         layout: &'a Layout,
@@ -93,10 +95,12 @@ impl<'a, R: Rows> Core<'a, R> {
         })
     }
 
-    /// Opens a connection, and returns its key. The memory of its reply buffer is taken whole, before
-    /// anything changes. The welcome line, which is of SRCP 0.8, stands in it. Fails with `Full` if 64 connections are
-    /// open, and with `Memory` if memory is refused, which is counted. Either leaves all else as it
-    /// is. Its laws are `opened`, `not_opened`, `accepts`, `refuses`, `named` and `counted` of `laws::calls_follow`.
+    /// Opens a connection, and returns its key. Its reply buffer holds the welcome line, which is of SRCP 0.8, and takes all
+    /// its memory before anything changes. Its laws are `opened`, `not_opened`, `accepts`, `refuses`, `named` and `counted` of
+    /// `laws::calls_follow`.
+    ///
+    /// # Errors
+    /// `Full` if 64 connections are open, and `Memory` if memory is refused, which is counted. All else stays as it is.
     pub fn connect(&mut self) -> Result<usize, CoreFault>
         ensures admitted { IfOk result (λ key. IsAdmitted key self.old self.new) }
         ensures refused { IfErr result (λ fault. IsNotAdmitted fault self.old self.new) }
@@ -113,7 +117,7 @@ impl<'a, R: Rows> Core<'a, R> {
         }
     }
 
-    /// Whether `receive` would take a piece of at most 256 bytes: the connection is there, goes on and has nothing
+    /// Returns whether `receive` would take a piece of at most 256 bytes: the connection is there, goes on and has nothing
     /// unsent. Its laws are `bytes` and `takes` of `laws::calls_follow`.
     pub fn ready(&self, conn: usize) -> bool
         ensures { result ≡ is_none (bytes_fault conn [] self.now) }
@@ -124,8 +128,8 @@ impl<'a, R: Rows> Core<'a, R> {
         }
     }
 
-    /// Whether the connection is to be closed: it overran, or its session ended by its own command and all replies
-    /// are taken. False where there is no such connection. Its law is `closes` of `laws::calls_follow`.
+    /// Returns whether the connection is to be closed: it overran, or its session ended by its own command and all replies
+    /// are taken. False if there is no such connection. Its law is `closes` of `laws::calls_follow`.
     pub fn closing(&self, conn: usize) -> bool
         ensures { result ≡ is_last (finish_at conn self.now) }
     {

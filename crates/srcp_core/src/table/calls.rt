@@ -9,9 +9,8 @@ use crate::record::CoreFault;
 use srcp_rules::Rows;
 
 impl<'a, R: Rows> Core<'a, R> {
-    /// Takes the moment, in milliseconds, where it is not before the one taken last, and carries out every row that
-    /// is due then, in key order: accessories fall back and locks end, as SRCP 0.8 has it. An earlier moment counts as the
-    /// last one. Its law is `moment` of `laws::calls_follow`.
+    /// Takes the moment, in milliseconds, and carries out every row that is due then, in key order: accessories fall back
+    /// and locks end, as SRCP 0.8 has it. A moment before the last one counts as that. Its law is `moment` of `laws::calls_follow`.
     pub fn advance(&mut self, moment: u64)
         ensures { self.new ≡ advanced moment self.old }
     {
@@ -19,10 +18,12 @@ impl<'a, R: Rows> Core<'a, R> {
         carry_out_due(&mut self.rows, &mut self.connections, self.moment);
     }
 
-    /// Takes a connection out; then its session ends, where it has one that did not end: its locks are taken out in
-    /// key order, and its own row. That locks end with their session is of SRCP 0.8. Fails with `NoSuch` if there is no
-    /// such connection, and then nothing changes. Its laws are `shut`, `shuts` and `there` of
+    /// Takes a connection out. Its session then ends, if it has one that did not end: its locks are taken out in key order,
+    /// and then its own row. That locks end with their session is of SRCP 0.8. Its laws are `shut`, `shuts` and `there` of
     /// `laws::calls_follow`.
+    ///
+    /// # Errors
+    /// `NoSuch` if there is no such connection, and then nothing changes.
     pub fn hangup(&mut self, conn: usize) -> Result<(), CoreFault>
         ensures absent { MatchResult result (λ _. IsSome (at self.old conn)) (λ fault. (fault ≡ CoreFault.NoSuch) × (at self.old conn ≡ None)) }
         ensures core { self.new ≡ hung_up conn self.old }

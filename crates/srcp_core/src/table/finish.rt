@@ -22,21 +22,21 @@ impl<'a, R: Rows> Core<'a, R> {
         self.denied
     }
 
-    /// The moment that was taken last, in milliseconds.
+    /// Returns the moment that was taken last, in milliseconds.
     pub(crate) fn moment(&self) -> u64
         ensures { result ≡ self.now.moment }
     {
         self.moment
     }
 
-    /// The session of a connection, where it has one that did not end.
+    /// Returns the session of a connection, if it has one that did not end.
     pub(crate) fn live_session(&self, conn: usize) -> Option<u32>
         ensures { result ≡ live_session conn self.now }
     {
         self.connections.get(conn)?.live_session()
     }
 
-    /// How a connection stands. `Shut` where there is none of that key.
+    /// Returns how a connection stands: `Shut` if there is none of that key.
     pub(crate) fn finish(&self, conn: usize) -> Finish
         ensures { result ≡ finish_at conn self.now }
     {
@@ -48,7 +48,7 @@ impl<'a, R: Rows> Core<'a, R> {
         }
     }
 
-    /// All rows, in key order.
+    /// Returns all rows, in key order.
     pub(crate) fn rows(&self, alloc: Global) -> Result<RowList, Memory>
         ensures rows { IfOk result (λ rows. rows ≡ self.now.rows) }
         ensures well_formed { IfOk result (AllByRecursion (λ row. IsWellFormedShown row.shown)) }
@@ -57,7 +57,7 @@ impl<'a, R: Rows> Core<'a, R> {
     }
 }
 
-/// All rows of a keeper, in key order.
+/// Returns all rows of a keeper, in key order.
 fn all_rows<R: Rows>(alloc: Global, rows: &R) -> Result<RowList, Memory>
     requires { IsRising (R.state rows.now) }
     ensures { IfOk result (λ told. told ≡ R.state rows.now) }

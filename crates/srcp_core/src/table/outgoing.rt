@@ -13,10 +13,12 @@ impl<'a, R: Rows> Core<'a, R> {
     ghost use Rattle.std.specs.Borrow.{sem};
     ghost use Rattle.srcp_core.specs.Lending.{EndsAs};
 
-    /// Lends the bytes that are to be sent of a connection, from its own buffer and with no copy. Where an
-    /// information session's buffer is empty, its next line is put in first, which has at most 126 bytes. `NoSuch`
-    /// where there is no such connection, and then nothing changes. Its laws are `lent`, `lends`, `lends_none` and
-    /// `there` of `laws::calls_follow`.
+    /// Lends the bytes that are to be sent of a connection, from its own buffer and without a copy. If an information
+    /// session's buffer is empty, its next line is put in first, which has at most 126 bytes. Its laws are `lent`, `lends`,
+    /// `lends_none` and `there` of `laws::calls_follow`.
+    ///
+    /// # Errors
+    /// `NoSuch` if there is no such connection, and then nothing changes.
     pub fn outgoing(&mut self, conn: usize) -> Result<&[u8], CoreFault>
         ensures* ends { sem 𝓛 (EndsAs R.row R.Rows self.entry (let_out conn self.old)) }
         ensures absent { MatchResult result (λ _. IsSome (at self.old conn)) (λ fault. (fault ≡ CoreFault.NoSuch) × (at self.old conn ≡ None)) }
@@ -27,7 +29,7 @@ impl<'a, R: Rows> Core<'a, R> {
         self.unsent(conn)
     }
 
-    /// Puts in the next line of an information session, where nothing is unsent, and answers what that is.
+    /// Puts in the next line of an information session, if nothing is unsent, and returns what that is.
     pub(crate) fn fill(&mut self, conn: usize) -> Result<Option<Next>, CoreFault>
         ensures absent { IsErr result ↔ (at self.old conn ≡ None) }
         ensures fault { IfErr result (λ fault. fault ≡ CoreFault.NoSuch) }
@@ -41,7 +43,7 @@ impl<'a, R: Rows> Core<'a, R> {
         Ok(connection.fill(&self.rows))
     }
 
-    /// The bytes that are to be sent of a connection.
+    /// Returns the bytes that are to be sent of a connection.
     pub(crate) fn unsent(&self, conn: usize) -> Result<&[u8], CoreFault>
         ensures absent { IsErr result ↔ (at self.now conn ≡ None) }
         ensures fault { IfErr result (λ fault. fault ≡ CoreFault.NoSuch) }
@@ -53,8 +55,8 @@ impl<'a, R: Rows> Core<'a, R> {
         }
     }
 
-    /// Drops so many of the bytes that are to be sent of a connection, which were sent. The connection is there, and
-    /// no more bytes than it lends. Its laws are `sent`, `none_sent` and `lent_and_sent` of `laws::calls_follow`.
+    /// Drops so many of the bytes that are to be sent of a connection, since they were sent. The connection has to be
+    /// there, and to lend no fewer bytes. Its laws are `sent`, `none_sent` and `lent_and_sent` of `laws::calls_follow`.
     pub fn sent(&mut self, conn: usize, count: usize)
         requires open { IsSome (at self.old conn) }
         requires unsent { count ≤ length (unsent_at conn self.old) }

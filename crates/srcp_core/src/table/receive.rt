@@ -10,12 +10,13 @@ use crate::record::CoreFault;
 use srcp_rules::Rows;
 
 impl<'a, R: Rows> Core<'a, R> {
-    /// Takes bytes that came in on a connection, of any line's front, middle or end, and answers each line that ends
-    /// in them: before the session by the handshake of SRCP 0.8, after it by its commands. Lines to an information
-    /// session are dropped. Fails with the first of these that applies, and then nothing changes: `NoSuch` if there is
-    /// no such connection, `Closing` if it ended or overran, `Busy` while bytes of it are unsent, `PieceTooLong` for more
-    /// than 256 bytes. Its laws are
-    /// `accepted`, `refused`, `bytes` and `takes` of `laws::calls_follow`.
+    /// Takes bytes that came in on a connection, of any part of a line, and answers each line that ends in them: before
+    /// the session by the handshake of SRCP 0.8, and after that by its commands. Lines to an information session are
+    /// dropped. Its laws are `accepted`, `refused`, `bytes` and `takes` of `laws::calls_follow`.
+    ///
+    /// # Errors
+    /// The first of these that applies, and then nothing changes: `NoSuch` if there is no such connection, `Closing` if it
+    /// ended or overran, `Busy` while bytes of it are unsent, `PieceTooLong` for more than 256 bytes.
     pub fn receive(&mut self, conn: usize, piece: &[u8]) -> Result<(), CoreFault>
         ensures fault { MatchResult result (λ _. bytes_fault conn piece.now self.old ≡ None) (λ fault. bytes_fault conn piece.now self.old ≡ Some fault) }
         ensures refused { OnErr result (self.new ≡ self.old) }
@@ -28,7 +29,7 @@ impl<'a, R: Rows> Core<'a, R> {
         Ok(())
     }
 
-    /// Why bytes are refused, the first cause.
+    /// Returns why bytes are refused: the first cause.
     pub(crate) fn bytes_fault(&self, conn: usize, piece: &[u8]) -> Option<CoreFault>
         ensures { result ≡ bytes_fault conn piece.now self.now }
     {
@@ -59,7 +60,7 @@ impl<'a, R: Rows> Core<'a, R> {
         }
     }
 
-    /// Reads the piece on from `start` and answers its next line: the offset after that, and what came of it.
+    /// Reads the piece on from `start` and answers its next line. Returns the offset after that line, and what came of it.
     pub(crate) fn answer_line(
         &mut self,
         conn: usize,
@@ -75,7 +76,7 @@ impl<'a, R: Rows> Core<'a, R> {
         Some((stop, self.answer(conn, asked)))
     }
 
-    /// Reads the piece on from `start`: what its next line asks for, and the offset after it.
+    /// Reads the piece on from `start`. Returns the offset after its next line, and what that line asks for.
     fn hear(&mut self, conn: usize, piece: &[u8], start: usize) -> Option<(usize, Asked)>
         requires { start ≤ length piece.now }
         ensures heard { (result, self.new) ≡ heard_at conn piece.now start self.old }
