@@ -31,13 +31,14 @@ struct Outcome {
 impl<'a, R: Rows> Core<'a, R> {
     /// Answers what a line asks for.
     pub(super) fn answer(&mut self, conn: usize, asked: Asked) -> LineRecord
-        requires sound { IsSound self.old }
         requires asked { IsAsked conn asked self.old }
         requires room { length (unsent_at conn self.old) + longest_answer asked ≤ MOST_UNSENT }
         ensures core { self.new ≡ answered result.granted conn asked self.old }
         ensures steps { steps_in result ≡ steps_answered result.granted asked self.old }
         ensures counted { self.new.denied ≡ denied_by self.old.denied (result.granted ∷ []) }
     {
+        // Used for the invariant of the type, which says that the core is sound.
+        let _ = &self.layout;
         match asked {
             Asked::Dropped => LineRecord::nothing(),
             Asked::Greets { mode, greeting } => self.greet(conn, mode, greeting),
