@@ -16,7 +16,7 @@ use crate::limits::MOST_CONNECTIONS;
 use crate::quiet::Timed;
 use crate::record::{CoreFault, Finish};
 use slab::Slab;
-use srcp_rules::{Layout, Memory, Rows};
+use srcp_rules::{Layout, Memory, Obeyed, Rows};
 use std::alloc::Global;
 use std::marker::Model;
 
@@ -50,6 +50,8 @@ pub struct Core<'a, R: Rows> {
     last_id: u32,
     connections: Slab<Connection>,
     denied: u64,
+    /// What came of the last command, kept so that its room is made once.
+    obeyed: Obeyed,
 }
 
 impl<'a, R: Rows> Model for Core<'a, R> {
@@ -92,6 +94,7 @@ impl<'a, R: Rows> Core<'a, R> {
             last_id,
             connections,
             denied: 0,
+            obeyed: Obeyed::new(),
         })
     }
 

@@ -14,97 +14,110 @@ use crate::command::{Command, Lockable, Named, Sender};
 use crate::device::{
     BusAddress, device_in, fb_device, key_at, lock_on, power_device, session_device,
 };
-use crate::drive::{gl_refusal, set_ga, set_gl};
-use crate::fresh::{init_ga, init_gl};
+use crate::drive::{Drive, gl_refusal, set_ga, set_gl};
+use crate::fresh::{Decoder, init_ga, init_gl};
 use crate::init::term_device;
 use crate::lock::{checked, refusal, set_lock, term_lock};
 use crate::obeyed::{MOST_CHANGES, Obeyed};
 use crate::registry::{set_one, show};
 use crate::rows::Rows;
-use arrayvec::ArrayVec;
-use srcp_info::{Code, Reply, Text, Value};
+use srcp_info::{Code, Text, Value};
 
 /// TERM of a session, which ends itself alone.
-fn end_session(session: u32, named: Option<u32>) -> Obeyed
-    ensures { IsTold (term_session session named) result }
+fn end_session(session: u32, named: Option<u32>, obeyed: &mut Obeyed)
+    requires { IsTold (accepted []) obeyed.old }
+    ensures { IsTold (term_session session named) obeyed.new }
 {
     match named {
-        Some(id) if id != session => Obeyed::refused(Code::FORBIDDEN),
-        _ => Obeyed::replied(Reply::Accepted, true),
+        Some(id) if id != session => obeyed.refuse(Code::FORBIDDEN),
+        _ => obeyed.ends = true,
     }
 }
 
 /// SET of the power of a bus.
-fn set_power<R: Rows>(rows: &mut R, sender: Sender, bus: u8, on: bool, text: Text) -> Obeyed
-    requires { MayObey (R.buses rows.old) (R.state rows.old) sender.session (Command.SetPower bus on text) }
-    ensures took { Took (accepted (put_at sender.moment (first_key (power_device bus)) (value.Power on text) None ∷ [])) (R.state rows.old) (R.state rows.new) result }
+fn set_power<R: Rows>(
+    rows: &mut R,
+    sender: Sender,
+    bus: u8,
+    on: bool,
+    text: Text,
+    obeyed: &mut Obeyed,
+)
+    requires blank { IsTold (accepted []) obeyed.old }
+    requires may { MayObey (R.buses rows.old) (R.state rows.old) sender.session (Command.SetPower bus on text) }
+    ensures took { Took (accepted (put_at sender.moment (first_key (power_device bus)) (value.Power on text) None ∷ [])) (R.state rows.old) (R.state rows.new) obeyed.new }
     ensures layout { R.buses rows.new ≡ R.buses rows.old }
 {
     let key = power_device(bus).first_key();
-    set_one(rows, sender.moment, key, Value::Power { on, text }, None)
+    set_one(
+        rows,
+        sender.moment,
+        key,
+        Value::Power { on, text },
+        None,
+        obeyed,
+    );
 }
 
 /// SET of a feedback port.
-fn set_fb<R: Rows>(rows: &mut R, sender: Sender, bus: u8, port: u32, on: bool) -> Obeyed
-    requires { MayObey (R.buses rows.old) (R.state rows.old) sender.session (Command.SetFb bus port on) }
-    ensures took { Took (accepted (put_at sender.moment (first_key (fb_device bus port)) (value.Fb on) None ∷ [])) (R.state rows.old) (R.state rows.new) result }
+fn set_fb<R: Rows>(rows: &mut R, sender: Sender, bus: u8, port: u32, on: bool, obeyed: &mut Obeyed)
+    requires blank { IsTold (accepted []) obeyed.old }
+    requires may { MayObey (R.buses rows.old) (R.state rows.old) sender.session (Command.SetFb bus port on) }
+    ensures took { Took (accepted (put_at sender.moment (first_key (fb_device bus port)) (value.Fb on) None ∷ [])) (R.state rows.old) (R.state rows.new) obeyed.new }
     ensures layout { R.buses rows.new ≡ R.buses rows.old }
 {
     let key = fb_device(bus, port).first_key();
-    set_one(rows, sender.moment, key, Value::Fb { on }, None)
-}
-
-/// What a command that changes nothing answers.
-fn accepted() -> Obeyed
-    ensures { IsTold (accepted []) result }
-{
-    Obeyed::accepted(ArrayVec::new())
+    set_one(rows, sender.moment, key, Value::Fb { on }, None, obeyed);
 }
 
 /// Answers a command of a session.
-fn answer_session<R: Rows>(rows: &R, session: u32, command: &Command) -> Obeyed
-    requires { named_of command.now ≡ named.Session }
-    ensures { (moment : ℕ) → IsObeyed (R.state rows.now) (R.state rows.now) session moment command.now result }
+fn answer_session<R: Rows>(rows: &R, session: u32, command: &Command, obeyed: &mut Obeyed)
+    requires named { named_of command.now ≡ named.Session }
+    requires blank { IsTold (accepted []) obeyed.old }
+    ensures { (moment : ℕ) → IsObeyed (R.state rows.now) (R.state rows.now) session moment command.now obeyed.new }
 {
     match *command {
-        Command::GetSession { session: id } => show(rows, &session_device(id).first_key()),
-        Command::TermSession { session: named } => end_session(session, named),
+        Command::GetSession { session: id } => show(rows, &session_device(id).first_key(), obeyed),
+        Command::TermSession { session: named } => end_session(session, named, obeyed),
         _ => unreachable!(),
     }
 }
 
 /// Answers a command of the power of a bus.
-fn answer_power<R: Rows>(rows: &mut R, sender: Sender, command: &Command) -> Obeyed
+fn answer_power<R: Rows>(rows: &mut R, sender: Sender, command: &Command, obeyed: &mut Obeyed)
+    requires blank { IsTold (accepted []) obeyed.old }
     requires may { MayObey (R.buses rows.old) (R.state rows.old) sender.session command.now }
     requires named { named_of command.now ≡ named.Power }
-    ensures obeyed { IsObeyed (R.state rows.old) (R.state rows.new) sender.session sender.moment command.now result }
+    ensures obeyed { IsObeyed (R.state rows.old) (R.state rows.new) sender.session sender.moment command.now obeyed.new }
     ensures layout { R.buses rows.new ≡ R.buses rows.old }
 {
     match *command {
-        Command::GetPower { bus } => show(rows, &power_device(bus).first_key()),
-        Command::SetPower { bus, on, text } => set_power(rows, sender, bus, on, text),
-        Command::CheckPower { .. } => accepted(),
-        Command::InitPower { .. } => accepted(),
+        Command::GetPower { bus } => show(rows, &power_device(bus).first_key(), obeyed),
+        Command::SetPower { bus, on, text } => set_power(rows, sender, bus, on, text, obeyed),
+        Command::CheckPower { .. } => {}
+        Command::InitPower { .. } => {}
         _ => unreachable!(),
     }
 }
 
 /// GET of a locomotive: its state.
-fn show_gl<R: Rows>(rows: &R, place: BusAddress) -> Obeyed
-    ensures { Took (shown_at (key_at (device_in lockable.Gl place.bus place.address) 1) (R.state rows.now)) (R.state rows.now) (R.state rows.now) result }
+fn show_gl<R: Rows>(rows: &R, place: BusAddress, obeyed: &mut Obeyed)
+    requires { IsTold (accepted []) obeyed.old }
+    ensures { Took (shown_at (key_at (device_in lockable.Gl place.bus place.address) 1) (R.state rows.now)) (R.state rows.now) (R.state rows.now) obeyed.new }
 {
-    show(rows, &key_at(device_in(Lockable::Gl, place), 1))
+    show(rows, &key_at(device_in(Lockable::Gl, place), 1), obeyed);
 }
 
 /// Answers a command of a locomotive.
-fn answer_gl<R: Rows>(rows: &mut R, sender: Sender, command: &Command) -> Obeyed
+fn answer_gl<R: Rows>(rows: &mut R, sender: Sender, command: &Command, obeyed: &mut Obeyed)
+    requires blank { IsTold (accepted []) obeyed.old }
     requires may { MayObey (R.buses rows.old) (R.state rows.old) sender.session command.now }
     requires named { named_of command.now ≡ named.Gl }
-    ensures obeyed { IsObeyed (R.state rows.old) (R.state rows.new) sender.session sender.moment command.now result }
+    ensures obeyed { IsObeyed (R.state rows.old) (R.state rows.new) sender.session sender.moment command.now obeyed.new }
     ensures layout { R.buses rows.new ≡ R.buses rows.old }
 {
     match *command {
-        Command::GetGl { bus, address } => show_gl(rows, BusAddress { bus, address }),
+        Command::GetGl { bus, address } => show_gl(rows, BusAddress { bus, address }, obeyed),
         Command::SetGl {
             bus,
             address,
@@ -114,7 +127,8 @@ fn answer_gl<R: Rows>(rows: &mut R, sender: Sender, command: &Command) -> Obeyed
             functions,
         } => {
             let place = BusAddress { bus, address };
-            set_gl(rows, sender, place, mode, v, vmax, &functions)
+            let drive = Drive { mode, v, vmax };
+            set_gl(rows, sender, place, drive, &functions, obeyed)
         }
         Command::CheckGl {
             bus,
@@ -123,7 +137,7 @@ fn answer_gl<R: Rows>(rows: &mut R, sender: Sender, command: &Command) -> Obeyed
             ..
         } => {
             let place = BusAddress { bus, address };
-            checked(gl_refusal(rows, sender.session, place, &functions))
+            checked(gl_refusal(rows, sender.session, place, &functions), obeyed)
         }
         Command::InitGl {
             bus,
@@ -134,26 +148,37 @@ fn answer_gl<R: Rows>(rows: &mut R, sender: Sender, command: &Command) -> Obeyed
             functions,
         } => {
             let place = BusAddress { bus, address };
-            init_gl(rows, sender, place, letter, version, steps, functions)
+            let decoder = Decoder {
+                letter,
+                version,
+                steps,
+            };
+            init_gl(rows, sender, place, decoder, functions, obeyed)
         }
         Command::TermGl { bus, address } => {
-            term_device(rows, sender, Lockable::Gl, BusAddress { bus, address })
+            let place = BusAddress { bus, address };
+            term_device(rows, sender, Lockable::Gl, place, obeyed)
         }
         _ => unreachable!(),
     }
 }
 
 /// Answers a command of an accessory.
-fn answer_ga<R: Rows>(rows: &mut R, sender: Sender, command: &Command) -> Obeyed
+fn answer_ga<R: Rows>(rows: &mut R, sender: Sender, command: &Command, obeyed: &mut Obeyed)
+    requires blank { IsTold (accepted []) obeyed.old }
     requires may { MayObey (R.buses rows.old) (R.state rows.old) sender.session command.now }
     requires named { named_of command.now ≡ named.Ga }
-    ensures obeyed { IsObeyed (R.state rows.old) (R.state rows.new) sender.session sender.moment command.now result }
+    ensures obeyed { IsObeyed (R.state rows.old) (R.state rows.new) sender.session sender.moment command.now obeyed.new }
     ensures layout { R.buses rows.new ≡ R.buses rows.old }
 {
     match *command {
         Command::GetGa { bus, address, port } => {
             let place = BusAddress { bus, address };
-            show(rows, &key_at(device_in(Lockable::Ga, place), 1 + port))
+            show(
+                rows,
+                &key_at(device_in(Lockable::Ga, place), 1 + port),
+                obeyed,
+            )
         }
         Command::SetGa {
             bus,
@@ -161,45 +186,63 @@ fn answer_ga<R: Rows>(rows: &mut R, sender: Sender, command: &Command) -> Obeyed
             port,
             on,
             time,
-        } => set_ga(rows, sender, BusAddress { bus, address }, port, on, time),
+        } => set_ga(
+            rows,
+            sender,
+            BusAddress { bus, address },
+            port,
+            on,
+            time,
+            obeyed,
+        ),
         Command::CheckGa { bus, address, .. } => {
             let place = BusAddress { bus, address };
-            checked(refusal(rows, sender.session, Lockable::Ga, place))
+            checked(refusal(rows, sender.session, Lockable::Ga, place), obeyed)
         }
         Command::InitGa {
             bus,
             address,
             letter,
             ports,
-        } => init_ga(rows, sender, BusAddress { bus, address }, letter, ports),
+        } => init_ga(
+            rows,
+            sender,
+            BusAddress { bus, address },
+            letter,
+            ports,
+            obeyed,
+        ),
         Command::TermGa { bus, address } => {
-            term_device(rows, sender, Lockable::Ga, BusAddress { bus, address })
+            let place = BusAddress { bus, address };
+            term_device(rows, sender, Lockable::Ga, place, obeyed)
         }
         _ => unreachable!(),
     }
 }
 
 /// Answers a command of a feedback port.
-fn answer_fb<R: Rows>(rows: &mut R, sender: Sender, command: &Command) -> Obeyed
+fn answer_fb<R: Rows>(rows: &mut R, sender: Sender, command: &Command, obeyed: &mut Obeyed)
+    requires blank { IsTold (accepted []) obeyed.old }
     requires may { MayObey (R.buses rows.old) (R.state rows.old) sender.session command.now }
     requires named { named_of command.now ≡ named.Fb }
-    ensures obeyed { IsObeyed (R.state rows.old) (R.state rows.new) sender.session sender.moment command.now result }
+    ensures obeyed { IsObeyed (R.state rows.old) (R.state rows.new) sender.session sender.moment command.now obeyed.new }
     ensures layout { R.buses rows.new ≡ R.buses rows.old }
 {
     match *command {
-        Command::GetFb { bus, port } => show(rows, &fb_device(bus, port).first_key()),
-        Command::SetFb { bus, port, on } => set_fb(rows, sender, bus, port, on),
-        Command::CheckFb { .. } => accepted(),
-        Command::InitFb { .. } => accepted(),
+        Command::GetFb { bus, port } => show(rows, &fb_device(bus, port).first_key(), obeyed),
+        Command::SetFb { bus, port, on } => set_fb(rows, sender, bus, port, on, obeyed),
+        Command::CheckFb { .. } => {}
+        Command::InitFb { .. } => {}
         _ => unreachable!(),
     }
 }
 
 /// Answers a command of a lock.
-fn answer_lock<R: Rows>(rows: &mut R, sender: Sender, command: &Command) -> Obeyed
+fn answer_lock<R: Rows>(rows: &mut R, sender: Sender, command: &Command, obeyed: &mut Obeyed)
+    requires blank { IsTold (accepted []) obeyed.old }
     requires may { MayObey (R.buses rows.old) (R.state rows.old) sender.session command.now }
     requires named { named_of command.now ≡ named.Lock }
-    ensures obeyed { IsObeyed (R.state rows.old) (R.state rows.new) sender.session sender.moment command.now result }
+    ensures obeyed { IsObeyed (R.state rows.old) (R.state rows.new) sender.session sender.moment command.now obeyed.new }
     ensures layout { R.buses rows.new ≡ R.buses rows.old }
 {
     match *command {
@@ -209,42 +252,53 @@ fn answer_lock<R: Rows>(rows: &mut R, sender: Sender, command: &Command) -> Obey
             address,
         } => {
             let place = BusAddress { bus, address };
-            show(rows, &lock_on(group, place).first_key())
+            show(rows, &lock_on(group, place).first_key(), obeyed)
         }
         Command::SetLock {
             bus,
             group,
             address,
             seconds,
-        } => set_lock(rows, sender, group, BusAddress { bus, address }, seconds),
+        } => set_lock(
+            rows,
+            sender,
+            group,
+            BusAddress { bus, address },
+            seconds,
+            obeyed,
+        ),
         Command::CheckLock {
             bus,
             group,
             address,
             ..
-        } => checked(refusal(rows, sender.session, group, BusAddress { bus, address })),
+        } => checked(
+            refusal(rows, sender.session, group, BusAddress { bus, address }),
+            obeyed,
+        ),
         Command::TermLock {
             bus,
             group,
             address,
-        } => term_lock(rows, sender, group, BusAddress { bus, address }),
+        } => term_lock(rows, sender, group, BusAddress { bus, address }, obeyed),
         _ => unreachable!(),
     }
 }
 
 /// Answers the command.
-fn answer<R: Rows>(rows: &mut R, sender: Sender, command: &Command) -> Obeyed
-    requires { MayObey (R.buses rows.old) (R.state rows.old) sender.session command.now }
-    ensures obeyed { IsObeyed (R.state rows.old) (R.state rows.new) sender.session sender.moment command.now result }
+fn answer<R: Rows>(rows: &mut R, sender: Sender, command: &Command, obeyed: &mut Obeyed)
+    requires blank { IsTold (accepted []) obeyed.old }
+    requires may { MayObey (R.buses rows.old) (R.state rows.old) sender.session command.now }
+    ensures obeyed { IsObeyed (R.state rows.old) (R.state rows.new) sender.session sender.moment command.now obeyed.new }
     ensures layout { R.buses rows.new ≡ R.buses rows.old }
 {
     match command.named() {
-        Named::Session => answer_session(rows, sender.session, command),
-        Named::Power => answer_power(rows, sender, command),
-        Named::Gl => answer_gl(rows, sender, command),
-        Named::Ga => answer_ga(rows, sender, command),
-        Named::Fb => answer_fb(rows, sender, command),
-        Named::Lock => answer_lock(rows, sender, command),
+        Named::Session => answer_session(rows, sender.session, command, obeyed),
+        Named::Power => answer_power(rows, sender, command, obeyed),
+        Named::Gl => answer_gl(rows, sender, command, obeyed),
+        Named::Ga => answer_ga(rows, sender, command, obeyed),
+        Named::Fb => answer_fb(rows, sender, command, obeyed),
+        Named::Lock => answer_lock(rows, sender, command, obeyed),
     }
 }
 
@@ -270,5 +324,30 @@ pub fn obey<R: Rows>(rows: &mut R, session: u32, moment: u64, command: &Command)
     ensures changes { AllByRecursion IsWellFormed result.changes.items }
     ensures few { length result.changes.items ≤ MOST_CHANGES }
 {
-    answer(rows, Sender { session, moment }, command)
+    let mut obeyed = Obeyed::new();
+    obey_into(rows, session, moment, command, &mut obeyed);
+    obeyed
+}
+
+/// Carries out a command as `obey` does, and writes what came of it over what `obeyed` holds. A caller that keeps one
+/// `Obeyed` does not clear the room for its changes at each command.
+pub fn obey_into<R: Rows>(
+    rows: &mut R,
+    session: u32,
+    moment: u64,
+    command: &Command,
+    obeyed: &mut Obeyed,
+)
+    requires whole { IsWhole (R.buses rows.old) (R.state rows.old) }
+    requires begun { IsTrue (is_there (session_device session) (R.state rows.old)) }
+    requires command { IsCommandOf (R.buses rows.old) command.now }
+    ensures obeyed { IsObeyed (R.state rows.old) (R.state rows.new) session moment command.now obeyed.new }
+    ensures layout { R.buses rows.new ≡ R.buses rows.old }
+    ensures whole { IsWhole (R.buses rows.new) (R.state rows.new) }
+    ensures reply { IsWellFormedReply obeyed.new.reply }
+    ensures changes { AllByRecursion IsWellFormed obeyed.new.changes.items }
+    ensures few { length obeyed.new.changes.items ≤ MOST_CHANGES }
+{
+    obeyed.reset();
+    answer(rows, Sender { session, moment }, command, obeyed);
 }

@@ -1,7 +1,7 @@
-ghost use Rattle.std.specs.Prelude.{◌≡◌, ◌≤◌, length};
+ghost use Rattle.std.specs.Prelude.{◌≡◌, ◌≤◌, [], length};
 ghost use Rattle.srcp_rules.specs.Command.{kept_v};
-ghost use Rattle.srcp_rules.specs.Effect.{done, first_refusal, functions_after, gl_refusals, port_end, set_ga, set_gl};
-ghost use Rattle.srcp_rules.specs.Obeyed.{MayObey, Took};
+ghost use Rattle.srcp_rules.specs.Effect.{accepted, done, first_refusal, functions_after, gl_refusals, port_end, set_ga, set_gl};
+ghost use Rattle.srcp_rules.specs.Obeyed.{IsTold, MayObey, Took};
 ghost use Rattle.srcp_rules.specs.State.{functions_of};
 
 use crate::command::{Command, Lockable, Sender};
@@ -71,31 +71,39 @@ fn kept_v(mode: u32, v: u32) -> u32
     }
 }
 
+/// How a locomotive is driven: drive mode, speed and the greatest speed, as SET gives them.
+#[derive(Clone, Copy)]
+pub(crate) struct Drive {
+    pub(crate) mode: u32,
+    pub(crate) v: u32,
+    pub(crate) vmax: u32,
+}
+
 /// SET of a locomotive.
 pub(crate) fn set_gl<R: Rows>(
     rows: &mut R,
     sender: Sender,
     place: BusAddress,
-    mode: u32,
-    v: u32,
-    vmax: u32,
+    drive: Drive,
     functions: &Bits,
-) -> Obeyed
-    requires { MayObey (R.buses rows.old) (R.state rows.old) sender.session (Command.SetGl place.bus place.address mode v vmax functions.now) }
-    ensures took { Took (done (set_gl (R.state rows.old) sender.session sender.moment place.bus place.address mode v vmax functions.now)) (R.state rows.old) (R.state rows.new) result }
+    obeyed: &mut Obeyed,
+)
+    requires blank { IsTold (accepted []) obeyed.old }
+    requires may { MayObey (R.buses rows.old) (R.state rows.old) sender.session (Command.SetGl place.bus place.address drive.mode drive.v drive.vmax functions.now) }
+    ensures took { Took (done (set_gl (R.state rows.old) sender.session sender.moment place.bus place.address drive.mode drive.v drive.vmax functions.now)) (R.state rows.old) (R.state rows.new) obeyed.new }
     ensures layout { R.buses rows.new ≡ R.buses rows.old }
 {
     if let Some(code) = gl_refusal(rows, sender.session, place, functions) {
-        return Obeyed::refused(code);
+        return obeyed.refuse(code);
     }
     let driven = Value::GlState {
-        mode,
-        v: kept_v(mode, v),
-        vmax,
+        mode: drive.mode,
+        v: kept_v(drive.mode, drive.v),
+        vmax: drive.vmax,
         functions: functions_after(functions, &functions_of(rows, place)),
     };
     let key = key_at(device_in(Lockable::Gl, place), 1);
-    set_one(rows, sender.moment, key, driven, None)
+    set_one(rows, sender.moment, key, driven, None, obeyed);
 }
 
 /// When a port that is set for a time goes back: none where it is set to 0, for no time or for ever.
@@ -118,15 +126,17 @@ pub(crate) fn set_ga<R: Rows>(
     port: u8,
     on: bool,
     time: Option<u32>,
-) -> Obeyed
-    requires { MayObey (R.buses rows.old) (R.state rows.old) sender.session (Command.SetGa place.bus place.address port on time) }
-    ensures took { Took (done (set_ga (R.state rows.old) sender.session sender.moment place.bus place.address port on time)) (R.state rows.old) (R.state rows.new) result }
+    obeyed: &mut Obeyed,
+)
+    requires blank { IsTold (accepted []) obeyed.old }
+    requires may { MayObey (R.buses rows.old) (R.state rows.old) sender.session (Command.SetGa place.bus place.address port on time) }
+    ensures took { Took (done (set_ga (R.state rows.old) sender.session sender.moment place.bus place.address port on time)) (R.state rows.old) (R.state rows.new) obeyed.new }
     ensures layout { R.buses rows.new ≡ R.buses rows.old }
 {
     if let Some(code) = refusal(rows, sender.session, Lockable::Ga, place) {
-        return Obeyed::refused(code);
+        return obeyed.refuse(code);
     }
     let key = key_at(device_in(Lockable::Ga, place), 1 + port);
     let due = port_end(sender.moment, on, time);
-    set_one(rows, sender.moment, key, Value::GaPort { on }, due)
+    set_one(rows, sender.moment, key, Value::GaPort { on }, due, obeyed);
 }

@@ -1,7 +1,8 @@
 ghost use Rattle.std.specs.Prelude.{◌≡◌, ◌≤◌, [], ◌∷◌, false, map, replicate, None};
 ghost use Rattle.std.specs.List.{range_with_len};
 ghost use Rattle.srcp_info.specs.declared.value.Value.TheVariants as value;
-ghost use Rattle.srcp_rules.specs.Obeyed.{IsObeyed, MayObey};
+ghost use Rattle.srcp_rules.specs.Obeyed.{IsObeyed, IsTold, MayObey};
+ghost use Rattle.srcp_rules.specs.Effect.{accepted};
 ghost use Rattle.srcp_rules.specs.State.{key_at, row_put};
 
 use crate::command::{Command, Lockable, Sender};
@@ -29,24 +30,32 @@ fn resting_rows(moment: u64, device: Device, init: &Value, functions: u32) -> [R
     ]
 }
 
+/// The decoder of a locomotive, as INIT gives it: protocol, its version and its speed steps.
+#[derive(Clone, Copy)]
+pub(crate) struct Decoder {
+    pub(crate) letter: Letter,
+    pub(crate) version: u32,
+    pub(crate) steps: u32,
+}
+
 /// INIT of a locomotive: it goes forward at rest, with all functions off.
 pub(crate) fn init_gl<R: Rows>(
     rows: &mut R,
     sender: Sender,
     place: BusAddress,
-    letter: Letter,
-    version: u32,
-    steps: u32,
+    decoder: Decoder,
     functions: u32,
-) -> Obeyed
-    requires { MayObey (R.buses rows.old) (R.state rows.old) sender.session (Command.InitGl place.bus place.address letter version steps functions) }
-    ensures obeyed { IsObeyed (R.state rows.old) (R.state rows.new) sender.session sender.moment (Command.InitGl place.bus place.address letter version steps functions) result }
+    obeyed: &mut Obeyed,
+)
+    requires blank { IsTold (accepted []) obeyed.old }
+    requires may { MayObey (R.buses rows.old) (R.state rows.old) sender.session (Command.InitGl place.bus place.address decoder.letter decoder.version decoder.steps functions) }
+    ensures obeyed { IsObeyed (R.state rows.old) (R.state rows.new) sender.session sender.moment (Command.InitGl place.bus place.address decoder.letter decoder.version decoder.steps functions) obeyed.new }
     ensures layout { R.buses rows.new ≡ R.buses rows.old }
 {
     let init = Value::GlInit {
-        letter,
-        version,
-        steps,
+        letter: decoder.letter,
+        version: decoder.version,
+        steps: decoder.steps,
         functions,
     };
     let fresh = resting_rows(
@@ -55,7 +64,7 @@ pub(crate) fn init_gl<R: Rows>(
         &init,
         functions,
     );
-    init_device(rows, sender, Lockable::Gl, place, &init, &fresh)
+    init_device(rows, sender, Lockable::Gl, place, &init, &fresh, obeyed);
 }
 
 /// The fresh row of an accessory's port.
@@ -94,9 +103,11 @@ pub(crate) fn init_ga<R: Rows>(
     place: BusAddress,
     letter: Letter,
     ports: u8,
-) -> Obeyed
-    requires { MayObey (R.buses rows.old) (R.state rows.old) sender.session (Command.InitGa place.bus place.address letter ports) }
-    ensures obeyed { IsObeyed (R.state rows.old) (R.state rows.new) sender.session sender.moment (Command.InitGa place.bus place.address letter ports) result }
+    obeyed: &mut Obeyed,
+)
+    requires blank { IsTold (accepted []) obeyed.old }
+    requires may { MayObey (R.buses rows.old) (R.state rows.old) sender.session (Command.InitGa place.bus place.address letter ports) }
+    ensures obeyed { IsObeyed (R.state rows.old) (R.state rows.new) sender.session sender.moment (Command.InitGa place.bus place.address letter ports) obeyed.new }
     ensures layout { R.buses rows.new ≡ R.buses rows.old }
 {
     let most = most_rows(sender.moment, device_in(Lockable::Ga, place), letter);
@@ -108,5 +119,6 @@ pub(crate) fn init_ga<R: Rows>(
         place,
         &init,
         &most[..1 + usize::from(ports)],
-    )
+        obeyed,
+    );
 }

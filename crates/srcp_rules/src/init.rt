@@ -1,10 +1,10 @@
-ghost use Rattle.std.specs.Prelude.{◌≡◌, ◌+◌, ◌++◌, ◌<◌, ◌≤◌, IsTrue, length, map, not, true};
+ghost use Rattle.std.specs.Prelude.{◌≡◌, ◌+◌, ◌++◌, ◌<◌, ◌≤◌, IsTrue, [], length, map, not, true};
 ghost use Rattle.std.specs.List.{AllByRecursion};
 ghost use Rattle.arrayvec.specs.ArrayVec.{array_vec_len};
 ghost use Rattle.srcp_info.specs.WellFormed.{can_go};
 ghost use Rattle.srcp_rules.specs.Layout.{row_count};
-ghost use Rattle.srcp_rules.specs.Effect.{done, has_init, init_device, is_same_init, removal, removals, term_device};
-ghost use Rattle.srcp_rules.specs.Obeyed.{Took, TookUnless};
+ghost use Rattle.srcp_rules.specs.Effect.{accepted, done, has_init, init_device, is_same_init, removal, removals, term_device};
+ghost use Rattle.srcp_rules.specs.Obeyed.{IsTold, Took, TookUnless};
 ghost use Rattle.srcp_rules.specs.Rows.{AreRowsOf, put_rows};
 ghost use Rattle.srcp_rules.specs.State.{IsRowOf, IsWhole, device_in, has_row, is_there, put_of, updated_all};
 
@@ -22,17 +22,17 @@ fn remove_there<R: Rows>(
     rows: &mut R,
     moment: u64,
     device: Device,
-) -> ArrayVec<Change, CHANGES_CAPACITY>
-    requires { IsTrue (can_go device.group) }
-    ensures changes { result.items ≡ map (λ update. update.change) (removal (R.state rows.old) moment device) }
+    changes: &mut ArrayVec<Change, CHANGES_CAPACITY>,
+)
+    requires goes { IsTrue (can_go device.group) }
+    requires none { changes.old.items ≡ [] }
+    ensures changes { changes.new.items ≡ map (λ update. update.change) (removal (R.state rows.old) moment device) }
     ensures rows { R.state rows.new ≡ updated_all (removal (R.state rows.old) moment device) (R.state rows.old) }
     ensures layout { R.buses rows.new ≡ R.buses rows.old }
 {
-    let mut changes = ArrayVec::new();
     if is_there(rows, device) {
         changes.push(remove(rows, moment, device));
     }
-    changes
 }
 
 /// Takes out the device's lock and then the device, as far as they are there.
@@ -41,18 +41,19 @@ fn remove_device<R: Rows>(
     moment: u64,
     group: Lockable,
     place: BusAddress,
-) -> ArrayVec<Change, CHANGES_CAPACITY>
-    ensures changes { result.items ≡ map (λ update. update.change) (removals (R.state rows.old) moment group place.bus place.address) }
+    changes: &mut ArrayVec<Change, CHANGES_CAPACITY>,
+)
+    requires { changes.old.items ≡ [] }
+    ensures changes { changes.new.items ≡ map (λ update. update.change) (removals (R.state rows.old) moment group place.bus place.address) }
     ensures rows { R.state rows.new ≡ updated_all (removals (R.state rows.old) moment group place.bus place.address) (R.state rows.old) }
     ensures layout { R.buses rows.new ≡ R.buses rows.old }
 {
     let device = device_in(group, place);
     let has_device = is_there(rows, device);
-    let mut changes = remove_there(rows, moment, lock_on(group, place));
+    remove_there(rows, moment, lock_on(group, place), changes);
     if has_device {
         changes.push(remove(rows, moment, device));
     }
-    changes
 }
 
 /// TERM of a locomotive or an accessory.
@@ -61,14 +62,16 @@ pub(crate) fn term_device<R: Rows>(
     sender: Sender,
     group: Lockable,
     place: BusAddress,
-) -> Obeyed
-    ensures took { Took (done (term_device (R.state rows.old) sender.session sender.moment group place.bus place.address)) (R.state rows.old) (R.state rows.new) result }
+    obeyed: &mut Obeyed,
+)
+    requires blank { IsTold (accepted []) obeyed.old }
+    ensures took { Took (done (term_device (R.state rows.old) sender.session sender.moment group place.bus place.address)) (R.state rows.old) (R.state rows.new) obeyed.new }
     ensures layout { R.buses rows.new ≡ R.buses rows.old }
 {
     if let Some(code) = refusal(rows, sender.session, group, place) {
-        return Obeyed::refused(code);
+        return obeyed.refuse(code);
     }
-    Obeyed::accepted(remove_device(rows, sender.moment, group, place))
+    remove_device(rows, sender.moment, group, place, &mut obeyed.changes);
 }
 
 /// Whether two first rows have the same parameters.
@@ -144,22 +147,23 @@ fn remake<R: Rows>(
     group: Lockable,
     place: BusAddress,
     fresh: &[Row],
-) -> ArrayVec<Change, CHANGES_CAPACITY>
+    changes: &mut ArrayVec<Change, CHANGES_CAPACITY>,
+)
+    requires none { changes.old.items ≡ [] }
     requires whole { IsWhole (R.buses rows.old) (R.state rows.old) }
     requires there { is_there (device_in group place.bus place.address) (R.state rows.old) ≡ true }
     requires fresh { AreRowsOf (R.buses rows.old) (device_in group place.bus place.address) fresh.now }
-    ensures changes { result.items ≡ map (λ update. update.change) (removals (R.state rows.old) moment group place.bus place.address ++ map put_of fresh.now) }
+    ensures changes { changes.new.items ≡ map (λ update. update.change) (removals (R.state rows.old) moment group place.bus place.address ++ map put_of fresh.now) }
     ensures rows { R.state rows.new ≡ updated_all (removals (R.state rows.old) moment group place.bus place.address ++ map put_of fresh.now) (R.state rows.old) }
     ensures layout { R.buses rows.new ≡ R.buses rows.old }
 {
-    let mut changes = remove_there(rows, moment, lock_on(group, place));
+    remove_there(rows, moment, lock_on(group, place), changes);
     changes.push(Change::Gone {
         stamp: moment,
         device: device_in(group, place),
     });
-    push_puts(&mut changes, fresh);
+    push_puts(changes, fresh);
     set_all(rows, fresh);
-    changes
 }
 
 /// INIT of a locomotive or an accessory, which would have these rows.
@@ -170,26 +174,33 @@ pub(crate) fn init_device<R: Rows>(
     place: BusAddress,
     init: &Value,
     fresh: &[Row],
-) -> Obeyed
+    obeyed: &mut Obeyed,
+)
+    requires blank { IsTold (accepted []) obeyed.old }
     requires whole { IsWhole (R.buses rows.old) (R.state rows.old) }
     requires some { 0 < row_count (R.buses rows.old) (device_in group place.bus place.address) }
     requires fresh { AreRowsOf (R.buses rows.old) (device_in group place.bus place.address) fresh.now }
-    ensures took { TookUnless (not (is_there (device_in group place.bus place.address) (R.state rows.old))) (done (init_device (R.state rows.old) sender.session sender.moment group place.bus place.address init.now (map put_of fresh.now))) (R.state rows.old) (R.state rows.new) result }
+    ensures took { TookUnless (not (is_there (device_in group place.bus place.address) (R.state rows.old))) (done (init_device (R.state rows.old) sender.session sender.moment group place.bus place.address init.now (map put_of fresh.now))) (R.state rows.old) (R.state rows.new) obeyed.new }
     ensures layout { R.buses rows.new ≡ R.buses rows.old }
 {
     if is_locked(rows, sender.session, group, place) {
-        return Obeyed::refused(Code::DEVICE_LOCKED);
+        return obeyed.refuse(Code::DEVICE_LOCKED);
     }
     if has_init(rows, group, place, init) {
-        return Obeyed::accepted(ArrayVec::new());
+        return;
     }
     if is_there(rows, device_in(group, place)) {
-        return Obeyed::accepted(remake(rows, sender.moment, group, place, fresh));
+        return remake(
+            rows,
+            sender.moment,
+            group,
+            place,
+            fresh,
+            &mut obeyed.changes,
+        );
     }
-    let mut changes = ArrayVec::new();
-    push_puts(&mut changes, fresh);
     if rows.add(fresh).is_err() {
-        return Obeyed::refused(Code::OUT_OF_RESOURCES);
+        return obeyed.refuse(Code::OUT_OF_RESOURCES);
     }
-    Obeyed::accepted(changes)
+    push_puts(&mut obeyed.changes, fresh);
 }

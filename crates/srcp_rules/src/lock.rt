@@ -1,5 +1,5 @@
-ghost use Rattle.std.specs.Prelude.{◌≡◌};
-ghost use Rattle.srcp_rules.specs.Effect.{first_refusal, is_locked, lock_end, lock_refusals, moment_after, refusals, refused_or_not, term_lock, done};
+ghost use Rattle.std.specs.Prelude.{◌≡◌, []};
+ghost use Rattle.srcp_rules.specs.Effect.{accepted, first_refusal, is_locked, lock_end, lock_refusals, moment_after, refusals, refused_or_not, term_lock, done};
 ghost use Rattle.srcp_rules.specs.Obeyed.{IsObeyed, IsTold, MayObey, Took};
 
 use crate::command::{Command, Lockable, Sender};
@@ -7,7 +7,6 @@ use crate::device::{BusAddress, device_in, lock_on};
 use crate::obeyed::Obeyed;
 use crate::registry::{is_there, put_of, remove, row_put, set_one};
 use crate::rows::Rows;
-use arrayvec::ArrayVec;
 use srcp_info::{Code, Value};
 
 /// Whether the device has a lock, and another session has it.
@@ -45,12 +44,12 @@ pub(crate) fn refusal<R: Rows>(
 }
 
 /// The refusal, or else the acceptance that CHECK gives.
-pub(crate) fn checked(refusal: Option<Code>) -> Obeyed
-    ensures { IsTold (refused_or_not refusal) result }
+pub(crate) fn checked(refusal: Option<Code>, obeyed: &mut Obeyed)
+    requires { IsTold (accepted []) obeyed.old }
+    ensures { IsTold (refused_or_not refusal) obeyed.new }
 {
-    match refusal {
-        Some(code) => Obeyed::refused(code),
-        None => Obeyed::accepted(ArrayVec::new()),
+    if let Some(code) = refusal {
+        obeyed.refuse(code);
     }
 }
 
@@ -78,13 +77,15 @@ pub(crate) fn set_lock<R: Rows>(
     group: Lockable,
     place: BusAddress,
     seconds: u32,
-) -> Obeyed
-    requires { MayObey (R.buses rows.old) (R.state rows.old) sender.session (Command.SetLock place.bus group place.address seconds) }
-    ensures obeyed { IsObeyed (R.state rows.old) (R.state rows.new) sender.session sender.moment (Command.SetLock place.bus group place.address seconds) result }
+    obeyed: &mut Obeyed,
+)
+    requires blank { IsTold (accepted []) obeyed.old }
+    requires may { MayObey (R.buses rows.old) (R.state rows.old) sender.session (Command.SetLock place.bus group place.address seconds) }
+    ensures obeyed { IsObeyed (R.state rows.old) (R.state rows.new) sender.session sender.moment (Command.SetLock place.bus group place.address seconds) obeyed.new }
     ensures layout { R.buses rows.new ≡ R.buses rows.old }
 {
     if let Some(code) = refusal(rows, sender.session, group, place) {
-        return Obeyed::refused(code);
+        return obeyed.refuse(code);
     }
     let lock = lock_on(group, place);
     let value = Value::Lock {
@@ -93,15 +94,13 @@ pub(crate) fn set_lock<R: Rows>(
     };
     let due = lock_end(sender.moment, seconds);
     if is_there(rows, lock) {
-        return set_one(rows, sender.moment, lock.first_key(), value, due);
+        return set_one(rows, sender.moment, lock.first_key(), value, due, obeyed);
     }
     let row = row_put(sender.moment, lock.first_key(), value, due);
-    let mut changes = ArrayVec::new();
-    changes.push(put_of(&row));
     if rows.add(&[row]).is_err() {
-        return Obeyed::refused(Code::OUT_OF_RESOURCES);
+        return obeyed.refuse(Code::OUT_OF_RESOURCES);
     }
-    Obeyed::accepted(changes)
+    obeyed.changes.push(put_of(&row));
 }
 
 /// TERM of a lock.
@@ -110,18 +109,18 @@ pub(crate) fn term_lock<R: Rows>(
     sender: Sender,
     group: Lockable,
     place: BusAddress,
-) -> Obeyed
-    ensures took { Took (done (term_lock (R.state rows.old) sender.session sender.moment group place.bus place.address)) (R.state rows.old) (R.state rows.new) result }
+    obeyed: &mut Obeyed,
+)
+    requires blank { IsTold (accepted []) obeyed.old }
+    ensures took { Took (done (term_lock (R.state rows.old) sender.session sender.moment group place.bus place.address)) (R.state rows.old) (R.state rows.new) obeyed.new }
     ensures layout { R.buses rows.new ≡ R.buses rows.old }
 {
     let lock = lock_on(group, place);
     if !is_there(rows, lock) {
-        return Obeyed::refused(Code::NO_SUCH_DEVICE);
+        return obeyed.refuse(Code::NO_SUCH_DEVICE);
     }
     if is_locked(rows, sender.session, group, place) {
-        return Obeyed::refused(Code::DEVICE_LOCKED);
+        return obeyed.refuse(Code::DEVICE_LOCKED);
     }
-    let mut changes = ArrayVec::new();
-    changes.push(remove(rows, sender.moment, lock));
-    Obeyed::accepted(changes)
+    obeyed.changes.push(remove(rows, sender.moment, lock));
 }

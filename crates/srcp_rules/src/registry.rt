@@ -1,12 +1,11 @@
 ghost use Rattle.std.specs.Prelude.{◌≡◌, [], ◌∷◌, IsTrue};
 ghost use Rattle.srcp_info.specs.WellFormed.{can_go};
 ghost use Rattle.srcp_rules.specs.Effect.{accepted, gone_at, put_at, shown_at};
-ghost use Rattle.srcp_rules.specs.Obeyed.{Took};
+ghost use Rattle.srcp_rules.specs.Obeyed.{IsTold, Took};
 ghost use Rattle.srcp_rules.specs.State.{IsRowOf, has_row, is_there, put_of, updated, row_put};
 
 use crate::obeyed::Obeyed;
 use crate::rows::Rows;
-use arrayvec::ArrayVec;
 use srcp_info::{Change, Code, Device, Key, Reply, Row, Shown, Value};
 
 /// Whether the device is there.
@@ -62,24 +61,25 @@ pub(crate) fn set_one<R: Rows>(
     key: Key,
     value: Value,
     due: Option<u64>,
-) -> Obeyed
+    obeyed: &mut Obeyed,
+)
+    requires blank { IsTold (accepted []) obeyed.old }
     requires there { IsTrue (has_row key (R.state rows.old)) }
     requires fits { IsRowOf (R.buses rows.old) (row_put moment key value due) }
-    ensures took { Took (accepted (put_at moment key value due ∷ [])) (R.state rows.old) (R.state rows.new) result }
+    ensures took { Took (accepted (put_at moment key value due ∷ [])) (R.state rows.old) (R.state rows.new) obeyed.new }
     ensures layout { R.buses rows.new ≡ R.buses rows.old }
 {
-    let mut changes = ArrayVec::new();
-    changes.push(put(rows, moment, key, value, due));
-    Obeyed::accepted(changes)
+    obeyed.changes.push(put(rows, moment, key, value, due));
 }
 
 /// Answers the row at the key as it is, or 416 where there is none.
-pub(crate) fn show<R: Rows>(rows: &R, key: &Key) -> Obeyed
-    ensures { Took (shown_at key.now (R.state rows.now)) (R.state rows.now) (R.state rows.now) result }
+pub(crate) fn show<R: Rows>(rows: &R, key: &Key, obeyed: &mut Obeyed)
+    requires { IsTold (accepted []) obeyed.old }
+    ensures { Took (shown_at key.now (R.state rows.now)) (R.state rows.now) (R.state rows.now) obeyed.new }
 {
     match rows.row(key) {
-        Some(row) => Obeyed::replied(Reply::Shows(row.shown), false),
-        None => Obeyed::refused(Code::NO_SUCH_DEVICE),
+        Some(row) => obeyed.reply = Reply::Shows(row.shown),
+        None => obeyed.refuse(Code::NO_SUCH_DEVICE),
     }
 }
 

@@ -18,7 +18,7 @@ use crate::limits::{LAST_ID, MOST_UNSENT};
 use crate::line::{Asked, LineRecord};
 use crate::record::Step;
 use srcp_info::{Code, LONGEST_LINE, LONGEST_SHORT_REPLY, Mode, Reply};
-use srcp_rules::{Command, Memory, Rows, begin_session, obey};
+use srcp_rules::{Command, Memory, Rows, begin_session, obey_into};
 
 /// What is left to do of a command whose changes were told.
 #[derive(Drop)]
@@ -187,14 +187,20 @@ impl<'a, R: Rows> Core<'a, R> {
         ensures ends { IfSome result (λ obeyed. obeyed.ends ≡ (effect self.old.rows session self.old.moment command.now).ends) }
         ensures well_formed { IfSome result (λ obeyed. IsWellFormedReply obeyed.reply) }
     {
-        let obeyed = obey(&mut self.rows, session, self.moment, command);
-        if is_denied(&obeyed.reply) {
+        obey_into(
+            &mut self.rows,
+            session,
+            self.moment,
+            command,
+            &mut self.obeyed,
+        );
+        if is_denied(&self.obeyed.reply) {
             return None;
         }
-        tell_each(&mut self.connections, obeyed.changes.as_slice());
+        tell_each(&mut self.connections, self.obeyed.changes.as_slice());
         Some(Outcome {
-            reply: obeyed.reply,
-            ends: obeyed.ends,
+            reply: self.obeyed.reply,
+            ends: self.obeyed.ends,
         })
     }
 

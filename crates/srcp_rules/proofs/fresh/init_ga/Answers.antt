@@ -26,8 +26,8 @@ init_device-requires-clause-fresh g c =
     let state = g.R.Rows.state c.args.rows.now in
     let device = device_in lockable.Ga c.args.place.bus c.args.place.address in
     let rows =
-    handed buses state c.args.sender.session c.args.sender.moment c.args.sender.fits c.most_rows-most.result c.device_in.result device c.args.letter c.args.ports c.from.result c.requires.of.1 c.most_rows-most.ensures c.device_in.ensures c.from.ensures in
-    subst (λ (rows : List Row). AreRowsOf buses device rows) (sym rows) (ga_rows buses state c.args.sender.session c.args.sender.moment c.args.sender.fits c.args.place.bus c.args.place.address c.args.letter c.args.ports c.requires)
+    handed buses state c.args.sender.session c.args.sender.moment c.args.sender.fits c.most_rows-most.result c.device_in.result device c.args.letter c.args.ports c.from.result c.requires.may.of.1 c.most_rows-most.ensures c.device_in.ensures c.from.ensures in
+    subst (λ (rows : List Row). AreRowsOf buses device rows) (sym rows) (ga_rows buses state c.args.sender.session c.args.sender.moment c.args.sender.fits c.args.place.bus c.args.place.address c.args.letter c.args.ports c.requires.may)
 
 pub returns-clause-obeyed : goal.returns-clause-obeyed
 returns-clause-obeyed g c =
@@ -35,7 +35,7 @@ returns-clause-obeyed g c =
     let state = g.R.Rows.state c.args.rows.now in
     let device = device_in lockable.Ga c.args.place.bus c.args.place.address in
     let rows =
-    handed buses state c.args.sender.session c.args.sender.moment c.args.sender.fits c.most_rows-most.result c.device_in.result device c.args.letter c.args.ports c.from.result c.requires.of.1 c.most_rows-most.ensures c.device_in.ensures c.from.ensures in
+    handed buses state c.args.sender.session c.args.sender.moment c.args.sender.fits c.most_rows-most.result c.device_in.result device c.args.letter c.args.ports c.from.result c.requires.may.of.1 c.most_rows-most.ensures c.device_in.ensures c.from.ensures in
     subst
-    (λ (updates : List Update). TookUnless (not (is_there device state)) (done (init_device state c.args.sender.session c.args.sender.moment lockable.Ga c.args.place.bus c.args.place.address (value.GaInit c.args.letter) updates)) state (g.R.Rows.state c.init_device.new.rows) c.init_device.result)
+    (λ (updates : List Update). TookUnless (not (is_there device state)) (done (init_device state c.args.sender.session c.args.sender.moment lockable.Ga c.args.place.bus c.args.place.address (value.GaInit c.args.letter) updates)) state (g.R.Rows.state c.init_device.new.rows) c.init_device.new.obeyed)
     (ap (map put_of) rows ∙ ga_puts buses state c.args.sender.session c.args.sender.moment c.args.sender.fits c.args.place.bus c.args.place.address c.args.letter c.args.ports) c.init_device.ensures.took

@@ -32,13 +32,13 @@ returns-clause-took g c =
     let other = sym c.has_init.ensures ∙ c.if-has_init.false in
     let succeeded : is_ok c.add.result ≡ true = c.is_err.ensures.negation ∙ ap not c.if-is_err.false in
     let changes =
-    c.accepted-2.ensures.changes ∙ c.push_puts.ensures ∙ ap (λ (before : List Change). before ++ map (λ (row : Row). (put_of row).change) fresh) c.new-changes.ensures
+    c.push_puts.ensures ∙ ap (λ (before : List Change). before ++ map (λ (row : Row). (put_of row).change) fresh) c.requires.blank.changes
     ∙ changes_made buses state c.requires.whole c.args.sender.moment c.args.group c.args.place.bus c.args.place.address fresh absent in
     let rows = on_ok c.add.result _ succeeded c.add.ensures.ok ∙ rows_made buses state c.requires.whole c.args.sender.moment c.args.group c.args.place.bus c.args.place.address fresh absent in
     inl
-    (subst (λ (did : Effect). Took did state (g.R.Rows.state c.add.new.self) c.accepted-2.result)
+    (subst (λ (did : Effect). Took did state (g.R.Rows.state c.add.new.self) (record c.args.obeyed.now { changes = c.push_puts.new.changes }))
     (init_accepted state c.args.sender.session c.args.sender.moment c.args.group c.args.place.bus c.args.place.address c.args.init.now (map put_of fresh) free other)
-    (record { told = record { reply = c.accepted-2.ensures.reply; changes = changes; ends = c.accepted-2.ensures.ends }; rows = rows }))
+    (record { told = record { reply = c.requires.blank.reply; changes = changes; ends = c.requires.blank.ends }; rows = rows }))
 
 pub returns-then-is_there-clause-took : goal.returns-then-is_there-clause-took
 returns-then-is_there-clause-took g c = search rules
