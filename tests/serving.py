@@ -88,12 +88,12 @@ class Client:
 
 
 @contextmanager
-def served(program, *words, prepare=None):
-    """A server of the layout at a free port, ended at the end by its process id. Its process does `prepare` before it runs
+def served(program, *words, prepare=None, layout=LAYOUT):
+    """A server of a layout at a free port, ended at the end by its process id. Its process does `prepare` before it runs
     the program."""
     port = free_port()
     with tempfile.NamedTemporaryFile("w", suffix=".toml") as config:
-        config.write(LAYOUT.format(port=port))
+        config.write(layout.format(port=port))
         config.flush()
         server = subprocess.Popen([program, "serve", "--config", config.name, *words], stdout=subprocess.PIPE,
                                   stderr=subprocess.PIPE, preexec_fn=prepare)

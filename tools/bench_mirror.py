@@ -1,8 +1,9 @@
 #!/usr/bin/env python3
-"""bench_mirror.py PROGRAM: how fast `PROGRAM mirror` folds half a million lines, and how much memory it takes.
+"""bench_mirror.py PROGRAM [ROWS]: how fast `PROGRAM mirror` folds half a million lines, and how much memory it takes.
 
 The input is fixed: information lines of locomotives, just under the input's limit, once over few rows and once over
 many, so that the difference in memory is that of the rows. Prints seconds, megabytes a second and the peak memory.
+With ROWS the input has that many rows instead, each once, by falling key. It runs twice over them.
 """
 import os
 import subprocess
@@ -12,12 +13,19 @@ import time
 
 LINES = 500_000
 LIMIT = 16_777_216
+ADDRESSES = 10_239
 
 
 def lines(addresses):
     """Half a million states of locomotives, as a long evening would send them."""
     for i in range(LINES):
         yield b"%d.%03d 100 INFO 1 GL %d 1 %d 28\n" % (i // 10_000, i % 1000, i * 7919 % addresses + 1, i % 29)
+
+
+def falling(rows):
+    """A state of each of so many locomotives, over as many buses as they need, the greatest key first."""
+    for left in range(rows - 1, -1, -1):
+        yield b"1.000 100 INFO %d GL %d 1 5 28\n" % (left // ADDRESSES + 1, left % ADDRESSES + 1)
 
 
 def peak_of(process):
@@ -45,17 +53,25 @@ def measured(program, path):
     return seconds, peak
 
 
+def folded(program, told, given):
+    """Prints what it takes to fold these lines; `told` says what they are."""
+    with tempfile.NamedTemporaryFile() as file:
+        file.writelines(given)
+        file.flush()
+        size = os.path.getsize(file.name)
+        assert size <= LIMIT, size
+        seconds, peak = measured(program, file.name)
+    print(f"{told.format(size=size)}: {seconds:.2f} s, {size / seconds / 1e6:.1f} MB/s, peak {peak} KiB")
+
+
 def main():
     program = os.path.abspath(sys.argv[1])
+    if len(sys.argv) > 2:
+        rows = int(sys.argv[2])
+        folded(program, f"{rows} lines, {{size}} bytes, {rows} rows by falling key", falling(rows))
+        return
     for addresses in (100, 10_000):
-        with tempfile.NamedTemporaryFile() as file:
-            file.writelines(lines(addresses))
-            file.flush()
-            size = os.path.getsize(file.name)
-            assert size <= LIMIT, size
-            seconds, peak = measured(program, file.name)
-        print(f"{LINES} lines, {size} bytes, {addresses} rows: "
-              f"{seconds:.2f} s, {size / seconds / 1e6:.1f} MB/s, peak {peak} KiB")
+        folded(program, f"{LINES} lines, {{size}} bytes, {addresses} rows", lines(addresses))
 
 
 if __name__ == "__main__":

@@ -1,0 +1,136 @@
+#!/usr/bin/env python3
+"""count_instructions.py PROGRAM [SHORT LONG]: how many instructions a command, a line and a replayed event cost.
+
+It prints one figure a line, each with its unit. `valgrind --tool=callgrind` counts the instructions of whole runs. A
+figure is the difference between a load of LONG units and one of SHORT, 4,000 and 2,000 if not given, for each unit.
+So what a run costs by itself is not in it. The loads go over loopback, but for the replay.
+"""
+import re
+import subprocess
+import sys
+import tempfile
+import threading
+import time
+from contextlib import contextmanager
+from functools import cache
+from pathlib import Path
+
+sys.path.insert(0, str(Path(__file__).resolve().parent.parent / "tests"))
+from serving import Client, served  # noqa: E402
+
+from bench_serve import COMMAND, drain, pipelined  # noqa: E402
+from soak import CONFIG, script  # noqa: E402
+
+PANELS = 4
+SECONDS_WITHOUT_A_LINE = 30
+CALLGRIND = ["valgrind", "--tool=callgrind", "--callgrind-out-file=/dev/null"]
+LAST_ROW = b" 1 FB 8 0\n"
+SEED = 1
+
+
+def collected(errors: bytes) -> int:
+    """The count that callgrind prints at the end of a run."""
+    found = re.search(rb"Collected : (\d+)", errors)
+    if not found:
+        sys.exit(f"callgrind counted nothing: {errors[-500:]!r}")
+    return int(found[1])
+
+
+@contextmanager
+def counted_server(program: str):
+    """A server under callgrind: its port, and a list that holds the count of its instructions in the end."""
+    with tempfile.TemporaryDirectory() as room:
+        counting, count = Path(room, "counting"), []
+        counting.write_text(f'#!/bin/sh\nexec {" ".join(CALLGRIND)} "{program}" "$@"\n')
+        counting.chmod(0o755)
+        with served(str(counting)) as (port, server):
+            yield port, count
+            server.terminate()
+            count.append(collected(server.communicate()[1]))
+
+
+def wait_for_lines(counted: list, wanted: int):
+    """Until so many lines were read, which ends where none comes for a while."""
+    had, end = 0, time.monotonic() + SECONDS_WITHOUT_A_LINE
+    while (now := sum(counted)) < wanted:
+        if now > had:
+            had, end = now, time.monotonic() + SECONDS_WITHOUT_A_LINE
+        if time.monotonic() > end:
+            sys.exit(f"the panels read {now} lines of {wanted}")
+        time.sleep(0.01)
+
+
+def listening(port: int, panels: int) -> list[Client]:
+    """So many panels, which have read all that there is."""
+    listeners: list[Client] = []
+    for _ in range(panels):
+        newest = Client(port, "INFO")
+        newest.hears_until(LAST_ROW)
+        for earlier in listeners:
+            earlier.hears_until(b" SESSION %d INFO\n" % newest.session)
+        listeners.append(newest)
+    return listeners
+
+
+@cache
+def commanding(program: str, panels: int, commands: int) -> int:
+    """The instructions of so many SETs of a locomotive with 18 functions, each told to the panels, which read all."""
+    with counted_server(program) as (port, count):
+        throttle = Client(port, "COMMAND")
+        throttle.asks("INIT 1 GL 3 N 1 28 18")
+        listeners = listening(port, panels)
+        stop, counted = threading.Event(), []
+        drains = [threading.Thread(target=drain, args=(listener, stop, counted)) for listener in listeners]
+        for thread in drains:
+            thread.start()
+        pipelined(throttle, [COMMAND] * commands)
+        wait_for_lines(counted, panels * commands)
+        stop.set()
+        for thread in drains:
+            thread.join()
+    return count[0]
+
+
+@cache
+def listing(program: str, panels: int, rows: int) -> int:
+    """The instructions of a registry of so many rows of locomotives, listed to so many panels."""
+    with counted_server(program) as (port, count):
+        throttle = Client(port, "COMMAND")
+        pipelined(throttle, [b"INIT 1 GL %d N 1 28 18\n" % address for address in range(1, rows // 2 + 1)])
+        listening(port, panels)
+    return count[0]
+
+
+def replaying(program: str, events: int) -> int:
+    """The instructions of the replay of the first events of a long evening."""
+    with tempfile.TemporaryDirectory() as room:
+        config, source = Path(room, "layout.toml"), Path(room, "script")
+        config.write_bytes(CONFIG)
+        text, count = script(SEED, events)
+        assert count == events, f"a script holds {count} events at most"
+        source.write_bytes(text)
+        with open(source, "rb") as given:
+            done = subprocess.run([*CALLGRIND, program, "replay", "--config", str(config)], stdin=given,
+                                  stdout=subprocess.DEVNULL, stderr=subprocess.PIPE, check=True)
+    return collected(done.stderr)
+
+
+def main():
+    program = str(Path(sys.argv[1]).resolve())
+    short, long = (int(sys.argv[2]), int(sys.argv[3])) if len(sys.argv) > 3 else (2_000, 4_000)
+    units = long - short
+
+    def grown(load, *fixed):
+        return load(program, *fixed, long) - load(program, *fixed, short)
+
+    alone = grown(commanding, 0)
+    print(f"a pipelined command: {alone / units:,.0f} instructions", flush=True)
+    told = (grown(commanding, PANELS) - alone) / units / PANELS
+    print(f"an information line to a panel, of {PANELS} panels: {told:,.0f} instructions", flush=True)
+    listed = (grown(listing, 1) - grown(listing, 0)) / units
+    print(f"a line of a listing: {listed:,.0f} instructions", flush=True)
+    print(f"a replayed event: {grown(replaying) / units:,.0f} instructions", flush=True)
+
+
+if __name__ == "__main__":
+    main()
