@@ -1,10 +1,10 @@
 //! The rows that a client holds who follows the lines.
 
-ghost use Rattle.std.specs.Prelude.{◌≡◌, ◌+◌, ◌<◌, ◌≤◌, true, false, not, List, [], ◌∷◌, length, slice_index_or, take, drop, Err, OnOk, OnErr};
+ghost use Rattle.std.specs.Prelude.{◌≡◌, ◌+◌, ◌<◌, true, false, not, [], length, Err, OnOk, OnErr};
 ghost use Rattle.std.specs.List.{filter, AllByRecursion};
 ghost use Rattle.srcp_info.specs.declared.change.Shown.{Shown};
 ghost use Rattle.srcp_info.specs.declared.change.Change.{Change};
-ghost use Rattle.srcp_info.specs.Key.{is_after, owns};
+ghost use Rattle.srcp_info.specs.Key.{owns};
 ghost use Rattle.srcp_info.specs.Client.{IsRisingBy, put, changed};
 ghost use Rattle.srcp_info.specs.WellFormed.{IsWellFormedShown};
 ghost use Rattle.srcp_info.specs.Read.{IsLineOf};
@@ -12,7 +12,9 @@ ghost use Rattle.srcp_info.specs.Read.{IsLineOf};
 use crate::change::{Change, Shown};
 use crate::key::{Device, Key};
 use crate::read::read_change;
-use std::alloc::{AllocError, Global};
+use std::alloc::Global;
+use std::collections::BTreeMap;
+use std::collections::btree_map::Values;
 use std::marker::Model;
 
 /// Why a line was not applied.
@@ -28,22 +30,23 @@ pub enum MirrorFault {
 /// of the rows, which go by rising key.
 #[derive(Drop)]
 pub struct Mirror {
-    rows: Vec<Shown>,
+    by_key: BTreeMap<Key, Shown>,
 }
 
 impl Model for Mirror {
     ghost use Rattle.std.specs.Prelude.{List};
     ghost use Rattle.srcp_info.specs.declared.change.Shown.{Shown};
+    ghost use Rattle.std.specs.BTreeMap.{values};
     ghost use Rattle.std.specs.List.{AllByRecursion};
-    ghost use Rattle.srcp_info.specs.Client.{IsRisingBy};
+    ghost use Rattle.srcp_info.specs.Client.{AreAtKeys};
     ghost use Rattle.srcp_info.specs.WellFormed.{IsWellFormedShown};
 
     ghost Value = { List Shown };
 
-    ghost view = { λ m. m.rows.items };
+    ghost view = { λ m. values m.by_key };
 
     ghost invariant = { λ m.
-        IsRisingBy (λ row. row.key) m.rows.items × AllByRecursion IsWellFormedShown m.rows.items };
+        AreAtKeys m.by_key.entries × AllByRecursion IsWellFormedShown (values m.by_key) };
 }
 
 impl Mirror {
@@ -52,7 +55,7 @@ impl Mirror {
         ensures { result ≡ [] }
     {
         Mirror {
-            rows: Vec::new(alloc),
+            by_key: BTreeMap::new(alloc),
         }
     }
 
@@ -72,75 +75,51 @@ impl Mirror {
         match read_change(line) {
             None => Err(MirrorFault::NotInfo),
             Some(Change::Put(shown)) => {
-                put_row(&mut self.rows, shown).map_err(|_| MirrorFault::Memory)
+                let Ok(_) = self.by_key.insert(shown.key, shown) else {
+                    return Err(MirrorFault::Memory);
+                };
+                Ok(())
             }
             Some(Change::Gone { device, .. }) => {
-                drop_device(&mut self.rows, &device);
+                drop_device(&mut self.by_key, &device);
                 Ok(())
             }
         }
     }
 
     /// The rows, by rising key.
-    pub fn rows(&self) -> &[Shown]
-        ensures rows { result.now ≡ self.now }
-        ensures rising { IsRisingBy (λ row. row.key) result.now }
-        ensures well_formed { AllByRecursion IsWellFormedShown result.now }
+    pub fn rows(&self) -> Values<'_, Key, Shown>
+        ensures rows { result ≡ self.now }
+        ensures rising { IsRisingBy (λ row. row.key) result }
+        ensures well_formed { AllByRecursion IsWellFormedShown result }
     {
-        &self.rows
+        self.by_key.values()
     }
-}
-
-/// Where a row of this key stands, or would stand, among rows by rising key.
-fn place_of(rows: &[Shown], key: &Key) -> usize
-    requires { IsRisingBy (λ row. row.key) rows.now }
-    ensures bound { result ≤ length rows.now }
-    ensures below { take result rows.now ≡ filter (λ row. is_after key.now row.key) rows.now }
-    ensures above { drop result rows.now
-        ≡ filter (λ row. not (is_after key.now row.key)) rows.now }
-{
-    rows.partition_point(|row| key.is_after(&row.key))
-}
-
-/// Whether the row at a place has this key.
-fn has_key_at(rows: &[Shown], at: usize, key: &Key) -> bool
-    ensures yes { result ≡ true → (at < length rows.now)
-        × ((row : Shown) → (slice_index_or rows.now at row).key ≡ key.now) }
-    ensures no { result ≡ false → (row : Shown) (rest : List Shown)
-        → drop at rows.now ≡ row ∷ rest → row.key ≡ key.now → ⊥ }
-{
-    match rows.get(at) {
-        Some(row) => row.key == *key,
-        None => false,
-    }
-}
-
-/// Puts a row at its key, in the place of the one that is there or between those around it.
-fn put_row(rows: &mut Vec<Shown>, shown: Shown) -> Result<(), AllocError>
-    requires { IsRisingBy (λ row. row.key) rows.old.items }
-    ensures ok { OnOk result (rows.new.items ≡ put shown rows.old.items) }
-    ensures err { OnErr result (rows.new.items ≡ rows.old.items) }
-    ensures grows { OnErr result (length (put shown rows.old.items) ≡ length rows.old.items + 1) }
-{
-    let at = place_of(rows, &shown.key);
-    if has_key_at(rows, at, &shown.key) {
-        rows[at] = shown;
-        return Ok(());
-    }
-    rows.insert(at, shown)?;
-    Ok(())
-}
-
-/// Whether the row is of another device.
-fn is_of_another(device: &Device, row: &Shown) -> bool
-    ensures { result ≡ not (owns device.now row.now.key) }
-{
-    !device.owns(&row.key)
 }
 
 /// Takes out all rows of a device.
-fn drop_device(rows: &mut Vec<Shown>, device: &Device)
-    ensures { rows.new.items ≡ filter (λ row. not (owns device.now row.key)) rows.old.items }
+fn drop_device(by_key: &mut BTreeMap<Key, Shown>, device: &Device)
+    ensures { by_key.new.entries
+        ≡ filter (λ entry. not (owns device.now entry.0)) by_key.old.entries }
 {
-    rows.retain(|row| is_of_another(device, row));
+    while drop_first(by_key, device) {}
+}
+
+/// Takes out the first row of a device. Whether there was one.
+fn drop_first(by_key: &mut BTreeMap<Key, Shown>, device: &Device) -> bool
+    ensures others { filter (λ entry. not (owns device.now entry.0)) by_key.new.entries
+        ≡ filter (λ entry. not (owns device.now entry.0)) by_key.old.entries }
+    ensures fewer { result ≡ true → length by_key.new.entries < length by_key.old.entries }
+    ensures none { result ≡ false → by_key.new.entries
+        ≡ filter (λ entry. not (owns device.now entry.0)) by_key.new.entries }
+{
+    let Some((key, _)) = by_key.range(device.first_key()..).next() else {
+        return false;
+    };
+    let key = *key;
+    if !device.owns(&key) {
+        return false;
+    }
+    let _ = by_key.remove(&key);
+    true
 }

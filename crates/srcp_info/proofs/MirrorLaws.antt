@@ -1,0 +1,171 @@
+-- Laws of rows that are kept at their keys.
+use Rattle.std.specs.Prelude.{◌≡◌, ℕ, ◌+◌, Bool, true, false, not, List, [], ◌∷◌, length, None, ⊤}
+use Rattle.std.specs.BTreeMap.{insert_entry, is_at}
+use Rattle.std.specs.BTreeMap.Range.{entries_between}
+use Rattle.std.specs.List.{AllByRecursion, filter}
+use Rattle.std.specs.List.Sorted.{IsStrictlySortedBy}
+use Rattle.std.specs.Map.{keys_of, values_of, lookup, remove_entry}
+use Rattle.std.specs.Ordering.{nat_cmp, ordering_then, ordering_reverse, is_gt, is_eq}
+use Rattle.std.specs.declared.cmp.Ordering.{Ordering}
+use Rattle.std.specs.declared.cmp.Ordering.TheVariants.{Less, Equal, Greater}
+use Rattle.std.specs.declared.ops.Bound.TheVariants.{Included, Unbounded}
+use Rattle.std.proofs.Common.{refl, ap, sym, subst, ◌∙◌, arith, inl, inr}
+use Rattle.std.proofs.lemmas.Bool.{cases_Bool, both_ways, false_from_ne_true}
+use Rattle.std.proofs.lemmas.Cmp.{nat_cmp_total}
+use Rattle.std.proofs.lemmas.Map.Keys.{sorted_head, sorted_tail}
+use Rattle.srcp_info.specs.declared.key.Key.{Key}
+use Rattle.srcp_info.specs.declared.key.Device.{Device}
+use Rattle.srcp_info.specs.declared.change.Shown.{Shown}
+use Rattle.srcp_info.specs.Key.{group_place, key_cmp, is_after, device_of, first_key, owns}
+use Rattle.srcp_info.specs.Client.{AreAtKeys, IsRisingBy, put}
+use Rattle.srcp_info.proofs.KeyLaws.{derived_key, key_order, key_cmp_total, key_tie, nat_tie, same_group, first_key_first, owns-device_of, device_from_owns}
+use Rattle.srcp_info.proofs.ClientLaws.{key_at, after_one_way, all_weaker, filter_every, put_between, put_over}
+
+-- the order that is derived is the keys' order
+pub same_order : derived_key ≡ key_cmp
+same_order = λ i a b. key_order a b i
+
+-- ---- rows by rising key
+
+above_values : (k : Key) (es : List (Key × Shown)) → AreAtKeys es → AllByRecursion (λ q. key_cmp k q ≡ Less) (keys_of es) → AllByRecursion (λ row. key_cmp k row.key ≡ Less) (values_of es)
+above_values k [] h a = tt
+above_values k (e ∷ es) h a = (subst (λ (q : Key). key_cmp k q ≡ Less) h.0 a.0, above_values k es h.1 a.1)
+
+-- where the keys rise, so do the rows
+pub rising_values : (es : List (Key × Shown)) → AreAtKeys es → IsStrictlySortedBy key_cmp (keys_of es) → IsRisingBy key_at (values_of es)
+rising_values [] h s = tt
+rising_values (e ∷ es) h s = (
+  subst (λ (k : Key). AllByRecursion (λ row. key_cmp k row.key ≡ Less) (values_of es)) h.0 (above_values e.0 es h.1 (sorted_head key_cmp e.0 (keys_of es) s)),
+  rising_values es h.1 (sorted_tail key_cmp e.0 (keys_of es) s),
+)
+
+-- ---- a row that is put
+
+-- it stands at its key
+pub at_keys-insert : (x : Shown) (es : List (Key × Shown)) → AreAtKeys es → AreAtKeys (insert_entry key_cmp es x.key x)
+at_keys-insert x [] h = (refl, tt)
+at_keys-insert x (e ∷ es) h = by_order (at_keys-insert x es h.1) (key_cmp x.key e.0) refl
+  where
+    by_order : AreAtKeys (insert_entry key_cmp es x.key x) → (o : Ordering) → key_cmp x.key e.0 ≡ o → AreAtKeys (insert_entry key_cmp (e ∷ es) x.key x)
+    by_order more Less lt = rw lt (refl, h)
+    by_order more Equal eq = rw eq (sym (key_tie x.key e.0 eq), h.1)
+    by_order more Greater gt = rw gt (h.0, more)
+
+-- and among the rows as a client puts it
+pub values-insert : (x : Shown) (es : List (Key × Shown)) → AreAtKeys es → IsRisingBy key_at (values_of es) → values_of (insert_entry key_cmp es x.key x) ≡ put x (values_of es)
+values-insert x [] h r = refl
+values-insert x (e ∷ es) h r = by_order (values-insert x es h.1 r.1) (key_cmp x.key e.0) refl
+  where
+    high : (k : Key) → key_cmp k e.1.key ≡ Less → AllByRecursion (λ row. key_cmp k row.key ≡ Less) (values_of es)
+    high k less = all_weaker (λ row. key_cmp e.1.key row.key ≡ Less) (λ row. key_cmp k row.key ≡ Less) (λ row more. key_cmp_total.trans k e.1.key row.key less more) (values_of es) r.0
+
+    by_order : values_of (insert_entry key_cmp es x.key x) ≡ put x (values_of es) → (o : Ordering) → key_cmp x.key e.0 ≡ o → values_of (insert_entry key_cmp (e ∷ es) x.key x) ≡ put x (values_of (e ∷ es))
+    by_order more Less lt =
+        let less = subst (λ (k : Key). key_cmp x.key k ≡ Less) h.0 lt in
+        rw lt (sym (put_between key_at x [] (values_of (e ∷ es)) tt (less, high x.key less)))
+    by_order more Equal eq =
+        let same : e.1.key ≡ x.key = sym h.0 ∙ sym (key_tie x.key e.0 eq) in
+        rw eq (sym (put_over key_at x [] e.1 (values_of es) same tt (subst (λ (k : Key). AllByRecursion (λ row. key_cmp k row.key ≡ Less) (values_of es)) same r.0)))
+    by_order more Greater gt =
+        let after : is_after x.key e.1.key ≡ true = ap is_gt (subst (λ (k : Key). key_cmp x.key k ≡ Greater) h.0 gt) in
+        let before : is_after e.1.key x.key ≡ false = after_one_way x.key e.1.key after in
+        rw (gt, after, before) (ap (λ (rows : List Shown). e.1 ∷ rows) more)
+
+-- it is one more where its key is not there
+pub length-insert : (k : Key) (v : Shown) (es : List (Key × Shown)) → lookup (is_at (key_cmp k)) es ≡ None → length (values_of (insert_entry key_cmp es k v)) ≡ length (values_of es) + 1
+length-insert k v [] none = refl
+length-insert k v (e ∷ es) none = by_order (length-insert k v es) (key_cmp k e.0) refl
+  where
+    by_order : (lookup (is_at (key_cmp k)) es ≡ None → length (values_of (insert_entry key_cmp es k v)) ≡ length (values_of es) + 1) → (o : Ordering) → key_cmp k e.0 ≡ o → length (values_of (insert_entry key_cmp (e ∷ es) k v)) ≡ length (values_of (e ∷ es)) + 1
+    by_order more Less lt = rw lt (omega arith)
+    by_order more Equal eq = let some = rw eq at none in cc
+    by_order more Greater gt =
+        let one = more (rw gt at none) in
+        rw gt (omega arith)
+
+-- ---- rows that are taken out
+
+same_key : (k q : Key) → is_at (key_cmp k) q ≡ true → k ≡ q
+same_key k q at = key_tie k q (by_order (key_cmp k q) at)
+  where
+    by_order : (o : Ordering) → is_eq o ≡ true → o ≡ Equal
+    by_order Less e = cc
+    by_order Equal e = refl
+    by_order Greater e = cc
+
+-- to take out a row that is left out anyway makes no difference
+pub filter-remove : (out : Key → Bool) (k : Key) → out k ≡ true → (es : List (Key × Shown)) → filter (λ e. not (out e.0)) (remove_entry (is_at (key_cmp k)) es) ≡ filter (λ e. not (out e.0)) es
+filter-remove out k own [] = refl
+filter-remove out k own (e ∷ es) =
+    elim (cases_Bool (is_at (key_cmp k) e.0)) [
+      | inl t ↦ let gone : out e.0 ≡ true = subst (λ (q : Key). out q ≡ true) (same_key k e.0 t) own in rw (t, gone) refl
+      | inr f ↦ elim (cases_Bool (out e.0)) [
+        | inl o ↦ rw (f, o) (filter-remove out k own es)
+        | inr n ↦ rw (f, n) (ap (λ (rest : List (Key × Shown)). e ∷ rest) (filter-remove out k own es))
+      ]
+    ]
+
+-- a filter by the keys is one of the rows
+pub values-filter : (p : Key → Bool) (es : List (Key × Shown)) → AreAtKeys es → values_of (filter (λ e. p e.0) es) ≡ filter (λ row. p row.key) (values_of es)
+values-filter p [] h = refl
+values-filter p (e ∷ es) h =
+    let same : p e.1.key ≡ p e.0 = ap p (sym h.0) in
+    elim (cases_Bool (p e.0)) [
+      | inl t ↦ rw (same, t) (ap (λ (rows : List Shown). e.1 ∷ rows) (values-filter p es h.1))
+      | inr f ↦ rw (same, f) (values-filter p es h.1)
+    ]
+
+-- ---- the rows of a device
+
+-- a number between a number and itself is that number
+squeezed : (m n : ℕ) (p q : Ordering) → is_gt (ordering_then (nat_cmp m n) p) ≡ false → ordering_then (nat_cmp n m) q ≡ Less → (m ≡ n) × (is_gt p ≡ false) × (q ≡ Less)
+squeezed m n p q low high = by_order (nat_cmp m n) refl low (subst (λ (o : Ordering). ordering_then o q ≡ Less) (nat_cmp_total.antisymm n m) high)
+  where
+    by_order : (o : Ordering) → nat_cmp m n ≡ o → is_gt (ordering_then o p) ≡ false → ordering_then (ordering_reverse (nat_cmp m n)) q ≡ Less → (m ≡ n) × (is_gt p ≡ false) × (q ≡ Less)
+    by_order Less e f l = let g = rw e at l in cc
+    by_order Equal e f l = (nat_tie m n e, f, rw e at l)
+    by_order Greater e f l = cc
+
+-- a key between a device's first and another of its keys is the device's too
+between_owned : (device : Device) (low high : Key) → is_after (first_key device) low ≡ false → key_cmp low high ≡ Less → owns device high ≡ true → owns device low ≡ true
+between_owned device low high from to own =
+    let mine = device_from_owns device high own in
+    let from' : is_after (first_key (device_of high)) low ≡ false = subst (λ (d : Device). is_after (first_key d) low ≡ false) (sym mine) from in
+    let bus = squeezed high.bus low.bus _ _ from' to in
+    let g = squeezed (group_place high.group) (group_place low.group) _ _ bus.1 bus.2 in
+    let address = squeezed high.address low.address _ _ g.1 g.2 in
+    let e1 = bus.0 in
+    let e2 = same_group high.group low.group g.0 in
+    let e3 = address.0 in
+    let same : device_of high ≡ device_of low = λ i. record { bus = e1 i; group = e2 i; address = e3 i } in
+    subst (λ (d : Device). owns d low ≡ true) (sym same ∙ mine) (owns-device_of low)
+
+-- the first of these is not of the device
+abbrev pub IsOfAnother : Device → List (Key × Shown) → Type 0
+IsOfAnother device [] = ⊤
+IsOfAnother device (e ∷ es) = owns device e.0 ≡ false
+
+above_others : (device : Device) (low : Key) → is_after (first_key device) low ≡ false → owns device low ≡ false → (es : List (Key × Shown)) → AllByRecursion (λ k. key_cmp low k ≡ Less) (keys_of es) → AllByRecursion (λ e. not (owns device e.0) ≡ true) es
+above_others device low from other [] h = tt
+above_others device low from other (e ∷ es) h = (
+  ap not (false_from_ne_true (owns device e.0) (λ own. both_ways (owns device low) other (between_owned device low e.0 from h.0 own))),
+  above_others device low from other es h.1,
+)
+
+all_others : (device : Device) (es : List (Key × Shown)) → IsStrictlySortedBy key_cmp (keys_of es) → IsOfAnother device (entries_between key_cmp (Included (first_key device)) Unbounded es) → AllByRecursion (λ e. not (owns device e.0) ≡ true) es
+all_others device [] s h = tt
+all_others device (e ∷ es) s h = by_order (all_others device es (sorted_tail key_cmp e.0 (keys_of es) s)) (key_cmp (first_key device) e.0) refl
+  where
+    from_here : is_after (first_key device) e.0 ≡ false → owns device e.0 ≡ false → AllByRecursion (λ e. not (owns device e.0) ≡ true) (e ∷ es)
+    from_here from other = (ap not other, above_others device e.0 from other es (sorted_head key_cmp e.0 (keys_of es) s))
+
+    by_order : (IsOfAnother device (entries_between key_cmp (Included (first_key device)) Unbounded es) → AllByRecursion (λ e. not (owns device e.0) ≡ true) es) → (o : Ordering) → key_cmp (first_key device) e.0 ≡ o → AllByRecursion (λ e. not (owns device e.0) ≡ true) (e ∷ es)
+    by_order more Less lt = from_here (ap is_gt lt) (rw lt at h)
+    by_order more Equal eq = from_here (ap is_gt eq) (rw eq at h)
+    by_order more Greater gt =
+        let below : owns device e.0 ≡ false = false_from_ne_true (owns device e.0) (λ own. both_ways (is_after (first_key device) e.0) (first_key_first device e.0 own) (ap is_gt gt)) in
+        (ap not below, more (rw gt at h))
+
+-- where the first row at a device's first key or above is not the device's, the device has none
+pub filter-none_owned : (device : Device) (es : List (Key × Shown)) → IsStrictlySortedBy key_cmp (keys_of es) → IsOfAnother device (entries_between key_cmp (Included (first_key device)) Unbounded es) → filter (λ e. not (owns device e.0)) es ≡ es
+filter-none_owned device es s h = filter_every (λ e. not (owns device e.0)) es (all_others device es s h)
