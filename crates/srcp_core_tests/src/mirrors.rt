@@ -51,7 +51,7 @@ fn a_settled_panel(alloc: Global) -> Result<Vec<Event>, Fail> {
 /// The mirror holds the same rows.
 fn assert_same_rows(rt: &impl Abort, mirror: &Mirror, rows: &[Row]) {
     assert_eq!(rt; mirror.rows().len(), rows.len());
-    for (shown, row) in mirror.rows().iter().zip(rows) {
+    for (shown, row) in mirror.rows().zip(rows) {
         assert_eq!(rt; *shown, row.shown);
     }
 }

@@ -18,8 +18,13 @@ use Rattle.srcp_info.specs.declared.key.Device.{Device}
 use Rattle.srcp_info.specs.declared.change.Shown.{Shown}
 use Rattle.srcp_info.specs.Key.{group_place, key_cmp, is_after, device_of, first_key, owns}
 use Rattle.srcp_info.specs.Client.{AreAtKeys, IsRisingBy, put}
-use Rattle.srcp_info.proofs.KeyLaws.{derived_key, key_order, key_cmp_total, key_tie, nat_tie, same_group, first_key_first, owns-device_of, device_from_owns}
+use Rattle.srcp_info.proofs.KeyLaws.{derived_key, key_order, key_cmp_total, key_tie, nat_tie, same_group}
+use Rattle.srcp_info.proofs.KeyLaws.{first_key_first, owns-device_of, device_from_owns}
 use Rattle.srcp_info.proofs.ClientLaws.{key_at, after_one_way, all_weaker, filter_every, put_between, put_over}
+
+-- rows, each with the key that it stands at
+abbrev pub Entries : Type 0
+Entries = List (Key × Shown)
 
 -- the order that is derived is the keys' order
 pub same_order : derived_key ≡ key_cmp
@@ -27,56 +32,68 @@ same_order = λ i a b. key_order a b i
 
 -- ---- rows by rising key
 
-above_values : (k : Key) (es : List (Key × Shown)) → AreAtKeys es → AllByRecursion (λ q. key_cmp k q ≡ Less) (keys_of es) → AllByRecursion (λ row. key_cmp k row.key ≡ Less) (values_of es)
+-- each row is above the key
+abbrev AreAbove : Key → List Shown → Type 0
+AreAbove k rows = AllByRecursion (λ row. key_cmp k row.key ≡ Less) rows
+
+above_values : (k : Key) (es : Entries) → AreAtKeys es → AllByRecursion (λ q. key_cmp k q ≡ Less) (keys_of es) → AreAbove k (values_of es)
 above_values k [] h a = tt
 above_values k (e ∷ es) h a = (subst (λ (q : Key). key_cmp k q ≡ Less) h.0 a.0, above_values k es h.1 a.1)
 
 -- where the keys rise, so do the rows
-pub rising_values : (es : List (Key × Shown)) → AreAtKeys es → IsStrictlySortedBy key_cmp (keys_of es) → IsRisingBy key_at (values_of es)
+pub rising_values : (es : Entries) → AreAtKeys es → IsStrictlySortedBy key_cmp (keys_of es) → IsRisingBy key_at (values_of es)
 rising_values [] h s = tt
 rising_values (e ∷ es) h s = (
-  subst (λ (k : Key). AllByRecursion (λ row. key_cmp k row.key ≡ Less) (values_of es)) h.0 (above_values e.0 es h.1 (sorted_head key_cmp e.0 (keys_of es) s)),
+  subst (λ (k : Key). AreAbove k (values_of es)) h.0 (above_values e.0 es h.1 (sorted_head key_cmp e.0 (keys_of es) s)),
   rising_values es h.1 (sorted_tail key_cmp e.0 (keys_of es) s),
 )
 
 -- ---- a row that is put
 
 -- it stands at its key
-pub at_keys-insert : (x : Shown) (es : List (Key × Shown)) → AreAtKeys es → AreAtKeys (insert_entry key_cmp es x.key x)
+pub at_keys-insert : (x : Shown) (es : Entries) → AreAtKeys es → AreAtKeys (insert_entry key_cmp es x.key x)
 at_keys-insert x [] h = (refl, tt)
 at_keys-insert x (e ∷ es) h = by_order (at_keys-insert x es h.1) (key_cmp x.key e.0) refl
   where
-    by_order : AreAtKeys (insert_entry key_cmp es x.key x) → (o : Ordering) → key_cmp x.key e.0 ≡ o → AreAtKeys (insert_entry key_cmp (e ∷ es) x.key x)
+    by_order : AreAtKeys (insert_entry key_cmp es x.key x) → (o : Ordering) → key_cmp x.key e.0 ≡ o
+        → AreAtKeys (insert_entry key_cmp (e ∷ es) x.key x)
     by_order more Less lt = rw lt (refl, h)
     by_order more Equal eq = rw eq (sym (key_tie x.key e.0 eq), h.1)
     by_order more Greater gt = rw gt (h.0, more)
 
 -- and among the rows as a client puts it
-pub values-insert : (x : Shown) (es : List (Key × Shown)) → AreAtKeys es → IsRisingBy key_at (values_of es) → values_of (insert_entry key_cmp es x.key x) ≡ put x (values_of es)
+pub values-insert : (x : Shown) (es : Entries) → AreAtKeys es → IsRisingBy key_at (values_of es)
+    → values_of (insert_entry key_cmp es x.key x) ≡ put x (values_of es)
 values-insert x [] h r = refl
 values-insert x (e ∷ es) h r = by_order (values-insert x es h.1 r.1) (key_cmp x.key e.0) refl
   where
-    high : (k : Key) → key_cmp k e.1.key ≡ Less → AllByRecursion (λ row. key_cmp k row.key ≡ Less) (values_of es)
-    high k less = all_weaker (λ row. key_cmp e.1.key row.key ≡ Less) (λ row. key_cmp k row.key ≡ Less) (λ row more. key_cmp_total.trans k e.1.key row.key less more) (values_of es) r.0
+    high : (k : Key) → key_cmp k e.1.key ≡ Less → AreAbove k (values_of es)
+    high k less =
+        all_weaker (λ row. key_cmp e.1.key row.key ≡ Less) (λ row. key_cmp k row.key ≡ Less)
+        (λ row more. key_cmp_total.trans k e.1.key row.key less more) (values_of es) r.0
 
-    by_order : values_of (insert_entry key_cmp es x.key x) ≡ put x (values_of es) → (o : Ordering) → key_cmp x.key e.0 ≡ o → values_of (insert_entry key_cmp (e ∷ es) x.key x) ≡ put x (values_of (e ∷ es))
+    by_order : values_of (insert_entry key_cmp es x.key x) ≡ put x (values_of es) → (o : Ordering) → key_cmp x.key e.0 ≡ o
+        → values_of (insert_entry key_cmp (e ∷ es) x.key x) ≡ put x (values_of (e ∷ es))
     by_order more Less lt =
         let less = subst (λ (k : Key). key_cmp x.key k ≡ Less) h.0 lt in
         rw lt (sym (put_between key_at x [] (values_of (e ∷ es)) tt (less, high x.key less)))
     by_order more Equal eq =
         let same : e.1.key ≡ x.key = sym h.0 ∙ sym (key_tie x.key e.0 eq) in
-        rw eq (sym (put_over key_at x [] e.1 (values_of es) same tt (subst (λ (k : Key). AllByRecursion (λ row. key_cmp k row.key ≡ Less) (values_of es)) same r.0)))
+        rw eq (sym (put_over key_at x [] e.1 (values_of es) same tt (subst (λ (k : Key). AreAbove k (values_of es)) same r.0)))
     by_order more Greater gt =
         let after : is_after x.key e.1.key ≡ true = ap is_gt (subst (λ (k : Key). key_cmp x.key k ≡ Greater) h.0 gt) in
         let before : is_after e.1.key x.key ≡ false = after_one_way x.key e.1.key after in
         rw (gt, after, before) (ap (λ (rows : List Shown). e.1 ∷ rows) more)
 
 -- it is one more where its key is not there
-pub length-insert : (k : Key) (v : Shown) (es : List (Key × Shown)) → lookup (is_at (key_cmp k)) es ≡ None → length (values_of (insert_entry key_cmp es k v)) ≡ length (values_of es) + 1
+pub length-insert : (k : Key) (v : Shown) (es : Entries) → lookup (is_at (key_cmp k)) es ≡ None
+    → length (values_of (insert_entry key_cmp es k v)) ≡ length (values_of es) + 1
 length-insert k v [] none = refl
 length-insert k v (e ∷ es) none = by_order (length-insert k v es) (key_cmp k e.0) refl
   where
-    by_order : (lookup (is_at (key_cmp k)) es ≡ None → length (values_of (insert_entry key_cmp es k v)) ≡ length (values_of es) + 1) → (o : Ordering) → key_cmp k e.0 ≡ o → length (values_of (insert_entry key_cmp (e ∷ es) k v)) ≡ length (values_of (e ∷ es)) + 1
+    by_order : (lookup (is_at (key_cmp k)) es ≡ None → length (values_of (insert_entry key_cmp es k v)) ≡ length (values_of es) + 1)
+        → (o : Ordering) → key_cmp k e.0 ≡ o
+        → length (values_of (insert_entry key_cmp (e ∷ es) k v)) ≡ length (values_of (e ∷ es)) + 1
     by_order more Less lt = rw lt (omega arith)
     by_order more Equal eq = let some = rw eq at none in cc
     by_order more Greater gt =
@@ -94,19 +111,21 @@ same_key k q at = key_tie k q (by_order (key_cmp k q) at)
     by_order Greater e = cc
 
 -- to take out a row that is left out anyway makes no difference
-pub filter-remove : (out : Key → Bool) (k : Key) → out k ≡ true → (es : List (Key × Shown)) → filter (λ e. not (out e.0)) (remove_entry (is_at (key_cmp k)) es) ≡ filter (λ e. not (out e.0)) es
+pub filter-remove : (out : Key → Bool) (k : Key) → out k ≡ true → (es : Entries)
+    → filter (λ e. not (out e.0)) (remove_entry (is_at (key_cmp k)) es) ≡ filter (λ e. not (out e.0)) es
 filter-remove out k own [] = refl
 filter-remove out k own (e ∷ es) =
     elim (cases_Bool (is_at (key_cmp k) e.0)) [
       | inl t ↦ let gone : out e.0 ≡ true = subst (λ (q : Key). out q ≡ true) (same_key k e.0 t) own in rw (t, gone) refl
       | inr f ↦ elim (cases_Bool (out e.0)) [
         | inl o ↦ rw (f, o) (filter-remove out k own es)
-        | inr n ↦ rw (f, n) (ap (λ (rest : List (Key × Shown)). e ∷ rest) (filter-remove out k own es))
+        | inr n ↦ rw (f, n) (ap (λ (rest : Entries). e ∷ rest) (filter-remove out k own es))
       ]
     ]
 
 -- a filter by the keys is one of the rows
-pub values-filter : (p : Key → Bool) (es : List (Key × Shown)) → AreAtKeys es → values_of (filter (λ e. p e.0) es) ≡ filter (λ row. p row.key) (values_of es)
+pub values-filter : (p : Key → Bool) (es : Entries) → AreAtKeys es
+    → values_of (filter (λ e. p e.0) es) ≡ filter (λ row. p row.key) (values_of es)
 values-filter p [] h = refl
 values-filter p (e ∷ es) h =
     let same : p e.1.key ≡ p e.0 = ap p (sym h.0) in
@@ -118,20 +137,23 @@ values-filter p (e ∷ es) h =
 -- ---- the rows of a device
 
 -- a number between a number and itself is that number
-squeezed : (m n : ℕ) (p q : Ordering) → is_gt (ordering_then (nat_cmp m n) p) ≡ false → ordering_then (nat_cmp n m) q ≡ Less → (m ≡ n) × (is_gt p ≡ false) × (q ≡ Less)
-squeezed m n p q low high = by_order (nat_cmp m n) refl low (subst (λ (o : Ordering). ordering_then o q ≡ Less) (nat_cmp_total.antisymm n m) high)
+squeezed : (m n : ℕ) (p q : Ordering) → is_gt (ordering_then (nat_cmp m n) p) ≡ false → ordering_then (nat_cmp n m) q ≡ Less
+    → (m ≡ n) × (is_gt p ≡ false) × (q ≡ Less)
+squeezed m n p q low high =
+    by_order (nat_cmp m n) refl low (subst (λ (o : Ordering). ordering_then o q ≡ Less) (nat_cmp_total.antisymm n m) high)
   where
-    by_order : (o : Ordering) → nat_cmp m n ≡ o → is_gt (ordering_then o p) ≡ false → ordering_then (ordering_reverse (nat_cmp m n)) q ≡ Less → (m ≡ n) × (is_gt p ≡ false) × (q ≡ Less)
+    by_order : (o : Ordering) → nat_cmp m n ≡ o → is_gt (ordering_then o p) ≡ false
+        → ordering_then (ordering_reverse (nat_cmp m n)) q ≡ Less → (m ≡ n) × (is_gt p ≡ false) × (q ≡ Less)
     by_order Less e f l = let g = rw e at l in cc
     by_order Equal e f l = (nat_tie m n e, f, rw e at l)
     by_order Greater e f l = cc
 
 -- a key between a device's first and another of its keys is the device's too
-between_owned : (device : Device) (low high : Key) → is_after (first_key device) low ≡ false → key_cmp low high ≡ Less → owns device high ≡ true → owns device low ≡ true
+between_owned : (device : Device) (low high : Key) → is_after (first_key device) low ≡ false → key_cmp low high ≡ Less
+    → owns device high ≡ true → owns device low ≡ true
 between_owned device low high from to own =
     let mine = device_from_owns device high own in
-    let from' : is_after (first_key (device_of high)) low ≡ false = subst (λ (d : Device). is_after (first_key d) low ≡ false) (sym mine) from in
-    let bus = squeezed high.bus low.bus _ _ from' to in
+    let bus = squeezed high.bus low.bus _ _ (subst (λ (d : Device). is_after (first_key d) low ≡ false) (sym mine) from) to in
     let g = squeezed (group_place high.group) (group_place low.group) _ _ bus.1 bus.2 in
     let address = squeezed high.address low.address _ _ g.1 g.2 in
     let e1 = bus.0 in
@@ -141,31 +163,55 @@ between_owned device low high from to own =
     subst (λ (d : Device). owns d low ≡ true) (sym same ∙ mine) (owns-device_of low)
 
 -- the first of these is not of the device
-abbrev pub IsOfAnother : Device → List (Key × Shown) → Type 0
+abbrev pub IsOfAnother : Device → Entries → Type 0
 IsOfAnother device [] = ⊤
 IsOfAnother device (e ∷ es) = owns device e.0 ≡ false
 
-above_others : (device : Device) (low : Key) → is_after (first_key device) low ≡ false → owns device low ≡ false → (es : List (Key × Shown)) → AllByRecursion (λ k. key_cmp low k ≡ Less) (keys_of es) → AllByRecursion (λ e. not (owns device e.0) ≡ true) es
-above_others device low from other [] h = tt
-above_others device low from other (e ∷ es) h = (
-  ap not (false_from_ne_true (owns device e.0) (λ own. both_ways (owns device low) other (between_owned device low e.0 from h.0 own))),
-  above_others device low from other es h.1,
-)
+module _ (device : Device) where
+  -- the entries from the device's first key on
+  abbrev from_first : Entries → Entries
+  from_first es = entries_between key_cmp (Included (first_key device)) Unbounded es
 
-all_others : (device : Device) (es : List (Key × Shown)) → IsStrictlySortedBy key_cmp (keys_of es) → IsOfAnother device (entries_between key_cmp (Included (first_key device)) Unbounded es) → AllByRecursion (λ e. not (owns device e.0) ≡ true) es
-all_others device [] s h = tt
-all_others device (e ∷ es) s h = by_order (all_others device es (sorted_tail key_cmp e.0 (keys_of es) s)) (key_cmp (first_key device) e.0) refl
-  where
-    from_here : is_after (first_key device) e.0 ≡ false → owns device e.0 ≡ false → AllByRecursion (λ e. not (owns device e.0) ≡ true) (e ∷ es)
-    from_here from other = (ap not other, above_others device e.0 from other es (sorted_head key_cmp e.0 (keys_of es) s))
+  -- each is of another device
+  abbrev AreOfOthers : Entries → Type 0
+  AreOfOthers es = AllByRecursion (λ e. not (owns device e.0) ≡ true) es
 
-    by_order : (IsOfAnother device (entries_between key_cmp (Included (first_key device)) Unbounded es) → AllByRecursion (λ e. not (owns device e.0) ≡ true) es) → (o : Ordering) → key_cmp (first_key device) e.0 ≡ o → AllByRecursion (λ e. not (owns device e.0) ≡ true) (e ∷ es)
-    by_order more Less lt = from_here (ap is_gt lt) (rw lt at h)
-    by_order more Equal eq = from_here (ap is_gt eq) (rw eq at h)
-    by_order more Greater gt =
-        let below : owns device e.0 ≡ false = false_from_ne_true (owns device e.0) (λ own. both_ways (is_after (first_key device) e.0) (first_key_first device e.0 own) (ap is_gt gt)) in
-        (ap not below, more (rw gt at h))
+  above_others : (low : Key) → is_after (first_key device) low ≡ false → owns device low ≡ false
+      → (es : Entries) → AllByRecursion (λ k. key_cmp low k ≡ Less) (keys_of es) → AreOfOthers es
+  above_others low from other [] h = tt
+  above_others low from other (e ∷ es) h = (
+    ap not (false_from_ne_true (owns device e.0) (λ own. both_ways (owns device low) other (between_owned device low e.0 from h.0 own))),
+    above_others low from other es h.1,
+  )
 
--- where the first row at a device's first key or above is not the device's, the device has none
-pub filter-none_owned : (device : Device) (es : List (Key × Shown)) → IsStrictlySortedBy key_cmp (keys_of es) → IsOfAnother device (entries_between key_cmp (Included (first_key device)) Unbounded es) → filter (λ e. not (owns device e.0)) es ≡ es
-filter-none_owned device es s h = filter_every (λ e. not (owns device e.0)) es (all_others device es s h)
+  -- a key below the device's first is not the device's
+  below_first : (k : Key) → is_after (first_key device) k ≡ true → owns device k ≡ false
+  below_first k after =
+      false_from_ne_true (owns device k) (λ own. both_ways (is_after (first_key device) k) (first_key_first device k own) after)
+
+  all_others : (es : Entries) → IsStrictlySortedBy key_cmp (keys_of es) → IsOfAnother device (from_first es) → AreOfOthers es
+  all_others [] s h = tt
+  all_others (e ∷ es) s h =
+      by_order (all_others es (sorted_tail key_cmp e.0 (keys_of es) s)) (key_cmp (first_key device) e.0) refl
+    where
+      from_here : is_after (first_key device) e.0 ≡ false → owns device e.0 ≡ false → AreOfOthers (e ∷ es)
+      from_here from other = (ap not other, above_others e.0 from other es (sorted_head key_cmp e.0 (keys_of es) s))
+
+      by_order : (IsOfAnother device (from_first es) → AreOfOthers es) → (o : Ordering) → key_cmp (first_key device) e.0 ≡ o
+          → AreOfOthers (e ∷ es)
+      by_order more Less lt = from_here (ap is_gt lt) (rw lt at h)
+      by_order more Equal eq = from_here (ap is_gt eq) (rw eq at h)
+      by_order more Greater gt = (ap not (below_first e.0 (ap is_gt gt)), more (rw gt at h))
+
+  -- where the first entry from the device's first key on is not the device's, the device has none
+  none_owned : (es : Entries) → IsStrictlySortedBy key_cmp (keys_of es) → IsOfAnother device (from_first es)
+      → es ≡ filter (λ e. not (owns device e.0)) es
+  none_owned es s h = sym (filter_every (λ e. not (owns device e.0)) es (all_others es s h))
+
+  -- as a map by the derived order says it
+  pub none_found : (es found : Entries) (from : Key) → from ≡ first_key device → IsStrictlySortedBy derived_key (keys_of es)
+      → found ≡ entries_between derived_key (Included from) Unbounded es → IsOfAnother device found
+      → es ≡ filter (λ e. not (owns device e.0)) es
+  none_found es found from first s is other =
+      none_owned es (subst (λ cmp. IsStrictlySortedBy cmp (keys_of es)) same_order s)
+      (subst (IsOfAnother device) (is ∙ (λ i. entries_between (same_order i) (Included (first i)) Unbounded es)) other)

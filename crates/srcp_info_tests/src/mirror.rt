@@ -11,7 +11,7 @@ fn applies(rt: &impl Abort, mirror: &mut Mirror, lines: &[&str]) {
 
 fn has_keys(rt: &impl Abort, mirror: &Mirror, keys: &[(u8, Group, u32, u8)]) {
     assert_eq!(rt; mirror.rows().len(), keys.len());
-    for (shown, (bus, group, address, port)) in mirror.rows().iter().zip(keys) {
+    for (shown, (bus, group, address, port)) in mirror.rows().zip(keys) {
         let key = Key {
             bus: *bus,
             group: *group,
@@ -91,7 +91,7 @@ fn a_row_is_put_over_the_one_before(rt: HostRuntime) {
         &["0.000 100 INFO 1 FB 1 0", "1.050 100 INFO 1 FB 1 1"],
     );
     assert_eq!(rt; mirror.rows().len(), 1);
-    assert_eq!(rt; mirror.rows()[0].stamp, 1050);
+    assert_eq!(rt; mirror.rows().next().map(|row| row.stamp), Some(1050));
 }
 
 #[test]

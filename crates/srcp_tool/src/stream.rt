@@ -1,9 +1,7 @@
 //! The rows that information lines tell of.
 
 ghost use Rattle.std.specs.Prelude.{◌≡◌, ◌+◌, ◌^◌, ◌<◌, ◌≤◌, ◌++◌, ℕ, List, length, IfOk, IfSome, IfErr};
-ghost use Rattle.std.specs.List.{AllByRecursion};
 ghost use Rattle.srcp_info.specs.Client.{listing};
-ghost use Rattle.srcp_info.specs.WellFormed.{IsWellFormedShown};
 ghost use Rattle.srcp_tool.specs.Mirroring.{IsAt};
 ghost use Rattle.srcp_tool.specs.Output.{input_limit, ClientHolds, Writes, Mirrors, RefusesFor, RefusesInput, StopsFor};
 
@@ -14,7 +12,7 @@ use crate::fault::ToolFault;
 use crate::input::{INPUT_LIMIT, PIECE, read_piece};
 use crate::output::write_whole;
 use lines::MirroredLines;
-use srcp_info::{Mirror, MirrorFault, Shown};
+use srcp_info::{Mirror, MirrorFault};
 use srcp_script::print_shown;
 use std::alloc::{AllocError, Global};
 use std::io::{Read, Write};
@@ -31,7 +29,7 @@ pub fn mirror_text(alloc: Global, input: &[u8]) -> Result<Vec<u8>, ToolFault>
     ensures stops { IfErr result (RefusesFor (RefusesInput input.now)) }
 {
     let mirror = take_lines(alloc, input)?;
-    let text = print_listing(alloc, mirror.rows())?;
+    let text = print_listing(alloc, &mirror)?;
     Ok(text)
 }
 
@@ -70,7 +68,7 @@ pub fn mirror<R: Read, W: Write>(
         result (W.contents writer.old) (W.contents writer.new) }
 {
     let mirror = read_lines(alloc, reader)?;
-    let text = print_listing(alloc, mirror.rows())?;
+    let text = print_listing(alloc, &mirror)?;
     write_whole(writer, text.as_slice())
 }
 
@@ -126,13 +124,12 @@ fn take_piece(
     }
 }
 
-/// The lines of rows.
-fn print_listing(alloc: Global, rows: &[Shown]) -> Result<Vec<u8>, AllocError>
-    requires { AllByRecursion IsWellFormedShown rows.now }
-    ensures { IfOk result (λ text. text.items ≡ listing rows.now) }
+/// The lines of the rows.
+fn print_listing(alloc: Global, mirror: &Mirror) -> Result<Vec<u8>, AllocError>
+    ensures { IfOk result (λ text. text.items ≡ listing mirror.now) }
 {
     let mut text = Vec::new(alloc);
-    for shown in rows {
+    for shown in mirror.rows() {
         print_shown(shown, &mut text)?;
     }
     Ok(text)

@@ -4,7 +4,9 @@ use Rattle.srcp_info.specs.Key.{owns}
 use Rattle.srcp_info.proofs.mirror.drop_device.Given as goal
 
 abbrev pub invariant-loop : goal.invariant-loop
-invariant-loop l = filter (λ entry. not (owns l.device entry.0)) l.by_key.entries ≡ filter (λ entry. not (owns l.device entry.0)) l.initial.by_key.entries
+invariant-loop l =
+    filter (λ entry. not (owns l.device entry.0)) l.by_key.entries
+    ≡ filter (λ entry. not (owns l.device entry.0)) l.initial.by_key.entries
 
 abbrev pub decreases-loop : goal.decreases-loop
 decreases-loop l = length l.by_key.entries

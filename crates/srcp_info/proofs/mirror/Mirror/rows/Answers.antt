@@ -9,4 +9,5 @@ use Rattle.srcp_info.proofs.mirror.Mirror.rows.Goals as goal
 pub returns-clause-rising : goal.returns-clause-rising
 returns-clause-rising c =
     let map = c.self.inside.by_key in
-    subst (IsRisingBy key_at) (sym c.values.ensures.rest) (rising_values map.entries c.self.invariant.0 (subst (λ cmp. IsStrictlySortedBy cmp (keys map)) same_order c.values.ensures.ordered))
+    let ordered = subst (λ cmp. IsStrictlySortedBy cmp (keys map)) same_order c.values.ensures.ordered in
+    subst (IsRisingBy key_at) (sym c.values.ensures.rest) (rising_values map.entries c.self.invariant.0 ordered)
