@@ -11,7 +11,7 @@ ghost use Rattle.srcp_core.specs.Machine.{queue_of, fresh_place, with_unsent, wi
 use crate::handshake::{Greeting, greet};
 use crate::limits::MOST_UNSENT;
 use crate::line::Asked;
-use srcp_feed::{InfoFeed, Next, Told};
+use srcp_feed::{ChangeLine, InfoFeed, Next, Told};
 use srcp_info::{Change, Code, LONGEST_LINE, Mode, Reply, write_change, write_reply};
 use srcp_rules::{Layout, Memory, Rows, parse_command};
 use srcp_text::{Fed, LineBuf, LineReader};
@@ -160,14 +160,14 @@ impl Connection {
 
     /// Tells an information session a change. Where it would have to wait and can not, the session is over: what
     /// waits, the listing and the unsent bytes are given up.
-    pub(crate) fn tell(&mut self, change: &Change)
+    pub(crate) fn tell(&mut self, change: &ChangeLine)
         requires { IsWellFormed change.now }
         ensures { self.new ≡ told_place change.now self.old }
     {
         let Panel::Listening(feed) = &mut self.panel else {
             return;
         };
-        if let Told::Overrun = feed.tell(change) {
+        if let Told::Overrun = feed.tell_line(change) {
             self.panel = Panel::Overran;
             self.reply.clear();
             self.start = 0;
@@ -275,10 +275,13 @@ impl Connection {
         let Panel::Listening(feed) = &mut self.panel else {
             return None;
         };
-        let next = feed.next(rows);
         self.reply.clear();
         self.start = 0;
-        put_next(&next, &mut self.reply);
+        self.reply.extend_from_slice(feed.first_line()).unwrap();
+        let next = feed.next(rows);
+        if self.reply.is_empty() {
+            put_next(&next, &mut self.reply);
+        }
         Some(next)
     }
 }

@@ -6,11 +6,11 @@ ghost use Rattle.srcp_info.specs.declared.change.Change.{Change};
 ghost use Rattle.srcp_info.specs.declared.change.Shown.{Shown};
 ghost use Rattle.srcp_rules.specs.State.{shown_rows};
 ghost use Rattle.srcp_feed.specs.Cursor.{said};
-ghost use Rattle.srcp_feed.specs.Feed.{beginning, told, told_answer, next_of, after_next, HoldsPassed};
+ghost use Rattle.srcp_feed.specs.Feed.{beginning, told, told_answer, next_of, after_next, HoldsPassed, IsFirstLineOrNone};
 
-use crate::{Next, Told};
+use crate::{ChangeLine, Next, Told};
 use circular_buffer::HeapCircularBuffer;
-use srcp_info::{Change, Cursor};
+use srcp_info::{Change, Cursor, LONGEST_LINE};
 use srcp_rules::{Memory, Rows};
 use std::alloc::Global;
 use std::marker::Model;
@@ -23,7 +23,7 @@ pub const MOST_WAITING: usize = 256;
 #[derive(Drop)]
 pub struct InfoFeed {
     cursor: Cursor,
-    ring: HeapCircularBuffer<Change>,
+    ring: HeapCircularBuffer<ChangeLine>,
 }
 
 impl Model for InfoFeed {
@@ -62,22 +62,33 @@ impl InfoFeed {
             → HoldsPassed given self.old rows
             → HoldsPassed given self.new (changed change.now rows) }
     {
-        self.enqueue(change)
+        self.tell_line(&ChangeLine::without_line(change))
     }
 
-    /// `tell`, without what holds of a client.
-    fn enqueue(&mut self, change: &Change) -> Told
+    /// Tells the session a change as `tell` does, and keeps the line that was made of it.
+    pub fn tell_line(&mut self, change: &ChangeLine) -> Told
         ensures answer { result ≡ told_answer change.now self.old }
         ensures feed { self.new ≡ told change.now self.old }
     {
-        if !self.cursor.has_reached(&change.key()) {
+        if !self.cursor.has_reached(&change.change().key()) {
             return Told::Skipped;
         }
         if self.ring.is_full() {
             return Told::Overrun;
         }
-        self.ring.extend_from_slice(&[*change]);
+        self.ring.push_back(change.copied());
         Told::Queued
+    }
+
+    /// Lends the line of the first change that waits. It has no bytes if none waits, or if that line was not made.
+    pub fn first_line(&self) -> &[u8]
+        ensures line { IsFirstLineOrNone result.now self.now.queue }
+        ensures most { length result.now ≤ LONGEST_LINE }
+    {
+        match self.ring.front() {
+            Some(told) => told.line(),
+            None => &[],
+        }
     }
 
     /// What the session is given next: the first change that waits, else the least row above the cursor, else
@@ -90,8 +101,8 @@ impl InfoFeed {
             → HoldsPassed given self.old (shown_rows (R.state rows.now))
             → HoldsPassed (given ++ said result) self.new (shown_rows (R.state rows.now)) }
     {
-        if let Some(change) = self.ring.pop_front() {
-            return Next::Told(change);
+        if let Some(told) = self.ring.pop_front() {
+            return Next::Told(*told.change());
         }
         match rows.row_after(self.cursor) {
             Some(row) => {

@@ -9,6 +9,7 @@ ghost use Rattle.srcp_core.specs.Machine.{told_all, told_each};
 use crate::connection::Connection;
 use crate::quiet::Timed;
 use slab::Slab;
+use srcp_feed::ChangeLine;
 use srcp_info::{Change, Cursor};
 use srcp_rules::{Rows, due_next, free_next};
 
@@ -18,9 +19,10 @@ pub(crate) fn tell_all(connections: &mut Slab<Connection>, change: &Change)
     ensures slots { connections.new.slots ≡ told_all change.now connections.old.slots }
     ensures capacity { connections.new.capacity ≡ connections.old.capacity }
 {
+    let told = ChangeLine::new(change);
     for key in 0..connections.capacity() {
         if let Some(connection) = connections.get_mut(key) {
-            connection.tell(change);
+            connection.tell(&told);
         }
     }
 }

@@ -1,0 +1,88 @@
+//! A change with the line that tells it.
+
+ghost use Rattle.std.specs.Prelude.{◌≡◌, ◌≤◌, length};
+ghost use Rattle.srcp_info.specs.WellFormed.{IsWellFormed};
+ghost use Rattle.srcp_feed.specs.Feed.{IsLineOrNone};
+
+use srcp_info::{Change, LONGEST_LINE, write_change};
+use srcp_text::LineBuf;
+use std::marker::Model;
+
+/// A change, and the line that tells it if that was made, so that one line is made for all panels.
+/// Contracts see the change alone.
+#[derive(Drop)]
+pub struct ChangeLine {
+    change: Change,
+    // The first `len` bytes are the line.
+    bytes: [u8; LONGEST_LINE],
+    len: usize,
+}
+
+impl Model for ChangeLine {
+    ghost use Rattle.srcp_info.specs.declared.change.Change.{Change};
+    ghost use Rattle.std.specs.Prelude.{◌≤◌, take};
+    ghost use Rattle.srcp_feed.specs.Feed.{IsLineOrNone};
+    ghost use Rattle.srcp_info.specs.declared.limits.TheConstants.{LONGEST_LINE};
+
+    ghost Value = { Change };
+
+    ghost view = { λ c. c.change };
+
+    ghost invariant = { λ c. (c.len ≤ LONGEST_LINE) × IsLineOrNone (take c.len c.bytes) c.change };
+}
+
+impl ChangeLine {
+    /// Makes the line of a change.
+    pub fn new(change: &Change) -> ChangeLine
+        requires { IsWellFormed change.now }
+        ensures { result ≡ change.now }
+    {
+        let mut line = LineBuf::new();
+        write_change(change, &mut line);
+        let len = line.len();
+        let mut bytes = [0; LONGEST_LINE];
+        bytes[..len].copy_from_slice(line.as_slice());
+        ChangeLine {
+            change: *change,
+            bytes,
+            len,
+        }
+    }
+
+    /// A change whose line is not made.
+    pub(crate) fn without_line(change: &Change) -> ChangeLine
+        ensures { result ≡ change.now }
+    {
+        ChangeLine {
+            change: *change,
+            bytes: [0; LONGEST_LINE],
+            len: 0,
+        }
+    }
+
+    /// Returns the same once more.
+    pub(crate) fn copied(&self) -> ChangeLine
+        ensures { result ≡ self.now }
+    {
+        ChangeLine {
+            change: self.change,
+            bytes: self.bytes,
+            len: self.len,
+        }
+    }
+
+    /// Lends the change.
+    pub fn change(&self) -> &Change
+        ensures { result.now ≡ self.now }
+    {
+        &self.change
+    }
+
+    /// Lends the line, which has no bytes if it was not made.
+    pub fn line(&self) -> &[u8]
+        ensures line { IsLineOrNone result.now self.now }
+        ensures most { length result.now ≤ LONGEST_LINE }
+    {
+        &self.bytes[..self.len]
+    }
+}
