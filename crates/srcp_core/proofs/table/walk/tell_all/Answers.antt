@@ -1,7 +1,9 @@
 use Rattle.std.proofs.Common.{ap, sym, ◌∙◌, arith, Some, slice_set}
 use Rattle.std.specs.Option.{option_copied_mut}
 use Rattle.slab.specs.Slab.{Slab}
+use Rattle.srcp_info.specs.declared.change.Change.{Change}
 use Rattle.srcp_core.specs.Held.{Place}
+use Rattle.srcp_core.specs.Machine.{told_place}
 use Rattle.srcp_core.proofs.Invariants.EveryPlaceIsTold.{told_upto_all, told_step_some, told_step_none}
 use Rattle.srcp_core.proofs.table.walk.tell_all.Goals as goal
 use Rattle.srcp_core.proofs.table.walk.tell_all.Goals.{in-Some, in_default}
@@ -13,6 +15,7 @@ loop-key-preserved c = record {
     | in-Some w ↦
         ap (λ (s : Slab Place). s.slots) w.connections-is
         ∙ ap (λ (p : Place). slice_set c.loop-key.connections.slots c.loop-key.key (Some p)) w.tell.ensures
+        ∙ ap (λ (change : Change). slice_set c.loop-key.connections.slots c.loop-key.key (Some (told_place change w.in-Some.connection.now))) c.new-told.ensures
         ∙ told_step_some c.args.change.now c.loop-key.key c.args.connections.now.slots c.loop-key.connections.slots w.in-Some.connection.now c.loop-key.invariant.slots (sym c.get_mut.ensures.value ∙ ap option_copied_mut w.in-Some.is)
     | in_default w ↦
         ap (λ (s : Slab Place). s.slots) w.connections-is
