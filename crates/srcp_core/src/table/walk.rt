@@ -1,10 +1,11 @@
 //! Walks over all connections, and over the changes of a moment and of a session's end.
-ghost use Rattle.std.specs.Prelude.{◌≡◌, map};
+ghost use Rattle.std.specs.Prelude.{◌≡◌, ◌≤◌, map};
 ghost use Rattle.std.specs.List.{AllByRecursion};
+ghost use Rattle.srcp_info.specs.declared.change.Change.{Change};
 ghost use Rattle.srcp_info.specs.WellFormed.{IsWellFormed};
 ghost use Rattle.srcp_rules.specs.Due.{due, freed};
 ghost use Rattle.srcp_rules.specs.State.{IsWhole, updated_all};
-ghost use Rattle.srcp_core.specs.Machine.{told_all, told_each};
+ghost use Rattle.srcp_core.specs.Machine.{told_all, told_each, told_upto};
 
 use crate::connection::Connection;
 use crate::quiet::Timed;
@@ -19,12 +20,31 @@ pub(crate) fn tell_all(connections: &mut Slab<Connection>, change: &Change)
     ensures slots { connections.new.slots ≡ told_all change.now connections.old.slots }
     ensures capacity { connections.new.capacity ≡ connections.old.capacity }
 {
+    let first = first_panel(connections);
+    if first == connections.capacity() {
+        return;
+    }
     let told = ChangeLine::new(change);
-    for key in 0..connections.capacity() {
+    for key in first..connections.capacity() {
         if let Some(connection) = connections.get_mut(key) {
             connection.tell(&told);
         }
     }
+}
+
+/// Returns the least key of a connection that may be told a change; the capacity if there is none.
+fn first_panel(connections: &Slab<Connection>) -> usize
+    ensures within { result ≤ connections.now.capacity }
+    ensures before { (change : Change) → told_upto change result connections.now.slots ≡ connections.now.slots }
+{
+    for key in 0..connections.capacity() {
+        if let Some(connection) = connections.get(key) {
+            if connection.is_listening() {
+                return key;
+            }
+        }
+    }
+    connections.capacity()
 }
 
 /// And is told each change in turn.

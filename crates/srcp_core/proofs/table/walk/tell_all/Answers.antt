@@ -29,3 +29,8 @@ loop-key-preserved c = record {
 
 pub returns-clause-slots : goal.returns-clause-slots
 returns-clause-slots c = c.loop-key.invariant.slots ∙ told_upto_all c.args.change.now c.loop-key.key c.args.connections.now.slots (omega (arith, c.loop-key.invariant.far))
+
+pub returns-then-first-capacity-clause-slots : goal.returns-then-first-capacity-clause-slots
+returns-then-first-capacity-clause-slots c =
+    sym (c.first_panel-first.ensures.before c.args.change.now)
+    ∙ told_upto_all c.args.change.now c.first_panel-first.result c.args.connections.now.slots (omega (arith, c.capacity.ensures.slots, c.if-first-capacity.true))
