@@ -57,8 +57,7 @@ invariant_of-self c = subst AreRows (sym c.in_default.ensures.err) c.self.invari
 pub returns-in_default-clause-memory : goal.returns-in_default-clause-memory
 returns-in_default-clause-memory c same =
     let shown = c.in-Some-Put.shown in
-    let more = one_more shown c.self.inside.by_key.entries c.insert.ensures.was_ordered c.self.invariant.0 c.in_default.ensures.absent in
-    (
+    let more = one_more shown c.self.inside.by_key.entries c.insert.ensures.was_ordered c.self.invariant.0 c.in_default.ensures.absent in (
       shown,
       subst (IsLineOf c.args.line.now) c.in-Some-Put.field-0-is c.in-Some-Put.ensures,
       subst (λ rows. length (put shown rows) ≡ length rows + 1) c.self.view_is more,
@@ -78,8 +77,7 @@ returns-in-Ok-clause-ok c =
     let shown = c.in-Some-Put.shown in
     let old = c.self.inside.by_key.entries in
     let new = c.insert.new.self.entries in
-    let now = row_put shown old new c.insert.ensures.was_ordered c.in-Ok.ensures.entries c.self.invariant.0 in
-    (
+    let now = row_put shown old new c.insert.ensures.was_ordered c.in-Ok.ensures.entries c.self.invariant.0 in (
       Put shown,
       subst (IsLineOf c.args.line.now) c.in-Some-Put.field-0-is c.in-Some-Put.ensures,
       now.1 ∙ ap (put shown) c.self.view_is,
@@ -99,8 +97,7 @@ pub returns-in-Some-Gone-clause-ok : goal.returns-in-Some-Gone-clause-ok
 returns-in-Some-Gone-clause-ok c =
     let device = c.in-Some-Gone.device in
     let gone = Gone c.in-Some-Gone.field-0-0 device in
-    let now = device_gone device c.self.inside.by_key.entries c.drop_device.new.by_key.entries c.drop_device.ensures c.self.invariant.0 in
-    (
+    let now = device_gone device c.self.inside.by_key.entries c.drop_device.new.by_key.entries c.drop_device.ensures c.self.invariant.0 in (
       gone,
       subst (IsLineOf c.args.line.now) c.in-Some-Gone.field-0-is c.in-Some-Gone.ensures,
       now.1 ∙ ap (changed gone) c.self.view_is,
