@@ -1,7 +1,7 @@
 //! The fixed words and texts of a line.
 
 ghost use Rattle.std.specs.Prelude.{◌≡◌};
-ghost use Rattle.srcp_info.specs.Line.{letter_word, mode_word, bit_word, switch_word, value_code, code_text};
+ghost use Rattle.srcp_info.specs.Line.{letter_word, mode_word, switch_word, value_code, code_text};
 
 use crate::change::Code;
 use crate::value::{Letter, Mode, Value};
@@ -26,13 +26,6 @@ pub(crate) fn mode_word(mode: Mode) -> &'static [u8]
         Mode::Command => b"COMMAND",
         Mode::Info => b"INFO",
     }
-}
-
-/// A function, a port or a sensor as `1` or `0`.
-pub(crate) fn bit_word(on: bool) -> &'static [u8]
-    ensures { result.now ≡ bit_word on }
-{
-    if on { b"1" } else { b"0" }
 }
 
 /// Power as `ON` or `OFF`.

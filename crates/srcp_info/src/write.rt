@@ -11,7 +11,7 @@ use crate::change::{Change, Reply, Shown};
 use crate::key::{Device, Group, Key};
 use crate::limits::{LONGEST_LINE, LONGEST_SHORT_REPLY};
 use crate::value::{Bits, Text, Value};
-use crate::words::{bit_word, code_text, letter_word, mode_word, switch_word, value_code};
+use crate::words::{code_text, letter_word, mode_word, switch_word, value_code};
 use srcp_text::{LineBuf, put_bytes, put_number, put_stamp};
 
 /// Appends a space and a word.
@@ -21,6 +21,19 @@ fn put_word(word: &[u8], buffer: &mut LineBuf)
 {
     buffer.push(b' ');
     put_bytes(word, buffer);
+}
+
+/// Appends a space and a bit: 1 where it is on, else 0.
+fn put_bit(on: bool, buffer: &mut LineBuf)
+    requires { array_vec_len buffer.old + 1 + length (bit_word on) ≤ 256 }
+    ensures { buffer.new.items ≡ buffer.old.items ++ 32 ∷ bit_word on }
+{
+    buffer.push(b' ');
+    if on {
+        buffer.push(b'1');
+        return;
+    }
+    buffer.push(b'0');
 }
 
 /// Appends a space and a number.
@@ -79,7 +92,7 @@ fn put_functions(functions: &Bits, buffer: &mut LineBuf)
     ensures { buffer.new.items ≡ buffer.old.items ++ after_spaces (map bit_word functions.now) }
 {
     for on in functions.as_slice() {
-        put_word(bit_word(*on), buffer);
+        put_bit(*on, buffer);
     }
 }
 
@@ -123,11 +136,11 @@ fn put_value(key: &Key, value: &Value, buffer: &mut LineBuf)
         }
         Value::GaPort { on } => {
             put_numerals(&[address, u32::from(key.port - 1)], buffer);
-            put_word(bit_word(*on), buffer);
+            put_bit(*on, buffer);
         }
         Value::Fb { on } => {
             put_numeral(address, buffer);
-            put_word(bit_word(*on), buffer);
+            put_bit(*on, buffer);
         }
         Value::Lock { seconds, session } => put_numerals(&[address, *seconds, *session], buffer),
     }

@@ -23,6 +23,10 @@ pub fn put_number(number: u64, line: &mut LineBuf)
     requires { array_vec_len line.old + length (decimal number) ≤ 256 }
     ensures { line.new.items ≡ line.old.items ++ decimal number }
 {
+    if number < 10 {
+        line.push(b'0' + number as u8);
+        return;
+    }
     let mut buffer = itoa::Buffer::new();
     put_bytes(buffer.format(number).as_bytes(), line);
 }

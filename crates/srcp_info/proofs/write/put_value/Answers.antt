@@ -5,8 +5,8 @@ use Rattle.srcp_info.proofs.write.put_value.Goals as goal
 pub put_numerals-requires-in-GaPort : goal.put_numerals-requires-in-GaPort
 put_numerals-requires-in-GaPort c = grind (arith, common_steps)
 
-pub put_word-requires-in-GaPort : goal.put_word-requires-in-GaPort
-put_word-requires-in-GaPort c = grind (arith, common_steps)
+pub put_bit-requires : goal.put_bit-requires
+put_bit-requires c = grind (arith, common_steps)
 
 pub returns-in-GaPort : goal.returns-in-GaPort
 returns-in-GaPort c = grind (arith, common_steps)
