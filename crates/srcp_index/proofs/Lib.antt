@@ -1,0 +1,4 @@
+pub mod Ranked
+pub mod Places
+pub mod Pairs
+pub mod RowSums

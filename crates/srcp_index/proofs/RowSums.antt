@@ -1,0 +1,61 @@
+-- Sums over the rows of a registry, with one row put or looked at apart.
+use Rattle.std.specs.Prelude.{◌≡◌, ℕ, ◌+◌, Bool, true, false, not, cond, List, [], ◌∷◌, filter, Some}
+use Rattle.std.specs.List.{AllByRecursion, sum_by}
+use Rattle.std.specs.Ordering.{is_gt, is_eq, ordering_reverse}
+use Rattle.std.specs.declared.cmp.Ordering.{Ordering}
+use Rattle.std.specs.declared.cmp.Ordering.TheVariants.{Less, Equal, Greater}
+use Rattle.std.proofs.Common.{refl, sym, ap, ◌∙◌, arith}
+use Rattle.std.proofs.lemmas.List.Sums.{sum_by-cons, sum_by-append}
+use Rattle.srcp_info.specs.declared.key.Key.{Key}
+use Rattle.srcp_info.specs.declared.change.Row.{Row}
+use Rattle.srcp_info.specs.Key.{key_cmp, is_after}
+use Rattle.srcp_info.proofs.KeyLaws.{key_cmp_total}
+use Rattle.srcp_info.proofs.ClientLaws.{rising_put}
+use Rattle.srcp_rules.specs.State.{State, IsRising, row_at, put_row}
+use Rattle.srcp_rules.proofs.KeyLaws.{same_key, same_key-true}
+use Rattle.srcp_rules.proofs.StateLaws.{row_key, row_at-put_row}
+use Rattle.srcp_rules.proofs.PutRowsLaws.{same_rows}
+
+-- the rows but that at the key
+abbrev pub but_at : Key → State → State
+but_at key state = filter (λ row. not (same_key row.shown.key key)) state
+
+-- the rows below the key, and those above it
+abbrev lows : Key → State → State
+lows key state = filter (λ row. is_after key row.shown.key) state
+
+abbrev highs : Key → State → State
+highs key state = filter (λ row. is_after row.shown.key key) state
+
+-- a row that is there is put where it is
+pub put_there : (row : Row) (state : State) → IsRising state → row_at row.shown.key state ≡ Some row → put_row row state ≡ state
+put_there row state rising there =
+    same_rows (put_row row state) state (rising_put row_key row state rising) rising (λ key. row_at-put_row key row state ∙ by key (same_key row.shown.key key) refl)
+  where
+    by : (key : Key) (b : Bool) → same_key row.shown.key key ≡ b → cond b (Some row) (row_at key state) ≡ row_at key state
+    by key true e = sym there ∙ ap (λ k. row_at k state) (same_key-true row.shown.key key e)
+    by key false e = refl
+
+module _ (w : Row → ℕ) where
+  apart : (o p : Ordering) → p ≡ ordering_reverse o → (row : Row) (others below above : State) → sum_by w others ≡ sum_by w below + sum_by w above
+      → sum_by w (cond (not (is_eq o)) (row ∷ others) others) ≡ sum_by w (cond (is_gt p) (row ∷ below) below) + sum_by w (cond (is_gt o) (row ∷ above) above)
+  apart Less p e row others below above h = rw e (let a = sum_by-cons w row others in let b = sum_by-cons w row below in omega (arith, h))
+  apart Equal p e row others below above h = rw e h
+  apart Greater p e row others below above h = rw e (let a = sum_by-cons w row others in let b = sum_by-cons w row above in omega (arith, h))
+
+  two_parts : (key : Key) (state : State) → sum_by w (but_at key state) ≡ sum_by w (lows key state) + sum_by w (highs key state)
+  two_parts key [] = refl
+  two_parts key (row ∷ state) =
+      apart (key_cmp row.shown.key key) (key_cmp key row.shown.key) (key_cmp_total.antisymm key row.shown.key) row (but_at key state) (lows key state) (highs key state) (two_parts key state)
+
+  -- the sum over rows with one put is that of the others and its own
+  pub sum-put_row : (row : Row) (state : State) → sum_by w (put_row row state) ≡ w row + sum_by w (but_at row.shown.key state)
+  sum-put_row row state =
+      let key = row.shown.key in
+      let a = sum_by-append w (lows key state) (row ∷ highs key state) in
+      let b = sum_by-cons w row (highs key state) in
+      let c = two_parts key state in
+      omega arith
+
+  pub sum-there : (row : Row) (state : State) → IsRising state → row_at row.shown.key state ≡ Some row → sum_by w state ≡ w row + sum_by w (but_at row.shown.key state)
+  sum-there row state rising there = ap (sum_by w) (sym (put_there row state rising there)) ∙ sum-put_row row state

@@ -1,0 +1,218 @@
+//! Pairs of a rank and a key in order, in memory that is reserved beforehand.
+ghost use Rattle.std.specs.Prelude.{◌≡◌, ◌+◌, ◌<◌, ◌≤◌, ◌==◌, [], length, take, drop, find, true, false, IsTrue, IfOk, OnOk, vec_len, vec_capacity, slice_get};
+ghost use Rattle.std.specs.List.{AllByRecursion};
+ghost use Rattle.std.specs.List.Sorted.{IsPermutation};
+ghost use Rattle.srcp_index.specs.Ranked.{IsRanked, put, taken, ranked};
+ghost use Rattle.srcp_index.specs.Pairs.{before, is_ripe, order};
+
+use srcp_info::{Cursor, Key, compare as compare_keys};
+use std::alloc::{AllocError, Global};
+use std::cmp::Ordering;
+use std::marker::Model;
+
+/// A key and its rank.
+#[derive(Clone, Copy, Debug, PartialEq, Eq)]
+pub struct Pair {
+    pub rank: u64,
+    pub key: Key,
+}
+
+/// Which of two pairs comes first: ranks up to `since` are alike, and pairs of like rank go by their keys.
+fn compare(since: u64, a: &Pair, b: &Pair) -> Ordering
+    ensures { result ≡ order since a.now b.now }
+{
+    let ranks = a
+        .rank
+        .saturating_sub(since)
+        .cmp(&b.rank.saturating_sub(since));
+    ranks.then(compare_keys(&a.key, &b.key).then(a.rank.cmp(&b.rank)))
+}
+
+/// Whether a comes before b.
+fn is_before(since: u64, a: &Pair, b: &Pair) -> bool
+    ensures { result ≡ before since a.now b.now }
+{
+    compare(since, a, b).is_lt()
+}
+
+/// How many pairs come before this one.
+fn place_of(pairs: &[Pair], since: u64, pair: &Pair) -> usize
+    requires { IsRanked (before since) pairs.now }
+    ensures bound { result ≤ length pairs.now }
+    ensures front { AllByRecursion (λ x. before since x pair.now ≡ true) (take result pairs.now) }
+    ensures back { AllByRecursion (λ x. before since x pair.now ≡ false) (drop result pairs.now) }
+{
+    pairs.partition_point(|x| is_before(since, x, pair))
+}
+
+/// Puts a pair where it belongs, where there is room.
+fn put_in(pairs: &mut Vec<Pair>, since: u64, pair: Pair)
+    requires ranked { IsRanked (before since) pairs.old.items }
+    requires room { vec_len pairs.old < vec_capacity pairs.old }
+    ensures pairs { pairs.new.items ≡ put (before since) pair pairs.old.items }
+    ensures len { vec_len pairs.new ≡ vec_len pairs.old + 1 }
+    ensures capacity { vec_capacity pairs.new ≡ vec_capacity pairs.old }
+{
+    let place = place_of(pairs, since, &pair);
+    let _ = pairs.insert(place, pair);
+}
+
+/// Takes a pair out, if it is there.
+fn take_from(pairs: &mut Vec<Pair>, since: u64, pair: Pair)
+    requires ranked { IsRanked (before since) pairs.old.items }
+    ensures pairs { pairs.new.items ≡ taken (before since) pair pairs.old.items }
+    ensures capacity { vec_capacity pairs.new ≡ vec_capacity pairs.old }
+{
+    let place = place_of(pairs, since, &pair);
+    if place < pairs.len() && !is_before(since, &pair, &pairs[place]) {
+        pairs.remove(place);
+    }
+}
+
+/// Brings pairs in the order since one moment into that since another. Only those whose rank is up to the later of the two move.
+fn arrange(pairs: &mut [Pair], since: u64, moment: u64)
+    requires { IsRanked (before since) pairs.old }
+    ensures { pairs.new ≡ ranked (before moment) pairs.old }
+{
+    let latest = since.max(moment);
+    let count = pairs.partition_point(|pair| pair.rank <= latest);
+    let (front, _) = pairs.split_at_mut(count);
+    sort(front, moment);
+}
+
+/// The same of a vector.
+fn arrange_in(pairs: &mut Vec<Pair>, since: u64, moment: u64)
+    requires { IsRanked (before since) pairs.old.items }
+    ensures pairs { pairs.new.items ≡ ranked (before moment) pairs.old.items }
+    ensures capacity { vec_capacity pairs.new ≡ vec_capacity pairs.old }
+{
+    arrange(pairs, since, moment);
+}
+
+/// Brings pairs into the order since a moment.
+fn sort(pairs: &mut [Pair], moment: u64)
+    ensures permutation { IsPermutation pairs.old pairs.new }
+    ensures ranked { IsRanked (before moment) pairs.new }
+    ensures len { length pairs.new ≡ length pairs.old }
+{
+    pairs.sort_unstable_by(|a, b| compare(moment, a, b));
+}
+
+/// Whether the rank has come, and the key is beyond the cursor.
+fn is_ripe(moment: u64, cursor: Cursor, pair: &Pair) -> bool
+    ensures { result ≡ is_ripe moment cursor pair.now }
+{
+    pair.rank <= moment && !cursor.has_reached(&pair.key)
+}
+
+/// The first pair that is ripe.
+fn ripe_in(pairs: &[Pair], since: u64, cursor: Cursor) -> Option<Pair>
+    requires { IsRanked (before since) pairs.now }
+    ensures { result ≡ find (is_ripe since cursor) pairs.now }
+{
+    let place = pairs.partition_point(|x| x.rank <= since && !is_ripe(since, cursor, x));
+    if place < pairs.len() && is_ripe(since, cursor, &pairs[place]) {
+        return Some(pairs[place]);
+    }
+    None
+}
+
+/// The first pair of a rank.
+fn first_in(pairs: &[Pair], rank: u64) -> Option<Pair>
+    requires { IsRanked (before 0) pairs.now }
+    ensures { result ≡ find (λ x. x.rank == rank) pairs.now }
+{
+    let place = pairs.partition_point(|x| x.rank < rank);
+    if place < pairs.len() && pairs[place].rank == rank {
+        return Some(pairs[place]);
+    }
+    None
+}
+
+/// Pairs in the order since a moment. Contracts see them as that list, with the moment and how many there is room for.
+#[derive(Drop)]
+pub struct Index {
+    since: u64,
+    pairs: Vec<Pair>,
+}
+
+impl Model for Index {
+    ghost use Rattle.std.specs.Prelude.{vec_capacity};
+    ghost use Rattle.srcp_index.specs.Ranked.{IsRanked};
+    ghost use Rattle.srcp_index.specs.Pairs.{Held, before};
+
+    ghost Value = { Held };
+
+    ghost view = { λ x. record { since = x.since; pairs = x.pairs.items; room = vec_capacity x.pairs } };
+
+    ghost invariant = { λ x. IsRanked (before x.since) x.pairs.items };
+}
+
+impl Index {
+    pub fn new(alloc: Global) -> Index
+        ensures pairs { result.pairs ≡ [] }
+        ensures since { result.since ≡ 0 }
+    {
+        Index {
+            since: 0,
+            pairs: Vec::new(alloc),
+        }
+    }
+
+    /// Makes room for so many pairs in all. No other call takes memory.
+    pub fn reserve(&mut self, total: usize) -> Result<(), AllocError>
+        ensures pairs { self.new.pairs ≡ self.old.pairs }
+        ensures since { self.new.since ≡ self.old.since }
+        ensures more { self.old.room ≤ self.new.room }
+        ensures ok { OnOk result (total ≤ self.new.room) }
+    {
+        self.pairs.reserve(total.saturating_sub(self.pairs.len()))
+    }
+
+    /// Puts a pair in.
+    pub fn put(&mut self, pair: Pair)
+        requires room { length self.old.pairs < self.old.room }
+        ensures pairs { self.new.pairs ≡ put (before self.old.since) pair self.old.pairs }
+        ensures len { length self.new.pairs ≡ length self.old.pairs + 1 }
+        ensures since { self.new.since ≡ self.old.since }
+        ensures room { self.new.room ≡ self.old.room }
+    {
+        put_in(&mut self.pairs, self.since, pair);
+    }
+
+    /// Takes a pair out; nothing where it is not there.
+    pub fn take(&mut self, pair: Pair)
+        ensures pairs { self.new.pairs ≡ taken (before self.old.since) pair self.old.pairs }
+        ensures since { self.new.since ≡ self.old.since }
+        ensures room { self.new.room ≡ self.old.room }
+    {
+        take_from(&mut self.pairs, self.since, pair);
+    }
+
+    /// From now on the pairs whose rank has come at the moment stand first, by their keys.
+    pub fn settle(&mut self, moment: u64)
+        ensures pairs { self.new.pairs ≡ ranked (before moment) self.old.pairs }
+        ensures since { self.new.since ≡ moment }
+        ensures room { self.new.room ≡ self.old.room }
+    {
+        if moment != self.since {
+            arrange_in(&mut self.pairs, self.since, moment);
+            self.since = moment;
+        }
+    }
+
+    /// The first pair whose rank has come, with a key beyond the cursor.
+    pub fn ripe_beyond(&self, cursor: Cursor) -> Option<Pair>
+        ensures { result ≡ find (is_ripe self.now.since cursor) self.now.pairs }
+    {
+        ripe_in(&self.pairs, self.since, cursor)
+    }
+
+    /// The first pair of a rank.
+    pub fn first_of(&self, rank: u64) -> Option<Pair>
+        requires { self.now.since ≡ 0 }
+        ensures { result ≡ find (λ x. x.rank == rank) self.now.pairs }
+    {
+        first_in(&self.pairs, rank)
+    }
+}
