@@ -2,3 +2,4 @@ pub mod Ranked
 pub mod Places
 pub mod Pairs
 pub mod RowSums
+pub mod PairsOfRows

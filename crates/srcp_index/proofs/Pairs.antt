@@ -17,8 +17,8 @@ use Rattle.std.proofs.lemmas.List.Sums.{sum_by-append}
 use Rattle.std.proofs.lemmas.List.Sorted.{sum_by-IsPermutation}
 use Rattle.std.proofs.lemmas.List.Sorted.{All-permutation}
 use Rattle.std.proofs.lemmas.List.Elements.{All-from_recursion, recursion_from_All}
-use Rattle.std.proofs.lemmas.Bool.{ltb-true, ltb-false, eqb-true, eqb-false, false_from_ne_true, not-true}
-use Rattle.std.specs.Prelude.{nat_lt, ◌==◌, ◌&&◌, not, Option, Some, None}
+use Rattle.std.proofs.lemmas.Bool.{ltb-true, ltb-false, eqb-true, eqb-false, false_from_ne_true}
+use Rattle.std.specs.Prelude.{nat_lt, ◌==◌, ◌&&◌, not}
 use Rattle.srcp_index.specs.Pairs.{is_ripe}
 use Rattle.srcp_index.proofs.Places.{StopsAtOnce}
 use Rattle.srcp_info.specs.declared.change.Cursor.{Cursor}

@@ -1,11 +1,8 @@
 -- How an index keeps a pair of each row that has a rank: its due moment, or the session that holds it.
-use Rattle.std.specs.Prelude.{◌≡◌, ℕ, ◌<◌, ◌≤◌, Bool, ◌&&◌, not, nat_lt, IsTrue, IsSome, List, [], ◌∷◌, filter, fold, flat_map, Option, if◌then◌else◌}
+use Rattle.std.specs.Prelude.{◌≡◌, ℕ, ◌<◌, ◌≤◌, Bool, IsTrue, IsSome, List, [], ◌∷◌, fold, flat_map, Option, if◌then◌else◌}
 use Rattle.std.specs.List.{AllByRecursion, sum_by}
 use Rattle.std.specs.Option.{option_map_or}
-use Rattle.srcp_info.specs.declared.key.Key.{Key}
-use Rattle.srcp_info.specs.declared.key.Device.{Device}
 use Rattle.srcp_info.specs.declared.change.Row.{Row}
-use Rattle.srcp_info.specs.Key.{owns}
 use Rattle.srcp_info.specs.WellFormed.{can_go}
 use Rattle.srcp_rules.specs.State.{State, IsRising, holder_of}
 use Rattle.srcp_index.specs.declared.index.Pair.{Pair}

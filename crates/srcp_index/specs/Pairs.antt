@@ -1,5 +1,5 @@
 -- Pairs of a rank and a key, and their order since a moment.
-use Rattle.std.specs.Prelude.{ℕ, ◌-◌, Bool, true, not, nat_le, ◌&&◌, List}
+use Rattle.std.specs.Prelude.{ℕ, ◌-◌, Bool, not, nat_le, ◌&&◌, List}
 use Rattle.std.specs.Ordering.{nat_cmp, ordering_then, is_lt}
 use Rattle.std.specs.declared.cmp.Ordering.{Ordering}
 use Rattle.srcp_info.specs.declared.change.Cursor.{Cursor}
