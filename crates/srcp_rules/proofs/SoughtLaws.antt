@@ -8,7 +8,7 @@ use Rattle.srcp_info.specs.declared.change.Cursor.{Cursor}
 use Rattle.srcp_info.specs.declared.change.Cursor.TheVariants as cursor
 use Rattle.srcp_info.specs.Key.{key_cmp, has_reached}
 use Rattle.srcp_info.proofs.ClientLaws.{filter_every, reached_below, after_from_less, after_not_itself}
-use Rattle.srcp_rules.specs.declared.next.Sought.{Sought}
+use Rattle.srcp_rules.specs.declared.sought.Sought.{Sought}
 use Rattle.srcp_rules.specs.Sought.{is_sought, sought_after}
 use Rattle.srcp_rules.specs.State.{State, IsRising, row_after}
 use Rattle.srcp_rules.proofs.KeyLaws.{not_after}
