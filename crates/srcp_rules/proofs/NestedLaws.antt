@@ -80,7 +80,8 @@ module _ {buses : List Bus} {es : List (ℕ × BusRows)} (are : AreRowsOfLayout 
   -- the keys of all rows rise
   pub rising-buses : IsRising (listed bus_rows es)
   rising-buses =
-      listed-rising bus_rows bus_of Any in_order es tagged are.sorted (each-weaken {P = λ e. AreRowsOfBus e.0 e.1} (λ e h. bus_rising h) es are.each)
+      listed-rising bus_rows bus_of Any in_order es tagged are.sorted
+      (each-weaken {P = λ e. AreRowsOfBus e.0 e.1} (λ e h. bus_rising h) es are.each)
 
   -- the record that is found
   pub found_bus : {n : ℕ} {rows : BusRows} → Some rows ≡ entry_at n es → AreRowsOfBus n rows

@@ -137,13 +137,15 @@ module _ (state : State) (session moment : ℕ) where
   own there = cond there (gone_at moment (session_device session) ∷ []) []
 
   -- the first lock of the session goes first
-  pub freed_held : (row : Row) → first_held session state ≡ Some row → (later : List Update) × (freed state session moment ≡ gone_at moment (device_of row.shown.key) ∷ later)
+  pub freed_held : (row : Row) → first_held session state ≡ Some row
+      → (later : List Update) × (freed state session moment ≡ gone_at moment (device_of row.shown.key) ∷ later)
   freed_held row found =
       let first = found_first (is_held_by session) state row found in
       (gone_rows first.0 ++ own (is_there (session_device session) state), ap (λ rows. gone_rows rows ++ own (is_there (session_device session) state)) first.1)
 
   -- where it has none its own row goes
-  pub freed_own : (there : Bool) → first_held session state ≡ None → is_there (session_device session) state ≡ there → freed state session moment ≡ own there
+  pub freed_own : (there : Bool) → first_held session state ≡ None → is_there (session_device session) state ≡ there
+      → freed state session moment ≡ own there
   freed_own there found e = ap (λ rows. gone_rows rows ++ own (is_there (session_device session) state)) (found_none (is_held_by session) state found) ∙ ap own e
 
   -- the registry is whole after the first change, which can be told

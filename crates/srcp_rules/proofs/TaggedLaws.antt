@@ -89,8 +89,8 @@ module _ {X : Type 0} (rows : X → State) (tag : Key → ℕ) (P : Key → Type
   -- ---- the rows of all entries
 
   -- where the rows of each entry rise, so do all
-  pub listed-rising : (es : List (ℕ × X)) → AllByRecursion (IsTagged rows tag P) es → AreSorted es → AllByRecursion (λ e. IsRising (rows e.1)) es
-      → IsRising (listed rows es)
+  pub listed-rising : (es : List (ℕ × X)) → AllByRecursion (IsTagged rows tag P) es → AreSorted es
+      → AllByRecursion (λ e. IsRising (rows e.1)) es → IsRising (listed rows es)
   unfolding IsStrictlySortedBy
   listed-rising [] a s r = tt
   listed-rising (e ∷ es) a s r =
