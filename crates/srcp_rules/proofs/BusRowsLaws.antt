@@ -28,8 +28,8 @@ use Rattle.srcp_rules.proofs.ListedLaws.{IsTagged, each-listed, row_at-listed}
 use Rattle.srcp_rules.proofs.KeyLaws.{same_key, same_key-true}
 use Rattle.srcp_rules.proofs.StateLaws.{row_key}
 use Rattle.srcp_rules.proofs.OrderLaws.{address_order, group_order, owns-other}
-use Rattle.srcp_rules.proofs.TaggedLaws.{listed-put_row, listed-put_rows, listed-without}
-use Rattle.srcp_rules.proofs.DeviceLaws.{devices_in_group, whole}
+use Rattle.srcp_rules.proofs.TaggedLaws.{listed-put_row, listed-put_rows, listed-rising, listed-without}
+use Rattle.srcp_rules.proofs.DeviceLaws.{devices_in_group, devices_rising, whole}
 
 abbrev place_of : Key → ℕ
 place_of key = group_place key.group
@@ -170,6 +170,30 @@ module _ {bus : ℕ} {rows : BusRows} (are : AreRowsOfBus bus rows) where
       (each-weaken {P = IsTagged whole place_of (OnBus bus)}
       (λ e h. each-weaken {P = λ row. OnBus bus row.shown.key × (place_of row.shown.key ≡ e.0)} (λ row t. t.0) e.1 h)
       (by_place rows) tagged)
+
+  -- their keys rise
+  pub bus_rising : IsRising (bus_rows rows)
+  bus_rising =
+      let devices : (g : Group) (es : List (ℕ × State)) → AreDevices bus g es → IsRising (device_rows es) = devices_rising bus in
+      listed-rising whole place_of (OnBus bus) (in_order bus) (by_place rows) tagged (places_rise rows) (
+        devices group.Session rows.sessions.by_address.entries are.sessions,
+        (
+          are.power.rising,
+          (
+            devices group.Gl rows.locomotives.by_address.entries are.locomotives,
+            (
+              devices group.Ga rows.accessories.by_address.entries are.accessories,
+              (
+                are.feedback.rising,
+                (
+                  devices group.LockGl rows.locomotive_locks.by_address.entries are.locomotive_locks,
+                  (devices group.LockGa rows.accessory_locks.by_address.entries are.accessory_locks, tt),
+                ),
+              ),
+            ),
+          ),
+        ),
+      )
 
   -- the row at a key is that of its group
   row_at-place : (key : Key)

@@ -17,7 +17,7 @@ use Rattle.srcp_info.specs.declared.change.Row.{Row}
 use Rattle.srcp_info.specs.declared.change.Cursor.{Cursor}
 use Rattle.srcp_info.specs.Key.{is_after, key_cmp, device_of, has_reached, owns}
 use Rattle.srcp_info.proofs.ClientLaws.{all_put, rising_put}
-use Rattle.srcp_rules.specs.State.{State, has_row, key_at, put_row, row_at, row_after, without}
+use Rattle.srcp_rules.specs.State.{State, IsRising, has_row, key_at, put_row, row_at, row_after, without}
 use Rattle.srcp_rules.specs.Rows.{put_rows}
 use Rattle.srcp_rules.proofs.FindLaws.{each-weaken}
 use Rattle.srcp_rules.proofs.StateLaws.{row_key, row_at-first}
@@ -25,7 +25,7 @@ use Rattle.srcp_rules.specs.Nested.{AreDevices, AreOfDevice, IsIn, device_rows, 
 use Rattle.srcp_rules.proofs.OrderLaws.{address_order, device_in_group, owns-other, owns-own}
 use Rattle.srcp_rules.proofs.PutLaws.{find_none, put_rows-new, without-all}
 use Rattle.srcp_rules.proofs.ListedLaws.{IsTagged, each-listed, entry_holds, row_at-listed, row_after-listed}
-use Rattle.srcp_rules.proofs.TaggedLaws.{listed-put_row, listed-put_rows_new, listed-without_all}
+use Rattle.srcp_rules.proofs.TaggedLaws.{listed-put_row, listed-put_rows_new, listed-rising, listed-without_all}
 
 abbrev pub whole : State → State
 whole rows = rows
@@ -70,6 +70,12 @@ module _ (bus : ℕ) (g : Group) where
     -- each row is of the group of the bus
     pub devices_in_group : AllByRecursion (λ row. Here row.shown.key) (device_rows es)
     devices_in_group = each-listed whole (λ row. Here row.shown.key) es (each-weaken {P = IsTagged whole address_of Here} (λ e h. each-weaken {P = λ row. Here row.shown.key × (row.shown.key.address ≡ e.0)} (λ row t. t.0) e.1 h) es tagged)
+
+    -- their keys rise
+    pub devices_rising : IsRising (device_rows es)
+    devices_rising =
+        listed-rising whole address_of Here in_order es tagged devices.sorted
+        (each-weaken {P = λ e. AreOfDevice bus g e.0 e.1} (λ e h. h.rising) es devices.each)
 
     -- ---- looking up
 

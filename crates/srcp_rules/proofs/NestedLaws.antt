@@ -23,7 +23,7 @@ use Rattle.srcp_info.specs.Key.{key_cmp, first_key, has_reached, owns}
 use Rattle.srcp_info.specs.WellFormed.{can_go}
 use Rattle.srcp_rules.specs.declared.layout.Bus.{Bus}
 use Rattle.srcp_rules.specs.Layout.{IsLayout, bus_at, row_count, rows_on, server}
-use Rattle.srcp_rules.specs.State.{State, fb_device, has_row, is_there, key_at, opening, power_device, put_row, row_at, row_after, without}
+use Rattle.srcp_rules.specs.State.{State, IsRising, fb_device, has_row, is_there, key_at, opening, power_device, put_row, row_at, row_after, without}
 use Rattle.srcp_rules.specs.Rows.{put_rows}
 use Rattle.srcp_rules.specs.declared.nested.bus_rows.BusRows.{BusRows}
 use Rattle.srcp_rules.specs.Nested.{AreRowsOfBus, AreRowsOfLayout, AreSorted, bus_rows, entry_at, listed}
@@ -35,8 +35,8 @@ use Rattle.srcp_rules.proofs.StateLaws.{has_row-put_row, row_at-without}
 use Rattle.srcp_rules.proofs.PutRowsLaws.{has_row-put_rows}
 use Rattle.srcp_rules.proofs.OrderLaws.{bus_order, greater, owns-other}
 use Rattle.srcp_rules.proofs.ListedLaws.{IsTagged, each-set_value, entry_holds, row_at-listed, row_after-listed}
-use Rattle.srcp_rules.proofs.TaggedLaws.{listed-put_row, listed-put_rows, listed-same, listed-without, listed-without_none}
-use Rattle.srcp_rules.proofs.BusRowsLaws.{rows_on_bus}
+use Rattle.srcp_rules.proofs.TaggedLaws.{listed-put_row, listed-put_rows, listed-rising, listed-same, listed-without, listed-without_none}
+use Rattle.srcp_rules.proofs.BusRowsLaws.{bus_rising, rows_on_bus}
 
 abbrev Any : Key → Type 0
 Any key = Unit {0}
@@ -76,6 +76,12 @@ module _ {buses : List Bus} {es : List (ℕ × BusRows)} (are : AreRowsOfLayout 
   tagged =
       each-weaken {P = λ e. AreRowsOfBus e.0 e.1}
       (λ e h. each-weaken {P = λ row. row.shown.key.bus ≡ e.0} (λ row t. (tt, t)) (bus_rows e.1) (rows_on_bus h)) es are.each
+
+  -- the keys of all rows rise
+  pub rising-buses : IsRising (listed bus_rows es)
+  rising-buses =
+      listed-rising bus_rows bus_of Any in_order es tagged are.sorted
+      (each-weaken {P = λ e. AreRowsOfBus e.0 e.1} (λ e h. bus_rising h) es are.each)
 
   -- the record that is found
   pub found_bus : {n : ℕ} {rows : BusRows} → Some rows ≡ entry_at n es → AreRowsOfBus n rows

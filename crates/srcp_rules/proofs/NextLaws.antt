@@ -8,15 +8,12 @@ use Rattle.srcp_info.specs.declared.value.Value.{Value}
 use Rattle.srcp_info.specs.declared.value.Value.TheVariants as value
 use Rattle.srcp_info.specs.declared.change.Row.{Row}
 use Rattle.srcp_info.specs.declared.change.Cursor.{Cursor}
-use Rattle.srcp_info.specs.declared.change.Cursor.TheVariants as cursor
 use Rattle.srcp_info.specs.Key.{device_of, first_key, key_of, has_reached}
 use Rattle.srcp_info.specs.WellFormed.{IsMoment, IsValueAt, IsWellFormed}
 use Rattle.srcp_rules.specs.declared.layout.Bus.{Bus}
-use Rattle.srcp_rules.specs.declared.next.Sought.TheVariants as sought
 use Rattle.srcp_rules.specs.State.{State, Update, AddsNoRow, IsWhole, IsRowOf, MayFall, row_at, is_there, session_device, updated}
 use Rattle.srcp_rules.specs.Effect.{gone_at}
-use Rattle.srcp_rules.specs.Due.{due_after, due_change, is_due, is_held_by, freed}
-use Rattle.srcp_rules.specs.Sought.{sought_after}
+use Rattle.srcp_rules.specs.Due.{due_after, due_change, first_due, first_held, is_due, is_held_by, freed}
 use Rattle.srcp_rules.proofs.FindLaws.{found_holds, find_same, each-weaken}
 use Rattle.srcp_info.proofs.ListingLaws.{find_passes}
 use Rattle.srcp_rules.proofs.StateLaws.{row_at_key, each_found}
@@ -82,15 +79,15 @@ module _ (buses : List Bus) (state : State) (whole : IsWhole buses state) (momen
         by false e = no_more (not (has_reached cursor row.shown.key))
 
     -- the first change beyond the cursor is that of the first row beyond it that is due
-    pub due_after-sought : due_after state moment cursor ≡ option_map brings (sought_after (sought.Due moment) cursor state)
-    due_after-sought =
+    pub due_after-first : due_after state moment cursor ≡ option_map brings (first_due moment cursor state)
+    due_after-first =
         find-map brings (λ update. not (has_reached cursor (key_of update.change))) (filter (is_due moment) state)
         ∙ ap (option_map brings)
         (sym (find-both (is_due moment) (λ row. not (has_reached cursor (key_of (brings row).change))) state)
         ∙ find_same (λ row. is_due moment row && not (has_reached cursor (key_of (brings row).change))) (λ row. not (has_reached cursor row.shown.key) && is_due moment row) state
         (each-weaken {P = Known} test_same state known))
 
-    module _ (row : Row) (found : sought_after (sought.Due moment) cursor state ≡ Some row) where
+    module _ (row : Row) (found : first_due moment cursor state ≡ Some row) where
       abbrev Test : Row → Bool
       Test other = not (has_reached cursor other.shown.key) && is_due moment other
 
@@ -140,13 +137,15 @@ module _ (state : State) (session moment : ℕ) where
   own there = cond there (gone_at moment (session_device session) ∷ []) []
 
   -- the first lock of the session goes first
-  pub freed_held : (row : Row) → sought_after (sought.HeldBy session) cursor.Start state ≡ Some row → (later : List Update) × (freed state session moment ≡ gone_at moment (device_of row.shown.key) ∷ later)
+  pub freed_held : (row : Row) → first_held session state ≡ Some row
+      → (later : List Update) × (freed state session moment ≡ gone_at moment (device_of row.shown.key) ∷ later)
   freed_held row found =
       let first = found_first (is_held_by session) state row found in
       (gone_rows first.0 ++ own (is_there (session_device session) state), ap (λ rows. gone_rows rows ++ own (is_there (session_device session) state)) first.1)
 
   -- where it has none its own row goes
-  pub freed_own : (there : Bool) → sought_after (sought.HeldBy session) cursor.Start state ≡ None → is_there (session_device session) state ≡ there → freed state session moment ≡ own there
+  pub freed_own : (there : Bool) → first_held session state ≡ None → is_there (session_device session) state ≡ there
+      → freed state session moment ≡ own there
   freed_own there found e = ap (λ rows. gone_rows rows ++ own (is_there (session_device session) state)) (found_none (is_held_by session) state found) ∙ ap own e
 
   -- the registry is whole after the first change, which can be told

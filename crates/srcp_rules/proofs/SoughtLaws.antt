@@ -8,7 +8,7 @@ use Rattle.srcp_info.specs.declared.change.Cursor.{Cursor}
 use Rattle.srcp_info.specs.declared.change.Cursor.TheVariants as cursor
 use Rattle.srcp_info.specs.Key.{key_cmp, has_reached}
 use Rattle.srcp_info.proofs.ClientLaws.{filter_every, reached_below, after_from_less, after_not_itself}
-use Rattle.srcp_rules.specs.declared.next.Sought.{Sought}
+use Rattle.srcp_rules.specs.declared.sought.Sought.{Sought}
 use Rattle.srcp_rules.specs.Sought.{is_sought, sought_after}
 use Rattle.srcp_rules.specs.State.{State, IsRising, row_after}
 use Rattle.srcp_rules.proofs.KeyLaws.{not_after}
@@ -79,6 +79,11 @@ beyond-none at (first ∷ state) e = by (beyond-none at state) (has_reached at f
     by rest true r e = ap (λ b. cond (not b) (first ∷ beyond at state) (beyond at state)) r ∙ rest e
     by rest false r e = cc
 
+-- past the next row fewer are beyond
+pub fewer_beyond : (at : Cursor) (state : State) → IsRising state → (row : Row) → row_after at state ≡ Some row
+    → length (beyond (cursor.After row.shown.key) state) < length (beyond at state)
+fewer_beyond at state rising row next = let e = ap length (beyond-next at row state rising next) in omega (arith, e)
+
 -- ---- seeking from row to row
 
 module _ (kind : Sought) (at : Cursor) (state : State) where
@@ -99,6 +104,3 @@ module _ (kind : Sought) (at : Cursor) (state : State) where
     sought_later e =
         find-both (λ other. not (has_reached (cursor.After row.shown.key) other.shown.key)) (is_sought kind) state
         ∙ sym (first ∙ ap (λ b. cond b (Some row) (find (is_sought kind) (beyond (cursor.After row.shown.key) state))) e)
-
-    pub fewer_beyond : length (beyond (cursor.After row.shown.key) state) < length (beyond at state)
-    fewer_beyond = let e = ap length (beyond-next at row state rising next) in omega (arith, e)

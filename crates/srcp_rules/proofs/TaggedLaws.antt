@@ -1,7 +1,8 @@
 -- Rows in entries by rising number, where keys go by that number: the entries after a row is set, a device added or taken out.
-use Rattle.std.specs.Prelude.{◌≡◌, ℕ, ◌<◌, false, List, [], ◌++◌, Some, None}
-use Rattle.std.proofs.Common.{refl, sym, arith}
+use Rattle.std.specs.Prelude.{◌≡◌, ℕ, ◌<◌, false, List, [], ◌∷◌, ◌++◌, Some, None}
+use Rattle.std.proofs.Common.{refl, sym, subst, arith}
 use Rattle.std.specs.List.{AllByRecursion}
+use Rattle.std.specs.List.Sorted.{IsStrictlySortedBy}
 use Rattle.std.specs.Map.{set_value, remove_entry}
 use Rattle.std.specs.Ordering.{nat_cmp}
 use Rattle.std.specs.BTreeMap.{is_at, insert_entry}
@@ -10,12 +11,13 @@ use Rattle.srcp_info.specs.declared.key.Key.{Key}
 use Rattle.srcp_info.specs.declared.key.Device.{Device}
 use Rattle.srcp_info.specs.declared.change.Row.{Row}
 use Rattle.srcp_info.specs.Key.{key_cmp, owns}
-use Rattle.srcp_rules.specs.State.{State, put_row, without}
+use Rattle.srcp_rules.specs.State.{State, IsRising, put_row, without}
 use Rattle.srcp_rules.specs.Rows.{put_rows}
 use Rattle.srcp_rules.specs.Nested.{AreSorted, entry_at, listed}
 use Rattle.srcp_rules.proofs.FindLaws.{each-weaken}
 use Rattle.srcp_rules.proofs.PutLaws.{put_row-before, put_row-past, put_rows-before, put_rows-past, without-before, without-past}
-use Rattle.srcp_rules.proofs.ListedLaws.{IsTagged, Above, Below, listed-absent, listed-insert_entry, listed-remove_entry, listed-set_value, unequal}
+use Rattle.srcp_rules.proofs.ListedLaws.{IsTagged, Above, Below, listed-absent, listed-insert_entry, listed-remove_entry, listed-set_value, listed_above, unequal}
+use Rattle.srcp_rules.proofs.StateLaws.{row_key, rising-append}
 
 module _ {X : Type 0} (rows : X → State) (tag : Key → ℕ) (P : Key → Type 0) (order : (a b : Key) → P a → P b → tag a < tag b → key_cmp a b ≡ Less) where
   -- ---- setting a row
@@ -83,3 +85,18 @@ module _ {X : Type 0} (rows : X → State) (tag : Key → ℕ) (P : Key → Type
   -- where the rows of an entry are as before, so are all
   pub listed-same : (n : ℕ) (es : List (ℕ × X)) → AllByRecursion (IsTagged rows tag P) es → AreSorted es → (x w : X) → entry_at n es ≡ Some x → rows w ≡ rows x → listed rows (set_value (is_at (nat_cmp n)) es w) ≡ listed rows es
   listed-same n es a s x w e is = listed-set_value rows tag P n (λ state. state) (λ xs ys h. refl) (λ xs ys h. refl) es a s x w e is
+
+  -- ---- the rows of all entries
+
+  -- where the rows of each entry rise, so do all
+  pub listed-rising : (es : List (ℕ × X)) → AllByRecursion (IsTagged rows tag P) es → AreSorted es
+      → AllByRecursion (λ e. IsRising (rows e.1)) es → IsRising (listed rows es)
+  unfolding IsStrictlySortedBy
+  listed-rising [] a s r = tt
+  listed-rising (e ∷ es) a s r =
+      let above = listed_above rows tag P e.0 es a.1 s.0 in
+      rising-append row_key (rows e.1) (listed rows es) r.0 (listed-rising es a.1 s.1 r.1)
+      (each-weaken {P = λ row. P row.shown.key × (tag row.shown.key ≡ e.0)}
+      (λ x t. each-weaken {P = λ y. P y.shown.key × (e.0 < tag y.shown.key)}
+      (λ y u. order x.shown.key y.shown.key t.0 u.0 (subst (λ n. n < tag y.shown.key) (sym t.1) u.1)) (listed rows es) above)
+      (rows e.1) a.0)

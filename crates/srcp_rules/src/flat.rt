@@ -5,7 +5,8 @@ use crate::first_rows::{push_ports, push_power};
 use crate::layout::{Bus, Layout};
 use crate::obeyed::Memory;
 use crate::rows::Rows;
-use crate::sorted_rows::{add_all, drop_in, row_after_in, row_in, set_in};
+use crate::sorted_rows::{add_all, drop_in, first_in, row_after_in, row_in, set_in};
+use crate::sought::Sought;
 use srcp_info::{Cursor, Device, Key, Row};
 use std::alloc::Global;
 use std::marker::Model;
@@ -46,6 +47,14 @@ impl Rows for Flat {
 
     fn row_after(&self, cursor: Cursor) -> Option<&Row> {
         row_after_in(&self.rows, cursor)
+    }
+
+    fn next_due(&mut self, moment: u64, cursor: Cursor) -> Option<Row> {
+        first_in(&self.rows, cursor, Sought::Due(moment)).copied()
+    }
+
+    fn first_held(&self, session: u32) -> Option<Row> {
+        first_in(&self.rows, Cursor::Start, Sought::HeldBy(session)).copied()
     }
 
     fn add(&mut self, added: &[Row]) -> Result<(), Memory> {

@@ -4,6 +4,7 @@ ghost use Rattle.std.specs.Map.{keys_of};
 ghost use Rattle.srcp_info.specs.declared.key.Key.{Key};
 ghost use Rattle.srcp_info.specs.Key.{has_reached};
 ghost use Rattle.srcp_rules.specs.Layout.{server};
+ghost use Rattle.srcp_rules.specs.Sought.{sought_after};
 ghost use Rattle.srcp_rules.specs.State.{opening};
 ghost use Rattle.srcp_rules.specs.Nested.{AreRowsOfBus, AreSorted, bus_rows, listed};
 
@@ -16,6 +17,7 @@ use crate::nested::bus_rows::BusRows;
 use crate::obeyed::Memory;
 use crate::on_bus::SERVER;
 use crate::rows::Rows;
+use crate::sought::Sought;
 use srcp_info::{Cursor, Device, Key, Row};
 use std::alloc::Global;
 use std::collections::BTreeMap;
@@ -67,6 +69,14 @@ impl Rows for Nested {
         None
     }
 
+    fn next_due(&mut self, moment: u64, cursor: Cursor) -> Option<Row> {
+        self.first_after(cursor, Sought::Due(moment))
+    }
+
+    fn first_held(&self, session: u32) -> Option<Row> {
+        self.first_after(Cursor::Start, Sought::HeldBy(session))
+    }
+
     fn add(&mut self, added: &[Row]) -> Result<(), Memory> {
         let Some(first) = added.first() else {
             return Ok(());
@@ -89,6 +99,24 @@ impl Rows for Nested {
             return;
         };
         rows.drop_device(device);
+    }
+}
+
+impl Nested {
+    /// The first row beyond the cursor that is sought.
+    fn first_after(&self, cursor: Cursor, sought: Sought) -> Option<Row>
+        ensures { result ≡ sought_after sought cursor self.now.state }
+    {
+        // The proof learns here that the rows are in key order.
+        let _rows = &self.by_number;
+        let mut at = cursor;
+        while let Some(row) = self.row_after(at) {
+            if sought.is_met_by(row) {
+                return Some(*row);
+            }
+            at = Cursor::After(row.shown.key);
+        }
+        None
     }
 }
 

@@ -1,13 +1,12 @@
-ghost use Rattle.std.specs.Prelude.{◌≡◌, ◌≤◌, IfSome, option_copied, option_map, slice_get};
+ghost use Rattle.std.specs.Prelude.{◌≡◌, IfSome, option_map, slice_get};
 ghost use Rattle.srcp_info.specs.WellFormed.{IsWellFormed};
 ghost use Rattle.srcp_rules.specs.Due.{due_after, due_change, freed};
-ghost use Rattle.srcp_rules.specs.Sought.{is_sought, may_be_due, may_be_in, past, sought_after};
 ghost use Rattle.srcp_rules.specs.State.{AddsNoRow, IsWhole, MayFall, row_at, updated, updated_if};
 
 use crate::device::session_device;
 use crate::registry::{is_there, put, remove};
 use crate::rows::Rows;
-use srcp_info::{Change, Cursor, Group, Key, Row, Value};
+use srcp_info::{Change, Cursor, Row, Value};
 
 /// Carries out the first of the changes that the moment brings beyond the cursor, in key order: a
 /// lock that has run out ends, and a port that has been on for its time becomes 0. None where the
@@ -23,10 +22,7 @@ pub fn due_next<R: Rows>(rows: &mut R, moment: u64, cursor: Cursor) -> Option<Ch
     ensures well_formed { IfSome result IsWellFormed }
     ensures adds_no_row { IfSome result (AddsNoRow (R.state rows.old)) }
 {
-    let row = match first_after(rows, cursor, Sought::Due(moment)) {
-        Some(row) => *row,
-        None => return None,
-    };
+    let row = rows.next_due(moment, cursor)?;
     Some(carry_out(rows, moment, &row))
 }
 
@@ -57,7 +53,7 @@ pub fn free_next<R: Rows>(rows: &mut R, session: u32, moment: u64) -> Option<Cha
     ensures whole { IsWhole (R.buses rows.new) (R.state rows.new) }
     ensures well_formed { IfSome result IsWellFormed }
 {
-    if let Some(row) = first_after(rows, Cursor::Start, Sought::HeldBy(session)) {
+    if let Some(row) = rows.first_held(session) {
         let lock = row.shown.key.device();
         return Some(remove(rows, moment, lock));
     }
@@ -66,82 +62,4 @@ pub fn free_next<R: Rows>(rows: &mut R, session: u32, moment: u64) -> Option<Cha
         return None;
     }
     Some(remove(rows, moment, own))
-}
-
-/// Which rows are sought.
-#[derive(Clone, Copy)]
-enum Sought {
-    /// Those whose due moment is not after this one.
-    Due(u64),
-    /// The locks of this session.
-    HeldBy(u32),
-}
-
-impl Sought {
-    fn is_met_by(&self, row: &Row) -> bool
-        ensures { result ≡ is_sought self.now row.now }
-    {
-        match self {
-            Sought::Due(moment) => match row.due {
-                Some(due) => due <= *moment,
-                None => false,
-            },
-            Sought::HeldBy(session) => match row.shown.value {
-                Value::Lock {
-                    session: holder,
-                    ..
-                } => holder == *session,
-                _ => false,
-            },
-        }
-    }
-
-    /// Whether rows of this group may be sought.
-    fn may_be_in(&self, group: Group) -> bool
-        ensures { result ≡ may_be_in self.now group }
-    {
-        match self {
-            Sought::Due(_) => may_be_due(group),
-            Sought::HeldBy(_) => matches!(group, Group::LockGl | Group::LockGa),
-        }
-    }
-}
-
-/// Returns whether a row of this group may be due at some moment.
-pub fn may_be_due(group: Group) -> bool
-    ensures { result ≡ may_be_due group }
-{
-    matches!(group, Group::Ga | Group::LockGl | Group::LockGa)
-}
-
-/// Returns a cursor past the row at the key. Where no row of its group counts, the cursor is past
-/// the whole group on its bus.
-pub fn past(key: Key, counts: bool) -> Cursor
-    ensures { result ≡ past counts key }
-{
-    if counts {
-        Cursor::After(key)
-    } else {
-        Cursor::After(Key {
-            address: u32::MAX,
-            port: u8::MAX,
-            ..key
-        })
-    }
-}
-
-/// The first row beyond the cursor that is sought. Of a group where there can be none, one row of each bus is looked at.
-fn first_after<R: Rows>(rows: &R, cursor: Cursor, sought: Sought) -> Option<&Row>
-    requires { IsWhole (R.buses rows.now) (R.state rows.now) }
-    ensures { option_copied result ≡ sought_after sought cursor (R.state rows.now) }
-{
-    let mut at = cursor;
-    while let Some(row) = rows.row_after(at) {
-        if sought.is_met_by(row) {
-            return Some(row);
-        }
-        let key = row.shown.key;
-        at = past(key, sought.may_be_in(key.group));
-    }
-    None
 }

@@ -2,6 +2,7 @@ ghost use Rattle.std.specs.Prelude.{◌≡◌, List, IsTrue, IfOk, OnOk, OnErr, 
 ghost use Rattle.srcp_info.specs.declared.key.Device.{Device};
 ghost use Rattle.srcp_info.specs.WellFormed.{can_go};
 ghost use Rattle.srcp_rules.specs.declared.layout.Bus.{Bus};
+ghost use Rattle.srcp_rules.specs.Due.{first_due, first_held};
 ghost use Rattle.srcp_rules.specs.Rows.{AreNewRowsOf, put_rows};
 ghost use Rattle.srcp_rules.specs.State.{State, IsRowOf, has_row, opening, put_row, row_at, row_after, without};
 
@@ -35,6 +36,16 @@ pub trait Rows: Drop {
     /// The row with the least key beyond the cursor; none where it is past the last row, or `Done`.
     fn row_after(&self, cursor: Cursor) -> Option<&Row>
         ensures { option_copied result ≡ row_after cursor (state self.now) };
+
+    /// Finds the first row beyond the cursor, in key order, whose due moment has come; none if there is none.
+    fn next_due(&mut self, moment: u64, cursor: Cursor) -> Option<Row>
+        ensures row { result ≡ first_due moment cursor (state self.old) }
+        ensures layout { buses self.new ≡ buses self.old }
+        ensures rows { state self.new ≡ state self.old };
+
+    /// Finds the first of the locks that the session holds, in key order; none if it holds none.
+    fn first_held(&self, session: u32) -> Option<Row>
+        ensures { result ≡ first_held session (state self.now) };
 
     /// Adds all the rows of one device that is not there, in key order. Fails if memory is refused,
     /// and then the rows are as before.

@@ -3,9 +3,11 @@
 ghost use Rattle.std.specs.Prelude.{◌≡◌, ◌+◌, ◌<◌, ◌≤◌, IsTrue, IfOk, IfErr, OnOk, OnErr, option_copied, vec_len, vec_capacity};
 ghost use Rattle.srcp_rules.specs.Rows.{put_rows};
 ghost use Rattle.srcp_rules.specs.Place.{IsAt, IsGap};
+ghost use Rattle.srcp_rules.specs.Sought.{sought_after};
 ghost use Rattle.srcp_rules.specs.State.{IsRising, has_row, put_row, row_after, row_at, without};
 
 use crate::obeyed::Memory;
+use crate::sought::Sought;
 use srcp_info::{Cursor, Device, Key, Row, compare};
 
 /// Where the key is among rows by rising key, or else where it would go.
@@ -35,6 +37,13 @@ pub(crate) fn row_after_in(rows: &[Row], cursor: Cursor) -> Option<&Row>
 {
     let place = rows.partition_point(|row| cursor.has_reached(&row.shown.key));
     rows.get(place)
+}
+
+/// The first row beyond the cursor that is sought.
+pub(crate) fn first_in(rows: &[Row], cursor: Cursor, sought: Sought) -> Option<&Row>
+    ensures { option_copied result ≡ sought_after sought cursor rows.now }
+{
+    rows.iter().find(|row| !cursor.has_reached(&row.shown.key) && sought.is_met_by(row))
 }
 
 /// Sets the row at its key, where there is room for one more row.

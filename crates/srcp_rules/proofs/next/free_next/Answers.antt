@@ -19,32 +19,32 @@ first updates = slice_get updates 0
 pub remove-requires : goal.remove-requires
 remove-requires g c =
     let state = g.R.Rows.state c.args.rows.now in
-    let held = freed_held state c.args.session c.args.moment c.in-Some.row.now (sym c.in-Some.ensures) in
+    let held = freed_held state c.args.session c.args.moment c.in-Some.row (sym c.in-Some.ensures) in
     let step = freed_step state c.args.session c.args.moment (g.R.Rows.buses c.args.rows.now) c.requires.whole c.ranges.moment.fits _ held.0 held.1 in
     ap (λ (device : Device). can_go device.group) c.device-lock.ensures ∙ step.1.2
 
 pub returns-in-Some-clause-change : goal.returns-in-Some-clause-change
 returns-in-Some-clause-change g c =
-    let held = freed_held (g.R.Rows.state c.args.rows.now) c.args.session c.args.moment c.in-Some.row.now (sym c.in-Some.ensures) in
+    let held = freed_held (g.R.Rows.state c.args.rows.now) c.args.session c.args.moment c.in-Some.row (sym c.in-Some.ensures) in
     ap Some (c.remove.ensures.change ∙ ap (λ (device : Device). (gone_at c.args.moment device).change) c.device-lock.ensures) ∙ ap (λ (updates : List Update). changed (first updates)) (sym held.1)
 
 pub returns-in-Some-clause-rows : goal.returns-in-Some-clause-rows
 returns-in-Some-clause-rows g c =
     let state = g.R.Rows.state c.args.rows.now in
-    let held = freed_held state c.args.session c.args.moment c.in-Some.row.now (sym c.in-Some.ensures) in
+    let held = freed_held state c.args.session c.args.moment c.in-Some.row (sym c.in-Some.ensures) in
     c.remove.ensures.rows ∙ ap (λ (device : Device). updated (gone_at c.args.moment device) state) c.device-lock.ensures ∙ ap (λ (updates : List Update). updated_if (first updates) state) (sym held.1)
 
 pub returns-in-Some-clause-whole : goal.returns-in-Some-clause-whole
 returns-in-Some-clause-whole g c =
     let state = g.R.Rows.state c.args.rows.now in
-    let held = freed_held state c.args.session c.args.moment c.in-Some.row.now (sym c.in-Some.ensures) in
+    let held = freed_held state c.args.session c.args.moment c.in-Some.row (sym c.in-Some.ensures) in
     let step = freed_step state c.args.session c.args.moment (g.R.Rows.buses c.args.rows.now) c.requires.whole c.ranges.moment.fits _ held.0 held.1 in
     rw (c.remove.ensures.layout, c.remove.ensures.rows, c.device-lock.ensures) step.0
 
 pub returns-in-Some-clause-well_formed : goal.returns-in-Some-clause-well_formed
 returns-in-Some-clause-well_formed g c =
     let state = g.R.Rows.state c.args.rows.now in
-    let held = freed_held state c.args.session c.args.moment c.in-Some.row.now (sym c.in-Some.ensures) in
+    let held = freed_held state c.args.session c.args.moment c.in-Some.row (sym c.in-Some.ensures) in
     let step = freed_step state c.args.session c.args.moment (g.R.Rows.buses c.args.rows.now) c.requires.whole c.ranges.moment.fits _ held.0 held.1 in
     rw (c.remove.ensures.change, c.device-lock.ensures) step.1
 
