@@ -18,7 +18,7 @@ use Rattle.srcp_rules.proofs.StateLaws.{row_at-first, row_at-later}
 use Rattle.srcp_index.specs.declared.index.Pair.{Pair}
 use Rattle.srcp_index.specs.Pairs.{before, is_ripe}
 use Rattle.srcp_index.specs.Ranked.{put, taken, ranked}
-use Rattle.srcp_index.specs.Indexed.{at_rank, pair_of, pairs_of, noted, forgotten, may_go, goers}
+use Rattle.srcp_index.specs.Indexed.{at_rank, pair_of, pairs_of, may_go, goers}
 use Rattle.srcp_index.proofs.Pairs.{before_weak, before_tie, alike_after}
 use Rattle.srcp_index.proofs.Ranked.{Keeps, find-ranked, taken-put, length-ranked}
 use Rattle.srcp_index.proofs.Ranked as law

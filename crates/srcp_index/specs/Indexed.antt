@@ -1,11 +1,13 @@
--- How an index keeps a pair of each row that has a rank: its due moment, or the session that holds it.
-use Rattle.std.specs.Prelude.{◌≡◌, ℕ, ◌<◌, ◌≤◌, Bool, IsTrue, IsSome, List, [], ◌∷◌, fold, flat_map, Option, if◌then◌else◌}
+-- How indexes keep a pair of each row that has a rank: its due moment, or the session that holds it.
+use Rattle.std.specs.Prelude.{◌≡◌, ℕ, ◌<◌, ◌≤◌, Bool, IsTrue, IsSome, List, [], ◌∷◌, fold, flat_map, length, Option, if◌then◌else◌}
 use Rattle.std.specs.List.{AllByRecursion, sum_by}
 use Rattle.std.specs.Option.{option_map_or}
+use Rattle.srcp_info.specs.declared.key.Key.{Key}
 use Rattle.srcp_info.specs.declared.change.Row.{Row}
 use Rattle.srcp_info.specs.WellFormed.{can_go}
 use Rattle.srcp_rules.specs.State.{State, IsRising, holder_of}
 use Rattle.srcp_index.specs.declared.index.Pair.{Pair}
+use Rattle.srcp_index.specs.declared.indexes.Indexes.{Indexes}
 use Rattle.srcp_index.specs.Pairs.{Held, before}
 use Rattle.srcp_index.specs.Ranked.{put, taken, ranked}
 
@@ -21,19 +23,39 @@ pair_of rank row = option_map_or (λ r. at_rank row r ∷ []) (rank row) []
 abbrev pub pairs_of : (rank : Row → Option ℕ) → State → List Pair
 pairs_of rank state = flat_map (pair_of rank) state
 
--- the pairs with that of the row, if it has a rank
-abbrev pub noted : (rank : Row → Option ℕ) → (since : ℕ) → Row → List Pair → List Pair
-noted rank since row pairs = option_map_or (λ r. put (before since) (at_rank row r) pairs) (rank row) pairs
+-- the pairs with that of the key, if it has a rank
+abbrev pub put_ranked : (since : ℕ) → (rank : Option ℕ) → Key → List Pair → List Pair
+put_ranked since rank k pairs = option_map_or (λ r. put (before since) (record { rank = r; key = k }) pairs) rank pairs
 
 -- the pairs without it
-abbrev pub forgotten : (rank : Row → Option ℕ) → (since : ℕ) → Row → List Pair → List Pair
-forgotten rank since row pairs = option_map_or (λ r. taken (before since) (at_rank row r) pairs) (rank row) pairs
+abbrev pub take_ranked : (since : ℕ) → (rank : Option ℕ) → Key → List Pair → List Pair
+take_ranked since rank k pairs = option_map_or (λ r. taken (before since) (record { rank = r; key = k }) pairs) rank pairs
 
--- the pairs with those of all these rows
-abbrev pub noted_all : (rank : Row → Option ℕ) → (since : ℕ) → (rows : State) → List Pair → List Pair
-noted_all rank since rows pairs = fold (λ before row. noted rank since row before) pairs rows
+-- the index with the pair of the key, if it has a rank
+abbrev pub with_pair : (rank : Option ℕ) → Key → Held → Held
+with_pair rank k index = record { since = index.since; pairs = put_ranked index.since rank k index.pairs; room = index.room }
 
--- the row is of a device that comes and goes; no other has a rank
+-- the index without it
+abbrev pub without_pair : (rank : Option ℕ) → Key → Held → Held
+without_pair rank k index = record { since = index.since; pairs = take_ranked index.since rank k index.pairs; room = index.room }
+
+-- the moment at which the row is due, if there is one
+abbrev pub due_of : Row → Option ℕ
+due_of row = row.due
+
+-- both indexes with the pairs of the row
+abbrev pub with_row : Row → Indexes → Indexes
+with_row row both = record { moments = with_pair (due_of row) row.shown.key both.moments; sessions = with_pair (holder_of row) row.shown.key both.sessions }
+
+-- both without them
+abbrev pub without_row : Row → Indexes → Indexes
+without_row row both = record { moments = without_pair (due_of row) row.shown.key both.moments; sessions = without_pair (holder_of row) row.shown.key both.sessions }
+
+-- the index has room for one more pair
+abbrev pub HasRoom : Held → Type 0
+HasRoom index = length index.pairs < index.room
+
+-- the row is of a device that comes and goes
 abbrev pub may_go : Row → Bool
 may_go row = can_go row.shown.key.group
 
@@ -41,17 +63,22 @@ may_go row = can_go row.shown.key.group
 abbrev pub goers : State → ℕ
 goers state = sum_by (λ row. if may_go row then 1 else 0) state
 
+-- no row has a rank but of a device that comes and goes, and no device has more than nine rows
+pub record IsRankedRow (row : Row) : Type 0 where
+  pub due : IsSome (due_of row) → IsTrue (may_go row)
+  pub held : IsSome (holder_of row) → IsTrue (may_go row)
+  pub port : row.shown.key.port < 9
+
 -- the index has the pairs of the rows, and room for so many
 pub record HasPairs (rank : Row → Option ℕ) (state : State) (index : Held) (count : ℕ) : Type 0 where
   pub pairs : index.pairs ≡ ranked (before index.since) (pairs_of rank state)
-  pub goes : AllByRecursion (λ row. IsSome (rank row) → IsTrue (may_go row)) state
   pub room : count ≤ index.room
 
--- the keys rise, and both indexes have the pairs of the rows and room for all that may come and go
-pub record IsIndexed (state : State) (moments sessions : Held) (count : ℕ) : Type 0 where
+-- the keys rise, and both indexes have the pairs of the rows, and room for all that come and go
+pub record IsIndexed (state : State) (both : Indexes) (count : ℕ) : Type 0 where
   pub rising : IsRising state
-  pub due : HasPairs (λ row. row.due) state moments count
-  pub held : HasPairs holder_of state sessions count
-  pub since : sessions.since ≡ 0
+  pub due : HasPairs due_of state both.moments count
+  pub held : HasPairs holder_of state both.sessions count
+  pub since : both.sessions.since ≡ 0
   pub counted : goers state ≤ count
-  pub ports : AllByRecursion (λ row. row.shown.key.port < 9) state
+  pub rows : AllByRecursion IsRankedRow state

@@ -3,5 +3,8 @@
 #![tactic(auto)]
 
 mod index;
+mod indexed;
+mod indexes;
 
 pub use index::{Index, Pair};
+pub use indexed::Indexed;

@@ -28,10 +28,10 @@ none_left : {X : Type 0} (x : X) (xs : List X) → x ∷ xs ≡ [] → ⊥
 none_left x xs e = let n : length (x ∷ xs) ≡ 0 = ap length e in omega (arith, n)
 
 module _ (device : Device) where
-  abbrev IsFrom : ℕ → Row → Type 0
+  abbrev pub IsFrom : ℕ → Row → Type 0
   IsFrom first row = (port : ℕ) × (first ≤ port) × (row.shown.key ≡ key_at device port)
 
-  ports_from : (rows : State) (first n : ℕ) → map (λ row. row.shown.key) rows ≡ map (key_at device) (range_with_len first n) → AllByRecursion (IsFrom first) rows
+  pub ports_from : (rows : State) (first n : ℕ) → map (λ row. row.shown.key) rows ≡ map (key_at device) (range_with_len first n) → AllByRecursion (IsFrom first) rows
   ports_from [] first n e = tt
   ports_from (row ∷ rows) first zero e = absurd (none_left row.shown.key (map (λ row. row.shown.key) rows) e)
   ports_from (row ∷ rows) first (suc n) e = (
@@ -42,7 +42,7 @@ module _ (device : Device) where
       weaker : (a b : ℕ) → a + 1 ≤ b → a ≤ b
       weaker a b h = omega (arith, h)
 
-  ports_rise : (rows : State) (first n : ℕ) → map (λ row. row.shown.key) rows ≡ map (key_at device) (range_with_len first n) → IsRising rows
+  pub ports_rise : (rows : State) (first n : ℕ) → map (λ row. row.shown.key) rows ≡ map (key_at device) (range_with_len first n) → IsRising rows
   ports_rise [] first n e = tt
   ports_rise (row ∷ rows) first zero e = absurd (none_left row.shown.key (map (λ row. row.shown.key) rows) e)
   ports_rise (row ∷ rows) first (suc n) e =

@@ -1,0 +1,104 @@
+//! The rows that a keeper has, with an index of their due moments and one of the sessions that hold locks.
+ghost use Rattle.std.specs.Prelude.{◌≡◌, ◌+◌, ◌<◌, ◌≤◌, length};
+ghost use Rattle.std.specs.List.{AllByRecursion};
+ghost use Rattle.srcp_index.specs.Indexed.{IsIndexed};
+
+use crate::indexes::Indexes;
+use srcp_info::{Cursor, Device, Key, Row};
+use srcp_rules::{Layout, Memory, Rows};
+use std::alloc::Global;
+use std::marker::Model;
+
+/// The greatest port of a row.
+const LAST_PORT: u8 = 8;
+
+/// The rows of a keeper with their indexes. Contracts see the keeper alone.
+#[derive(Drop)]
+pub struct Indexed<R: Rows> {
+    rows: R,
+    indexes: Indexes,
+    /// How many rows the indexes have room for: all that come and go.
+    count: usize,
+}
+
+impl<R: Rows> Model for Indexed<R> {
+    ghost use Rattle.srcp_index.specs.Indexed.{IsIndexed};
+
+    ghost Value = { R };
+
+    ghost view = { λ x. x.rows };
+
+    ghost invariant = { λ x. IsIndexed (R.state x.rows) x.indexes x.count };
+}
+
+impl<R: Rows> Rows for Indexed<R> {
+    ghost buses = { λ x. R.buses x };
+
+    ghost state = { λ x. R.state x };
+
+    fn empty(alloc: Global, layout: &Layout) -> Result<Self, Memory> {
+        // Called for its contract, which says the layout's limits.
+        let _ = layout.buses();
+        let rows = R::empty(alloc, layout)?;
+        Ok(Indexed {
+            rows,
+            indexes: Indexes::new(alloc),
+            count: 0,
+        })
+    }
+
+    fn row(&self, key: &Key) -> Option<&Row> {
+        self.rows.row(key)
+    }
+
+    fn row_after(&self, cursor: Cursor) -> Option<&Row> {
+        self.rows.row_after(cursor)
+    }
+
+    fn next_due(&mut self, moment: u64, cursor: Cursor) -> Option<Row> {
+        self.indexes.moments.settle(moment);
+        let pair = self.indexes.moments.ripe_beyond(cursor)?;
+        self.rows.row(&pair.key).copied()
+    }
+
+    fn first_held(&self, session: u32) -> Option<Row> {
+        let pair = self.indexes.sessions.first_of(u64::from(session))?;
+        self.rows.row(&pair.key).copied()
+    }
+
+    fn add(&mut self, added: &[Row]) -> Result<(), Memory> {
+        let total = self.count.checked_add(added.len()).ok_or(Memory)?;
+        self.indexes.reserve(total)?;
+        self.rows.add(added)?;
+        for row in added {
+            self.indexes.note(row);
+        }
+        self.count = total;
+        Ok(())
+    }
+
+    fn set(&mut self, row: Row) {
+        let Some(old) = self.rows.row(&row.shown.key).copied() else {
+            return;
+        };
+        self.indexes.forget(&old);
+        self.indexes.note(&row);
+        self.rows.set(row);
+    }
+
+    fn drop_device(&mut self, device: Device) {
+        for port in 0..=LAST_PORT {
+            let key = Key {
+                bus: device.bus,
+                group: device.group,
+                address: device.address,
+                port,
+            };
+            if let Some(row) = self.rows.row(&key) {
+                self.indexes.forget(row);
+                self.count -= 1;
+            }
+        }
+        self.rows.drop_device(device);
+    }
+}

@@ -1,0 +1,96 @@
+//! The index of due moments and that of the sessions that hold locks.
+ghost use Rattle.std.specs.Prelude.{◌≡◌, ◌≤◌, IsSome, [], OnOk};
+ghost use Rattle.srcp_index.specs.Indexed.{HasRoom, due_of, with_pair, with_row, without_pair, without_row};
+ghost use Rattle.srcp_rules.specs.State.{holder_of};
+
+use crate::index::{Index, Pair};
+use srcp_info::{Key, Row, Value};
+use srcp_rules::Memory;
+use std::alloc::Global;
+
+/// Both indexes of the rows of a registry.
+#[derive(Drop)]
+pub(crate) struct Indexes {
+    /// The due moments of the rows that have one.
+    pub(crate) moments: Index,
+    /// The sessions that hold the locks.
+    pub(crate) sessions: Index,
+}
+
+impl Indexes {
+    /// Returns indexes of no row.
+    pub(crate) fn new(alloc: Global) -> Indexes
+        ensures moments { result.moments.pairs ≡ [] }
+        ensures sessions { result.sessions.pairs ≡ [] }
+        ensures since { result.sessions.since ≡ 0 }
+    {
+        Indexes {
+            moments: Index::new(alloc),
+            sessions: Index::new(alloc),
+        }
+    }
+
+    /// Makes room for the pairs of so many rows in all.
+    pub(crate) fn reserve(&mut self, total: usize) -> Result<(), Memory>
+        ensures moments { self.new.moments.pairs ≡ self.old.moments.pairs }
+        ensures sessions { self.new.sessions.pairs ≡ self.old.sessions.pairs }
+        ensures moments_since { self.new.moments.since ≡ self.old.moments.since }
+        ensures sessions_since { self.new.sessions.since ≡ self.old.sessions.since }
+        ensures moments_more { self.old.moments.room ≤ self.new.moments.room }
+        ensures sessions_more { self.old.sessions.room ≤ self.new.sessions.room }
+        ensures moments_room { OnOk result (total ≤ self.new.moments.room) }
+        ensures sessions_room { OnOk result (total ≤ self.new.sessions.room) }
+    {
+        if self.moments.reserve(total).is_err() || self.sessions.reserve(total).is_err() {
+            return Err(Memory);
+        }
+        Ok(())
+    }
+
+    /// Puts in the pairs of a row.
+    pub(crate) fn note(&mut self, row: &Row)
+        requires moments { IsSome (due_of row.now) → HasRoom self.old.moments }
+        requires sessions { IsSome (holder_of row.now) → HasRoom self.old.sessions }
+        ensures { self.new ≡ with_row row.now self.old }
+    {
+        put_ranked(&mut self.moments, row.due, row.shown.key);
+        put_ranked(&mut self.sessions, holder(row), row.shown.key);
+    }
+
+    /// Takes out the pairs of a row.
+    pub(crate) fn forget(&mut self, row: &Row)
+        ensures { self.new ≡ without_row row.now self.old }
+    {
+        take_ranked(&mut self.moments, row.due, row.shown.key);
+        take_ranked(&mut self.sessions, holder(row), row.shown.key);
+    }
+}
+
+/// The session that holds the lock of a row.
+fn holder(row: &Row) -> Option<u64>
+    ensures { result ≡ holder_of row.now }
+{
+    match row.shown.value {
+        Value::Lock { session, .. } => Some(u64::from(session)),
+        _ => None,
+    }
+}
+
+/// Puts in the pair of a key, if it has a rank.
+fn put_ranked(index: &mut Index, rank: Option<u64>, key: Key)
+    requires { IsSome rank → HasRoom index.old }
+    ensures { index.new ≡ with_pair rank key index.old }
+{
+    if let Some(rank) = rank {
+        index.put(Pair { rank, key });
+    }
+}
+
+/// Takes out the pair of a key, if it has a rank.
+fn take_ranked(index: &mut Index, rank: Option<u64>, key: Key)
+    ensures { index.new ≡ without_pair rank key index.old }
+{
+    if let Some(rank) = rank {
+        index.take(Pair { rank, key });
+    }
+}
