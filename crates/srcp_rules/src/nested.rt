@@ -103,7 +103,7 @@ impl Rows for Nested {
 }
 
 impl Nested {
-    /// The first row beyond the cursor that is sought.
+    /// Finds the first row beyond the cursor that is sought.
     fn first_after(&self, cursor: Cursor, sought: Sought) -> Option<Row>
         ensures { result ≡ sought_after sought cursor self.now.state }
     {

@@ -39,7 +39,7 @@ pub(crate) fn row_after_in(rows: &[Row], cursor: Cursor) -> Option<&Row>
     rows.get(place)
 }
 
-/// The first row beyond the cursor that is sought.
+/// Finds the first row beyond the cursor that is sought.
 pub(crate) fn first_in(rows: &[Row], cursor: Cursor, sought: Sought) -> Option<&Row>
     ensures { option_copied result ≡ sought_after sought cursor rows.now }
 {
