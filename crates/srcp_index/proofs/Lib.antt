@@ -3,3 +3,4 @@ pub mod Places
 pub mod Pairs
 pub mod RowSums
 pub mod PairsOfRows
+pub mod IndexedLaws

@@ -1,11 +1,11 @@
 -- Laws of an index that has the pairs of rows: a row is put, looked at or taken out, and the first that is sought is found.
-use Rattle.std.specs.Prelude.{◌≡◌, ℕ, zero, suc, ◌+◌, ◌≤◌, Bool, true, false, not, ◌&&◌, cond, nat_le, ◌==◌, IsTrue, IsSome, List, [], ◌∷◌, ◌++◌, length, find, Option, Some, None, option_map, option_and_then, if◌then◌else◌}
+use Rattle.std.specs.Prelude.{◌≡◌, ℕ, ◌+◌, ◌≤◌, Bool, true, false, not, ◌&&◌, cond, nat_le, ◌==◌, IsTrue, IsSome, List, [], ◌∷◌, ◌++◌, length, find, Option, Some, None, option_map, option_and_then}
 use Rattle.std.specs.List.{AllByRecursion, sum_by}
 use Rattle.std.specs.Option.{option_map_or}
 use Rattle.std.specs.declared.cmp.Ordering.TheVariants.{Less, Greater}
 use Rattle.std.specs.Ordering.{ordering_reverse}
 use Rattle.std.proofs.Common.{refl, sym, ap, subst, ◌∙◌, arith, true≢false}
-use Rattle.std.proofs.lemmas.Bool.{and_parts, leb-true, eqb-true, true_from_ne_false, false_from_ne_true}
+use Rattle.std.proofs.lemmas.Bool.{and_parts, leb-true, eqb-true, false_from_ne_true}
 use Rattle.std.proofs.lemmas.List.Sums.{sum_by-cons, sum_by-append}
 use Rattle.srcp_info.specs.declared.change.Cursor.{Cursor}
 use Rattle.srcp_info.specs.declared.key.Key.{Key}
@@ -13,16 +13,16 @@ use Rattle.srcp_info.specs.declared.change.Row.{Row}
 use Rattle.srcp_info.specs.Key.{key_cmp, has_reached}
 use Rattle.srcp_info.proofs.KeyLaws.{key_cmp_total}
 use Rattle.srcp_rules.specs.State.{State, IsRising, row_at, put_row, holder_of}
-use Rattle.srcp_rules.specs.Due.{is_due, is_held_by}
+use Rattle.srcp_rules.specs.Due.{is_due, is_held_by, first_due, first_held}
 use Rattle.srcp_rules.proofs.StateLaws.{row_at-first, row_at-later}
 use Rattle.srcp_index.specs.declared.index.Pair.{Pair}
-use Rattle.srcp_index.specs.Pairs.{before, is_ripe}
+use Rattle.srcp_index.specs.Pairs.{Held, before, is_ripe}
 use Rattle.srcp_index.specs.Ranked.{put, taken, ranked}
-use Rattle.srcp_index.specs.Indexed.{at_rank, pair_of, pairs_of, may_go, goers}
+use Rattle.srcp_index.specs.Indexed.{at_rank, due_of, pair_of, pairs_of, put_ranked, take_ranked, may_go, goer, goers}
 use Rattle.srcp_index.proofs.Pairs.{before_weak, before_tie, alike_after}
 use Rattle.srcp_index.proofs.Ranked.{Keeps, find-ranked, taken-put, length-ranked}
 use Rattle.srcp_index.proofs.Ranked as law
-use Rattle.srcp_index.proofs.RowSums.{but_at, put_there, sum-put_row, sum-there}
+use Rattle.srcp_index.proofs.RowSums.{but_at, put_there, sum-put_row}
 
 -- lists with the same sums have the same order
 same_pairs : (since : ℕ) (ps qs : List Pair) → ((f : Pair → ℕ) → sum_by f ps ≡ sum_by f qs) → ranked (before since) ps ≡ ranked (before since) qs
@@ -56,7 +56,7 @@ module _ (rank : Row → Option ℕ) where
     forgotten-noted (Some r) row ps = taken-put (before since) (before_weak since) (at_rank row r) ps
 
     -- with the pair of a row the pairs of the others are those of the rows with it
-    pub noted-pairs : (row : Row) (state : State) → noted rank since row (ranked (before since) (pairs_of rank (but_at row.shown.key state))) ≡ ranked (before since) (pairs_of rank (put_row row state))
+    pub noted-pairs : (row : Row) (state : State) → put_ranked since (rank row) row.shown.key (ranked (before since) (pairs_of rank (but_at row.shown.key state))) ≡ ranked (before since) (pairs_of rank (put_row row state))
     noted-pairs row state =
         let others = but_at row.shown.key state in
         noted-first (rank row) row (pairs_of rank others)
@@ -69,10 +69,10 @@ module _ (rank : Row → Option ℕ) where
 
     -- and without it they are those of the others
     pub forgotten-pairs : (row : Row) (state : State) → IsRising state → row_at row.shown.key state ≡ Some row
-        → forgotten rank since row (ranked (before since) (pairs_of rank state)) ≡ ranked (before since) (pairs_of rank (but_at row.shown.key state))
+        → take_ranked since (rank row) row.shown.key (ranked (before since) (pairs_of rank state)) ≡ ranked (before since) (pairs_of rank (but_at row.shown.key state))
     forgotten-pairs row state rising there =
-        ap (λ rows. forgotten rank since row (ranked (before since) (pairs_of rank rows))) (sym (put_there row state rising there))
-        ∙ ap (forgotten rank since row) (sym (noted-pairs row state))
+        ap (λ rows. take_ranked since (rank row) row.shown.key (ranked (before since) (pairs_of rank rows))) (sym (put_there row state rising there))
+        ∙ ap (take_ranked since (rank row) row.shown.key) (sym (noted-pairs row state))
         ∙ forgotten-noted (rank row) row (ranked (before since) (pairs_of rank (but_at row.shown.key state)))
 
   -- ---- how many they are
@@ -93,7 +93,7 @@ module _ (rank : Row → Option ℕ) where
       let a = one_at_most (rank row) (may_go row) goes.0 row in
       let b = fewer_pairs state goes.1 in
       let c = length_both (pair_of rank row) (pairs_of rank state) in
-      let d = sum_by-cons (λ (other : Row). if may_go other then 1 else 0) row state in
+      let d = sum_by-cons goer row state in
       omega arith
 
   -- ---- looking for the first that passes a test
@@ -201,3 +201,15 @@ module _ (session : ℕ) where
 
   pub found_held : (state : State) → IsRising state → option_and_then (λ (pair : Pair). row_at pair.key state) (find (λ pair. pair.rank == session) (ranked (before 0) (pairs_of holder_of state))) ≡ find (is_held_by session) state
   found_held state rising = found_ranked holder_of (before 0) (λ pair. pair.rank == session) same_by_key (is_held_by session) (λ row. refl) state rising
+
+-- ---- what an index answers
+
+pub due_row : (state : State) (index : Held) (cursor : Cursor) (o : Option Pair) → IsRising state → index.pairs ≡ ranked (before index.since) (pairs_of due_of state) → o ≡ find (is_ripe index.since cursor) index.pairs
+    → option_and_then (λ (pair : Pair). row_at pair.key state) o ≡ first_due index.since cursor state
+due_row state index cursor o rising pairs found =
+    ap (option_and_then (λ (pair : Pair). row_at pair.key state)) (found ∙ ap (find (is_ripe index.since cursor)) pairs) ∙ found_due index.since cursor state rising
+
+pub held_row : (state : State) (index : Held) (session : ℕ) (o : Option Pair) → IsRising state → index.since ≡ 0 → index.pairs ≡ ranked (before index.since) (pairs_of holder_of state) → o ≡ find (λ pair. pair.rank == session) index.pairs
+    → option_and_then (λ (pair : Pair). row_at pair.key state) o ≡ first_held session state
+held_row state index session o rising since pairs found =
+    ap (option_and_then (λ (pair : Pair). row_at pair.key state)) (found ∙ ap (find (λ pair. pair.rank == session)) (pairs ∙ ap (λ m. ranked (before m) (pairs_of holder_of state)) since)) ∙ found_held session state rising

@@ -47,7 +47,11 @@ due_of row = row.due
 abbrev pub with_row : Row → Indexes → Indexes
 with_row row both = record { moments = with_pair (due_of row) row.shown.key both.moments; sessions = with_pair (holder_of row) row.shown.key both.sessions }
 
--- both without them
+-- both indexes with the pairs of these rows
+abbrev pub with_rows : List Row → Indexes → Indexes
+with_rows rows both = fold (λ before row. with_row row before) both rows
+
+-- both indexes without the pairs of the row
 abbrev pub without_row : Row → Indexes → Indexes
 without_row row both = record { moments = without_pair (due_of row) row.shown.key both.moments; sessions = without_pair (holder_of row) row.shown.key both.sessions }
 
@@ -59,9 +63,13 @@ HasRoom index = length index.pairs < index.room
 abbrev pub may_go : Row → Bool
 may_go row = can_go row.shown.key.group
 
+-- 1 for such a row
+abbrev pub goer : Row → ℕ
+goer row = if may_go row then 1 else 0
+
 -- how many such rows there are
 abbrev pub goers : State → ℕ
-goers state = sum_by (λ row. if may_go row then 1 else 0) state
+goers state = sum_by goer state
 
 -- no row has a rank but of a device that comes and goes, and no device has more than nine rows
 pub record IsRankedRow (row : Row) : Type 0 where

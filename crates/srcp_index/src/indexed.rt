@@ -67,12 +67,12 @@ impl<R: Rows> Rows for Indexed<R> {
     }
 
     fn add(&mut self, added: &[Row]) -> Result<(), Memory> {
-        let total = self.count.checked_add(added.len()).ok_or(Memory)?;
+        let Some(total) = self.count.checked_add(added.len()) else {
+            return Err(Memory);
+        };
         self.indexes.reserve(total)?;
         self.rows.add(added)?;
-        for row in added {
-            self.indexes.note(row);
-        }
+        self.indexes.note_all(added);
         self.count = total;
         Ok(())
     }

@@ -1,6 +1,6 @@
 //! The index of due moments and that of the sessions that hold locks.
-ghost use Rattle.std.specs.Prelude.{◌≡◌, ◌≤◌, IsSome, [], OnOk};
-ghost use Rattle.srcp_index.specs.Indexed.{HasRoom, due_of, with_pair, with_row, without_pair, without_row};
+ghost use Rattle.std.specs.Prelude.{◌≡◌, ◌+◌, ◌≤◌, IsSome, [], OnOk, length};
+ghost use Rattle.srcp_index.specs.Indexed.{HasRoom, due_of, with_pair, with_row, with_rows, without_pair, without_row};
 ghost use Rattle.srcp_rules.specs.State.{holder_of};
 
 use crate::index::{Index, Pair};
@@ -55,6 +55,17 @@ impl Indexes {
     {
         put_ranked(&mut self.moments, row.due, row.shown.key);
         put_ranked(&mut self.sessions, holder(row), row.shown.key);
+    }
+
+    /// Puts in the pairs of rows.
+    pub(crate) fn note_all(&mut self, rows: &[Row])
+        requires moments { length self.old.moments.pairs + length rows.now ≤ self.old.moments.room }
+        requires sessions { length self.old.sessions.pairs + length rows.now ≤ self.old.sessions.room }
+        ensures { self.new ≡ with_rows rows.now self.old }
+    {
+        for row in rows {
+            self.note(row);
+        }
     }
 
     /// Takes out the pairs of a row.
