@@ -2,7 +2,6 @@
 pub mod PlaceLaws
 pub mod EveryPlaceIsTold
 pub mod ChangesOneByOne
-pub mod NothingIsDueBefore
 pub mod DueInOneWalk
 pub mod PlacesCover
 pub mod SessionRows

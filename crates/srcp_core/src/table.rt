@@ -13,9 +13,9 @@ mod walk;
 
 use crate::connection::Connection;
 use crate::limits::MOST_CONNECTIONS;
-use crate::quiet::Timed;
 use crate::record::{CoreFault, Finish};
 use slab::Slab;
+use srcp_index::Indexed;
 use srcp_rules::{Layout, Memory, Obeyed, Rows};
 use std::alloc::Global;
 use std::marker::Model;
@@ -45,7 +45,7 @@ use std::marker::Model;
 pub struct Core<'a, R: Rows> {
     alloc: Global,
     layout: &'a Layout,
-    rows: Timed<R>,
+    rows: Indexed<R>,
     moment: u64,
     last_id: u32,
     connections: Slab<Connection>,
@@ -83,7 +83,7 @@ impl<'a, R: Rows> Core<'a, R> {
     {
         // Called for its contract, which says the layout's limits.
         let _ = layout.buses();
-        let mut rows = Timed::empty(alloc, layout)?;
+        let mut rows = Indexed::empty(alloc, layout)?;
         stamp::stamp_all(&mut rows, moment);
         let connections = Slab::with_capacity(alloc, MOST_CONNECTIONS)?;
         Ok(Core {

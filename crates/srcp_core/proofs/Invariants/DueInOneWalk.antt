@@ -20,8 +20,7 @@ use Rattle.srcp_rules.proofs.DueLaws.{due_may}
 use Rattle.srcp_rules.proofs.DueStepLaws.{due_later}
 use Rattle.srcp_rules.proofs.FindLaws.{each_filtered}
 use Rattle.srcp_rules.proofs.NextLaws.{change_key}
-use Rattle.srcp_rules.proofs.PastLaws.{each_of}
-use Rattle.srcp_rules.proofs.StateLaws.{row_key}
+use Rattle.srcp_rules.proofs.StateLaws.{each_of, row_key}
 use Rattle.srcp_rules.proofs.ToldLaws.{due_told}
 use Rattle.srcp_core.specs.Held.{Place}
 use Rattle.srcp_core.proofs.Invariants.ChangesOneByOne.{GoesOn, Stops, change_in, goes_on, stops}

@@ -18,9 +18,8 @@ use Rattle.srcp_rules.specs.declared.layout.Bus.{Bus}
 use Rattle.srcp_rules.specs.State.{State, IsRising, IsRowOf, power_device, fb_device, first_row, has_row, opening, opening_on, put_row, row_after, row_at}
 use Rattle.srcp_rules.proofs.FindLaws.{each_filtered, found_holds}
 use Rattle.srcp_rules.proofs.PutLaws.{put_row-past}
-use Rattle.srcp_rules.proofs.SoughtLaws.{beyond}
+use Rattle.srcp_rules.proofs.SoughtLaws.{beyond, fewer_beyond}
 use Rattle.srcp_rules.proofs.StateLaws.{row_key, row_at-first, row_at-later, rising-updated}
-use Rattle.srcp_core.proofs.Invariants.RowLists.{fewer_left}
 
 -- the row with that stamp
 abbrev pub stamped : ℕ → Row → Row
@@ -154,7 +153,7 @@ fewer_stamped moment at state row rising next =
     let same : beyond (After row.shown.key) (put_row (stamped moment row) state) ≡ beyond (After row.shown.key) state =
     filter-put_high row_key (λ other. not (has_reached (After row.shown.key) other.shown.key)) (stamped moment row) state (λ other h. twice (is_after other.shown.key row.shown.key) h) in
     let size = ap (λ (rows : State). length rows) same in
-    let less = fewer_left at state row rising next in
+    let less = fewer_beyond at state rising row next in
     omega (arith, size, less)
   where
     twice : (b : Bool) → not (not b) ≡ true → b ≡ true

@@ -1,5 +1,5 @@
 -- The rows of a registry, listed one after another.
-use Rattle.std.proofs.Common.{◌≡◌, ◌<◌, length, arith, [], ◌∷◌, ◌++◌, Some, None, refl, sym, ap, subst, ◌∙◌}
+use Rattle.std.proofs.Common.{◌≡◌, [], ◌∷◌, ◌++◌, Some, None, refl, sym, ap, subst, ◌∙◌}
 use Rattle.std.proofs.lemmas.List.{append_assoc, append-nil}
 use Rattle.srcp_info.specs.declared.change.Cursor.{Cursor}
 use Rattle.srcp_info.specs.declared.change.Cursor.TheVariants.{Start, After}
@@ -24,9 +24,6 @@ one_listed told at state row rising next all = append_assoc told (row ∷ []) _ 
 -- and where none is found, all are listed
 pub all_listed : (told : State) (at : Cursor) (state : State) → row_after at state ≡ None → told ++ beyond at state ≡ state → told ≡ state
 all_listed told at state none all = sym (append-nil told) ∙ ap (λ (rows : State). told ++ rows) (sym (beyond-none at state none)) ∙ all
-
-pub fewer_left : (at : Cursor) (state : State) (row : Row) → IsRising state → row_after at state ≡ Some row → length (beyond (After row.shown.key) state) < length (beyond at state)
-fewer_left at state row rising next = let e = ap (λ (rows : State). length rows) (beyond-next at row state rising next) in omega (arith, e)
 
 -- each row of a whole registry can be written
 rows_well_formed : (buses : List Bus) (state : State) → IsWhole buses state → AllByRecursion (λ row. IsWellFormedShown row.shown) state

@@ -8,7 +8,6 @@ ghost use Rattle.srcp_rules.specs.State.{IsWhole, updated_all};
 ghost use Rattle.srcp_core.specs.Machine.{told_all, told_each, told_upto};
 
 use crate::connection::Connection;
-use crate::quiet::Timed;
 use slab::Slab;
 use srcp_feed::ChangeLine;
 use srcp_info::{Change, Cursor};
@@ -76,11 +75,10 @@ pub(crate) fn free_all<R: Rows>(
     }
 }
 
-/// What is due at the moment is carried out in key order, and every connection is told. One walk over the rows.
-fn carry_out_each<R: Rows>(rows: &mut R, connections: &mut Slab<Connection>, moment: u64)
+/// What is due at the moment is carried out in key order, and every connection is told.
+pub(crate) fn carry_out_due<R: Rows>(rows: &mut R, connections: &mut Slab<Connection>, moment: u64)
     requires whole { IsWhole (R.buses rows.old) (R.state rows.old) }
     ensures layout { R.buses rows.new ≡ R.buses rows.old }
-    ensures whole { IsWhole (R.buses rows.new) (R.state rows.new) }
     ensures rows { R.state rows.new ≡ updated_all (due (R.state rows.old) moment) (R.state rows.old) }
     ensures slots { connections.new.slots ≡ told_each (map (λ update. update.change) (due (R.state rows.old) moment)) connections.old.slots }
     ensures capacity { connections.new.capacity ≡ connections.old.capacity }
@@ -90,23 +88,4 @@ fn carry_out_each<R: Rows>(rows: &mut R, connections: &mut Slab<Connection>, mom
         tell_all(connections, &change);
         at = Cursor::After(change.key());
     }
-}
-
-/// What is due at the moment is carried out, and every connection is told.
-pub(crate) fn carry_out_due<R: Rows>(
-    rows: &mut Timed<R>,
-    connections: &mut Slab<Connection>,
-    moment: u64,
-)
-    requires whole { IsWhole (R.buses rows.old) (R.state rows.old) }
-    ensures layout { R.buses rows.new ≡ R.buses rows.old }
-    ensures rows { R.state rows.new ≡ updated_all (due (R.state rows.old) moment) (R.state rows.old) }
-    ensures slots { connections.new.slots ≡ told_each (map (λ update. update.change) (due (R.state rows.old) moment)) connections.old.slots }
-    ensures capacity { connections.new.capacity ≡ connections.old.capacity }
-{
-    if rows.is_quiet_at(moment) {
-        return;
-    }
-    carry_out_each(rows, connections, moment);
-    rows.look_ahead();
 }

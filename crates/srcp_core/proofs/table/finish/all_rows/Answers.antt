@@ -1,15 +1,15 @@
 use Rattle.std.proofs.Common.{ap, sym, ◌∙◌, ◌++◌}
 use Rattle.srcp_rules.specs.State.{State}
-use Rattle.srcp_rules.proofs.SoughtLaws.{beyond}
+use Rattle.srcp_rules.proofs.SoughtLaws.{beyond, fewer_beyond}
 use Rattle.srcp_info.specs.declared.change.Cursor.TheVariants.{Start, After}
-use Rattle.srcp_core.proofs.Invariants.RowLists.{beyond_start, one_listed, all_listed, fewer_left}
+use Rattle.srcp_core.proofs.Invariants.RowLists.{beyond_start, one_listed, all_listed}
 use Rattle.srcp_core.proofs.table.finish.all_rows.Goals as goal
 
 pub loop-row-init : goal.loop-row-init
 loop-row-init g c = ap (λ (told : State). told ++ beyond Start (g.R.Rows.state c.args.rows.now)) c.new-told.ensures ∙ beyond_start (g.R.Rows.state c.args.rows.now)
 
 pub loop-row-smaller : goal.loop-row-smaller
-loop-row-smaller g c = fewer_left c.loop-row.at (g.R.Rows.state c.args.rows.now) c.in-Some.row.now c.requires (sym c.in-Some.ensures)
+loop-row-smaller g c = fewer_beyond c.loop-row.at (g.R.Rows.state c.args.rows.now) c.requires c.in-Some.row.now (sym c.in-Some.ensures)
 
 pub loop-row-preserved : goal.loop-row-preserved
 loop-row-preserved g c =

@@ -2,7 +2,7 @@ use Rattle.std.proofs.Common.{refl, sym, ap, subst, ◌∙◌}
 use Rattle.std.specs.List.{AllByRecursion}
 use Rattle.srcp_info.specs.declared.change.Cursor.TheVariants.{Start, After}
 use Rattle.srcp_rules.specs.State.{State, IsRising, IsRowOf, IsWhole}
-use Rattle.srcp_rules.proofs.PastLaws.{each_of}
+use Rattle.srcp_rules.proofs.StateLaws.{each_of}
 use Rattle.srcp_core.proofs.Invariants.OpeningRowsAreStamped.{fewer_stamped, opening_stamped, row_found, stamped_beyond, stamped_each, stamped_fits, stamped_next, stamped_none, stamped_rising, stamped_there}
 use Rattle.srcp_core.proofs.CourseLaws.StepsKeepWhole.{whole_opening}
 use Rattle.srcp_core.proofs.table.stamp.stamp_all.Goals as goal

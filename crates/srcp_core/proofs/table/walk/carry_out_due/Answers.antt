@@ -5,7 +5,7 @@ use Rattle.srcp_rules.specs.State.{updated_all}
 use Rattle.srcp_core.specs.Machine.{told_each}
 use Rattle.srcp_core.proofs.Invariants.DueInOneWalk.{AreAhead, all_ahead, due_ahead, due_goes_on, due_stops}
 use Rattle.srcp_core.proofs.Invariants.ChangesOneByOne.{change_in}
-use Rattle.srcp_core.proofs.table.walk.carry_out_each.Goals as goal
+use Rattle.srcp_core.proofs.table.walk.carry_out_due.Goals as goal
 
 pub tell_all-requires : goal.tell_all-requires
 tell_all-requires g c =

@@ -4,7 +4,7 @@ use Rattle.srcp_rules.specs.State.{IsWhole, updated_all}
 use Rattle.srcp_core.specs.Machine.{told_each}
 use Rattle.srcp_core.proofs.Invariants.DueInOneWalk.{AreAhead}
 use Rattle.srcp_core.proofs.Invariants.ChangesOneByOne.{change_in}
-use Rattle.srcp_core.proofs.table.walk.carry_out_each.Given as goal
+use Rattle.srcp_core.proofs.table.walk.carry_out_due.Given as goal
 
 abbrev pub invariant-loop-change : goal.invariant-loop-change
 invariant-loop-change g l = record {
