@@ -12,9 +12,9 @@ use std::marker::Model;
 
 /// A key and its rank.
 #[derive(Clone, Copy, Debug, PartialEq, Eq)]
-pub struct Pair {
-    pub rank: u64,
-    pub key: Key,
+pub(crate) struct Pair {
+    pub(crate) rank: u64,
+    pub(crate) key: Key,
 }
 
 /// Which of two pairs comes first: ranks up to `since` are alike, and pairs of like rank go by their keys.
@@ -131,7 +131,7 @@ fn first_in(pairs: &[Pair], rank: u64) -> Option<Pair>
 
 /// Pairs in the order since a moment. Contracts see them as that list, with the moment and how many there is room for.
 #[derive(Drop)]
-pub struct Index {
+pub(crate) struct Index {
     since: u64,
     pairs: Vec<Pair>,
 }
@@ -149,7 +149,7 @@ impl Model for Index {
 }
 
 impl Index {
-    pub fn new(alloc: Global) -> Index
+    pub(crate) fn new(alloc: Global) -> Index
         ensures pairs { result.pairs ≡ [] }
         ensures since { result.since ≡ 0 }
     {
@@ -160,7 +160,7 @@ impl Index {
     }
 
     /// Makes room for so many pairs in all. No other call takes memory.
-    pub fn reserve(&mut self, total: usize) -> Result<(), AllocError>
+    pub(crate) fn reserve(&mut self, total: usize) -> Result<(), AllocError>
         ensures pairs { self.new.pairs ≡ self.old.pairs }
         ensures since { self.new.since ≡ self.old.since }
         ensures more { self.old.room ≤ self.new.room }
@@ -170,7 +170,7 @@ impl Index {
     }
 
     /// Puts a pair in.
-    pub fn put(&mut self, pair: Pair)
+    pub(crate) fn put(&mut self, pair: Pair)
         requires room { length self.old.pairs < self.old.room }
         ensures pairs { self.new.pairs ≡ put (before self.old.since) pair self.old.pairs }
         ensures len { length self.new.pairs ≡ length self.old.pairs + 1 }
@@ -181,7 +181,7 @@ impl Index {
     }
 
     /// Takes a pair out; nothing where it is not there.
-    pub fn take(&mut self, pair: Pair)
+    pub(crate) fn take(&mut self, pair: Pair)
         ensures pairs { self.new.pairs ≡ taken (before self.old.since) pair self.old.pairs }
         ensures since { self.new.since ≡ self.old.since }
         ensures room { self.new.room ≡ self.old.room }
@@ -190,7 +190,7 @@ impl Index {
     }
 
     /// From now on the pairs whose rank has come at the moment stand first, by their keys.
-    pub fn settle(&mut self, moment: u64)
+    pub(crate) fn settle(&mut self, moment: u64)
         ensures pairs { self.new.pairs ≡ ranked (before moment) self.old.pairs }
         ensures since { self.new.since ≡ moment }
         ensures room { self.new.room ≡ self.old.room }
@@ -202,14 +202,14 @@ impl Index {
     }
 
     /// The first pair whose rank has come, with a key beyond the cursor.
-    pub fn ripe_beyond(&self, cursor: Cursor) -> Option<Pair>
+    pub(crate) fn ripe_beyond(&self, cursor: Cursor) -> Option<Pair>
         ensures { result ≡ find (is_ripe self.now.since cursor) self.now.pairs }
     {
         ripe_in(&self.pairs, self.since, cursor)
     }
 
     /// The first pair of a rank.
-    pub fn first_of(&self, rank: u64) -> Option<Pair>
+    pub(crate) fn first_of(&self, rank: u64) -> Option<Pair>
         requires { self.now.since ≡ 0 }
         ensures { result ≡ find (λ x. x.rank == rank) self.now.pairs }
     {

@@ -6,5 +6,4 @@ mod index;
 mod indexed;
 mod indexes;
 
-pub use index::{Index, Pair};
 pub use indexed::Indexed;
