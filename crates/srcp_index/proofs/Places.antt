@@ -1,9 +1,10 @@
 -- Places in a list in the order of a test.
-use Rattle.std.specs.Prelude.{◌≡◌, ℕ, zero, suc, ◌<◌, ◌≤◌, Bool, true, false, cond, List, [], ◌∷◌, ◌++◌, length, take, drop, find, insert, remove, slice_index_or, Some, None}
+use Rattle.std.specs.Prelude.{◌≡◌, ℕ, zero, suc, ◌<◌, ◌≤◌, Bool, true, false, cond, List, [], ◌∷◌, ◌++◌, length, take, drop, find, insert, remove, slice_index_or, Option, Some, None, IsSome, OnSome, Result, Ok, Err, OnOk, OnErr}
 use Rattle.std.specs.List.{AllByRecursion, AllWithin}
 use Rattle.std.specs.List.Sorted.{IsPartitionedBy, IsSortedBy}
+use Rattle.std.specs.Bool.{then_some}
 use Rattle.std.specs.Cmp.{IsStrictWeakOrder}
-use Rattle.std.proofs.Common.{refl, sym, ap, subst, ◌∙◌, arith, drop-cons}
+use Rattle.std.proofs.Common.{refl, sym, ap, subst, ◌∙◌, arith, true≢false, drop-cons}
 use Rattle.std.proofs.lemmas.List.{take-append-drop}
 use Rattle.std.proofs.lemmas.List.Sorted.{sorted_far}
 use Rattle.srcp_index.specs.Ranked.{IsRanked, put, taken}
@@ -101,3 +102,21 @@ module _ {X : Type 0} (t : X → Bool) where
   find_past [] i a h = refl
   find_past (x ∷ xs) zero a h = absurd (omega (arith, h))
   find_past (x ∷ xs) (suc i) a h = ap (λ b. cond b (Some x) (find t xs)) a.0 ∙ find_past xs i a.1 (omega (arith, h))
+
+-- what holds of an insert that fails for want of room alone, where there is room
+pub put_ok : {T E : Type 0} (r : Result T E) (P Q : Type 0) → OnOk r P → OnErr r Q → (Q → ⊥) → P
+put_ok (Ok u) P Q p q f = p
+put_ok (Err e) P Q p q f = absurd (f q)
+
+-- and of a removal within the list
+pub taken_some : {T : Type 0} (o : Option T) (P : Type 0) → OnSome o P → IsSome o → P
+taken_some (Some x) P p s = p
+taken_some None P p s = absurd (true≢false (sym s))
+
+-- the item at the place where those that fail end is found if it passes, and nothing else is
+pub find_at : {X : Type 0} (t : X → Bool) (xs : List X) (i : ℕ) (x : X) → AllByRecursion (λ y. t y ≡ false) (take i xs) → StopsAtOnce t (drop i xs) → i < length xs → x ≡ slice_index_or xs i x → then_some (t x) x ≡ find t xs
+find_at t xs i x front stops within at = by (t x) refl
+  where
+    by : (b : Bool) → t x ≡ b → then_some b x ≡ find t xs
+    by true e = ap Some at ∙ sym (find_here t xs i x front within (ap t (sym at) ∙ e))
+    by false e = sym (find_not_here t xs i x front stops within (ap t (sym at) ∙ e))

@@ -1,5 +1,6 @@
 //! Pairs of a rank and a key in order, in memory that is reserved beforehand.
-ghost use Rattle.std.specs.Prelude.{◌≡◌, ◌+◌, ◌<◌, ◌≤◌, ◌==◌, [], length, take, drop, find, true, false, IsTrue, IfOk, OnOk, vec_len, vec_capacity, slice_get};
+ghost use Rattle.std.specs.Prelude.{◌≡◌, ◌+◌, ◌<◌, ◌≤◌, ◌==◌, [], length, take, drop, find, true, false, IsTrue, IfOk, OnOk, slice_get};
+ghost use Rattle.std.specs.VecDeque.{deque_len, deque_capacity};
 ghost use Rattle.std.specs.List.{AllByRecursion};
 ghost use Rattle.std.specs.List.Sorted.{IsPermutation};
 ghost use Rattle.srcp_index.specs.Ranked.{IsRanked, put, taken, ranked};
@@ -8,6 +9,7 @@ ghost use Rattle.srcp_index.specs.Pairs.{before, is_ripe, order};
 use srcp_info::{Cursor, Key, compare as compare_keys};
 use std::alloc::{AllocError, Global};
 use std::cmp::Ordering;
+use std::collections::VecDeque;
 use std::marker::Model;
 
 /// A key and its rank.
@@ -36,32 +38,32 @@ fn is_before(since: u64, a: &Pair, b: &Pair) -> bool
 }
 
 /// How many pairs come before this one.
-fn place_of(pairs: &[Pair], since: u64, pair: &Pair) -> usize
-    requires { IsRanked (before since) pairs.now }
-    ensures bound { result ≤ length pairs.now }
-    ensures front { AllByRecursion (λ x. before since x pair.now ≡ true) (take result pairs.now) }
-    ensures back { AllByRecursion (λ x. before since x pair.now ≡ false) (drop result pairs.now) }
+fn place_of(pairs: &VecDeque<Pair>, since: u64, pair: &Pair) -> usize
+    requires { IsRanked (before since) pairs.now.items }
+    ensures bound { result ≤ length pairs.now.items }
+    ensures front { AllByRecursion (λ x. before since x pair.now ≡ true) (take result pairs.now.items) }
+    ensures back { AllByRecursion (λ x. before since x pair.now ≡ false) (drop result pairs.now.items) }
 {
     pairs.partition_point(|x| is_before(since, x, pair))
 }
 
 /// Puts a pair where it belongs, where there is room.
-fn put_in(pairs: &mut Vec<Pair>, since: u64, pair: Pair)
+fn put_in(pairs: &mut VecDeque<Pair>, since: u64, pair: Pair)
     requires ranked { IsRanked (before since) pairs.old.items }
-    requires room { vec_len pairs.old < vec_capacity pairs.old }
+    requires room { deque_len pairs.old < deque_capacity pairs.old }
     ensures pairs { pairs.new.items ≡ put (before since) pair pairs.old.items }
-    ensures len { vec_len pairs.new ≡ vec_len pairs.old + 1 }
-    ensures capacity { vec_capacity pairs.new ≡ vec_capacity pairs.old }
+    ensures len { deque_len pairs.new ≡ deque_len pairs.old + 1 }
+    ensures capacity { deque_capacity pairs.old ≤ deque_capacity pairs.new }
 {
     let place = place_of(pairs, since, &pair);
     let _ = pairs.insert(place, pair);
 }
 
 /// Takes a pair out, if it is there.
-fn take_from(pairs: &mut Vec<Pair>, since: u64, pair: Pair)
+fn take_from(pairs: &mut VecDeque<Pair>, since: u64, pair: Pair)
     requires ranked { IsRanked (before since) pairs.old.items }
     ensures pairs { pairs.new.items ≡ taken (before since) pair pairs.old.items }
-    ensures capacity { vec_capacity pairs.new ≡ vec_capacity pairs.old }
+    ensures capacity { deque_capacity pairs.new ≡ deque_capacity pairs.old }
 {
     let place = place_of(pairs, since, &pair);
     if place < pairs.len() && !is_before(since, &pair, &pairs[place]) {
@@ -81,12 +83,12 @@ fn arrange(pairs: &mut [Pair], since: u64, moment: u64)
 }
 
 /// The same of a vector.
-fn arrange_in(pairs: &mut Vec<Pair>, since: u64, moment: u64)
+fn arrange_in(pairs: &mut VecDeque<Pair>, since: u64, moment: u64)
     requires { IsRanked (before since) pairs.old.items }
     ensures pairs { pairs.new.items ≡ ranked (before moment) pairs.old.items }
-    ensures capacity { vec_capacity pairs.new ≡ vec_capacity pairs.old }
+    ensures capacity { deque_capacity pairs.new ≡ deque_capacity pairs.old }
 {
-    arrange(pairs, since, moment);
+    arrange(pairs.make_contiguous(), since, moment);
 }
 
 /// Brings pairs into the order since a moment.
@@ -106,46 +108,45 @@ fn is_ripe(moment: u64, cursor: Cursor, pair: &Pair) -> bool
 }
 
 /// The first pair that is ripe.
-fn ripe_in(pairs: &[Pair], since: u64, cursor: Cursor) -> Option<Pair>
-    requires { IsRanked (before since) pairs.now }
-    ensures { result ≡ find (is_ripe since cursor) pairs.now }
+fn ripe_in(pairs: &VecDeque<Pair>, since: u64, cursor: Cursor) -> Option<Pair>
+    requires { IsRanked (before since) pairs.now.items }
+    ensures { result ≡ find (is_ripe since cursor) pairs.now.items }
 {
     let place = pairs.partition_point(|x| x.rank <= since && !is_ripe(since, cursor, x));
-    if place < pairs.len() && is_ripe(since, cursor, &pairs[place]) {
-        return Some(pairs[place]);
-    }
-    None
+    let pair = *pairs.get(place)?;
+    is_ripe(since, cursor, &pair).then_some(pair)
 }
 
 /// The first pair of a rank.
-fn first_in(pairs: &[Pair], rank: u64) -> Option<Pair>
-    requires { IsRanked (before 0) pairs.now }
-    ensures { result ≡ find (λ x. x.rank == rank) pairs.now }
+fn first_in(pairs: &VecDeque<Pair>, rank: u64) -> Option<Pair>
+    requires { IsRanked (before 0) pairs.now.items }
+    ensures { result ≡ find (λ x. x.rank == rank) pairs.now.items }
 {
     let place = pairs.partition_point(|x| x.rank < rank);
-    if place < pairs.len() && pairs[place].rank == rank {
-        return Some(pairs[place]);
-    }
-    None
+    let pair = *pairs.get(place)?;
+    (pair.rank == rank).then_some(pair)
 }
 
 /// Pairs in the order since a moment. Contracts see them as that list, with the moment and how many there is room for.
 #[derive(Drop)]
 pub(crate) struct Index {
     since: u64,
-    pairs: Vec<Pair>,
+    /// How many pairs `reserve` has made room for.
+    room: usize,
+    pairs: VecDeque<Pair>,
 }
 
 impl Model for Index {
-    ghost use Rattle.std.specs.Prelude.{vec_capacity};
+    ghost use Rattle.std.specs.Prelude.{◌≤◌};
+    ghost use Rattle.std.specs.VecDeque.{deque_capacity};
     ghost use Rattle.srcp_index.specs.Ranked.{IsRanked};
     ghost use Rattle.srcp_index.specs.Pairs.{Held, before};
 
     ghost Value = { Held };
 
-    ghost view = { λ x. record { since = x.since; pairs = x.pairs.items; room = vec_capacity x.pairs } };
+    ghost view = { λ x. record { since = x.since; pairs = x.pairs.items; room = x.room } };
 
-    ghost invariant = { λ x. IsRanked (before x.since) x.pairs.items };
+    ghost invariant = { λ x. IsRanked (before x.since) x.pairs.items × (x.room ≤ deque_capacity x.pairs) };
 }
 
 impl Index {
@@ -155,7 +156,8 @@ impl Index {
     {
         Index {
             since: 0,
-            pairs: Vec::new(alloc),
+            room: 0,
+            pairs: VecDeque::new(alloc),
         }
     }
 
@@ -166,7 +168,9 @@ impl Index {
         ensures more { self.old.room ≤ self.new.room }
         ensures ok { OnOk result (total ≤ self.new.room) }
     {
-        self.pairs.reserve(total.saturating_sub(self.pairs.len()))
+        self.pairs.reserve(total.saturating_sub(self.pairs.len()))?;
+        self.room = self.room.max(total);
+        Ok(())
     }
 
     /// Puts a pair in.

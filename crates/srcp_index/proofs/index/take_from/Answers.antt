@@ -1,7 +1,6 @@
-use Rattle.std.proofs.Common.{◌≡◌, true, false, sym, ap, subst, ◌∙◌, take, drop, arith}
-use Rattle.std.specs.List.{AllByRecursion}
+use Rattle.std.proofs.Common.{rules, sym, ap, ◌∙◌, arith}
 use Rattle.srcp_index.specs.Pairs.{before}
-use Rattle.srcp_index.proofs.Places.{remove-taken, not_taken, past_taken}
+use Rattle.srcp_index.proofs.Places.{taken_some, remove-taken, not_taken, past_taken}
 use Rattle.srcp_index.proofs.index.take_from.Goals.{else-place-len-via-then-place-len+else-not-is_before, else-place-len-via-else-place-len}
 use Rattle.srcp_index.proofs.index.take_from.Goals as goal
 
@@ -11,9 +10,9 @@ returns-then-not-is_before-clause-pairs c =
     let place = c.place_of-place.result in
     let pair = c.args.pair in
     let lt = before c.args.since in
-    c.remove.ensures.items ∙ remove-taken lt pair items place c.index.result.now
-    (subst (λ xs. AllByRecursion (λ x. lt x pair ≡ true) (take place xs)) c.deref.ensures.value c.place_of-place.ensures.front)
-    (subst (λ xs. AllByRecursion (λ x. lt x pair ≡ false) (drop place xs)) c.deref.ensures.value c.place_of-place.ensures.back)
+    taken_some c.remove.result _ c.remove.ensures.items (search rules) ∙ remove-taken lt pair items place c.index.result.now
+    c.place_of-place.ensures.front
+    c.place_of-place.ensures.back
     (omega (arith, c.if-place-len.true, c.len.ensures))
     (ap (lt pair) (sym c.index.ensures) ∙ sym c.is_before.ensures ∙ c.if-not-is_before.true)
 
@@ -23,8 +22,8 @@ returns-else-place-len-clause-pairs c =
     let place = c.place_of-place.result in
     let pair = c.args.pair in
     let lt = before c.args.since in
-    let front = subst (λ xs. AllByRecursion (λ x. lt x pair ≡ true) (take place xs)) c.deref.ensures.value c.place_of-place.ensures.front in
-    let back = subst (λ xs. AllByRecursion (λ x. lt x pair ≡ false) (drop place xs)) c.deref.ensures.value c.place_of-place.ensures.back in
+    let front = c.place_of-place.ensures.front in
+    let back = c.place_of-place.ensures.back in
     elim c.else-place-len.branch [
       | else-place-len-via-then-place-len+else-not-is_before w ↦ not_taken lt pair items place w.index.result.now front back (omega (arith, w.if-place-len.true, c.len.ensures)) (ap (lt pair) (sym w.index.ensures) ∙ sym w.is_before.ensures ∙ w.if-not-is_before.false)
       | else-place-len-via-else-place-len w ↦ past_taken lt pair items place pair front back (omega (arith, w.if-place-len.false, c.len.ensures))
