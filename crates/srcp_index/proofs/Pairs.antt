@@ -87,7 +87,8 @@ past_both s t a b h k p q = ap (λ o. is_lt (ordering_then o (ordering_then (key
 -- ---- bringing pairs from one order into another
 
 module _ (s t latest : ℕ) (h : s ≤ latest) (k : t ≤ latest) where
-  past_each : (y : Pair) → nat_le y.rank latest ≡ false → (zs : List Pair) → AllByRecursion (λ z. nat_le z.rank latest ≡ false) zs → AllByRecursion (λ z. before s z y ≡ false) zs → AllByRecursion (λ z. before t z y ≡ false) zs
+  past_each : (y : Pair) → nat_le y.rank latest ≡ false → (zs : List Pair) → AllByRecursion (λ z. nat_le z.rank latest ≡ false) zs
+      → AllByRecursion (λ z. before s z y ≡ false) zs → AllByRecursion (λ z. before t z y ≡ false) zs
   past_each y e [] a b = tt
   past_each y e (z ∷ zs) a b =
       let m = leb-false y.rank latest e in
@@ -98,19 +99,22 @@ module _ (s t latest : ℕ) (h : s ≤ latest) (k : t ≤ latest) where
   past_ranked [] a r = tt
   past_ranked (y ∷ ys) a r = (past_each y a.0 ys a.1 r.0, past_ranked ys a.1 r.1)
 
-  across_one : (x : Pair) → nat_le x.rank latest ≡ true → (ys : List Pair) → AllByRecursion (λ z. nat_le z.rank latest ≡ false) ys → AllByRecursion (λ y. before t y x ≡ false) ys
+  across_one : (x : Pair) → nat_le x.rank latest ≡ true → (ys : List Pair) → AllByRecursion (λ z. nat_le z.rank latest ≡ false) ys
+      → AllByRecursion (λ y. before t y x ≡ false) ys
   across_one x e [] a = tt
   across_one x e (y ∷ ys) a =
       let m = leb-true x.rank latest e in
       let n = leb-false y.rank latest a.0 in
       (higher_after t y x (omega (arith, k, m, n)), across_one x e ys a.1)
 
-  across : (xs ys : List Pair) → AllByRecursion (λ z. nat_le z.rank latest ≡ true) xs → AllByRecursion (λ z. nat_le z.rank latest ≡ false) ys → AllByRecursion (λ x. AllByRecursion (λ y. before t y x ≡ false) ys) xs
+  across : (xs ys : List Pair) → AllByRecursion (λ z. nat_le z.rank latest ≡ true) xs
+      → AllByRecursion (λ z. nat_le z.rank latest ≡ false) ys → AllByRecursion (λ x. AllByRecursion (λ y. before t y x ≡ false) ys) xs
   across [] ys a b = tt
   across (x ∷ xs) ys a b = (across_one x a.0 ys b, across xs ys a.1 b)
 
   -- a list is in the second order once its front is, as far as either moment goes
-  pub arranged : (xs : List Pair) (n : ℕ) (front : List Pair) → IsRanked (before s) xs → AllByRecursion (λ z. nat_le z.rank latest ≡ true) (take n xs) → AllByRecursion (λ z. nat_le z.rank latest ≡ false) (drop n xs)
+  pub arranged : (xs : List Pair) (n : ℕ) (front : List Pair) → IsRanked (before s) xs
+      → AllByRecursion (λ z. nat_le z.rank latest ≡ true) (take n xs) → AllByRecursion (λ z. nat_le z.rank latest ≡ false) (drop n xs)
       → IsPermutation (take n xs) front → IsRanked (before t) front → front ++ drop n xs ≡ ranks.ranked (before t) xs
   arranged xs n front r a b p q =
       let lt = before t in
@@ -131,7 +135,8 @@ module _ (s t latest : ℕ) (h : s ≤ latest) (k : t ≤ latest) where
 -- ---- looking for pairs
 
 -- ranks that have come stay so along a list in order
-pub come_first : (since latest : ℕ) → since ≤ latest → (x y : Pair) → before since y x ≡ false → nat_le y.rank latest ≡ true → nat_le x.rank latest ≡ true
+pub come_first : (since latest : ℕ) → since ≤ latest → (x y : Pair) → before since y x ≡ false → nat_le y.rank latest ≡ true
+    → nat_le x.rank latest ≡ true
 come_first since latest h x y e f = true_from_ne_false (nat_le x.rank latest) (λ g.
     let m = leb-false x.rank latest g in
     let n = leb-true y.rank latest f in
@@ -155,7 +160,8 @@ passed_from false c e f = absurd (true≢false (sym e))
 abbrev pub is_passed : (since : ℕ) → Cursor → Pair → Bool
 is_passed since cursor x = nat_le x.rank since && not (is_ripe since cursor x)
 
-pub passed_first : (since : ℕ) (cursor : Cursor) (x y : Pair) → before since y x ≡ false → is_passed since cursor y ≡ true → is_passed since cursor x ≡ true
+pub passed_first : (since : ℕ) (cursor : Cursor) (x y : Pair) → before since y x ≡ false → is_passed since cursor y ≡ true
+    → is_passed since cursor x ≡ true
 passed_first since cursor x y e f =
     let parts = passed_parts (nat_le y.rank since) (not (has_reached cursor y.key)) f in
     let low = come_first since since (omega arith) x y e parts.0 in
@@ -181,12 +187,14 @@ not_come : (b c : Bool) → (b && not c) ≡ false → c ≡ false → b ≡ fal
 not_come true c e f = absurd (true≢false (sym (ap not f) ∙ e))
 not_come false c e f = refl
 
-later_not_ripe : (since : ℕ) (cursor : Cursor) (y : Pair) → nat_le y.rank since ≡ false → (zs : List Pair) → AllByRecursion (λ z. before since z y ≡ false) zs → AllByRecursion (λ z. is_ripe since cursor z ≡ false) zs
+later_not_ripe : (since : ℕ) (cursor : Cursor) (y : Pair) → nat_le y.rank since ≡ false → (zs : List Pair)
+    → AllByRecursion (λ z. before since z y ≡ false) zs → AllByRecursion (λ z. is_ripe since cursor z ≡ false) zs
 later_not_ripe since cursor y e [] a = tt
 later_not_ripe since cursor y e (z ∷ zs) a =
     (first_false (nat_le z.rank since) (not (has_reached cursor z.key)) (false_from_ne_true (nat_le z.rank since) (λ g. true≢false (sym (come_first since since (omega arith) y z a.0 g) ∙ e))), later_not_ripe since cursor y e zs a.1)
 
-pub ripe_stops : (since : ℕ) (cursor : Cursor) (ys : List Pair) → IsRanked (before since) ys → AllByRecursion (λ y. is_passed since cursor y ≡ false) ys → StopsAtOnce (is_ripe since cursor) ys
+pub ripe_stops : (since : ℕ) (cursor : Cursor) (ys : List Pair) → IsRanked (before since) ys
+    → AllByRecursion (λ y. is_passed since cursor y ≡ false) ys → StopsAtOnce (is_ripe since cursor) ys
 ripe_stops since cursor [] r a = tt
 ripe_stops since cursor (y ∷ ys) r a = λ e. later_not_ripe since cursor y (not_come (nat_le y.rank since) (is_ripe since cursor y) a.0 e) ys r.0
 
@@ -200,11 +208,13 @@ lower_first rank x y e f = true_from_ne_false (nat_lt x.rank rank) (λ g.
 pub not_of_lower : (rank : ℕ) (x : Pair) → nat_lt x.rank rank ≡ true → (x.rank == rank) ≡ false
 not_of_lower rank x e = false_from_ne_true (x.rank == rank) (λ f. let m = ltb-true x.rank rank e in let n = eqb-true x.rank rank f in absurd (omega (arith, m, n)))
 
-later_not_of : (rank : ℕ) (y : Pair) → rank < y.rank → (zs : List Pair) → AllByRecursion (λ z. before 0 z y ≡ false) zs → AllByRecursion (λ z. (z.rank == rank) ≡ false) zs
+later_not_of : (rank : ℕ) (y : Pair) → rank < y.rank → (zs : List Pair) → AllByRecursion (λ z. before 0 z y ≡ false) zs
+    → AllByRecursion (λ z. (z.rank == rank) ≡ false) zs
 later_not_of rank y h [] a = tt
 later_not_of rank y h (z ∷ zs) a =
     (false_from_ne_true (z.rank == rank) (λ f. let n = eqb-true z.rank rank f in true≢false (sym (lower_before 0 z y (omega (arith, h, n))) ∙ a.0)), later_not_of rank y h zs a.1)
 
-pub rank_stops : (rank : ℕ) (ys : List Pair) → IsRanked (before 0) ys → AllByRecursion (λ y. nat_lt y.rank rank ≡ false) ys → StopsAtOnce (λ x. x.rank == rank) ys
+pub rank_stops : (rank : ℕ) (ys : List Pair) → IsRanked (before 0) ys → AllByRecursion (λ y. nat_lt y.rank rank ≡ false) ys
+    → StopsAtOnce (λ x. x.rank == rank) ys
 rank_stops rank [] r a = tt
 rank_stops rank (y ∷ ys) r a = λ e. later_not_of rank y (let m = ltb-false y.rank rank a.0 in let n = eqb-false y.rank rank e in omega (arith, m, n)) ys r.0

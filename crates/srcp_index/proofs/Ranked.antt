@@ -50,17 +50,20 @@ module _ {X : Type 0} (lt : X → X → Bool) where
   sum-ranked f (x ∷ xs) = let a = sum-put f x (ranked lt xs) in let b = sum-ranked f xs in let c = sum_by-cons f x xs in omega arith
 
   -- an item between those before it and those not before it
-  pub put_between : (x : X) (xs ys : List X) → AllByRecursion (λ y. lt y x ≡ true) xs → AllByRecursion (λ y. lt y x ≡ false) ys → put lt x (xs ++ ys) ≡ xs ++ x ∷ ys
+  pub put_between : (x : X) (xs ys : List X) → AllByRecursion (λ y. lt y x ≡ true) xs → AllByRecursion (λ y. lt y x ≡ false) ys
+      → put lt x (xs ++ ys) ≡ xs ++ x ∷ ys
   put_between x [] [] a b = refl
   put_between x [] (y ∷ ys) a b = rw (b.0) refl
   put_between x (z ∷ zs) ys a b = rw (a.0) (ap (λ l. z ∷ l) (put_between x zs ys a.1 b))
 
   -- and taken from there
-  pub taken_between : (x : X) (xs : List X) (y : X) (ys : List X) → AllByRecursion (λ y. lt y x ≡ true) xs → lt y x ≡ false → lt x y ≡ false → taken lt x (xs ++ y ∷ ys) ≡ xs ++ ys
+  pub taken_between : (x : X) (xs : List X) (y : X) (ys : List X) → AllByRecursion (λ y. lt y x ≡ true) xs → lt y x ≡ false → lt x y
+      ≡ false → taken lt x (xs ++ y ∷ ys) ≡ xs ++ ys
   taken_between x [] y ys a b c = rw (b, c) refl
   taken_between x (z ∷ zs) y ys a b c = rw (a.0) (ap (λ l. z ∷ l) (taken_between x zs y ys a.1 b c))
 
-  pub taken_none : (x : X) (xs : List X) (y : X) (ys : List X) → AllByRecursion (λ y. lt y x ≡ true) xs → lt y x ≡ false → lt x y ≡ true → taken lt x (xs ++ y ∷ ys) ≡ xs ++ y ∷ ys
+  pub taken_none : (x : X) (xs : List X) (y : X) (ys : List X) → AllByRecursion (λ y. lt y x ≡ true) xs → lt y x ≡ false → lt x y ≡ true
+      → taken lt x (xs ++ y ∷ ys) ≡ xs ++ y ∷ ys
   taken_none x [] y ys a b c = rw (b, c) refl
   taken_none x (z ∷ zs) y ys a b c = rw (a.0) (ap (λ l. z ∷ l) (taken_none x zs y ys a.1 b c))
 
@@ -68,7 +71,8 @@ module _ {X : Type 0} (lt : X → X → Bool) where
   taken_past x [] a = refl
   taken_past x (z ∷ zs) a = rw (a.0) (ap (λ l. z ∷ l) (taken_past x zs a.1))
 
-  pub ranked-append : (xs ys : List X) → IsRanked lt xs → IsRanked lt ys → AllByRecursion (λ x. AllByRecursion (λ y. lt y x ≡ false) ys) xs → IsRanked lt (xs ++ ys)
+  pub ranked-append : (xs ys : List X) → IsRanked lt xs → IsRanked lt ys
+      → AllByRecursion (λ x. AllByRecursion (λ y. lt y x ≡ false) ys) xs → IsRanked lt (xs ++ ys)
   ranked-append [] ys a b c = b
   ranked-append (x ∷ xs) ys a b c = (both xs a.0, ranked-append xs ys a.1 b c.1)
     where
@@ -101,7 +105,8 @@ module _ {X : Type 0} (lt : X → X → Bool) where
           | inr l ↦ rw l (ap (λ b. cond b (Some x) (find t (y ∷ ys))) e)
         ]
 
-    find_put-found : (x : X) (xs : List X) → t x ≡ true → AllByRecursion (λ y. lt y x ≡ true → t y ≡ false) xs → find t (put lt x xs) ≡ Some x
+    find_put-found : (x : X) (xs : List X) → t x ≡ true → AllByRecursion (λ y. lt y x ≡ true → t y ≡ false) xs → find t (put lt x xs)
+        ≡ Some x
     find_put-found x [] e h = ap (λ b. cond b (Some x) (find t [])) e
     find_put-found x (y ∷ ys) e h =
         elim (cases_Bool (lt y x)) [

@@ -37,7 +37,8 @@ put_there row state rising there =
     by key false e = refl
 
 module _ (w : Row → ℕ) where
-  apart : (o p : Ordering) → p ≡ ordering_reverse o → (row : Row) (others below above : State) → sum_by w others ≡ sum_by w below + sum_by w above
+  apart : (o p : Ordering) → p ≡ ordering_reverse o → (row : Row) (others below above : State) → sum_by w others
+      ≡ sum_by w below + sum_by w above
       → sum_by w (cond (not (is_eq o)) (row ∷ others) others) ≡ sum_by w (cond (is_gt p) (row ∷ below) below) + sum_by w (cond (is_gt o) (row ∷ above) above)
   apart Less p e row others below above h = rw e (let a = sum_by-cons w row others in let b = sum_by-cons w row below in omega (arith, h))
   apart Equal p e row others below above h = rw e h
@@ -57,5 +58,6 @@ module _ (w : Row → ℕ) where
       let c = two_parts key state in
       omega arith
 
-  pub sum-there : (row : Row) (state : State) → IsRising state → row_at row.shown.key state ≡ Some row → sum_by w state ≡ w row + sum_by w (but_at row.shown.key state)
+  pub sum-there : (row : Row) (state : State) → IsRising state → row_at row.shown.key state ≡ Some row → sum_by w state
+      ≡ w row + sum_by w (but_at row.shown.key state)
   sum-there row state rising there = ap (sum_by w) (sym (put_there row state rising there)) ∙ sum-put_row row state

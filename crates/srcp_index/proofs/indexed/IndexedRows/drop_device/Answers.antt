@@ -50,4 +50,5 @@ pub returns-clause-layout : goal.returns-clause-layout
 returns-clause-layout g c = c.drop_device.ensures.layout ∙ ap g.R.Rows.buses (c.loop-port.invariant.rows ∙ c.self.view_is)
 
 pub returns-clause-rows : goal.returns-clause-rows
-returns-clause-rows g c = c.drop_device.ensures.rows ∙ ap (λ rows. without c.args.device (g.R.Rows.state rows)) (c.loop-port.invariant.rows ∙ c.self.view_is)
+returns-clause-rows g c = c.drop_device.ensures.rows
+    ∙ ap (λ rows. without c.args.device (g.R.Rows.state rows)) (c.loop-port.invariant.rows ∙ c.self.view_is)
