@@ -29,8 +29,10 @@ same_pairs : (since : ℕ) (ps qs : List Pair) → ((f : Pair → ℕ) → sum_b
     ≡ ranked (before since) qs
 same_pairs since ps qs same =
     let lt = before since in
-    law.unique lt (before_weak since) (before_tie since) (ranked lt ps) (ranked lt qs) (law.ranked_is lt (before_weak since) ps) (law.ranked_is lt (before_weak since) qs)
-    (λ z. law.sum-ranked lt (law.hit lt (before_weak since) z) ps ∙ same (law.hit lt (before_weak since) z) ∙ sym (law.sum-ranked lt (law.hit lt (before_weak since) z) qs))
+    law.unique lt (before_weak since) (before_tie since) (ranked lt ps) (ranked lt qs) (law.ranked_is lt (before_weak since) ps)
+    (law.ranked_is lt (before_weak since) qs)
+    (λ z. law.sum-ranked lt (law.hit lt (before_weak since) z) ps ∙ same (law.hit lt (before_weak since) z) ∙ sym
+    (law.sum-ranked lt (law.hit lt (before_weak since) z) qs))
 
 module _ (rank : Row → Option ℕ) where
   -- what the pair of a row adds to a sum
@@ -53,7 +55,8 @@ module _ (rank : Row → Option ℕ) where
     noted-first (Some r) row ps = refl
 
     forgotten-noted : (o : Option ℕ) (row : Row) (ps : List Pair) →
-        option_map_or (λ r. taken (before since) (at_rank row r) (option_map_or (λ r. put (before since) (at_rank row r) ps) o ps)) o (option_map_or (λ r. put (before since) (at_rank row r) ps) o ps) ≡ ps
+        option_map_or (λ r. taken (before since) (at_rank row r) (option_map_or (λ r. put (before since) (at_rank row r) ps) o ps)) o
+        (option_map_or (λ r. put (before since) (at_rank row r) ps) o ps) ≡ ps
     forgotten-noted None row ps = refl
     forgotten-noted (Some r) row ps = taken-put (before since) (before_weak since) (at_rank row r) ps
 
@@ -73,9 +76,11 @@ module _ (rank : Row → Option ℕ) where
 
     -- and without it they are those of the others
     pub forgotten-pairs : (row : Row) (state : State) → IsRising state → row_at row.shown.key state ≡ Some row
-        → take_ranked since (rank row) row.shown.key (ranked (before since) (pairs_of rank state)) ≡ ranked (before since) (pairs_of rank (but_at row.shown.key state))
+        → take_ranked since (rank row) row.shown.key (ranked (before since) (pairs_of rank state)) ≡ ranked (before since)
+        (pairs_of rank (but_at row.shown.key state))
     forgotten-pairs row state rising there =
-        ap (λ rows. take_ranked since (rank row) row.shown.key (ranked (before since) (pairs_of rank rows))) (sym (put_there row state rising there))
+        ap (λ rows. take_ranked since (rank row) row.shown.key (ranked (before since) (pairs_of rank rows)))
+        (sym (put_there row state rising there))
         ∙ ap (take_ranked since (rank row) row.shown.key) (sym (noted-pairs row state))
         ∙ forgotten-noted (rank row) row (ranked (before since) (pairs_of rank (but_at row.shown.key state)))
 
@@ -107,7 +112,8 @@ module _ (rank : Row → Option ℕ) where
   module _ (t : Pair → Bool) (p : Row → Bool) (alike : (row : Row) → option_map_or (λ r. t (at_rank row r)) (rank row) false ≡ p row) where
     found_step : (o : Option ℕ) (row : Row) (rest : State) (b : Bool) → option_map_or (λ r. t (at_rank row r)) o false ≡ b
         → option_map (λ (pair : Pair). pair.key) (find t (pairs_of rank rest)) ≡ option_map (λ (r : Row). r.shown.key) (find p rest)
-        → option_map (λ (pair : Pair). pair.key) (find t (option_map_or (λ r. at_rank row r ∷ []) o [] ++ pairs_of rank rest)) ≡ option_map (λ (r : Row). r.shown.key) (cond b (Some row) (find p rest))
+        → option_map (λ (pair : Pair). pair.key) (find t (option_map_or (λ r. at_rank row r ∷ []) o [] ++ pairs_of rank rest)) ≡
+        option_map (λ (r : Row). r.shown.key) (cond b (Some row) (find p rest))
     found_step None row rest true e ih = absurd (true≢false (sym e))
     found_step None row rest false e ih = ih
     found_step (Some r) row rest true e ih = rw e refl
@@ -128,7 +134,8 @@ module _ (rank : Row → Option ℕ) where
         by true f later =
             let same : Some first ≡ Some row = sym (ap (λ c. cond c (Some first) (find p state)) f) ∙ e in
             subst (λ o. option_map_or (λ (r : Row). row_at r.shown.key (first ∷ state)) o None ≡ o) same (row_at-first first state)
-        by false f later = row_at-later first state rising row.shown.key row (later (sym (ap (λ c. cond c (Some first) (find p state)) f) ∙ e))
+        by false f later = row_at-later first state rising row.shown.key row
+            (later (sym (ap (λ c. cond c (Some first) (find p state)) f) ∙ e))
 
     found_row : (state : State) → IsRising state → option_and_then (λ (pair : Pair). row_at pair.key state) (find t (pairs_of rank state))
         ≡ find p state
@@ -144,7 +151,8 @@ module _ (rank : Row → Option ℕ) where
             ap (λ k. row_at k state) same ∙ found_there state rising row e
 
   -- in an order in which, of two that pass, the one of lower key comes first
-  module _ (lt : Pair → Pair → Bool) (t : Pair → Bool) (by_key : (x y : Pair) → key_cmp x.key y.key ≡ Less → t x ≡ true → t y ≡ true → lt y x ≡ false) where
+  module _ (lt : Pair → Pair → Bool) (t : Pair → Bool) (by_key : (x y : Pair) → key_cmp x.key y.key ≡ Less → t x ≡ true → t y ≡ true
+      → lt y x ≡ false) where
     one_kept : (x y : Pair) → key_cmp x.key y.key ≡ Less → t x ≡ true → lt y x ≡ true → t y ≡ false
     one_kept x y less e f = false_from_ne_true (t y) (λ g. true≢false (sym f ∙ by_key x y less e g))
 
@@ -174,7 +182,7 @@ module _ (rank : Row → Option ℕ) where
         → option_and_then (λ (pair : Pair). row_at pair.key state) (find t (ranked lt (pairs_of rank state))) ≡ find p state
     found_ranked p alike state rising =
         ap (option_and_then (λ (pair : Pair). row_at pair.key state)) (find-ranked lt t (pairs_of rank state) (keeps state rising))
-            ∙ found_row t p alike state rising
+        ∙ found_row t p alike state rising
 
 swapped : (a b : Key) → key_cmp a b ≡ Less → key_cmp b a ≡ Greater
 swapped a b e = key_cmp_total.antisymm b a ∙ ap ordering_reverse e
@@ -206,9 +214,11 @@ module _ (moment : ℕ) (cursor : Cursor) where
       by (Some r) beyond = both (nat_le r moment) beyond
 
   pub found_due : (state : State) → IsRising state
-      → option_and_then (λ (pair : Pair). row_at pair.key state) (find (is_ripe moment cursor) (ranked (before moment) (pairs_of (λ row. row.due) state)))
+      → option_and_then (λ (pair : Pair). row_at pair.key state)
+      (find (is_ripe moment cursor) (ranked (before moment) (pairs_of (λ row. row.due) state)))
       ≡ find (λ row. not (has_reached cursor row.shown.key) && is_due moment row) state
-  found_due state rising = found_ranked (λ row. row.due) (before moment) (is_ripe moment cursor) ripe_by_key (λ row. not (has_reached cursor row.shown.key) && is_due moment row) ripe_alike state rising
+  found_due state rising = found_ranked (λ row. row.due) (before moment) (is_ripe moment cursor) ripe_by_key
+      (λ row. not (has_reached cursor row.shown.key) && is_due moment row) ripe_alike state rising
 
 -- ---- the first lock of a session
 
@@ -220,8 +230,10 @@ module _ (session : ℕ) where
       alike_after 0 y x (omega (arith, m, n)) (swapped x.key y.key less)
 
   pub found_held : (state : State) → IsRising state
-      → option_and_then (λ (pair : Pair). row_at pair.key state) (find (λ pair. pair.rank == session) (ranked (before 0) (pairs_of holder_of state))) ≡ find (is_held_by session) state
-  found_held state rising = found_ranked holder_of (before 0) (λ pair. pair.rank == session) same_by_key (is_held_by session) (λ row. refl) state rising
+      → option_and_then (λ (pair : Pair). row_at pair.key state)
+      (find (λ pair. pair.rank == session) (ranked (before 0) (pairs_of holder_of state))) ≡ find (is_held_by session) state
+  found_held state rising = found_ranked holder_of (before 0) (λ pair. pair.rank == session) same_by_key (is_held_by session)
+      (λ row. refl) state rising
 
 -- ---- what an index answers
 
@@ -230,10 +242,11 @@ pub due_row : (state : State) (index : Held) (cursor : Cursor) (o : Option Pair)
     → option_and_then (λ (pair : Pair). row_at pair.key state) o ≡ first_due index.since cursor state
 due_row state index cursor o rising pairs found =
     ap (option_and_then (λ (pair : Pair). row_at pair.key state)) (found ∙ ap (find (is_ripe index.since cursor)) pairs)
-        ∙ found_due index.since cursor state rising
+    ∙ found_due index.since cursor state rising
 
 pub held_row : (state : State) (index : Held) (session : ℕ) (o : Option Pair) → IsRising state → index.since ≡ 0 → index.pairs
     ≡ ranked (before index.since) (pairs_of holder_of state) → o ≡ find (λ pair. pair.rank == session) index.pairs
     → option_and_then (λ (pair : Pair). row_at pair.key state) o ≡ first_held session state
 held_row state index session o rising since pairs found =
-    ap (option_and_then (λ (pair : Pair). row_at pair.key state)) (found ∙ ap (find (λ pair. pair.rank == session)) (pairs ∙ ap (λ m. ranked (before m) (pairs_of holder_of state)) since)) ∙ found_held session state rising
+    ap (option_and_then (λ (pair : Pair). row_at pair.key state)) (found ∙ ap (find (λ pair. pair.rank == session))
+    (pairs ∙ ap (λ m. ranked (before m) (pairs_of holder_of state)) since)) ∙ found_held session state rising

@@ -15,13 +15,21 @@ module _ {X : Type 0} (P : X → Type 0) where
   pub front_each : (xs : List X) (i : ℕ) → i ≤ length xs → AllWithin P xs 0 i → AllByRecursion P (take i xs)
   front_each xs zero h a = tt
   front_each [] (suc i) h a = absurd (omega (arith, h))
-  front_each (x ∷ xs) (suc i) h a = (a 0 x (omega arith) (omega arith), front_each xs i (omega (arith, h)) (λ k d low high. a (suc k) d (omega arith) (omega (arith, high))))
+  front_each (x ∷ xs) (suc i) h a = (
+    a 0 x (omega arith) (omega arith),
+    front_each xs i (omega (arith, h))
+        (λ k d low high. a (suc k) d (omega arith) (omega (arith, high))),
+  )
 
   -- what holds at each place from this one on holds of each item there
   pub back_each : (xs : List X) (i : ℕ) → AllWithin P xs i (length xs) → AllByRecursion P (drop i xs)
   back_each [] zero a = tt
   back_each [] (suc i) a = tt
-  back_each (x ∷ xs) zero a = (a 0 x (omega arith) (omega arith), back_each xs zero (λ k d low high. a (suc k) d (omega arith) (omega (arith, high))))
+  back_each (x ∷ xs) zero a = (
+    a 0 x (omega arith) (omega arith),
+    back_each xs zero (λ k d low high. a (suc k) d (omega arith)
+        (omega (arith, high))),
+  )
   back_each (x ∷ xs) (suc i) a = back_each xs i (λ k d low high. a (suc k) d (omega (arith, low)) (omega (arith, high)))
 
 -- what holds of each item holds at each place
@@ -37,7 +45,8 @@ module _ {X : Type 0} (lt : X → X → Bool) where
       → IsPartitionedBy p xs
   partitioned p keeps [] f i j d le h e = absurd (omega (arith, h))
   partitioned p keeps (x ∷ xs) f zero zero d le h e = e
-  partitioned p keeps (x ∷ xs) f zero (suc j) d le h e = keeps x (slice_index_or xs j d) (each_at (λ y. lt y x ≡ false) xs f.0 j d (omega (arith, h))) e
+  partitioned p keeps (x ∷ xs) f zero (suc j) d le h e = keeps x (slice_index_or xs j d) (each_at (λ y. lt y x ≡ false) xs f.0 j d
+      (omega (arith, h))) e
   partitioned p keeps (x ∷ xs) f (suc i) zero d le h e = absurd (omega (arith, le))
   partitioned p keeps (x ∷ xs) f (suc i) (suc j) d le h e = partitioned p keeps xs f.1 i j d (omega (arith, le)) (omega (arith, h)) e
 
@@ -45,7 +54,8 @@ module _ {X : Type 0} (lt : X → X → Bool) where
       → IsRanked lt xs
   from_far [] h = tt
   from_far (x ∷ xs) h = (
-    subst (AllByRecursion (λ y. lt y x ≡ false)) refl (back_each (λ y. lt y x ≡ false) xs zero (λ k d low high. h zero (suc k) d (omega arith) (omega (arith, high)))),
+    subst (AllByRecursion (λ y. lt y x ≡ false)) refl
+        (back_each (λ y. lt y x ≡ false) xs zero (λ k d low high. h zero (suc k) d (omega arith) (omega (arith, high)))),
     from_far xs (λ i j d le high. h (suc i) (suc j) d (omega (arith, le)) (omega (arith, high))),
   )
 
@@ -59,15 +69,18 @@ module _ {X : Type 0} (lt : X → X → Bool) where
   insert-put x xs i a b = sym (put_between lt x (take i xs) (drop i xs) a b) ∙ ap (put lt x) (take-append-drop i xs)
 
   -- and taken from there
-  module _ (x : X) (xs : List X) (i : ℕ) (d : X) (a : AllByRecursion (λ y. lt y x ≡ true) (take i xs)) (b : AllByRecursion (λ y. lt y x ≡ false) (drop i xs)) where
+  module _ (x : X) (xs : List X) (i : ℕ) (d : X) (a : AllByRecursion (λ y. lt y x ≡ true) (take i xs))
+      (b : AllByRecursion (λ y. lt y x ≡ false) (drop i xs)) where
     split : i < length xs → xs ≡ take i xs ++ slice_index_or xs i d ∷ drop (suc i) xs
     split h = sym (take-append-drop i xs) ∙ ap (λ l. take i xs ++ l) (drop-cons xs i d h)
 
     here : i < length xs → lt (slice_index_or xs i d) x ≡ false
-    here h = let c : AllByRecursion (λ y. lt y x ≡ false) (slice_index_or xs i d ∷ drop (suc i) xs) = subst (AllByRecursion (λ y. lt y x ≡ false)) (drop-cons xs i d h) b in c.0
+    here h = let c : AllByRecursion (λ y. lt y x ≡ false) (slice_index_or xs i d ∷ drop (suc i) xs) = subst
+        (AllByRecursion (λ y. lt y x ≡ false)) (drop-cons xs i d h) b in c.0
 
     pub remove-taken : i < length xs → lt x (slice_index_or xs i d) ≡ false → remove xs i ≡ taken lt x xs
-    remove-taken h e = sym (ap (taken lt x) (split h) ∙ taken_between lt x (take i xs) (slice_index_or xs i d) (drop (suc i) xs) a (here h) e)
+    remove-taken h e = sym (ap (taken lt x) (split h) ∙ taken_between lt x (take i xs) (slice_index_or xs i d) (drop (suc i) xs) a
+        (here h) e)
 
     pub not_taken : i < length xs → lt x (slice_index_or xs i d) ≡ true → xs ≡ taken lt x xs
     not_taken h e = split h

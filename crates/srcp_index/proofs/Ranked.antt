@@ -123,7 +123,8 @@ module _ {X : Type 0} (lt : X → X → Bool) where
     find-ranked [] h = refl
     find-ranked (x ∷ xs) h =
         elim (cases_Bool (t x)) [
-          | inl e ↦ find_put-found x (ranked lt xs) e (all_ranked (λ y. lt y x ≡ true → t y ≡ false) lt xs (all_weaker (λ y. t x ≡ true → lt y x ≡ true → t y ≡ false) (λ y. lt y x ≡ true → t y ≡ false) (λ y f. f e) xs h.0))
+          | inl e ↦ find_put-found x (ranked lt xs) e (all_ranked (λ y. lt y x ≡ true → t y ≡ false) lt xs
+              (all_weaker (λ y. t x ≡ true → lt y x ≡ true → t y ≡ false) (λ y. lt y x ≡ true → t y ≡ false) (λ y f. f e) xs h.0))
               ∙ sym (ap (λ b. cond b (Some x) (find t xs)) e)
           | inr e ↦ find_put-skipped x (ranked lt xs) e ∙ find-ranked xs h.1 ∙ sym (ap (λ b. cond b (Some x) (find t xs)) e)
         ]
@@ -208,13 +209,16 @@ module _ {X : Type 0} (lt : X → X → Bool) (weak : IsStrictWeakOrder lt) wher
     unique (x ∷ xs) (y ∷ ys) a b s =
         elim (cases_Bool (lt x y)) [
           | inl e ↦
-              let c = s x in let f = sum_by-cons (hit x) x xs in let g = hit_itself x in let k = sum_by-cons (hit x) y ys in let m = hit_below x y e in let n = hits_below x y ys e b.0 in absurd (omega arith)
+              let c = s x in let f = sum_by-cons (hit x) x xs in let g = hit_itself x in let k = sum_by-cons
+              (hit x) y ys in let m = hit_below x y e in let n = hits_below x y ys e b.0 in absurd (omega arith)
           | inr e ↦ elim (cases_Bool (lt y x)) [
             | inl d ↦
-                let c = s y in let f = sum_by-cons (hit y) y ys in let g = hit_itself y in let k = sum_by-cons (hit y) x xs in let m = hit_below y x d in let n = hits_below y x xs d a.0 in absurd (omega arith)
+                let c = s y in let f = sum_by-cons (hit y) y ys in let g = hit_itself y in let k = sum_by-cons
+                (hit y) x xs in let m = hit_below y x d in let n = hits_below y x xs d a.0 in absurd (omega arith)
             | inr d ↦
                 let same = tie x y e d in
-                let rest = unique xs ys a.1 b.1 (λ z. let c = s z in let f = sum_by-cons (hit z) x xs in let k = sum_by-cons (hit z) y ys in let g = ap (hit z) same in omega arith) in
+                let rest = unique xs ys a.1 b.1 (λ z. let c = s z in let f = sum_by-cons (hit z) x xs in let k = sum_by-cons
+                (hit z) y ys in let g = ap (hit z) same in omega arith) in
                 λ i. same i ∷ rest i
           ]
         ]
@@ -225,7 +229,8 @@ module _ {X : Type 0} (lt : X → X → Bool) (weak : IsStrictWeakOrder lt) wher
     -- an item among others is put where it belongs
     pub ranked-middle : (xs : List X) (x : X) (ys : List X) → ranked lt (xs ++ x ∷ ys) ≡ put lt x (ranked lt (xs ++ ys))
     ranked-middle xs x ys =
-        unique (ranked lt (xs ++ x ∷ ys)) (put lt x (ranked lt (xs ++ ys))) (ranked_is (xs ++ x ∷ ys)) (ranked_put x (ranked lt (xs ++ ys)) (ranked_is (xs ++ ys)))
+        unique (ranked lt (xs ++ x ∷ ys)) (put lt x (ranked lt (xs ++ ys))) (ranked_is (xs ++ x ∷ ys))
+        (ranked_put x (ranked lt (xs ++ ys)) (ranked_is (xs ++ ys)))
         (λ z.
         let a = sum-ranked lt (hit z) (xs ++ x ∷ ys) in
         let b = sum_by-append (hit z) xs (x ∷ ys) in
@@ -243,4 +248,5 @@ module _ {X : Type 0} (lt : X → X → Bool) (weak : IsStrictWeakOrder lt) wher
     pub ranked-ranked : (other : X → X → Bool) (xs : List X) → ranked lt (ranked other xs) ≡ ranked lt xs
     ranked-ranked other xs =
         unique (ranked lt (ranked other xs)) (ranked lt xs) (ranked_is (ranked other xs)) (ranked_is xs)
-        (λ z. let a = sum-ranked lt (hit z) (ranked other xs) in let b = sum-ranked other (hit z) xs in let c = sum-ranked lt (hit z) xs in omega arith)
+        (λ z. let a = sum-ranked lt (hit z) (ranked other xs) in let b = sum-ranked other (hit z) xs in let c = sum-ranked lt
+        (hit z) xs in omega arith)
