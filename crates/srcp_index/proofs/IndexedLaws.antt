@@ -39,16 +39,27 @@ use Rattle.srcp_index.proofs.PairsOfRows.{noted-pairs, forgotten-pairs, fewer_pa
 -- ---- one index
 
 module _ (rank : Row → Option ℕ) where
-  pub with_pairs : (row : Row) (state : State) (index : Held) (count : ℕ) → HasPairs rank (but_at row.shown.key state) index count → HasPairs rank (put_row row state) (with_pair (rank row) row.shown.key index) count
-  with_pairs row state index count h = record { pairs = ap (put_ranked index.since (rank row) row.shown.key) h.pairs ∙ noted-pairs rank index.since row state; room = h.room }
+  pub with_pairs : (row : Row) (state : State) (index : Held) (count : ℕ) → HasPairs rank (but_at row.shown.key state) index count
+      → HasPairs rank (put_row row state) (with_pair (rank row) row.shown.key index) count
+  with_pairs row state index count h = record {
+    pairs = ap (put_ranked index.since (rank row) row.shown.key) h.pairs
+        ∙ noted-pairs rank index.since row state;
+    room = h.room;
+  }
 
-  pub without_pairs : (row : Row) (state : State) (index : Held) (count : ℕ) → IsRising state → row_at row.shown.key state ≡ Some row → HasPairs rank state index count
+  pub without_pairs : (row : Row) (state : State) (index : Held) (count : ℕ) → IsRising state → row_at row.shown.key state ≡ Some row
+      → HasPairs rank state index count
       → HasPairs rank (but_at row.shown.key state) (without_pair (rank row) row.shown.key index) count
   without_pairs row state index count rising there h =
-      record { pairs = ap (take_ranked index.since (rank row) row.shown.key) h.pairs ∙ forgotten-pairs rank index.since row state rising there; room = h.room }
+      record {
+        pairs = ap (take_ranked index.since (rank row) row.shown.key) h.pairs ∙ forgotten-pairs rank index.since row state rising
+            there;
+        room = h.room;
+      }
 
   -- there are no more pairs than rows that come and go
-  pub few : (state : State) (index : Held) (count : ℕ) → AllByRecursion (λ row. IsSome (rank row) → IsTrue (may_go row)) state → HasPairs rank state index count → length index.pairs ≤ goers state
+  pub few : (state : State) (index : Held) (count : ℕ) → AllByRecursion (λ row. IsSome (rank row) → IsTrue (may_go row)) state
+      → HasPairs rank state index count → length index.pairs ≤ goers state
   few state index count goes h =
       let a = ap length h.pairs in
       let b = length-ranked (before index.since) (pairs_of rank state) in
@@ -66,7 +77,8 @@ longer (Some r) k index = let e = length-put (before index.since) (record { rank
 -- ---- rows with a rank
 
 module _ where
-  due_goes : (g : Group) (port : ℕ) (shows : Value) (o : Option ℕ) → IsValueAt g port shows → IfSome o (λ moment. IsMoment moment × MayFall shows) → IsSome o → can_go g ≡ true
+  due_goes : (g : Group) (port : ℕ) (shows : Value) (o : Option ℕ) → IsValueAt g port shows
+      → IfSome o (λ moment. IsMoment moment × MayFall shows) → IsSome o → can_go g ≡ true
   due_goes g port shows None v h s = absurd (true≢false (sym s))
   due_goes g port (value.GaPort on) (Some moment) v h s = ap can_go v.0
   due_goes g port (value.Lock seconds session) (Some moment) v h s = (lock_goes g v.0).0
@@ -129,11 +141,13 @@ module _ where
   abbrev IsPlain : Row → Type 0
   IsPlain row = (due_of row ≡ None) × (holder_of row ≡ None) × (may_go row ≡ false)
 
-  plain_ports : (bus : ℕ) (ports : List ℕ) → AllByRecursion IsPlain (map (λ port. first_row 0 (fb_device bus port) (value.Fb false)) ports)
+  plain_ports : (bus : ℕ) (ports : List ℕ)
+      → AllByRecursion IsPlain (map (λ port. first_row 0 (fb_device bus port) (value.Fb false)) ports)
   plain_ports bus [] = tt
   plain_ports bus (port ∷ ports) = ((refl, refl, refl), plain_ports bus ports)
 
-  plain_power : (b : Bool) (bus : ℕ) → AllByRecursion IsPlain (if b then first_row 0 (power_device bus) (value.Power false []) ∷ [] else [])
+  plain_power : (b : Bool) (bus : ℕ)
+      → AllByRecursion IsPlain (if b then first_row 0 (power_device bus) (value.Power false []) ∷ [] else [])
   plain_power true bus = ((refl, refl, refl), tt)
   plain_power false bus = tt
 
@@ -141,7 +155,9 @@ module _ where
   plain_opening [] = tt
   plain_opening (bus ∷ buses) =
       all_append IsPlain (opening_on 0 bus) (opening buses 0)
-      (all_append IsPlain (if bus.power then first_row 0 (power_device bus.number) (value.Power false []) ∷ [] else []) (map (λ port. first_row 0 (fb_device bus.number port) (value.Fb false)) (range_with_len 1 bus.fb_ports)) (plain_power bus.power bus.number) (plain_ports bus.number (range_with_len 1 bus.fb_ports)))
+      (all_append IsPlain (if bus.power then first_row 0 (power_device bus.number) (value.Power false []) ∷ [] else [])
+      (map (λ port. first_row 0 (fb_device bus.number port) (value.Fb false)) (range_with_len 1 bus.fb_ports))
+      (plain_power bus.power bus.number) (plain_ports bus.number (range_with_len 1 bus.fb_ports)))
       (plain_opening buses)
 
   no_pairs : (rank : Row → Option ℕ) (state : State) → AllByRecursion (λ row. rank row ≡ None) state → pairs_of rank state ≡ []
@@ -156,29 +172,41 @@ module _ where
       let c = no_goers state h.1 in
       omega arith
 
-pub opening_indexed : (buses : List Bus) → IsLayout buses → (both : Indexes) → both.moments.pairs ≡ [] → both.sessions.pairs ≡ [] → both.sessions.since ≡ 0 → IsIndexed (opening buses 0) both 0
+pub opening_indexed : (buses : List Bus) → IsLayout buses → (both : Indexes) → both.moments.pairs ≡ [] → both.sessions.pairs ≡ []
+    → both.sessions.since ≡ 0 → IsIndexed (opening buses 0) both 0
 opening_indexed buses layout both moments sessions since =
     let state = opening buses 0 in
     let whole = opening_whole buses layout 0 (lit< tt) in
     let plain = plain_opening buses in
     record {
       rising = whole.rising;
-      due = record { pairs = moments ∙ ap (ranked (before both.moments.since)) (sym (no_pairs due_of state (each-weaken {P = IsPlain} (λ row p. p.0) state plain))); room = omega arith };
-      held = record { pairs = sessions ∙ ap (ranked (before both.sessions.since)) (sym (no_pairs holder_of state (each-weaken {P = IsPlain} (λ row p. p.1) state plain))); room = omega arith };
+      due = record {
+        pairs = moments ∙ ap (ranked (before both.moments.since))
+            (sym (no_pairs due_of state (each-weaken {P = IsPlain} (λ row p. p.0) state plain)));
+        room = omega arith;
+      };
+      held = record {
+        pairs = sessions ∙ ap (ranked (before both.sessions.since))
+            (sym (no_pairs holder_of state (each-weaken {P = IsPlain} (λ row p. p.1) state plain)));
+        room = omega arith;
+      };
       since = since;
       counted = no_goers state (each-weaken {P = IsPlain} (λ row p. p.2) state plain);
-      rows = each-weaken {P = IsRowOf buses} (λ row of. ranked_row buses row of) state (each_found (IsRowOf buses) state whole.rising whole.rows);
+      rows = each-weaken {P = IsRowOf buses} (λ row of. ranked_row buses row of) state
+          (each_found (IsRowOf buses) state whole.rising whole.rows);
     }
 
 -- ---- a moment
 
-pub settled : (state : State) (both : Indexes) (count moment : ℕ) (index : Held) → IsIndexed state both count → index.pairs ≡ ranked (before moment) both.moments.pairs → index.since ≡ moment → index.room ≡ both.moments.room
+pub settled : (state : State) (both : Indexes) (count moment : ℕ) (index : Held) → IsIndexed state both count → index.pairs
+    ≡ ranked (before moment) both.moments.pairs → index.since ≡ moment → index.room ≡ both.moments.room
     → IsIndexed state (record { moments = index; sessions = both.sessions }) count
 settled state both count moment index h pairs since room =
     record {
       rising = h.rising;
       due = record {
-        pairs = pairs ∙ ap (ranked (before moment)) h.due.pairs ∙ ranked-ranked (before moment) (before_weak moment) (before_tie moment) (before both.moments.since) (pairs_of due_of state)
+        pairs = pairs ∙ ap (ranked (before moment)) h.due.pairs
+            ∙ ranked-ranked (before moment) (before_weak moment) (before_tie moment) (before both.moments.since) (pairs_of due_of state)
             ∙ ap (λ m. ranked (before m) (pairs_of due_of state)) (sym since);
         room = let r = h.due.room in omega (arith, room);
       };
@@ -190,7 +218,8 @@ settled state both count moment index h pairs since room =
 
 -- ---- a row that is set
 
-module _ (buses : List Bus) (state : State) (both : Indexes) (count : ℕ) (h : IsIndexed state both count) (old row : Row) (there : row_at row.shown.key state ≡ Some old) (of : IsRowOf buses row) where
+module _ (buses : List Bus) (state : State) (both : Indexes) (count : ℕ) (h : IsIndexed state both count) (old row : Row)
+    (there : row_at row.shown.key state ≡ Some old) (of : IsRowOf buses row) where
   same : old.shown.key ≡ row.shown.key
   same = row_at_key row.shown.key state old there
 
@@ -201,10 +230,12 @@ module _ (buses : List Bus) (state : State) (both : Indexes) (count : ℕ) (h : 
   left = but_at row.shown.key state
 
   due_left : HasPairs due_of left (without_pair (due_of old) old.shown.key both.moments) count
-  due_left = subst (λ k. HasPairs due_of (but_at k state) (without_pair (due_of old) old.shown.key both.moments) count) same (without_pairs due_of old state both.moments count h.rising old_there h.due)
+  due_left = subst (λ k. HasPairs due_of (but_at k state) (without_pair (due_of old) old.shown.key both.moments) count) same
+      (without_pairs due_of old state both.moments count h.rising old_there h.due)
 
   held_left : HasPairs holder_of left (without_pair (holder_of old) old.shown.key both.sessions) count
-  held_left = subst (λ k. HasPairs holder_of (but_at k state) (without_pair (holder_of old) old.shown.key both.sessions) count) same (without_pairs holder_of old state both.sessions count h.rising old_there h.held)
+  held_left = subst (λ k. HasPairs holder_of (but_at k state) (without_pair (holder_of old) old.shown.key both.sessions) count) same
+      (without_pairs holder_of old state both.sessions count h.rising old_there h.held)
 
   rows_left : AllByRecursion IsRankedRow left
   rows_left = all_filter IsRankedRow (λ other. not (same_key other.shown.key row.shown.key)) state h.rows
@@ -242,13 +273,19 @@ module _ (buses : List Bus) (state : State) (both : Indexes) (count : ℕ) (h : 
 
 -- ---- more room
 
-pub roomier : (state : State) (both other : Indexes) (count total : ℕ) → IsIndexed state both count → other.moments.pairs ≡ both.moments.pairs → other.moments.since ≡ both.moments.since
-    → other.sessions.pairs ≡ both.sessions.pairs → other.sessions.since ≡ both.sessions.since → total ≤ other.moments.room → total ≤ other.sessions.room → goers state ≤ total → IsIndexed state other total
+pub roomier : (state : State) (both other : Indexes) (count total : ℕ) → IsIndexed state both count → other.moments.pairs
+    ≡ both.moments.pairs → other.moments.since ≡ both.moments.since
+    → other.sessions.pairs ≡ both.sessions.pairs → other.sessions.since ≡ both.sessions.since → total ≤ other.moments.room
+    → total ≤ other.sessions.room → goers state ≤ total → IsIndexed state other total
 roomier state both other count total h pairs since held held_since room held_room goes =
     record {
       rising = h.rising;
       due = record { pairs = pairs ∙ h.due.pairs ∙ ap (λ m. ranked (before m) (pairs_of due_of state)) (sym since); room = room };
-      held = record { pairs = held ∙ h.held.pairs ∙ ap (λ m. ranked (before m) (pairs_of holder_of state)) (sym held_since); room = held_room };
+      held = record {
+        pairs = held ∙ h.held.pairs ∙ ap (λ m. ranked (before m) (pairs_of holder_of state))
+            (sym held_since);
+        room = held_room;
+      };
       since = held_since ∙ h.since;
       counted = goes;
       rows = h.rows;
@@ -258,7 +295,8 @@ pub few_due : (state : State) (both : Indexes) (count : ℕ) → IsIndexed state
 few_due state both count h = let a = few due_of state both.moments count (due_all state h.rows) h.due in let b = h.counted in omega arith
 
 pub few_held : (state : State) (both : Indexes) (count : ℕ) → IsIndexed state both count → length both.sessions.pairs ≤ count
-few_held state both count h = let a = few holder_of state both.sessions count (held_all state h.rows) h.held in let b = h.counted in omega arith
+few_held state both count h = let a = few holder_of state both.sessions count (held_all state h.rows) h.held in let b = h.counted in
+    omega arith
 
 -- ---- rows that are added
 
@@ -270,10 +308,12 @@ module _ where
   but_at_none key [] e = refl
   but_at_none key (row ∷ state) e = by (same_key row.shown.key key) refl (but_at_none key state)
     where
-      by : (b : Bool) → same_key row.shown.key key ≡ b → (row_at key state ≡ None → but_at key state ≡ state) → but_at key (row ∷ state) ≡ row ∷ state
+      by : (b : Bool) → same_key row.shown.key key ≡ b → (row_at key state ≡ None → but_at key state ≡ state) → but_at key (row ∷ state)
+          ≡ row ∷ state
       by true f later = absurd (nothing_else row (sym (ap (λ c. cond c (Some row) (row_at key state)) f) ∙ e))
       by false f later =
-          ap (λ c. cond (not c) (row ∷ but_at key state) (but_at key state)) f ∙ ap (λ rest. row ∷ rest) (later (sym (ap (λ c. cond c (Some row) (row_at key state)) f) ∙ e))
+          ap (λ c. cond (not c) (row ∷ but_at key state) (but_at key state)) f
+          ∙ ap (λ rest. row ∷ rest) (later (sym (ap (λ c. cond c (Some row) (row_at key state)) f) ∙ e))
 
   no_row : (o : Option Row) → is_some o ≡ false → o ≡ None
   no_row None e = refl
@@ -286,12 +326,19 @@ module _ where
   abbrev pub IsFresh : State → Row → Type 0
   IsFresh state row = row_at row.shown.key state ≡ None
 
-  still_fresh : (row : Row) (state : State) (rows : List Row) → AllByRecursion (λ other. key_cmp row.shown.key other.shown.key ≡ Less) rows → AllByRecursion (IsFresh state) rows → AllByRecursion (IsFresh (put_row row state)) rows
+  still_fresh : (row : Row) (state : State) (rows : List Row)
+      → AllByRecursion (λ other. key_cmp row.shown.key other.shown.key ≡ Less) rows → AllByRecursion (IsFresh state) rows
+      → AllByRecursion (IsFresh (put_row row state)) rows
   still_fresh row state [] above fresh = tt
-  still_fresh row state (other ∷ rows) above fresh = (row_at-put_other other.shown.key row state (ap is_eq above.0) ∙ fresh.0, still_fresh row state rows above.1 fresh.1)
+  still_fresh row state (other ∷ rows) above fresh = (
+    row_at-put_other other.shown.key row state (ap is_eq above.0)
+        ∙ fresh.0,
+    still_fresh row state rows above.1 fresh.1,
+  )
 
 module _ (buses : List Bus) where
-  one_added : (row : Row) (state : State) (both : Indexes) (count : ℕ) → IsFresh state row → IsRowOf buses row → goers (put_row row state) ≤ count → IsIndexed state both count → IsIndexed (put_row row state) (with_row row both) count
+  one_added : (row : Row) (state : State) (both : Indexes) (count : ℕ) → IsFresh state row → IsRowOf buses row
+      → goers (put_row row state) ≤ count → IsIndexed state both count → IsIndexed (put_row row state) (with_row row both) count
   one_added row state both count fresh of goes h =
       let same = sym (but_at_none row.shown.key state fresh) in
       record {
@@ -310,20 +357,24 @@ module _ (buses : List Bus) where
       let c = ap goers (but_at_none row.shown.key state fresh) in
       omega arith
 
-  all_added : (rows : List Row) (state : State) (both : Indexes) (count : ℕ) → IsRising rows → AllByRecursion (IsFresh state) rows → AllByRecursion (IsRowOf buses) rows → goers state + length rows ≤ count → IsIndexed state both count
+  all_added : (rows : List Row) (state : State) (both : Indexes) (count : ℕ) → IsRising rows → AllByRecursion (IsFresh state) rows
+      → AllByRecursion (IsRowOf buses) rows → goers state + length rows ≤ count → IsIndexed state both count
       → IsIndexed (put_rows rows state) (with_rows rows both) count
   all_added [] state both count rising fresh of room h = h
   all_added (row ∷ rows) state both count rising fresh of room h =
       let goes = goers_added row state fresh.0 in
       let here = one_added row state both count fresh.0 of.0 (omega (arith, room)) h in
-      all_added rows (put_row row state) (with_row row both) count rising.1 (still_fresh row state rows rising.0 fresh.1) of.1 (omega (arith, room)) here
+      all_added rows (put_row row state) (with_row row both) count rising.1 (still_fresh row state rows rising.0 fresh.1) of.1
+      (omega (arith, room)) here
 
-  pub added_indexed : (state : State) (device : Device) (rows : List Row) → AreNewRowsOf buses state device rows → (both : Indexes) (count : ℕ) → goers state + length rows ≤ count → IsIndexed state both count
+  pub added_indexed : (state : State) (device : Device) (rows : List Row) → AreNewRowsOf buses state device rows
+      → (both : Indexes) (count : ℕ) → goers state + length rows ≤ count → IsIndexed state both count
       → IsIndexed (put_rows rows state) (with_rows rows both) count
   added_indexed state device rows fresh both count room h =
       let n = row_count buses device in
       all_added rows state both count (ports_rise device rows 0 n fresh.all.keys)
-      (each-weaken {P = IsFrom device 0} (λ row from. ap (λ k. row_at k state) from.2 ∙ no_row (row_at (key_at device from.0) state) (fresh.free from.0)) rows (ports_from device rows 0 n fresh.all.keys))
+      (each-weaken {P = IsFrom device 0} (λ row from. ap (λ k. row_at k state) from.2 ∙ no_row (row_at (key_at device from.0) state)
+      (fresh.free from.0)) rows (ports_from device rows 0 n fresh.all.keys))
       fresh.all.each room h
 
 -- ---- a device that is dropped
@@ -353,7 +404,8 @@ filter_alike p q (row ∷ state) h = (λ i. cond (h.0 i) (row ∷ filter_alike p
 
 module _ (device : Device) where
   -- a key below the next port is at this one or below it
-  next_or_below : (own below next here : Bool) → (here ≡ true → (own ≡ true) × (below ≡ false) × (next ≡ true)) → (own ≡ true → below ≡ false → next ≡ true → here ≡ true) → (below ≡ true → next ≡ true)
+  next_or_below : (own below next here : Bool) → (here ≡ true → (own ≡ true) × (below ≡ false) × (next ≡ true))
+      → (own ≡ true → below ≡ false → next ≡ true → here ≡ true) → (below ≡ true → next ≡ true)
       → not (own && next) ≡ (not here && not (own && below))
   next_or_below true true true true f g h = absurd (true≢false (f refl).1)
   next_or_below true true true false f g h = refl
@@ -365,7 +417,8 @@ module _ (device : Device) where
   next_or_below false below next true f g h = absurd (true≢false (sym (f refl).0))
   next_or_below false below next false f g h = refl
 
-  at_port : (k : Key) (port : ℕ) → (not (owns device k && nat_lt k.port (port + 1))) ≡ (not (same_key k (key_at device port)) && not (owns device k && nat_lt k.port port))
+  at_port : (k : Key) (port : ℕ) → (not (owns device k && nat_lt k.port (port + 1)))
+      ≡ (not (same_key k (key_at device port)) && not (owns device k && nat_lt k.port port))
   at_port k port =
       next_or_below (owns device k) (nat_lt k.port port) (nat_lt k.port (port + 1)) (same_key k (key_at device port))
       (λ s.
@@ -383,26 +436,41 @@ module _ (device : Device) where
       (λ l. let m = ltb-true k.port port l in lt-ltb k.port (port + 1) (omega arith))
     where
       own_port : owns device k ≡ true → k.port ≡ port → k ≡ key_at device port
-      own_port e here = let d = device_from_owns device k e in λ i. record { bus = (d i).bus; group = (d i).group; address = (d i).address; port = here i }
+      own_port e here = let d = device_from_owns device k e in λ i. record {
+        bus = (d i).bus;
+        group = (d i).group;
+        address =
+            (d i).address;
+        port = here i;
+      }
 
-  pub but_below-next : (port : ℕ) (state : State) → but_below device (port + 1) state ≡ but_at (key_at device port) (but_below device port state)
+  pub but_below-next : (port : ℕ) (state : State) → but_below device (port + 1) state
+      ≡ but_at (key_at device port) (but_below device port state)
   but_below-next port state =
-      sym (filter_both (λ row. not (same_key row.shown.key (key_at device port))) (λ row. not (owns device row.shown.key && nat_lt row.shown.key.port port)) (λ row. not (owns device row.shown.key && nat_lt row.shown.key.port (port + 1))) (λ row. at_port row.shown.key port) state)
+      sym (filter_both (λ row. not (same_key row.shown.key (key_at device port)))
+      (λ row. not (owns device row.shown.key && nat_lt row.shown.key.port port))
+      (λ row. not (owns device row.shown.key && nat_lt row.shown.key.port (port + 1))) (λ row. at_port row.shown.key port) state)
 
   pub but_below-none : (state : State) → but_below device 0 state ≡ state
   but_below-none state = filter_every (λ row. not (owns device row.shown.key && nat_lt row.shown.key.port 0)) state (each state)
     where
       each : (rows : State) → AllByRecursion (λ row. not (owns device row.shown.key && nat_lt row.shown.key.port 0) ≡ true) rows
       each [] = tt
-      each (row ∷ rows) = (ap not (ap (λ b. owns device row.shown.key && b) (false_from_ne_true (nat_lt row.shown.key.port 0) (λ s. let m = ltb-true row.shown.key.port 0 s in absurd (omega arith))) ∙ and-false (owns device row.shown.key)), each rows)
+      each (row ∷ rows) = (
+        ap not (ap (λ b. owns device row.shown.key && b) (false_from_ne_true (nat_lt row.shown.key.port 0)
+            (λ s. let m = ltb-true row.shown.key.port 0 s in absurd (omega arith))) ∙ and-false (owns device row.shown.key)),
+        each rows,
+      )
 
   pub but_below-all : (state : State) → AllByRecursion IsRankedRow state → but_below device 9 state ≡ without device state
   but_below-all state h =
       filter_alike (λ row. not (owns device row.shown.key && nat_lt row.shown.key.port 9)) (λ row. not (owns device row.shown.key)) state
-      (each-weaken {P = IsRankedRow} (λ row r. ap not (ap (λ b. owns device row.shown.key && b) (lt-ltb row.shown.key.port 9 r.port) ∙ and-true (owns device row.shown.key))) state h)
+      (each-weaken {P = IsRankedRow} (λ row r. ap not (ap (λ b. owns device row.shown.key && b) (lt-ltb row.shown.key.port 9 r.port)
+      ∙ and-true (owns device row.shown.key))) state h)
 
 -- a row of the device that is taken out
-module _ (state : State) (both : Indexes) (count : ℕ) (h : IsIndexed state both count) (row : Row) (there : row_at row.shown.key state ≡ Some row) where
+module _ (state : State) (both : Indexes) (count : ℕ) (h : IsIndexed state both count) (row : Row)
+    (there : row_at row.shown.key state ≡ Some row) where
   pub one_goes : may_go row ≡ true → 1 ≤ count
   one_goes goes =
       let a = sum-there goer row state h.rising there in
@@ -433,12 +501,15 @@ module _ (device : Device) (port : ℕ) (state : State) where
   at_next =
       let here = key_at device port in
       at-filter row_key (λ k. not (owns device k && nat_lt k.port port)) here state
-      ∙ ap (λ b. cond (not b) (row_at here state) None) (ap (λ b. owns device here && b) (false_from_ne_true (nat_lt port port) (λ s. let m = ltb-true port port s in absurd (omega arith))) ∙ and-false (owns device here))
+      ∙ ap (λ b. cond (not b) (row_at here state) None)
+      (ap (λ b. owns device here && b) (false_from_ne_true (nat_lt port port) (λ s. let m = ltb-true port port s in absurd
+      (omega arith))) ∙ and-false (owns device here))
 
   module _ (both : Indexes) (count : ℕ) (h : IsIndexed (but_below device port state) both count) where
     pub none_next : row_at (key_at device port) state ≡ None → IsIndexed (but_below device (port + 1) state) both count
     none_next none =
-        subst (λ rows. IsIndexed rows both count) (sym (but_at_none (key_at device port) (but_below device port state) (at_next ∙ none)) ∙ sym (but_below-next device port state)) h
+        subst (λ rows. IsIndexed rows both count) (sym (but_at_none (key_at device port) (but_below device port state) (at_next ∙ none))
+        ∙ sym (but_below-next device port state)) h
 
     module _ (goes : can_go device.group ≡ true) (row : Row) (there : row_at (key_at device port) state ≡ Some row) where
       same_key_there : row.shown.key ≡ key_at device port
@@ -455,8 +526,11 @@ module _ (device : Device) (port : ℕ) (state : State) where
 
       pub dropped_next : IsIndexed (but_below device (port + 1) state) (without_row row both) (count - 1)
       dropped_next =
-          subst (λ rows. IsIndexed rows (without_row row both) (count - 1)) (ap (λ k. but_at k (but_below device port state)) same_key_there ∙ sym (but_below-next device port state))
+          subst (λ rows. IsIndexed rows (without_row row both) (count - 1))
+          (ap (λ k. but_at k (but_below device port state)) same_key_there ∙ sym (but_below-next device port state))
           (dropped_one (but_below device port state) both count h row left_there row_goes)
 
-pub dropped_all : (device : Device) (port : ℕ) (state : State) (both : Indexes) (count : ℕ) → AllByRecursion IsRankedRow state → port ≡ 9 → IsIndexed (but_below device port state) both count → IsIndexed (without device state) both count
-dropped_all device port state both count rows last h = subst (λ left. IsIndexed left both count) (ap (λ p. but_below device p state) last ∙ but_below-all device state rows) h
+pub dropped_all : (device : Device) (port : ℕ) (state : State) (both : Indexes) (count : ℕ) → AllByRecursion IsRankedRow state → port ≡ 9
+    → IsIndexed (but_below device port state) both count → IsIndexed (without device state) both count
+dropped_all device port state both count rows last h = subst (λ left. IsIndexed left both count)
+    (ap (λ p. but_below device p state) last ∙ but_below-all device state rows) h

@@ -25,11 +25,14 @@ use Rattle.srcp_index.proofs.Ranked as law
 use Rattle.srcp_index.proofs.RowSums.{but_at, put_there, sum-put_row}
 
 -- lists with the same sums have the same order
-same_pairs : (since : ℕ) (ps qs : List Pair) → ((f : Pair → ℕ) → sum_by f ps ≡ sum_by f qs) → ranked (before since) ps ≡ ranked (before since) qs
+same_pairs : (since : ℕ) (ps qs : List Pair) → ((f : Pair → ℕ) → sum_by f ps ≡ sum_by f qs) → ranked (before since) ps
+    ≡ ranked (before since) qs
 same_pairs since ps qs same =
     let lt = before since in
-    law.unique lt (before_weak since) (before_tie since) (ranked lt ps) (ranked lt qs) (law.ranked_is lt (before_weak since) ps) (law.ranked_is lt (before_weak since) qs)
-    (λ z. law.sum-ranked lt (law.hit lt (before_weak since) z) ps ∙ same (law.hit lt (before_weak since) z) ∙ sym (law.sum-ranked lt (law.hit lt (before_weak since) z) qs))
+    law.unique lt (before_weak since) (before_tie since) (ranked lt ps) (ranked lt qs) (law.ranked_is lt (before_weak since) ps)
+    (law.ranked_is lt (before_weak since) qs)
+    (λ z. law.sum-ranked lt (law.hit lt (before_weak since) z) ps ∙ same (law.hit lt (before_weak since) z) ∙ sym
+    (law.sum-ranked lt (law.hit lt (before_weak since) z) qs))
 
 module _ (rank : Row → Option ℕ) where
   -- what the pair of a row adds to a sum
@@ -45,18 +48,22 @@ module _ (rank : Row → Option ℕ) where
       omega arith
 
   module _ (since : ℕ) where
-    noted-first : (o : Option ℕ) (row : Row) (ps : List Pair) → option_map_or (λ r. put (before since) (at_rank row r) (ranked (before since) ps)) o (ranked (before since) ps)
+    noted-first : (o : Option ℕ) (row : Row) (ps : List Pair)
+        → option_map_or (λ r. put (before since) (at_rank row r) (ranked (before since) ps)) o (ranked (before since) ps)
         ≡ ranked (before since) (option_map_or (λ r. at_rank row r ∷ []) o [] ++ ps)
     noted-first None row ps = refl
     noted-first (Some r) row ps = refl
 
     forgotten-noted : (o : Option ℕ) (row : Row) (ps : List Pair) →
-        option_map_or (λ r. taken (before since) (at_rank row r) (option_map_or (λ r. put (before since) (at_rank row r) ps) o ps)) o (option_map_or (λ r. put (before since) (at_rank row r) ps) o ps) ≡ ps
+        option_map_or (λ r. taken (before since) (at_rank row r) (option_map_or (λ r. put (before since) (at_rank row r) ps) o ps)) o
+        (option_map_or (λ r. put (before since) (at_rank row r) ps) o ps) ≡ ps
     forgotten-noted None row ps = refl
     forgotten-noted (Some r) row ps = taken-put (before since) (before_weak since) (at_rank row r) ps
 
     -- with the pair of a row the pairs of the others are those of the rows with it
-    pub noted-pairs : (row : Row) (state : State) → put_ranked since (rank row) row.shown.key (ranked (before since) (pairs_of rank (but_at row.shown.key state))) ≡ ranked (before since) (pairs_of rank (put_row row state))
+    pub noted-pairs : (row : Row) (state : State)
+        → put_ranked since (rank row) row.shown.key (ranked (before since) (pairs_of rank (but_at row.shown.key state)))
+        ≡ ranked (before since) (pairs_of rank (put_row row state))
     noted-pairs row state =
         let others = but_at row.shown.key state in
         noted-first (rank row) row (pairs_of rank others)
@@ -69,15 +76,18 @@ module _ (rank : Row → Option ℕ) where
 
     -- and without it they are those of the others
     pub forgotten-pairs : (row : Row) (state : State) → IsRising state → row_at row.shown.key state ≡ Some row
-        → take_ranked since (rank row) row.shown.key (ranked (before since) (pairs_of rank state)) ≡ ranked (before since) (pairs_of rank (but_at row.shown.key state))
+        → take_ranked since (rank row) row.shown.key (ranked (before since) (pairs_of rank state)) ≡ ranked (before since)
+        (pairs_of rank (but_at row.shown.key state))
     forgotten-pairs row state rising there =
-        ap (λ rows. take_ranked since (rank row) row.shown.key (ranked (before since) (pairs_of rank rows))) (sym (put_there row state rising there))
+        ap (λ rows. take_ranked since (rank row) row.shown.key (ranked (before since) (pairs_of rank rows)))
+        (sym (put_there row state rising there))
         ∙ ap (take_ranked since (rank row) row.shown.key) (sym (noted-pairs row state))
         ∙ forgotten-noted (rank row) row (ranked (before since) (pairs_of rank (but_at row.shown.key state)))
 
   -- ---- how many they are
 
-  one_at_most : (o : Option ℕ) (b : Bool) → (IsSome o → IsTrue b) → (row : Row) → length (option_map_or (λ r. at_rank row r ∷ []) o []) ≤ cond b 1 0
+  one_at_most : (o : Option ℕ) (b : Bool) → (IsSome o → IsTrue b) → (row : Row)
+      → length (option_map_or (λ r. at_rank row r ∷ []) o []) ≤ cond b 1 0
   one_at_most None true h row = omega arith
   one_at_most None false h row = omega arith
   one_at_most (Some r) true h row = omega arith
@@ -87,7 +97,8 @@ module _ (rank : Row → Option ℕ) where
   length_both [] qs = omega arith
   length_both (p ∷ ps) qs = let h = length_both ps qs in omega arith
 
-  pub fewer_pairs : (state : State) → AllByRecursion (λ row. IsSome (rank row) → IsTrue (may_go row)) state → length (pairs_of rank state) ≤ goers state
+  pub fewer_pairs : (state : State) → AllByRecursion (λ row. IsSome (rank row) → IsTrue (may_go row)) state
+      → length (pairs_of rank state) ≤ goers state
   fewer_pairs [] goes = omega arith
   fewer_pairs (row ∷ state) goes =
       let a = one_at_most (rank row) (may_go row) goes.0 row in
@@ -99,14 +110,17 @@ module _ (rank : Row → Option ℕ) where
   -- ---- looking for the first that passes a test
 
   module _ (t : Pair → Bool) (p : Row → Bool) (alike : (row : Row) → option_map_or (λ r. t (at_rank row r)) (rank row) false ≡ p row) where
-    found_step : (o : Option ℕ) (row : Row) (rest : State) (b : Bool) → option_map_or (λ r. t (at_rank row r)) o false ≡ b → option_map (λ (pair : Pair). pair.key) (find t (pairs_of rank rest)) ≡ option_map (λ (r : Row). r.shown.key) (find p rest)
-        → option_map (λ (pair : Pair). pair.key) (find t (option_map_or (λ r. at_rank row r ∷ []) o [] ++ pairs_of rank rest)) ≡ option_map (λ (r : Row). r.shown.key) (cond b (Some row) (find p rest))
+    found_step : (o : Option ℕ) (row : Row) (rest : State) (b : Bool) → option_map_or (λ r. t (at_rank row r)) o false ≡ b
+        → option_map (λ (pair : Pair). pair.key) (find t (pairs_of rank rest)) ≡ option_map (λ (r : Row). r.shown.key) (find p rest)
+        → option_map (λ (pair : Pair). pair.key) (find t (option_map_or (λ r. at_rank row r ∷ []) o [] ++ pairs_of rank rest)) ≡
+        option_map (λ (r : Row). r.shown.key) (cond b (Some row) (find p rest))
     found_step None row rest true e ih = absurd (true≢false (sym e))
     found_step None row rest false e ih = ih
     found_step (Some r) row rest true e ih = rw e refl
     found_step (Some r) row rest false e ih = rw e ih
 
-    found_key : (state : State) → option_map (λ (pair : Pair). pair.key) (find t (pairs_of rank state)) ≡ option_map (λ (row : Row). row.shown.key) (find p state)
+    found_key : (state : State) → option_map (λ (pair : Pair). pair.key) (find t (pairs_of rank state))
+        ≡ option_map (λ (row : Row). row.shown.key) (find p state)
     found_key [] = refl
     found_key (row ∷ state) = found_step (rank row) row state (p row) (alike row) (found_key state)
 
@@ -115,16 +129,20 @@ module _ (rank : Row → Option ℕ) where
     found_there [] rising row e = cc
     found_there (first ∷ state) rising row e = by (p first) refl (found_there state rising.1 row)
       where
-        by : (b : Bool) → p first ≡ b → (find p state ≡ Some row → row_at row.shown.key state ≡ Some row) → row_at row.shown.key (first ∷ state) ≡ Some row
+        by : (b : Bool) → p first ≡ b → (find p state ≡ Some row → row_at row.shown.key state ≡ Some row)
+            → row_at row.shown.key (first ∷ state) ≡ Some row
         by true f later =
             let same : Some first ≡ Some row = sym (ap (λ c. cond c (Some first) (find p state)) f) ∙ e in
             subst (λ o. option_map_or (λ (r : Row). row_at r.shown.key (first ∷ state)) o None ≡ o) same (row_at-first first state)
-        by false f later = row_at-later first state rising row.shown.key row (later (sym (ap (λ c. cond c (Some first) (find p state)) f) ∙ e))
+        by false f later = row_at-later first state rising row.shown.key row
+            (later (sym (ap (λ c. cond c (Some first) (find p state)) f) ∙ e))
 
-    found_row : (state : State) → IsRising state → option_and_then (λ (pair : Pair). row_at pair.key state) (find t (pairs_of rank state)) ≡ find p state
+    found_row : (state : State) → IsRising state → option_and_then (λ (pair : Pair). row_at pair.key state) (find t (pairs_of rank state))
+        ≡ find p state
     found_row state rising = by (find t (pairs_of rank state)) (find p state) refl (found_key state)
       where
-        by : (o : Option Pair) (q : Option Row) → find p state ≡ q → option_map (λ (pair : Pair). pair.key) o ≡ option_map (λ (row : Row). row.shown.key) q → option_and_then (λ (pair : Pair). row_at pair.key state) o ≡ q
+        by : (o : Option Pair) (q : Option Row) → find p state ≡ q → option_map (λ (pair : Pair). pair.key) o
+            ≡ option_map (λ (row : Row). row.shown.key) q → option_and_then (λ (pair : Pair). row_at pair.key state) o ≡ q
         by None None e f = refl
         by None (Some row) e f = cc
         by (Some pair) None e f = cc
@@ -133,20 +151,24 @@ module _ (rank : Row → Option ℕ) where
             ap (λ k. row_at k state) same ∙ found_there state rising row e
 
   -- in an order in which, of two that pass, the one of lower key comes first
-  module _ (lt : Pair → Pair → Bool) (t : Pair → Bool) (by_key : (x y : Pair) → key_cmp x.key y.key ≡ Less → t x ≡ true → t y ≡ true → lt y x ≡ false) where
+  module _ (lt : Pair → Pair → Bool) (t : Pair → Bool) (by_key : (x y : Pair) → key_cmp x.key y.key ≡ Less → t x ≡ true → t y ≡ true
+      → lt y x ≡ false) where
     one_kept : (x y : Pair) → key_cmp x.key y.key ≡ Less → t x ≡ true → lt y x ≡ true → t y ≡ false
     one_kept x y less e f = false_from_ne_true (t y) (λ g. true≢false (sym f ∙ by_key x y less e g))
 
-    each_kept : (x : Pair) (o : Option ℕ) (row : Row) (ys : List Pair) → key_cmp x.key row.shown.key ≡ Less → AllByRecursion (λ y. t x ≡ true → lt y x ≡ true → t y ≡ false) ys
+    each_kept : (x : Pair) (o : Option ℕ) (row : Row) (ys : List Pair) → key_cmp x.key row.shown.key ≡ Less
+        → AllByRecursion (λ y. t x ≡ true → lt y x ≡ true → t y ≡ false) ys
         → AllByRecursion (λ y. t x ≡ true → lt y x ≡ true → t y ≡ false) (option_map_or (λ r. at_rank row r ∷ []) o [] ++ ys)
     each_kept x None row ys less h = h
     each_kept x (Some r) row ys less h = (one_kept x (at_rank row r) less, h)
 
-    all_kept : (x : Pair) (state : State) → AllByRecursion (λ row. key_cmp x.key row.shown.key ≡ Less) state → AllByRecursion (λ y. t x ≡ true → lt y x ≡ true → t y ≡ false) (pairs_of rank state)
+    all_kept : (x : Pair) (state : State) → AllByRecursion (λ row. key_cmp x.key row.shown.key ≡ Less) state
+        → AllByRecursion (λ y. t x ≡ true → lt y x ≡ true → t y ≡ false) (pairs_of rank state)
     all_kept x [] h = tt
     all_kept x (row ∷ state) h = each_kept x (rank row) row (pairs_of rank state) h.0 (all_kept x state h.1)
 
-    keeps_first : (o : Option ℕ) (row : Row) (state : State) → AllByRecursion (λ other. key_cmp row.shown.key other.shown.key ≡ Less) state → Keeps lt t (pairs_of rank state)
+    keeps_first : (o : Option ℕ) (row : Row) (state : State)
+        → AllByRecursion (λ other. key_cmp row.shown.key other.shown.key ≡ Less) state → Keeps lt t (pairs_of rank state)
         → Keeps lt t (option_map_or (λ r. at_rank row r ∷ []) o [] ++ pairs_of rank state)
     keeps_first None row state h k = k
     keeps_first (Some r) row state h k = (all_kept (at_rank row r) state h, k)
@@ -155,10 +177,12 @@ module _ (rank : Row → Option ℕ) where
     keeps [] rising = tt
     keeps (row ∷ state) rising = keeps_first (rank row) row state rising.0 (keeps state rising.1)
 
-    pub found_ranked : (p : Row → Bool) → ((row : Row) → option_map_or (λ r. t (at_rank row r)) (rank row) false ≡ p row) → (state : State) → IsRising state
+    pub found_ranked : (p : Row → Bool) → ((row : Row) → option_map_or (λ r. t (at_rank row r)) (rank row) false ≡ p row)
+        → (state : State) → IsRising state
         → option_and_then (λ (pair : Pair). row_at pair.key state) (find t (ranked lt (pairs_of rank state))) ≡ find p state
     found_ranked p alike state rising =
-        ap (option_and_then (λ (pair : Pair). row_at pair.key state)) (find-ranked lt t (pairs_of rank state) (keeps state rising)) ∙ found_row t p alike state rising
+        ap (option_and_then (λ (pair : Pair). row_at pair.key state)) (find-ranked lt t (pairs_of rank state) (keeps state rising))
+        ∙ found_row t p alike state rising
 
 swapped : (a b : Key) → key_cmp a b ≡ Less → key_cmp b a ≡ Greater
 swapped a b e = key_cmp_total.antisymm b a ∙ ap ordering_reverse e
@@ -166,13 +190,15 @@ swapped a b e = key_cmp_total.antisymm b a ∙ ap ordering_reverse e
 -- ---- the first due row beyond a cursor
 
 module _ (moment : ℕ) (cursor : Cursor) where
-  ripe_by_key : (x y : Pair) → key_cmp x.key y.key ≡ Less → is_ripe moment cursor x ≡ true → is_ripe moment cursor y ≡ true → before moment y x ≡ false
+  ripe_by_key : (x y : Pair) → key_cmp x.key y.key ≡ Less → is_ripe moment cursor x ≡ true → is_ripe moment cursor y ≡ true
+      → before moment y x ≡ false
   ripe_by_key x y less e f =
       let m = leb-true x.rank moment (and_parts (nat_le x.rank moment) (not (has_reached cursor x.key)) e).0 in
       let n = leb-true y.rank moment (and_parts (nat_le y.rank moment) (not (has_reached cursor y.key)) f).0 in
       alike_after moment y x (omega (arith, m, n)) (swapped x.key y.key less)
 
-  ripe_alike : (row : Row) → option_map_or (λ r. is_ripe moment cursor (at_rank row r)) row.due false ≡ (not (has_reached cursor row.shown.key) && is_due moment row)
+  ripe_alike : (row : Row) → option_map_or (λ r. is_ripe moment cursor (at_rank row r)) row.due false
+      ≡ (not (has_reached cursor row.shown.key) && is_due moment row)
   ripe_alike row = by row.due (not (has_reached cursor row.shown.key))
     where
       both : (b c : Bool) → (b && c) ≡ (c && b)
@@ -181,14 +207,18 @@ module _ (moment : ℕ) (cursor : Cursor) where
       both false true = refl
       both false false = refl
 
-      by : (o : Option ℕ) (beyond : Bool) → option_map_or (λ r. nat_le r moment && beyond) o false ≡ (beyond && option_map_or (λ due. nat_le due moment) o false)
+      by : (o : Option ℕ) (beyond : Bool) → option_map_or (λ r. nat_le r moment && beyond) o false
+          ≡ (beyond && option_map_or (λ due. nat_le due moment) o false)
       by None true = refl
       by None false = refl
       by (Some r) beyond = both (nat_le r moment) beyond
 
-  pub found_due : (state : State) → IsRising state → option_and_then (λ (pair : Pair). row_at pair.key state) (find (is_ripe moment cursor) (ranked (before moment) (pairs_of (λ row. row.due) state)))
+  pub found_due : (state : State) → IsRising state
+      → option_and_then (λ (pair : Pair). row_at pair.key state)
+      (find (is_ripe moment cursor) (ranked (before moment) (pairs_of (λ row. row.due) state)))
       ≡ find (λ row. not (has_reached cursor row.shown.key) && is_due moment row) state
-  found_due state rising = found_ranked (λ row. row.due) (before moment) (is_ripe moment cursor) ripe_by_key (λ row. not (has_reached cursor row.shown.key) && is_due moment row) ripe_alike state rising
+  found_due state rising = found_ranked (λ row. row.due) (before moment) (is_ripe moment cursor) ripe_by_key
+      (λ row. not (has_reached cursor row.shown.key) && is_due moment row) ripe_alike state rising
 
 -- ---- the first lock of a session
 
@@ -199,17 +229,24 @@ module _ (session : ℕ) where
       let n = eqb-true y.rank session f in
       alike_after 0 y x (omega (arith, m, n)) (swapped x.key y.key less)
 
-  pub found_held : (state : State) → IsRising state → option_and_then (λ (pair : Pair). row_at pair.key state) (find (λ pair. pair.rank == session) (ranked (before 0) (pairs_of holder_of state))) ≡ find (is_held_by session) state
-  found_held state rising = found_ranked holder_of (before 0) (λ pair. pair.rank == session) same_by_key (is_held_by session) (λ row. refl) state rising
+  pub found_held : (state : State) → IsRising state
+      → option_and_then (λ (pair : Pair). row_at pair.key state)
+      (find (λ pair. pair.rank == session) (ranked (before 0) (pairs_of holder_of state))) ≡ find (is_held_by session) state
+  found_held state rising = found_ranked holder_of (before 0) (λ pair. pair.rank == session) same_by_key (is_held_by session)
+      (λ row. refl) state rising
 
 -- ---- what an index answers
 
-pub due_row : (state : State) (index : Held) (cursor : Cursor) (o : Option Pair) → IsRising state → index.pairs ≡ ranked (before index.since) (pairs_of due_of state) → o ≡ find (is_ripe index.since cursor) index.pairs
+pub due_row : (state : State) (index : Held) (cursor : Cursor) (o : Option Pair) → IsRising state → index.pairs
+    ≡ ranked (before index.since) (pairs_of due_of state) → o ≡ find (is_ripe index.since cursor) index.pairs
     → option_and_then (λ (pair : Pair). row_at pair.key state) o ≡ first_due index.since cursor state
 due_row state index cursor o rising pairs found =
-    ap (option_and_then (λ (pair : Pair). row_at pair.key state)) (found ∙ ap (find (is_ripe index.since cursor)) pairs) ∙ found_due index.since cursor state rising
+    ap (option_and_then (λ (pair : Pair). row_at pair.key state)) (found ∙ ap (find (is_ripe index.since cursor)) pairs)
+    ∙ found_due index.since cursor state rising
 
-pub held_row : (state : State) (index : Held) (session : ℕ) (o : Option Pair) → IsRising state → index.since ≡ 0 → index.pairs ≡ ranked (before index.since) (pairs_of holder_of state) → o ≡ find (λ pair. pair.rank == session) index.pairs
+pub held_row : (state : State) (index : Held) (session : ℕ) (o : Option Pair) → IsRising state → index.since ≡ 0 → index.pairs
+    ≡ ranked (before index.since) (pairs_of holder_of state) → o ≡ find (λ pair. pair.rank == session) index.pairs
     → option_and_then (λ (pair : Pair). row_at pair.key state) o ≡ first_held session state
 held_row state index session o rising since pairs found =
-    ap (option_and_then (λ (pair : Pair). row_at pair.key state)) (found ∙ ap (find (λ pair. pair.rank == session)) (pairs ∙ ap (λ m. ranked (before m) (pairs_of holder_of state)) since)) ∙ found_held session state rising
+    ap (option_and_then (λ (pair : Pair). row_at pair.key state)) (found ∙ ap (find (λ pair. pair.rank == session))
+    (pairs ∙ ap (λ m. ranked (before m) (pairs_of holder_of state)) since)) ∙ found_held session state rising

@@ -15,34 +15,47 @@ module _ {X : Type 0} (P : X → Type 0) where
   pub front_each : (xs : List X) (i : ℕ) → i ≤ length xs → AllWithin P xs 0 i → AllByRecursion P (take i xs)
   front_each xs zero h a = tt
   front_each [] (suc i) h a = absurd (omega (arith, h))
-  front_each (x ∷ xs) (suc i) h a = (a 0 x (omega arith) (omega arith), front_each xs i (omega (arith, h)) (λ k d low high. a (suc k) d (omega arith) (omega (arith, high))))
+  front_each (x ∷ xs) (suc i) h a = (
+    a 0 x (omega arith) (omega arith),
+    front_each xs i (omega (arith, h))
+        (λ k d low high. a (suc k) d (omega arith) (omega (arith, high))),
+  )
 
   -- what holds at each place from this one on holds of each item there
   pub back_each : (xs : List X) (i : ℕ) → AllWithin P xs i (length xs) → AllByRecursion P (drop i xs)
   back_each [] zero a = tt
   back_each [] (suc i) a = tt
-  back_each (x ∷ xs) zero a = (a 0 x (omega arith) (omega arith), back_each xs zero (λ k d low high. a (suc k) d (omega arith) (omega (arith, high))))
+  back_each (x ∷ xs) zero a = (
+    a 0 x (omega arith) (omega arith),
+    back_each xs zero (λ k d low high. a (suc k) d (omega arith)
+        (omega (arith, high))),
+  )
   back_each (x ∷ xs) (suc i) a = back_each xs i (λ k d low high. a (suc k) d (omega (arith, low)) (omega (arith, high)))
 
 -- what holds of each item holds at each place
-pub each_at : {X : Type 0} (P : X → Type 0) (xs : List X) → AllByRecursion P xs → (k : ℕ) (d : X) → k < length xs → P (slice_index_or xs k d)
+pub each_at : {X : Type 0} (P : X → Type 0) (xs : List X) → AllByRecursion P xs → (k : ℕ) (d : X) → k < length xs
+    → P (slice_index_or xs k d)
 each_at P [] a k d h = absurd (omega (arith, h))
 each_at P (x ∷ xs) a zero d h = a.0
 each_at P (x ∷ xs) a (suc k) d h = each_at P xs a.1 k d (omega (arith, h))
 
 module _ {X : Type 0} (lt : X → X → Bool) where
   -- a test that an item passes where a later one does splits the list
-  pub partitioned : (p : X → Bool) → ((x y : X) → lt y x ≡ false → p y ≡ true → p x ≡ true) → (xs : List X) → IsRanked lt xs → IsPartitionedBy p xs
+  pub partitioned : (p : X → Bool) → ((x y : X) → lt y x ≡ false → p y ≡ true → p x ≡ true) → (xs : List X) → IsRanked lt xs
+      → IsPartitionedBy p xs
   partitioned p keeps [] f i j d le h e = absurd (omega (arith, h))
   partitioned p keeps (x ∷ xs) f zero zero d le h e = e
-  partitioned p keeps (x ∷ xs) f zero (suc j) d le h e = keeps x (slice_index_or xs j d) (each_at (λ y. lt y x ≡ false) xs f.0 j d (omega (arith, h))) e
+  partitioned p keeps (x ∷ xs) f zero (suc j) d le h e = keeps x (slice_index_or xs j d) (each_at (λ y. lt y x ≡ false) xs f.0 j d
+      (omega (arith, h))) e
   partitioned p keeps (x ∷ xs) f (suc i) zero d le h e = absurd (omega (arith, le))
   partitioned p keeps (x ∷ xs) f (suc i) (suc j) d le h e = partitioned p keeps xs f.1 i j d (omega (arith, le)) (omega (arith, h)) e
 
-  from_far : (xs : List X) → ((i j : ℕ) (d : X) → i ≤ j → j < length xs → lt (slice_index_or xs j d) (slice_index_or xs i d) ≡ false) → IsRanked lt xs
+  from_far : (xs : List X) → ((i j : ℕ) (d : X) → i ≤ j → j < length xs → lt (slice_index_or xs j d) (slice_index_or xs i d) ≡ false)
+      → IsRanked lt xs
   from_far [] h = tt
   from_far (x ∷ xs) h = (
-    subst (AllByRecursion (λ y. lt y x ≡ false)) refl (back_each (λ y. lt y x ≡ false) xs zero (λ k d low high. h zero (suc k) d (omega arith) (omega (arith, high)))),
+    subst (AllByRecursion (λ y. lt y x ≡ false)) refl
+        (back_each (λ y. lt y x ≡ false) xs zero (λ k d low high. h zero (suc k) d (omega arith) (omega (arith, high)))),
     from_far xs (λ i j d le high. h (suc i) (suc j) d (omega (arith, le)) (omega (arith, high))),
   )
 
@@ -51,22 +64,27 @@ module _ {X : Type 0} (lt : X → X → Bool) where
   from_sorted weak xs h = from_far xs (sorted_far lt weak xs h)
 
   -- an item is put at the place that splits the list by it
-  pub insert-put : (x : X) (xs : List X) (i : ℕ) → AllByRecursion (λ y. lt y x ≡ true) (take i xs) → AllByRecursion (λ y. lt y x ≡ false) (drop i xs) → insert xs i x ≡ put lt x xs
+  pub insert-put : (x : X) (xs : List X) (i : ℕ) → AllByRecursion (λ y. lt y x ≡ true) (take i xs)
+      → AllByRecursion (λ y. lt y x ≡ false) (drop i xs) → insert xs i x ≡ put lt x xs
   insert-put x xs i a b = sym (put_between lt x (take i xs) (drop i xs) a b) ∙ ap (put lt x) (take-append-drop i xs)
 
   -- and taken from there
-  module _ (x : X) (xs : List X) (i : ℕ) (d : X) (a : AllByRecursion (λ y. lt y x ≡ true) (take i xs)) (b : AllByRecursion (λ y. lt y x ≡ false) (drop i xs)) where
+  module _ (x : X) (xs : List X) (i : ℕ) (d : X) (a : AllByRecursion (λ y. lt y x ≡ true) (take i xs))
+      (b : AllByRecursion (λ y. lt y x ≡ false) (drop i xs)) where
     split : i < length xs → xs ≡ take i xs ++ slice_index_or xs i d ∷ drop (suc i) xs
     split h = sym (take-append-drop i xs) ∙ ap (λ l. take i xs ++ l) (drop-cons xs i d h)
 
     here : i < length xs → lt (slice_index_or xs i d) x ≡ false
-    here h = let c : AllByRecursion (λ y. lt y x ≡ false) (slice_index_or xs i d ∷ drop (suc i) xs) = subst (AllByRecursion (λ y. lt y x ≡ false)) (drop-cons xs i d h) b in c.0
+    here h = let c : AllByRecursion (λ y. lt y x ≡ false) (slice_index_or xs i d ∷ drop (suc i) xs) = subst
+        (AllByRecursion (λ y. lt y x ≡ false)) (drop-cons xs i d h) b in c.0
 
     pub remove-taken : i < length xs → lt x (slice_index_or xs i d) ≡ false → remove xs i ≡ taken lt x xs
-    remove-taken h e = sym (ap (taken lt x) (split h) ∙ taken_between lt x (take i xs) (slice_index_or xs i d) (drop (suc i) xs) a (here h) e)
+    remove-taken h e = sym (ap (taken lt x) (split h) ∙ taken_between lt x (take i xs) (slice_index_or xs i d) (drop (suc i) xs) a
+        (here h) e)
 
     pub not_taken : i < length xs → lt x (slice_index_or xs i d) ≡ true → xs ≡ taken lt x xs
-    not_taken h e = split h ∙ sym (ap (taken lt x) (split h) ∙ taken_none lt x (take i xs) (slice_index_or xs i d) (drop (suc i) xs) a (here h) e)
+    not_taken h e = split h
+        ∙ sym (ap (taken lt x) (split h) ∙ taken_none lt x (take i xs) (slice_index_or xs i d) (drop (suc i) xs) a (here h) e)
 
     pub past_taken : length xs ≤ i → xs ≡ taken lt x xs
     past_taken h = sym (taken_past lt x xs (subst (AllByRecursion (λ y. lt y x ≡ true)) (whole i xs h) a))
@@ -88,12 +106,14 @@ module _ {X : Type 0} (t : X → Bool) where
   StopsAtOnce (x ∷ xs) = t x ≡ false → AllByRecursion (λ y. t y ≡ false) xs
 
   -- what is looked for stands at the place up to which all fail, or nowhere
-  pub find_here : (xs : List X) (i : ℕ) (d : X) → AllByRecursion (λ x. t x ≡ false) (take i xs) → i < length xs → t (slice_index_or xs i d) ≡ true → find t xs ≡ Some (slice_index_or xs i d)
+  pub find_here : (xs : List X) (i : ℕ) (d : X) → AllByRecursion (λ x. t x ≡ false) (take i xs) → i < length xs
+      → t (slice_index_or xs i d) ≡ true → find t xs ≡ Some (slice_index_or xs i d)
   find_here [] i d a h e = absurd (omega (arith, h))
   find_here (x ∷ xs) zero d a h e = ap (λ b. cond b (Some x) (find t xs)) e
   find_here (x ∷ xs) (suc i) d a h e = ap (λ b. cond b (Some x) (find t xs)) a.0 ∙ find_here xs i d a.1 (omega (arith, h)) e
 
-  pub find_not_here : (xs : List X) (i : ℕ) (d : X) → AllByRecursion (λ x. t x ≡ false) (take i xs) → StopsAtOnce (drop i xs) → i < length xs → t (slice_index_or xs i d) ≡ false → find t xs ≡ None
+  pub find_not_here : (xs : List X) (i : ℕ) (d : X) → AllByRecursion (λ x. t x ≡ false) (take i xs) → StopsAtOnce (drop i xs)
+      → i < length xs → t (slice_index_or xs i d) ≡ false → find t xs ≡ None
   find_not_here [] i d a s h e = absurd (omega (arith, h))
   find_not_here (x ∷ xs) zero d a s h e = ap (λ b. cond b (Some x) (find t xs)) e ∙ find_none xs (s e)
   find_not_here (x ∷ xs) (suc i) d a s h e = ap (λ b. cond b (Some x) (find t xs)) a.0 ∙ find_not_here xs i d a.1 s (omega (arith, h)) e
@@ -114,7 +134,8 @@ taken_some (Some x) P p s = p
 taken_some None P p s = absurd (true≢false (sym s))
 
 -- the item at the place where those that fail end is found if it passes, and nothing else is
-pub find_at : {X : Type 0} (t : X → Bool) (xs : List X) (i : ℕ) (x : X) → AllByRecursion (λ y. t y ≡ false) (take i xs) → StopsAtOnce t (drop i xs) → i < length xs → x ≡ slice_index_or xs i x → then_some (t x) x ≡ find t xs
+pub find_at : {X : Type 0} (t : X → Bool) (xs : List X) (i : ℕ) (x : X) → AllByRecursion (λ y. t y ≡ false) (take i xs)
+    → StopsAtOnce t (drop i xs) → i < length xs → x ≡ slice_index_or xs i x → then_some (t x) x ≡ find t xs
 find_at t xs i x front stops within at = by (t x) refl
   where
     by : (b : Bool) → t x ≡ b → then_some b x ≡ find t xs

@@ -50,17 +50,20 @@ module _ {X : Type 0} (lt : X → X → Bool) where
   sum-ranked f (x ∷ xs) = let a = sum-put f x (ranked lt xs) in let b = sum-ranked f xs in let c = sum_by-cons f x xs in omega arith
 
   -- an item between those before it and those not before it
-  pub put_between : (x : X) (xs ys : List X) → AllByRecursion (λ y. lt y x ≡ true) xs → AllByRecursion (λ y. lt y x ≡ false) ys → put lt x (xs ++ ys) ≡ xs ++ x ∷ ys
+  pub put_between : (x : X) (xs ys : List X) → AllByRecursion (λ y. lt y x ≡ true) xs → AllByRecursion (λ y. lt y x ≡ false) ys
+      → put lt x (xs ++ ys) ≡ xs ++ x ∷ ys
   put_between x [] [] a b = refl
   put_between x [] (y ∷ ys) a b = rw (b.0) refl
   put_between x (z ∷ zs) ys a b = rw (a.0) (ap (λ l. z ∷ l) (put_between x zs ys a.1 b))
 
   -- and taken from there
-  pub taken_between : (x : X) (xs : List X) (y : X) (ys : List X) → AllByRecursion (λ y. lt y x ≡ true) xs → lt y x ≡ false → lt x y ≡ false → taken lt x (xs ++ y ∷ ys) ≡ xs ++ ys
+  pub taken_between : (x : X) (xs : List X) (y : X) (ys : List X) → AllByRecursion (λ y. lt y x ≡ true) xs → lt y x ≡ false → lt x y
+      ≡ false → taken lt x (xs ++ y ∷ ys) ≡ xs ++ ys
   taken_between x [] y ys a b c = rw (b, c) refl
   taken_between x (z ∷ zs) y ys a b c = rw (a.0) (ap (λ l. z ∷ l) (taken_between x zs y ys a.1 b c))
 
-  pub taken_none : (x : X) (xs : List X) (y : X) (ys : List X) → AllByRecursion (λ y. lt y x ≡ true) xs → lt y x ≡ false → lt x y ≡ true → taken lt x (xs ++ y ∷ ys) ≡ xs ++ y ∷ ys
+  pub taken_none : (x : X) (xs : List X) (y : X) (ys : List X) → AllByRecursion (λ y. lt y x ≡ true) xs → lt y x ≡ false → lt x y ≡ true
+      → taken lt x (xs ++ y ∷ ys) ≡ xs ++ y ∷ ys
   taken_none x [] y ys a b c = rw (b, c) refl
   taken_none x (z ∷ zs) y ys a b c = rw (a.0) (ap (λ l. z ∷ l) (taken_none x zs y ys a.1 b c))
 
@@ -68,7 +71,8 @@ module _ {X : Type 0} (lt : X → X → Bool) where
   taken_past x [] a = refl
   taken_past x (z ∷ zs) a = rw (a.0) (ap (λ l. z ∷ l) (taken_past x zs a.1))
 
-  pub ranked-append : (xs ys : List X) → IsRanked lt xs → IsRanked lt ys → AllByRecursion (λ x. AllByRecursion (λ y. lt y x ≡ false) ys) xs → IsRanked lt (xs ++ ys)
+  pub ranked-append : (xs ys : List X) → IsRanked lt xs → IsRanked lt ys
+      → AllByRecursion (λ x. AllByRecursion (λ y. lt y x ≡ false) ys) xs → IsRanked lt (xs ++ ys)
   ranked-append [] ys a b c = b
   ranked-append (x ∷ xs) ys a b c = (both xs a.0, ranked-append xs ys a.1 b c.1)
     where
@@ -101,7 +105,8 @@ module _ {X : Type 0} (lt : X → X → Bool) where
           | inr l ↦ rw l (ap (λ b. cond b (Some x) (find t (y ∷ ys))) e)
         ]
 
-    find_put-found : (x : X) (xs : List X) → t x ≡ true → AllByRecursion (λ y. lt y x ≡ true → t y ≡ false) xs → find t (put lt x xs) ≡ Some x
+    find_put-found : (x : X) (xs : List X) → t x ≡ true → AllByRecursion (λ y. lt y x ≡ true → t y ≡ false) xs → find t (put lt x xs)
+        ≡ Some x
     find_put-found x [] e h = ap (λ b. cond b (Some x) (find t [])) e
     find_put-found x (y ∷ ys) e h =
         elim (cases_Bool (lt y x)) [
@@ -118,7 +123,8 @@ module _ {X : Type 0} (lt : X → X → Bool) where
     find-ranked [] h = refl
     find-ranked (x ∷ xs) h =
         elim (cases_Bool (t x)) [
-          | inl e ↦ find_put-found x (ranked lt xs) e (all_ranked (λ y. lt y x ≡ true → t y ≡ false) lt xs (all_weaker (λ y. t x ≡ true → lt y x ≡ true → t y ≡ false) (λ y. lt y x ≡ true → t y ≡ false) (λ y f. f e) xs h.0))
+          | inl e ↦ find_put-found x (ranked lt xs) e (all_ranked (λ y. lt y x ≡ true → t y ≡ false) lt xs
+              (all_weaker (λ y. t x ≡ true → lt y x ≡ true → t y ≡ false) (λ y. lt y x ≡ true → t y ≡ false) (λ y f. f e) xs h.0))
               ∙ sym (ap (λ b. cond b (Some x) (find t xs)) e)
           | inr e ↦ find_put-skipped x (ranked lt xs) e ∙ find-ranked xs h.1 ∙ sym (ap (λ b. cond b (Some x) (find t xs)) e)
         ]
@@ -203,13 +209,16 @@ module _ {X : Type 0} (lt : X → X → Bool) (weak : IsStrictWeakOrder lt) wher
     unique (x ∷ xs) (y ∷ ys) a b s =
         elim (cases_Bool (lt x y)) [
           | inl e ↦
-              let c = s x in let f = sum_by-cons (hit x) x xs in let g = hit_itself x in let k = sum_by-cons (hit x) y ys in let m = hit_below x y e in let n = hits_below x y ys e b.0 in absurd (omega arith)
+              let c = s x in let f = sum_by-cons (hit x) x xs in let g = hit_itself x in let k = sum_by-cons
+              (hit x) y ys in let m = hit_below x y e in let n = hits_below x y ys e b.0 in absurd (omega arith)
           | inr e ↦ elim (cases_Bool (lt y x)) [
             | inl d ↦
-                let c = s y in let f = sum_by-cons (hit y) y ys in let g = hit_itself y in let k = sum_by-cons (hit y) x xs in let m = hit_below y x d in let n = hits_below y x xs d a.0 in absurd (omega arith)
+                let c = s y in let f = sum_by-cons (hit y) y ys in let g = hit_itself y in let k = sum_by-cons
+                (hit y) x xs in let m = hit_below y x d in let n = hits_below y x xs d a.0 in absurd (omega arith)
             | inr d ↦
                 let same = tie x y e d in
-                let rest = unique xs ys a.1 b.1 (λ z. let c = s z in let f = sum_by-cons (hit z) x xs in let k = sum_by-cons (hit z) y ys in let g = ap (hit z) same in omega arith) in
+                let rest = unique xs ys a.1 b.1 (λ z. let c = s z in let f = sum_by-cons (hit z) x xs in let k = sum_by-cons
+                (hit z) y ys in let g = ap (hit z) same in omega arith) in
                 λ i. same i ∷ rest i
           ]
         ]
@@ -220,7 +229,8 @@ module _ {X : Type 0} (lt : X → X → Bool) (weak : IsStrictWeakOrder lt) wher
     -- an item among others is put where it belongs
     pub ranked-middle : (xs : List X) (x : X) (ys : List X) → ranked lt (xs ++ x ∷ ys) ≡ put lt x (ranked lt (xs ++ ys))
     ranked-middle xs x ys =
-        unique (ranked lt (xs ++ x ∷ ys)) (put lt x (ranked lt (xs ++ ys))) (ranked_is (xs ++ x ∷ ys)) (ranked_put x (ranked lt (xs ++ ys)) (ranked_is (xs ++ ys)))
+        unique (ranked lt (xs ++ x ∷ ys)) (put lt x (ranked lt (xs ++ ys))) (ranked_is (xs ++ x ∷ ys))
+        (ranked_put x (ranked lt (xs ++ ys)) (ranked_is (xs ++ ys)))
         (λ z.
         let a = sum-ranked lt (hit z) (xs ++ x ∷ ys) in
         let b = sum_by-append (hit z) xs (x ∷ ys) in
@@ -238,4 +248,5 @@ module _ {X : Type 0} (lt : X → X → Bool) (weak : IsStrictWeakOrder lt) wher
     pub ranked-ranked : (other : X → X → Bool) (xs : List X) → ranked lt (ranked other xs) ≡ ranked lt xs
     ranked-ranked other xs =
         unique (ranked lt (ranked other xs)) (ranked lt xs) (ranked_is (ranked other xs)) (ranked_is xs)
-        (λ z. let a = sum-ranked lt (hit z) (ranked other xs) in let b = sum-ranked other (hit z) xs in let c = sum-ranked lt (hit z) xs in omega arith)
+        (λ z. let a = sum-ranked lt (hit z) (ranked other xs) in let b = sum-ranked other (hit z) xs in let c = sum-ranked lt
+        (hit z) xs in omega arith)

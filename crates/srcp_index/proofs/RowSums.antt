@@ -30,23 +30,28 @@ highs key state = filter (λ row. is_after row.shown.key key) state
 -- a row that is there is put where it is
 pub put_there : (row : Row) (state : State) → IsRising state → row_at row.shown.key state ≡ Some row → put_row row state ≡ state
 put_there row state rising there =
-    same_rows (put_row row state) state (rising_put row_key row state rising) rising (λ key. row_at-put_row key row state ∙ by key (same_key row.shown.key key) refl)
+    same_rows (put_row row state) state (rising_put row_key row state rising) rising (λ key. row_at-put_row key row state ∙ by key
+    (same_key row.shown.key key) refl)
   where
     by : (key : Key) (b : Bool) → same_key row.shown.key key ≡ b → cond b (Some row) (row_at key state) ≡ row_at key state
     by key true e = sym there ∙ ap (λ k. row_at k state) (same_key-true row.shown.key key e)
     by key false e = refl
 
 module _ (w : Row → ℕ) where
-  apart : (o p : Ordering) → p ≡ ordering_reverse o → (row : Row) (others below above : State) → sum_by w others ≡ sum_by w below + sum_by w above
-      → sum_by w (cond (not (is_eq o)) (row ∷ others) others) ≡ sum_by w (cond (is_gt p) (row ∷ below) below) + sum_by w (cond (is_gt o) (row ∷ above) above)
+  apart : (o p : Ordering) → p ≡ ordering_reverse o → (row : Row) (others below above : State) → sum_by w others
+      ≡ sum_by w below + sum_by w above
+      → sum_by w (cond (not (is_eq o)) (row ∷ others) others) ≡ sum_by w (cond (is_gt p) (row ∷ below) below) + sum_by w
+      (cond (is_gt o) (row ∷ above) above)
   apart Less p e row others below above h = rw e (let a = sum_by-cons w row others in let b = sum_by-cons w row below in omega (arith, h))
   apart Equal p e row others below above h = rw e h
-  apart Greater p e row others below above h = rw e (let a = sum_by-cons w row others in let b = sum_by-cons w row above in omega (arith, h))
+  apart Greater p e row others below above h = rw e (let a = sum_by-cons w row others in let b = sum_by-cons w row above in omega
+      (arith, h))
 
   two_parts : (key : Key) (state : State) → sum_by w (but_at key state) ≡ sum_by w (lows key state) + sum_by w (highs key state)
   two_parts key [] = refl
   two_parts key (row ∷ state) =
-      apart (key_cmp row.shown.key key) (key_cmp key row.shown.key) (key_cmp_total.antisymm key row.shown.key) row (but_at key state) (lows key state) (highs key state) (two_parts key state)
+      apart (key_cmp row.shown.key key) (key_cmp key row.shown.key) (key_cmp_total.antisymm key row.shown.key) row (but_at key state)
+      (lows key state) (highs key state) (two_parts key state)
 
   -- the sum over rows with one put is that of the others and its own
   pub sum-put_row : (row : Row) (state : State) → sum_by w (put_row row state) ≡ w row + sum_by w (but_at row.shown.key state)
@@ -57,5 +62,6 @@ module _ (w : Row → ℕ) where
       let c = two_parts key state in
       omega arith
 
-  pub sum-there : (row : Row) (state : State) → IsRising state → row_at row.shown.key state ≡ Some row → sum_by w state ≡ w row + sum_by w (but_at row.shown.key state)
+  pub sum-there : (row : Row) (state : State) → IsRising state → row_at row.shown.key state ≡ Some row → sum_by w state
+      ≡ w row + sum_by w (but_at row.shown.key state)
   sum-there row state rising there = ap (sum_by w) (sym (put_there row state rising there)) ∙ sum-put_row row state

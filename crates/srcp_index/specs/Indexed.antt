@@ -45,7 +45,11 @@ due_of row = row.due
 
 -- both indexes with the pairs of the row
 abbrev pub with_row : Row → Indexes → Indexes
-with_row row both = record { moments = with_pair (due_of row) row.shown.key both.moments; sessions = with_pair (holder_of row) row.shown.key both.sessions }
+with_row row both = record {
+  moments = with_pair (due_of row) row.shown.key both.moments;
+  sessions = with_pair
+      (holder_of row) row.shown.key both.sessions;
+}
 
 -- both indexes with the pairs of these rows
 abbrev pub with_rows : List Row → Indexes → Indexes
@@ -53,7 +57,11 @@ with_rows rows both = fold (λ before row. with_row row before) both rows
 
 -- both indexes without the pairs of the row
 abbrev pub without_row : Row → Indexes → Indexes
-without_row row both = record { moments = without_pair (due_of row) row.shown.key both.moments; sessions = without_pair (holder_of row) row.shown.key both.sessions }
+without_row row both = record {
+  moments = without_pair (due_of row) row.shown.key both.moments;
+  sessions = without_pair
+      (holder_of row) row.shown.key both.sessions;
+}
 
 -- the index has room for one more pair
 abbrev pub HasRoom : Held → Type 0

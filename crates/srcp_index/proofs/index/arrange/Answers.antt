@@ -15,8 +15,12 @@ returns c =
     let count = c.partition_point-count.result in
     let new = c.sort.new.pairs in
     let p = λ (x : Pair). nat_le x.rank latest in
-    let parted = IsPartitionPoint-from_clause p pairs count c.partition_point-count.ensures.partitioned (partitioned (before since) p (come_first since latest (omega (arith, c.max-latest.ensures))) pairs c.requires) (λ a r f' called. search rules) in
+    let parted = IsPartitionPoint-from_clause p pairs count c.partition_point-count.ensures.partitioned
+    (partitioned (before since) p (come_first since latest (omega (arith, c.max-latest.ensures))) pairs c.requires)
+    (λ a r f' called. search rules) in
     ap (λ back. new ++ back) c.split_at_mut-front.ensures.back
-    ∙ arranged since c.args.moment latest (omega (arith, c.max-latest.ensures)) (omega (arith, c.max-latest.ensures)) pairs count new c.requires
-    (front_each (λ x. p x ≡ true) pairs count c.partition_point-count.ensures.bound parted.0) (back_each (λ x. p x ≡ false) pairs count parted.1)
+    ∙ arranged since c.args.moment latest (omega (arith, c.max-latest.ensures)) (omega (arith, c.max-latest.ensures)) pairs count new
+    c.requires
+    (front_each (λ x. p x ≡ true) pairs count c.partition_point-count.ensures.bound parted.0)
+    (back_each (λ x. p x ≡ false) pairs count parted.1)
     (subst (λ front. IsPermutation front new) c.split_at_mut-front.ensures.front c.sort.ensures.permutation) c.sort.ensures.ranked

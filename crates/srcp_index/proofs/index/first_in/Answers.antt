@@ -15,8 +15,10 @@ returns-in_err-pair c =
     let p = λ (x : Pair). nat_lt x.rank rank in
     let bound : place ≤ length pairs = search rules in
     let past : length pairs ≤ place = search rules in
-    let parted = IsPartitionPoint-from_clause p pairs place c.partition_point-place.ensures.partitioned (partitioned (before 0) p (lower_first rank) pairs c.requires) (λ a r f' called. search rules) in
-    let front = all_weaker (λ x. p x ≡ true) (λ x. (x.rank == rank) ≡ false) (not_of_lower rank) (take place pairs) (front_each (λ x. p x ≡ true) pairs place bound parted.0) in
+    let parted = IsPartitionPoint-from_clause p pairs place c.partition_point-place.ensures.partitioned
+    (partitioned (before 0) p (lower_first rank) pairs c.requires) (λ a r f' called. search rules) in
+    let front = all_weaker (λ x. p x ≡ true) (λ x. (x.rank == rank) ≡ false) (not_of_lower rank) (take place pairs)
+    (front_each (λ x. p x ≡ true) pairs place bound parted.0) in
     c.from_residual.ensures ∙ sym (find_past (λ x. x.rank == rank) pairs place front past)
 
 pub returns : goal.returns
@@ -28,7 +30,10 @@ returns c =
     let p = λ (x : Pair). nat_lt x.rank rank in
     let bound : place ≤ length pairs = search rules in
     let within : place < length pairs = search rules in
-    let parted = IsPartitionPoint-from_clause p pairs place c.partition_point-place.ensures.partitioned (partitioned (before 0) p (lower_first rank) pairs c.requires) (λ a r f' called. search rules) in
-    let front = all_weaker (λ x. p x ≡ true) (λ x. (x.rank == rank) ≡ false) (not_of_lower rank) (take place pairs) (front_each (λ x. p x ≡ true) pairs place bound parted.0) in
-    let stops = rank_stops rank (drop place pairs) (ranked_drop (before 0) place pairs c.requires) (back_each (λ x. p x ≡ false) pairs place parted.1) in
+    let parted = IsPartitionPoint-from_clause p pairs place c.partition_point-place.ensures.partitioned
+    (partitioned (before 0) p (lower_first rank) pairs c.requires) (λ a r f' called. search rules) in
+    let front = all_weaker (λ x. p x ≡ true) (λ x. (x.rank == rank) ≡ false) (not_of_lower rank) (take place pairs)
+    (front_each (λ x. p x ≡ true) pairs place bound parted.0) in
+    let stops = rank_stops rank (drop place pairs) (ranked_drop (before 0) place pairs c.requires)
+    (back_each (λ x. p x ≡ false) pairs place parted.1) in
     c.then_some.ensures ∙ find_at (λ x. x.rank == rank) pairs place pair front stops within c.in_ok-pair.ensures.lookup

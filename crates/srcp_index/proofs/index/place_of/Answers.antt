@@ -11,15 +11,19 @@ returns-clause-front c =
     let lt = before c.args.since in
     let pair = c.args.pair.now in
     let pairs = c.args.pairs.now.items in
-    let split = partitioned lt (λ x. lt x pair) (λ x y e f. true_from_ne_false (lt x pair) (λ g. true≢false (sym f ∙ (before_weak c.args.since).chain y x pair e g))) pairs c.requires in
+    let split = partitioned lt (λ x. lt x pair) (λ x y e f. true_from_ne_false (lt x pair)
+    (λ g. true≢false (sym f ∙ (before_weak c.args.since).chain y x pair e g))) pairs c.requires in
     front_each (λ x. lt x pair ≡ true) pairs c.partition_point.result (search rules)
-    (IsPartitionPoint-from_clause (λ x. lt x pair) pairs c.partition_point.result c.partition_point.ensures.partitioned split (λ a r f' called. search rules)).0
+    (IsPartitionPoint-from_clause (λ x. lt x pair) pairs c.partition_point.result c.partition_point.ensures.partitioned split
+    (λ a r f' called. search rules)).0
 
 pub returns-clause-back : goal.returns-clause-back
 returns-clause-back c =
     let lt = before c.args.since in
     let pair = c.args.pair.now in
     let pairs = c.args.pairs.now.items in
-    let split = partitioned lt (λ x. lt x pair) (λ x y e f. true_from_ne_false (lt x pair) (λ g. true≢false (sym f ∙ (before_weak c.args.since).chain y x pair e g))) pairs c.requires in
+    let split = partitioned lt (λ x. lt x pair) (λ x y e f. true_from_ne_false (lt x pair)
+    (λ g. true≢false (sym f ∙ (before_weak c.args.since).chain y x pair e g))) pairs c.requires in
     back_each (λ x. lt x pair ≡ false) pairs c.partition_point.result
-    (IsPartitionPoint-from_clause (λ x. lt x pair) pairs c.partition_point.result c.partition_point.ensures.partitioned split (λ a r f' called. search rules)).1
+    (IsPartitionPoint-from_clause (λ x. lt x pair) pairs c.partition_point.result c.partition_point.ensures.partitioned split
+    (λ a r f' called. search rules)).1

@@ -16,8 +16,10 @@ returns-in_err-pair c =
     let p = is_passed since cursor in
     let bound : place ≤ length pairs = search rules in
     let past : length pairs ≤ place = search rules in
-    let parted = IsPartitionPoint-from_clause p pairs place c.partition_point-place.ensures.partitioned (partitioned (before since) p (passed_first since cursor) pairs c.requires) (λ a r f' called. search rules) in
-    let front = all_weaker (λ x. p x ≡ true) (λ x. is_ripe since cursor x ≡ false) (not_ripe_from_passed since cursor) (take place pairs) (front_each (λ x. p x ≡ true) pairs place bound parted.0) in
+    let parted = IsPartitionPoint-from_clause p pairs place c.partition_point-place.ensures.partitioned
+    (partitioned (before since) p (passed_first since cursor) pairs c.requires) (λ a r f' called. search rules) in
+    let front = all_weaker (λ x. p x ≡ true) (λ x. is_ripe since cursor x ≡ false) (not_ripe_from_passed since cursor)
+    (take place pairs) (front_each (λ x. p x ≡ true) pairs place bound parted.0) in
     c.from_residual.ensures ∙ sym (find_past (is_ripe since cursor) pairs place front past)
 
 pub returns : goal.returns
@@ -30,7 +32,11 @@ returns c =
     let p = is_passed since cursor in
     let bound : place ≤ length pairs = search rules in
     let within : place < length pairs = search rules in
-    let parted = IsPartitionPoint-from_clause p pairs place c.partition_point-place.ensures.partitioned (partitioned (before since) p (passed_first since cursor) pairs c.requires) (λ a r f' called. search rules) in
-    let front = all_weaker (λ x. p x ≡ true) (λ x. is_ripe since cursor x ≡ false) (not_ripe_from_passed since cursor) (take place pairs) (front_each (λ x. p x ≡ true) pairs place bound parted.0) in
-    let stops = ripe_stops since cursor (drop place pairs) (ranked_drop (before since) place pairs c.requires) (back_each (λ x. p x ≡ false) pairs place parted.1) in
-    c.then_some.ensures ∙ ap (λ b. then_some b pair) c.is_ripe.ensures ∙ find_at (is_ripe since cursor) pairs place pair front stops within c.in_ok-pair.ensures.lookup
+    let parted = IsPartitionPoint-from_clause p pairs place c.partition_point-place.ensures.partitioned
+    (partitioned (before since) p (passed_first since cursor) pairs c.requires) (λ a r f' called. search rules) in
+    let front = all_weaker (λ x. p x ≡ true) (λ x. is_ripe since cursor x ≡ false) (not_ripe_from_passed since cursor)
+    (take place pairs) (front_each (λ x. p x ≡ true) pairs place bound parted.0) in
+    let stops = ripe_stops since cursor (drop place pairs) (ranked_drop (before since) place pairs c.requires)
+    (back_each (λ x. p x ≡ false) pairs place parted.1) in
+    c.then_some.ensures ∙ ap (λ b. then_some b pair) c.is_ripe.ensures
+    ∙ find_at (is_ripe since cursor) pairs place pair front stops within c.in_ok-pair.ensures.lookup

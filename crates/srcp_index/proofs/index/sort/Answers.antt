@@ -7,4 +7,5 @@ use Rattle.srcp_index.proofs.index.sort.Goals as goal
 
 pub returns-clause-ranked : goal.returns-clause-ranked
 returns-clause-ranked c =
-    from_sorted (before c.args.moment) (before_weak c.args.moment) _ (c.sort_unstable_by.ensures.sorted (before c.args.moment) (before_weak c.args.moment) (always_returns_same _ _ _ (λ a r g called. search rules)))
+    from_sorted (before c.args.moment) (before_weak c.args.moment) _ (c.sort_unstable_by.ensures.sorted (before c.args.moment)
+    (before_weak c.args.moment) (always_returns_same _ _ _ (λ a r g called. search rules)))

@@ -25,6 +25,9 @@ returns-else-place-len-clause-pairs c =
     let front = c.place_of-place.ensures.front in
     let back = c.place_of-place.ensures.back in
     elim c.else-place-len.branch [
-      | else-place-len-via-then-place-len+else-not-is_before w ↦ not_taken lt pair items place w.index.result.now front back (omega (arith, w.if-place-len.true, c.len.ensures)) (ap (lt pair) (sym w.index.ensures) ∙ sym w.is_before.ensures ∙ w.if-not-is_before.false)
-      | else-place-len-via-else-place-len w ↦ past_taken lt pair items place pair front back (omega (arith, w.if-place-len.false, c.len.ensures))
+      | else-place-len-via-then-place-len+else-not-is_before w ↦ not_taken lt pair items place w.index.result.now front back
+          (omega (arith, w.if-place-len.true, c.len.ensures)) (ap (lt pair) (sym w.index.ensures) ∙ sym w.is_before.ensures
+          ∙ w.if-not-is_before.false)
+      | else-place-len-via-else-place-len w ↦ past_taken lt pair items place pair front back
+          (omega (arith, w.if-place-len.false, c.len.ensures))
     ]

@@ -7,5 +7,8 @@ use Rattle.srcp_index.proofs.index.Index.take.Goals as goal
 
 pub invariant_of-self : goal.invariant_of-self
 invariant_of-self c =
-    let lt = before c.self.inside.since in
-    (subst (IsRanked lt) (sym c.take_from.ensures.pairs) (ranked_taken lt (before_weak c.self.inside.since) c.args.pair c.self.inside.pairs.items c.self.invariant.0), search rules)
+    let lt = before c.self.inside.since in (
+      subst (IsRanked lt) (sym c.take_from.ensures.pairs)
+          (ranked_taken lt (before_weak c.self.inside.since) c.args.pair c.self.inside.pairs.items c.self.invariant.0),
+      search rules,
+    )

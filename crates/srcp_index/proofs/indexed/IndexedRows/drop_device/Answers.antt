@@ -7,13 +7,18 @@ use Rattle.srcp_index.proofs.indexed.IndexedRows.drop_device.Goals as goal
 
 pub loop-port-init : goal.loop-port-init
 loop-port-init g c =
-    record { rows = refl; indexed = subst (λ state. IsIndexed state c.self.inside.indexes c.self.inside.count) (sym (but_below-none c.args.device (g.R.Rows.state c.self.inside.rows))) c.self.invariant }
+    record {
+      rows = refl;
+      indexed = subst (λ state. IsIndexed state c.self.inside.indexes c.self.inside.count)
+          (sym (but_below-none c.args.device (g.R.Rows.state c.self.inside.rows))) c.self.invariant;
+    }
 
 pub overflow_sub-self : goal.overflow_sub-self
 overflow_sub-self g c =
     let state = g.R.Rows.state c.self.inside.rows in
     let here = key_at c.args.device c.loop-port.port in
-    next_goes c.args.device c.loop-port.port state c.loop-port.self-inside.indexes c.loop-port.self-inside.count c.loop-port.invariant.indexed c.requires c.in-Some.row.now
+    next_goes c.args.device c.loop-port.port state c.loop-port.self-inside.indexes c.loop-port.self-inside.count
+    c.loop-port.invariant.indexed c.requires c.in-Some.row.now
     (ap (λ rows. row_at here (g.R.Rows.state rows)) (sym c.loop-port.invariant.rows) ∙ sym c.in-Some.ensures)
 
 pub loop-port-preserved : goal.loop-port-preserved
@@ -35,7 +40,8 @@ loop-port-preserved g c =
         rows = ap (λ inside. inside.rows) w.self-inside-is ∙ c.loop-port.invariant.rows;
         indexed = subst (λ inside. IsIndexed left inside.indexes inside.count) (sym w.self-inside-is)
             (none_next c.args.device c.loop-port.port state both count c.loop-port.invariant.indexed
-            (ap (λ rows. row_at here (g.R.Rows.state rows)) (sym c.loop-port.invariant.rows) ∙ sym c.row.ensures ∙ ap option_copied w.in_default.is));
+            (ap (λ rows. row_at here (g.R.Rows.state rows)) (sym c.loop-port.invariant.rows) ∙ sym c.row.ensures
+            ∙ ap option_copied w.in_default.is));
       }
     ]
 
@@ -44,10 +50,12 @@ invariant_of-self g c =
     let state = g.R.Rows.state c.self.inside.rows in
     subst (λ rows. IsIndexed rows c.loop-port.self-inside.indexes c.loop-port.self-inside.count)
     (ap (λ rows. without c.args.device (g.R.Rows.state rows)) (sym c.loop-port.invariant.rows) ∙ sym c.drop_device.ensures.rows)
-    (dropped_all c.args.device c.loop-port.port state c.loop-port.self-inside.indexes c.loop-port.self-inside.count c.self.invariant.rows (omega (arith, c.loop-port-test.false, c.loop-port.auto.port-end)) c.loop-port.invariant.indexed)
+    (dropped_all c.args.device c.loop-port.port state c.loop-port.self-inside.indexes c.loop-port.self-inside.count
+    c.self.invariant.rows (omega (arith, c.loop-port-test.false, c.loop-port.auto.port-end)) c.loop-port.invariant.indexed)
 
 pub returns-clause-layout : goal.returns-clause-layout
 returns-clause-layout g c = c.drop_device.ensures.layout ∙ ap g.R.Rows.buses (c.loop-port.invariant.rows ∙ c.self.view_is)
 
 pub returns-clause-rows : goal.returns-clause-rows
-returns-clause-rows g c = c.drop_device.ensures.rows ∙ ap (λ rows. without c.args.device (g.R.Rows.state rows)) (c.loop-port.invariant.rows ∙ c.self.view_is)
+returns-clause-rows g c = c.drop_device.ensures.rows
+    ∙ ap (λ rows. without c.args.device (g.R.Rows.state rows)) (c.loop-port.invariant.rows ∙ c.self.view_is)

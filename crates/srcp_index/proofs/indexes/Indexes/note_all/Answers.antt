@@ -13,7 +13,8 @@ loop-row-preserved c =
     let inv = c.loop-row.invariant in
     record {
       both = c.note.ensures ∙ (λ i. with_row (c.row-item.is i) (inv.both i))
-          ∙ sym (fold_more (λ both other. with_row other both) c.args.self.now c.args.rows.now c.loop-row.row-index row c.loop-row-test.true);
+          ∙ sym (fold_more (λ both other. with_row other both) c.args.self.now c.args.rows.now c.loop-row.row-index row
+          c.loop-row-test.true);
       moments = (let e = ap (λ (b : Indexes). length b.moments.pairs) c.note.ensures in
           let r = ap (λ (b : Indexes). b.moments.room) c.note.ensures in
           let l = longer (due_of row) row.shown.key before.moments in
