@@ -48,8 +48,7 @@ def rows_without(word):
 
 FIRST_ROWS = [row for row in ROWS if row.startswith("0.000 ")]
 PANEL_GONE = [f"{event} NoSuch" for event in range(15, 21)]
-# The record where the event of that number is refused its memory; at 0 none is. The second locomotive (8) is not here: it finds
-# room in what was grown for the first, in either keeper.
+# The record where the event of that number is refused its memory; at 0 none is.
 RECORDS = {
     0: printed(),
     # the panel's `open` gives connection 1 then, and no event behind it names that
@@ -61,6 +60,7 @@ RECORDS = {
                ("1 true 2", [*PANEL[:2], "1.000 200 OK GO 1"]), ["6 Busy"],
                ["1.000 101 INFO 0 SESSION 1 INFO", *FIRST_ROWS]),
     6: printed(throttle=throttle_sent({2: NO_MEMORY, 5: NO_DATA}), rows=rows_without(" GL 3 ")),
+    8: printed(throttle=throttle_sent({3: NO_MEMORY}), rows=rows_without(" GL 7 ")),
     10: printed(throttle=throttle_sent({4: NO_MEMORY}), rows=rows_without(" GA 5 ")),
     12: printed(throttle=throttle_sent({5: NO_MEMORY}), rows=rows_without(" LOCK ")),
     14: printed(STEPS[:-1], panel=None, refused=["14 Memory", *PANEL_GONE], rows=rows_without(" SESSION 2 ")),
