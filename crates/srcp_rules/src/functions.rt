@@ -8,14 +8,18 @@ use crate::read::bit_of;
 use srcp_info::{Bits, Code, MOST_FUNCTIONS};
 use srcp_text::Words;
 
-/// The functions read before, with one more; or the first refusal.
-fn and_bit(before: Result<Bits, Code>, word: &[u8]) -> Result<Bits, Code>
-    requires { IfOk before (λ bits. length bits < MOST_FUNCTIONS) }
-    ensures { result ≡ and_bit before word.now }
+/// Reads one more function, or keeps the first refusal.
+fn read_one(functions: &mut Result<Bits, Code>, word: &[u8])
+    requires { IfOk functions.old (λ bits. length bits < MOST_FUNCTIONS) }
+    ensures { functions.new ≡ and_bit functions.old word.now }
 {
-    let mut bits = before?;
-    bits.push(bit_of(word)?);
-    Ok(bits)
+    let Ok(bits) = functions else {
+        return;
+    };
+    match bit_of(word) {
+        Ok(bit) => bits.push(bit),
+        Err(code) => *functions = Err(code),
+    }
 }
 
 /// The functions, each 0 or 1. More of them than a locomotive can have are 418, whatever they are;
@@ -29,7 +33,7 @@ pub(crate) fn read_functions(mut words: Words<'_>) -> Result<Result<Bits, Code>,
         if count == Bits::CAPACITY {
             return Err(Code::TOO_LONG);
         }
-        functions = and_bit(functions, word);
+        read_one(&mut functions, word);
         count += 1;
     }
     Ok(functions)

@@ -15,8 +15,8 @@ loop-word-preserved c =
       counted = omega (arith, one_less);
       read =
           c.loop-word.invariant.read ∙ ap (and_bits before) c.in-Some.ensures.steps ∙ and_bits-cons before word left
-          ∙ ap (λ (r : Result (List Bool) Code). and_bits r left) (sym c.and_bit-functions.ensures);
+          ∙ ap (λ (r : Result (List Bool) Code). and_bits r left) (sym c.read_one.ensures);
       one_each =
-          subst (λ (r : Result (List Bool) Code). IfOk r (λ bits. length bits ≡ c.loop-word.count + 1)) (sym c.and_bit-functions.ensures)
+          subst (λ (r : Result (List Bool) Code). IfOk r (λ bits. length bits ≡ c.loop-word.count + 1)) (sym c.read_one.ensures)
           (and_bit-length c.loop-word.count before word c.loop-word.invariant.one_each);
     }
