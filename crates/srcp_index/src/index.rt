@@ -19,7 +19,7 @@ pub(crate) struct Pair {
     pub(crate) key: Key,
 }
 
-/// Which of two pairs comes first: ranks up to `since` are alike, and pairs of like rank go by their keys.
+/// Compares two pairs: ranks up to `since` are alike, and pairs of like rank go by their keys.
 fn compare(since: u64, a: &Pair, b: &Pair) -> Ordering
     ensures { result ≡ order since a.now b.now }
 {
@@ -30,14 +30,14 @@ fn compare(since: u64, a: &Pair, b: &Pair) -> Ordering
     ranks.then(compare_keys(&a.key, &b.key).then(a.rank.cmp(&b.rank)))
 }
 
-/// Whether a comes before b.
+/// Returns whether a comes before b.
 fn is_before(since: u64, a: &Pair, b: &Pair) -> bool
     ensures { result ≡ before since a.now b.now }
 {
     compare(since, a, b).is_lt()
 }
 
-/// How many pairs come before this one.
+/// Returns how many pairs come before this one.
 fn place_of(pairs: &VecDeque<Pair>, since: u64, pair: &Pair) -> usize
     requires { IsRanked (before since) pairs.now.items }
     ensures bound { result ≤ length pairs.now.items }
@@ -82,7 +82,7 @@ fn arrange(pairs: &mut [Pair], since: u64, moment: u64)
     sort(front, moment);
 }
 
-/// The same of a vector.
+/// Does so to the pairs of a ring.
 fn arrange_in(pairs: &mut VecDeque<Pair>, since: u64, moment: u64)
     requires { IsRanked (before since) pairs.old.items }
     ensures pairs { pairs.new.items ≡ ranked (before moment) pairs.old.items }
@@ -100,14 +100,14 @@ fn sort(pairs: &mut [Pair], moment: u64)
     pairs.sort_unstable_by(|a, b| compare(moment, a, b));
 }
 
-/// Whether the rank has come, and the key is beyond the cursor.
+/// Returns whether the rank has come, and the key is beyond the cursor.
 fn is_ripe(moment: u64, cursor: Cursor, pair: &Pair) -> bool
     ensures { result ≡ is_ripe moment cursor pair.now }
 {
     pair.rank <= moment && !cursor.has_reached(&pair.key)
 }
 
-/// The first pair that is ripe.
+/// Returns the first pair that is ripe.
 fn ripe_in(pairs: &VecDeque<Pair>, since: u64, cursor: Cursor) -> Option<Pair>
     requires { IsRanked (before since) pairs.now.items }
     ensures { result ≡ find (is_ripe since cursor) pairs.now.items }
@@ -117,7 +117,7 @@ fn ripe_in(pairs: &VecDeque<Pair>, since: u64, cursor: Cursor) -> Option<Pair>
     is_ripe(since, cursor, &pair).then_some(pair)
 }
 
-/// The first pair of a rank.
+/// Returns the first pair of a rank.
 fn first_in(pairs: &VecDeque<Pair>, rank: u64) -> Option<Pair>
     requires { IsRanked (before 0) pairs.now.items }
     ensures { result ≡ find (λ x. x.rank == rank) pairs.now.items }
@@ -150,6 +150,7 @@ impl Model for Index {
 }
 
 impl Index {
+    /// Returns an index of no pairs.
     pub(crate) fn new(alloc: Global) -> Index
         ensures pairs { result.pairs ≡ [] }
         ensures since { result.since ≡ 0 }
@@ -161,7 +162,7 @@ impl Index {
         }
     }
 
-    /// Makes room for so many pairs in all. No other call takes memory.
+    /// Makes room for so many pairs in all. Fails if memory is refused, and the pairs stay. No other call takes memory.
     pub(crate) fn reserve(&mut self, total: usize) -> Result<(), AllocError>
         ensures pairs { self.new.pairs ≡ self.old.pairs }
         ensures since { self.new.since ≡ self.old.since }
@@ -184,7 +185,7 @@ impl Index {
         put_in(&mut self.pairs, self.since, pair);
     }
 
-    /// Takes a pair out; nothing where it is not there.
+    /// Takes a pair out, if it is there.
     pub(crate) fn take(&mut self, pair: Pair)
         ensures pairs { self.new.pairs ≡ taken (before self.old.since) pair self.old.pairs }
         ensures since { self.new.since ≡ self.old.since }
@@ -193,7 +194,7 @@ impl Index {
         take_from(&mut self.pairs, self.since, pair);
     }
 
-    /// From now on the pairs whose rank has come at the moment stand first, by their keys.
+    /// Brings the pairs whose rank has come at the moment to the front, in order of their keys.
     pub(crate) fn settle(&mut self, moment: u64)
         ensures pairs { self.new.pairs ≡ ranked (before moment) self.old.pairs }
         ensures since { self.new.since ≡ moment }
@@ -205,14 +206,14 @@ impl Index {
         }
     }
 
-    /// The first pair whose rank has come, with a key beyond the cursor.
+    /// Returns the first pair whose rank has come and whose key is beyond the cursor.
     pub(crate) fn ripe_beyond(&self, cursor: Cursor) -> Option<Pair>
         ensures { result ≡ find (is_ripe self.now.since cursor) self.now.pairs }
     {
         ripe_in(&self.pairs, self.since, cursor)
     }
 
-    /// The first pair of a rank.
+    /// Returns the first pair of a rank.
     pub(crate) fn first_of(&self, rank: u64) -> Option<Pair>
         requires { self.now.since ≡ 0 }
         ensures { result ≡ find (λ x. x.rank == rank) self.now.pairs }

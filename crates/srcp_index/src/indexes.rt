@@ -77,7 +77,7 @@ impl Indexes {
     }
 }
 
-/// The session that holds the lock of a row.
+/// Returns the session that holds the lock of a row.
 fn holder(row: &Row) -> Option<u64>
     ensures { result ≡ holder_of row.now }
 {
