@@ -1,12 +1,13 @@
 -- Laws of the words of a line that is gone through from its front.
-use Rattle.std.specs.Prelude.{◌≡◌, ℕ, ◌+◌, ◌<◌, ◌≤◌, Bool, false, not, List, [], ◌∷◌, length, take, drop, get_or, position, unwrap_or, nat_lt, Some, None}
+use Rattle.std.specs.Prelude.{◌≡◌, ℕ, ◌+◌, ◌<◌, ◌≤◌, Bool, false, not, List, [], ◌∷◌, length, take, drop, get_or, position, unwrap_or, nat_lt, Option, Some, None}
 use Rattle.std.specs.List.{list_any, filter, slice_split, position_or_len}
 use Rattle.std.proofs.Common.{refl, ap, sym, ◌∙◌, arith, inl, inr, suc, drop-cons, add-one, length-drop}
-use Rattle.std.proofs.lemmas.Bool.{cases_Bool, cases_lt, lt-ltb, le-ltb, ltb-true, not-true}
+use Rattle.std.proofs.lemmas.Bool.{cases_Bool, cases_lt, false_from_ne_true, lt-ltb, le-ltb, ltb-true, not-true}
 use Rattle.std.proofs.lemmas.Option.{cond_some, none-some}
 use Rattle.std.proofs.lemmas.List.{take_all, drop_all, length-take-le}
 use Rattle.std.proofs.lemmas.List.Splits.{slice_split_first}
-use Rattle.std.proofs.lemmas.List.Sums.{passes_at_first, prefix_len-le-length}
+use Rattle.std.proofs.lemmas.List.Sums.{passes_at_first, position_or_len_is, prefix_len-le-length}
+use Rattle.memchr.specs.Find.{IsFirstByte, is_byte}
 use Rattle.srcp_text.specs.Words.{is_blank, is_filled, is_empty, words_of}
 use Rattle.srcp_text.proofs.NumberLaws.{filled}
 use Rattle.srcp_text.proofs.WordLaws.{words_of_blank, words_of_word}
@@ -108,3 +109,20 @@ pub words_of-cut : (xs begun word left : List ℕ) (n k : ℕ) → position is_f
 words_of-cut xs begun word left n k found from at front back =
     words_of-some xs n k found (sym (ap (λ ys. unwrap_or (position is_blank ys) (length ys)) from) ∙ sym at)
     ∙ ap (λ ys. take k ys ∷ words_of (drop k ys)) (sym from) ∙ ap (λ ys. ys ∷ words_of (drop k begun)) (sym front) ∙ ap (λ ys. word ∷ words_of ys) (sym back)
+
+-- what a search for a byte finds is its first place
+pub first_place : (a : ℕ) (xs : List ℕ) (found : Option ℕ) → IsFirstByte (is_byte a) xs found → found ≡ position (is_byte a) xs
+first_place a xs None none =
+    let at_no_place : (k : ℕ) → k < length xs → is_byte a (get_or xs k 0) ≡ false
+        = λ k inside. false_from_ne_true (is_byte a (get_or xs k 0)) (none k (omega arith) inside) in
+    let is = position_or_len_is (is_byte a) xs (length xs) 0 (omega arith) at_no_place (λ past. absurd (no_less (length xs) past)) in
+    rw (is, le-ltb (length xs) (length xs) (omega arith)) refl
+  where
+    no_less : (n : ℕ) → n < n → ⊥
+    no_less n h = omega (arith, h)
+first_place a xs (Some n) found =
+    let at_no_place : (k : ℕ) → k < n → is_byte a (get_or xs k 0) ≡ false
+        = λ k earlier. false_from_ne_true (is_byte a (get_or xs k 0)) (found.0.before k (omega arith) earlier) in
+    let inside : n < length xs = found.0.high in
+    let is = position_or_len_is (is_byte a) xs n 0 (omega (arith, inside)) at_no_place (λ _. found.1) in
+    rw (is, lt-ltb n (length xs) inside) refl

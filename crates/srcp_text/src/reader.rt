@@ -6,6 +6,7 @@ ghost use Rattle.srcp_text.specs.Reading.{StandsAt, after_lf, extended, nothing_
 ghost use Rattle.srcp_text.specs.Feeding.{feed_of, fed_at, is_line, new_marks, next_stop, stop_of, taken};
 
 use arrayvec::ArrayVec;
+use memchr::memchr;
 use std::marker::Model;
 
 /// What a feed found.
@@ -147,7 +148,7 @@ impl LineReader {
 fn first_lf(bytes: &[u8]) -> Option<usize>
     ensures { result ≡ position is_lf bytes.now }
 {
-    bytes.iter().position(|byte| *byte == b'\n')
+    memchr(b'\n', bytes)
 }
 
 // The text without a CR at its end.
