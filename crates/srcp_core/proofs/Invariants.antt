@@ -1,5 +1,6 @@
 -- What holds of every core, and what its walks over places and rows do.
 pub mod PlaceLaws
+pub mod KeysEnd
 pub mod EveryPlaceIsTold
 pub mod ChangesOneByOne
 pub mod DueInOneWalk

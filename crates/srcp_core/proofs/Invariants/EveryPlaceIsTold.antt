@@ -1,5 +1,5 @@
 -- The walk that tells every connection a change.
-use Rattle.std.proofs.Common.{◌≡◌, ℕ, zero, suc, ◌+◌, ◌≤◌, List, [], ◌∷◌, length, refl, ap, sym, ◌∙◌, arith, add-one, true≢false}
+use Rattle.std.proofs.Common.{◌≡◌, ℕ, zero, suc, ◌+◌, List, [], ◌∷◌, refl, ap, sym, ◌∙◌, add-one, true≢false}
 use Rattle.std.specs.Prelude.{Option, Some, None, slice_index_or, slice_set, count_by, is_some, Bool, false, if◌then◌else◌}
 use Rattle.std.specs.Option.{option_map}
 use Rattle.std.proofs.lemmas.List.{set-get_or}
@@ -8,12 +8,6 @@ use Rattle.srcp_info.specs.declared.change.Change.{Change}
 use Rattle.srcp_core.specs.Held.{Place}
 use Rattle.srcp_feed.specs.Feed.{Feed}
 use Rattle.srcp_core.specs.Machine.{feed_in, told_feed, told_place, told_all, told_upto}
-
-pub told_upto_all : (change : Change) (key : ℕ) (places : List (Option Place)) → length places ≤ key → told_upto change key places ≡ told_all change places
-told_upto_all change zero [] h = refl
-told_upto_all change zero (place ∷ places) h = absurd (omega arith)
-told_upto_all change (suc key) [] h = refl
-told_upto_all change (suc key) (place ∷ places) h = ap (λ ps. option_map (told_place change) place ∷ ps) (told_upto_all change key places (omega arith))
 
 pub told_upto_at : (change : Change) (key : ℕ) (places : List (Option Place)) → slice_index_or (told_upto change key places) key None ≡ slice_index_or places key None
 told_upto_at change zero places = refl

@@ -19,31 +19,44 @@ pub(crate) fn tell_all(connections: &mut Slab<Connection>, change: &Change)
     ensures slots { connections.new.slots ≡ told_all change.now connections.old.slots }
     ensures capacity { connections.new.capacity ≡ connections.old.capacity }
 {
-    let first = first_panel(connections);
-    if first == connections.capacity() {
+    let end = end_of_keys(connections);
+    let first = first_panel(connections, end);
+    if first == end {
         return;
     }
     let told = ChangeLine::new(change);
-    for key in first..connections.capacity() {
+    for key in first..end {
         if let Some(connection) = connections.get_mut(key) {
             connection.tell(&told);
         }
     }
 }
 
-/// Returns the least key of a connection that may be told a change; the capacity if there is none.
-fn first_panel(connections: &Slab<Connection>) -> usize
-    ensures within { result ≤ connections.now.capacity }
+/// Returns one more than the greatest key of a connection; 0 if there is none.
+fn end_of_keys(connections: &Slab<Connection>) -> usize
+    ensures { (change : Change) → told_upto change result connections.now.slots ≡ told_all change connections.now.slots }
+{
+    // Called for its contract, which says that no key is greater.
+    let _ = connections.capacity();
+    match connections.iter().next_back() {
+        Some((key, _)) => key + 1,
+        None => 0,
+    }
+}
+
+/// Returns the least key of a connection that may be told a change; `end` if there is none below it.
+fn first_panel(connections: &Slab<Connection>, end: usize) -> usize
+    ensures within { result ≤ end }
     ensures before { (change : Change) → told_upto change result connections.now.slots ≡ connections.now.slots }
 {
-    for key in 0..connections.capacity() {
+    for key in 0..end {
         if let Some(connection) = connections.get(key) {
             if connection.is_listening() {
                 return key;
             }
         }
     }
-    connections.capacity()
+    end
 }
 
 /// And is told each change in turn.

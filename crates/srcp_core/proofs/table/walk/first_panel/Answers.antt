@@ -24,5 +24,5 @@ loop-key-preserved c = record {
 
 pub returns-clause-before : goal.returns-clause-before
 returns-clause-before c = λ change.
-    let e : c.loop-key.key ≡ c.capacity.result = omega (arith, c.loop-key.auto.key-end, c.loop-key-test.false) in
+    let e : c.loop-key.key ≡ c.args.end = omega (arith, c.loop-key.auto.key-end, c.loop-key-test.false) in
     subst (λ (k : ℕ). told_upto change k c.args.connections.now.slots ≡ c.args.connections.now.slots) e (c.loop-key.invariant.silent change)

@@ -1,16 +1,15 @@
-use Rattle.std.proofs.Common.{ap, sym, ◌∙◌, arith, Some, slice_set}
+use Rattle.std.proofs.Common.{◌≡◌, ℕ, ap, sym, ◌∙◌, arith, Some, slice_set}
 use Rattle.std.specs.Option.{option_copied_mut}
 use Rattle.slab.specs.Slab.{Slab}
 use Rattle.srcp_info.specs.declared.change.Change.{Change}
 use Rattle.srcp_core.specs.Held.{Place}
-use Rattle.srcp_core.specs.Machine.{told_place}
-use Rattle.srcp_core.proofs.Invariants.EveryPlaceIsTold.{told_upto_all, told_step_some, told_step_none}
+use Rattle.srcp_core.specs.Machine.{told_place, told_upto}
+use Rattle.srcp_core.proofs.Invariants.EveryPlaceIsTold.{told_step_some, told_step_none}
 use Rattle.srcp_core.proofs.table.walk.tell_all.Goals as goal
 use Rattle.srcp_core.proofs.table.walk.tell_all.Goals.{in-Some, in_default}
 
 pub loop-key-preserved : goal.loop-key-preserved
 loop-key-preserved c = record {
-  far = c.loop-key.invariant.far;
   slots = elim c.match-get_mut.branch [
     | in-Some w ↦
         ap (λ (s : Slab Place). s.slots) w.connections-is
@@ -28,9 +27,11 @@ loop-key-preserved c = record {
 }
 
 pub returns-clause-slots : goal.returns-clause-slots
-returns-clause-slots c = c.loop-key.invariant.slots ∙ told_upto_all c.args.change.now c.loop-key.key c.args.connections.now.slots (omega (arith, c.loop-key.invariant.far))
+returns-clause-slots c =
+    let e : c.loop-key.key ≡ c.end_of_keys-end.result = omega (arith, c.loop-key.auto.key-end, c.loop-key-test.false) in
+    c.loop-key.invariant.slots ∙ ap (λ (key : ℕ). told_upto c.args.change.now key c.args.connections.now.slots) e ∙ c.end_of_keys-end.ensures c.args.change.now
 
-pub returns-then-first-capacity-clause-slots : goal.returns-then-first-capacity-clause-slots
-returns-then-first-capacity-clause-slots c =
+pub returns-then-first-end-clause-slots : goal.returns-then-first-end-clause-slots
+returns-then-first-end-clause-slots c =
     sym (c.first_panel-first.ensures.before c.args.change.now)
-    ∙ told_upto_all c.args.change.now c.first_panel-first.result c.args.connections.now.slots (omega (arith, c.capacity.ensures.slots, c.if-first-capacity.true))
+    ∙ ap (λ (key : ℕ). told_upto c.args.change.now key c.args.connections.now.slots) c.if-first-end.true ∙ c.end_of_keys-end.ensures c.args.change.now
