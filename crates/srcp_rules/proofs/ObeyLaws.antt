@@ -1,15 +1,17 @@
 -- What is refused and what is accepted of a command, and the rows that it sets.
-use Rattle.std.specs.Prelude.{◌≡◌, ℕ, ◌+◌, ◌≤◌, Bool, true, false, not, cond, List, [], ◌∷◌, length, Option, Some, None, Err}
-use Rattle.std.proofs.Common.{refl, ap, arith}
+use Rattle.std.specs.Prelude.{◌≡◌, ℕ, ◌+◌, ◌≤◌, ◌<◌, is_some, Bool, true, false, not, cond, List, [], ◌∷◌, length, Option, Some, None, Err}
+use Rattle.std.proofs.Common.{refl, ap, arith, subst}
 use Rattle.std.specs.Result.{result_err}
 use Rattle.srcp_info.specs.declared.key.Device.{Device}
+use Rattle.srcp_info.specs.declared.key.Key.{Key}
+use Rattle.srcp_info.specs.declared.change.Row.{Row}
 use Rattle.srcp_info.specs.declared.change.Code.{Code}
 use Rattle.srcp_info.specs.declared.change.Code.TheVariants.{C416}
 use Rattle.srcp_info.specs.declared.value.Value.TheVariants as value
 use Rattle.srcp_info.specs.Key.{first_key}
 use Rattle.srcp_info.specs.WellFormed.{IsMoment}
 use Rattle.srcp_rules.specs.declared.layout.Bus.{Bus}
-use Rattle.srcp_rules.specs.Layout.{IsKeyOf}
+use Rattle.srcp_rules.specs.Layout.{IsKeyOf, row_count}
 use Rattle.srcp_rules.specs.Command.{kept_v}
 use Rattle.srcp_rules.specs.declared.command.Lockable.{Lockable}
 use Rattle.srcp_rules.specs.declared.command.Lockable.TheVariants as lockable
@@ -18,6 +20,8 @@ use Rattle.srcp_rules.specs.State.{State, Update, IsRowOf, IsWhole, has_row, row
 use Rattle.srcp_rules.specs.Effect.{done, checked, first_refusal, refused, refused_or_not, accepted, unless_refused, lock_end, port_end, functions_after}
 use Rattle.srcp_rules.specs.Obeyed.{MayObey}
 use Rattle.srcp_rules.proofs.EffectLaws.{NoneApplies, lock_value, lock_end_fits, port_end_fits, is_not, found_few, as_many}
+use Rattle.srcp_rules.proofs.StateLaws.{row_at_key}
+use Rattle.srcp_rules.proofs.AddsNoRowLaws.{gl_count}
 use Rattle.srcp_rules.proofs.StepLaws.{IsRowOf-put}
 
 -- ---- refusals
@@ -57,6 +61,34 @@ checked_is (refusal ∷ others) updates = by refusal.0 (checked_is others update
         → refused_or_not (result_err (cond b (Err refusal.1) (unless_refused others []))) ≡ checked (cond b (Err refusal.1) (unless_refused others updates))
     by true later = refl
     by false later = later
+
+-- ---- a locomotive is there where its state row is
+
+-- a row that is found is one of the layout
+placed : (buses : List Bus) (state : State) → IsWhole buses state
+    → (key : Key) (o : Option Row) → row_at key state ≡ o → is_some o ≡ true → IsKeyOf buses key
+placed buses state whole key None e h = absurd (let f : ⊥ = cc in f)
+placed buses state whole key (Some row) e h = subst (IsKeyOf buses) (row_at_key key state row e) (whole.rows key row e).place
+
+-- each of two tests passes where the other does
+alike : (a b : Bool) → (a ≡ true → b ≡ true) → (b ≡ true → a ≡ true) → a ≡ b
+alike true b down up = let t : b ≡ true = down refl in cc
+alike false true down up = up refl
+alike false false down up = refl
+
+-- it has both its rows or none
+pub gl_there : (buses : List Bus) (state : State) → IsWhole buses state → (bus address : ℕ)
+    → has_row (key_at (device_in lockable.Gl bus address) 1) state ≡ is_there (device_in lockable.Gl bus address) state
+gl_there buses state whole bus address =
+    let device = device_in lockable.Gl bus address in
+    alike (has_row (key_at device 1) state) (is_there device state)
+    (λ here.
+    let place : 1 < row_count buses device = placed buses state whole (key_at device 1) (row_at (key_at device 1) state) refl here in
+    whole.complete (key_at device 1) here 0 (omega arith))
+    (λ here.
+    let place : 0 < row_count buses device = placed buses state whole (first_key device) (row_at (first_key device) state) refl here in
+    let two : row_count buses device ≡ 2 = gl_count buses bus address place in
+    whole.complete (first_key device) here 1 (omega arith))
 
 -- ---- rows that are set
 

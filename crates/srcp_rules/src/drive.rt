@@ -1,28 +1,32 @@
-ghost use Rattle.std.specs.Prelude.{◌≡◌, ◌≤◌, [], length};
+ghost use Rattle.std.specs.Prelude.{◌≡◌, ◌≤◌, [], length, is_some, IfOk, IfSome};
+ghost use Rattle.std.specs.Result.{result_err};
+ghost use Rattle.srcp_rules.specs.declared.command.Lockable.TheVariants as lockable;
 ghost use Rattle.srcp_rules.specs.Command.{kept_v};
 ghost use Rattle.srcp_rules.specs.Effect.{accepted, done, first_refusal, functions_after, gl_refusals, port_end, set_ga, set_gl};
 ghost use Rattle.srcp_rules.specs.Obeyed.{IsTold, MayObey, Took};
-ghost use Rattle.srcp_rules.specs.State.{functions_of};
+ghost use Rattle.srcp_rules.specs.State.{IsWhole, device_in, functions_of, is_there};
 
 use crate::command::{Command, Lockable, Sender};
 use crate::device::{BusAddress, device_in, key_at};
 use crate::lock::{is_locked, moment_after, refusal};
 use crate::obeyed::Obeyed;
-use crate::registry::{is_there, set_one};
+use crate::registry::set_one;
 use crate::rows::Rows;
 use srcp_info::{Bits, Code, DriveMode, Value};
 
-/// The functions of a locomotive's state.
-fn functions_of<R: Rows>(rows: &R, place: BusAddress) -> Bits
-    ensures { result ≡ functions_of place.bus place.address (R.state rows.now) }
+/// Returns the functions of a locomotive, or none where it is not there. Its state row answers both, since a device has
+/// all its rows or none.
+#[tactic(auto, using(crate::proofs::ObeyLaws::gl_there))]
+fn functions_of<R: Rows>(rows: &R, place: BusAddress) -> Option<Bits>
+    requires whole { IsWhole (R.buses rows.now) (R.state rows.now) }
+    ensures there { is_some result ≡ is_there (device_in lockable.Gl place.bus place.address) (R.state rows.now) }
+    ensures functions { IfSome result (λ functions. functions ≡ functions_of place.bus place.address (R.state rows.now)) }
 {
     let locomotive = device_in(Lockable::Gl, place);
-    match rows.row(&key_at(locomotive, 1)) {
-        Some(row) => match row.shown.value {
-            Value::GlState { functions, .. } => functions,
-            _ => Bits::new(),
-        },
-        None => Bits::new(),
+    let row = rows.row(&key_at(locomotive, 1))?;
+    match row.shown.value {
+        Value::GlState { functions, .. } => Some(functions),
+        _ => Some(Bits::new()),
     }
 }
 
@@ -38,26 +42,36 @@ fn functions_after(given: &Bits, before: &Bits) -> Bits
     after
 }
 
-/// Why the session may not drive the locomotive: it is not there, has fewer functions than are
-/// given, or another session has its lock.
+/// Returns the functions that the locomotive has, or why the session may not drive it. It may not where the locomotive
+/// is not there, has fewer functions than are given, or another session has its lock.
+fn drivable<R: Rows>(rows: &R, session: u32, place: BusAddress, given: &Bits) -> Result<Bits, Code>
+    requires whole { IsWhole (R.buses rows.now) (R.state rows.now) }
+    ensures before { IfOk result (λ before. before ≡ functions_of place.bus place.address (R.state rows.now)) }
+    ensures refusal { result_err result ≡ first_refusal (gl_refusals (R.state rows.now) session place.bus place.address given.now) }
+{
+    let Some(before) = functions_of(rows, place) else {
+        return Err(Code::NO_SUCH_DEVICE);
+    };
+    if before.len() < given.len() {
+        return Err(Code::TOO_LONG);
+    }
+    if is_locked(rows, session, Lockable::Gl, place) {
+        return Err(Code::DEVICE_LOCKED);
+    }
+    Ok(before)
+}
+
+/// Returns why the session may not drive the locomotive, or none where it may.
 pub(crate) fn gl_refusal<R: Rows>(
     rows: &R,
     session: u32,
     place: BusAddress,
     functions: &Bits,
 ) -> Option<Code>
+    requires whole { IsWhole (R.buses rows.now) (R.state rows.now) }
     ensures { result ≡ first_refusal (gl_refusals (R.state rows.now) session place.bus place.address functions.now) }
 {
-    if !is_there(rows, device_in(Lockable::Gl, place)) {
-        return Some(Code::NO_SUCH_DEVICE);
-    }
-    if functions_of(rows, place).len() < functions.len() {
-        return Some(Code::TOO_LONG);
-    }
-    if is_locked(rows, session, Lockable::Gl, place) {
-        return Some(Code::DEVICE_LOCKED);
-    }
-    None
+    drivable(rows, session, place, functions).err()
 }
 
 /// V as it is kept: in an emergency stop it is 0.
@@ -93,14 +107,15 @@ pub(crate) fn set_gl<R: Rows>(
     ensures took { Took (done (set_gl (R.state rows.old) sender.session sender.moment place.bus place.address drive.mode drive.v drive.vmax functions.now)) (R.state rows.old) (R.state rows.new) obeyed.new }
     ensures layout { R.buses rows.new ≡ R.buses rows.old }
 {
-    if let Some(code) = gl_refusal(rows, sender.session, place, functions) {
-        return obeyed.refuse(code);
-    }
+    let before = match drivable(rows, sender.session, place, functions) {
+        Ok(before) => before,
+        Err(code) => return obeyed.refuse(code),
+    };
     let driven = Value::GlState {
         mode: drive.mode,
         v: kept_v(drive.mode, drive.v),
         vmax: drive.vmax,
-        functions: functions_after(functions, &functions_of(rows, place)),
+        functions: functions_after(functions, &before),
     };
     let key = key_at(device_in(Lockable::Gl, place), 1);
     set_one(rows, sender.moment, key, driven, None, obeyed);

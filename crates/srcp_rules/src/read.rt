@@ -20,11 +20,15 @@ pub(crate) fn number_in(least: u32, most: u32, word: &[u8]) -> Result<u32, Code>
     }
 }
 
-/// 0 or 1.
+/// Reads 0 or 1; any other word is 412. The words "0" and "1" themselves are read without a call.
 pub(crate) fn bit_of(word: &[u8]) -> Result<bool, Code>
     ensures { result ≡ bit_of word.now }
 {
-    Ok(number_in(0, 1, word)? == 1)
+    match word {
+        b"0" => Ok(false),
+        b"1" => Ok(true),
+        _ => Ok(number_in(0, 1, word)? == 1),
+    }
 }
 
 /// A decoder protocol; any other word is 420.

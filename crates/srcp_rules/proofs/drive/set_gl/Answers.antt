@@ -10,46 +10,74 @@ use Rattle.srcp_rules.specs.State.{device_in, functions_of, key_at}
 use Rattle.srcp_rules.proofs.ObeyLaws.{accepted_done, gl_row, none_applies, port_there, refused_done, set_there}
 use Rattle.srcp_rules.proofs.drive.set_gl.Goals as goal
 
-pub returns-in-Some-clause-took : goal.returns-in-Some-clause-took
-returns-in-Some-clause-took g c =
+pub returns-in-Err-clause-took : goal.returns-in-Err-clause-took
+returns-in-Err-clause-took g c =
     let state = g.R.Rows.state c.args.rows.now in
-    let after = functions_after c.args.functions.now (functions_of c.args.place.bus c.args.place.address state) in
-    let updates = put_at c.args.sender.moment (key_at (device_in lockable.Gl c.args.place.bus c.args.place.address) 1) (value.GlState c.args.drive.mode (kept_v c.args.drive.mode c.args.drive.v) c.args.drive.vmax after) None ∷ [] in
-    subst (λ (did : Effect). Took did state state c.refuse.new.self) (refused_done (gl_refusals state c.args.sender.session c.args.place.bus c.args.place.address c.args.functions.now) updates c.in-Some.code c.in-Some.ensures)
+    let bus = c.args.place.bus in
+    let address = c.args.place.address in
+    let mode = c.args.drive.mode in
+    let given = c.args.functions.now in
+    let after = functions_after given (functions_of bus address state) in
+    let driven = value.GlState mode (kept_v mode c.args.drive.v) c.args.drive.vmax after in
+    let updates = put_at c.args.sender.moment (key_at (device_in lockable.Gl bus address) 1) driven None ∷ [] in
+    let refusals = gl_refusals state c.args.sender.session bus address given in
+    subst (λ (did : Effect). Took did state state c.refuse.new.self) (refused_done refusals updates c.in-Err.code c.in-Err.ensures.refusal)
     (record { told = c.refuse.ensures; rows = refl })
 
 -- no more functions are given than it has
 pub functions_after-requires : goal.functions_after-requires
 functions_after-requires g c =
     let state = g.R.Rows.state c.args.rows.now in
-    let before = functions_of c.args.place.bus c.args.place.address state in
+    let bus = c.args.place.bus in
+    let address = c.args.place.address in
+    let before = functions_of bus address state in
     let given = c.args.functions.now in
-    let enough = (none_applies (gl_refusals state c.args.sender.session c.args.place.bus c.args.place.address given) c.in_default.ensures).1.0 in
-    rw c.functions_of.ensures (ltb-false (length before) (length given) enough)
+    let enough = (none_applies (gl_refusals state c.args.sender.session bus address given) c.in-Ok.ensures.refusal).1.0 in
+    rw c.in-Ok.ensures.before (ltb-false (length before) (length given) enough)
 
 pub set_one-requires-clause-there : goal.set_one-requires-clause-there
 set_one-requires-clause-there g c =
     let buses = g.R.Rows.buses c.args.rows.now in
     let state = g.R.Rows.state c.args.rows.now in
-    let device = device_in lockable.Gl c.args.place.bus c.args.place.address in
-    let others = (nat_lt (length (functions_of c.args.place.bus c.args.place.address state)) (length c.args.functions.now), C418) ∷ (is_locked state c.args.sender.session lockable.Gl c.args.place.bus c.args.place.address, C414) ∷ [] in
-    let there = set_there buses state c.args.sender.session c.args.sender.moment c.args.sender.fits device others c.in_default.ensures in
-    rw (c.key_at-key.ensures, c.device_in.ensures) (port_there buses state c.args.sender.session c.args.sender.moment c.args.sender.fits device c.requires.may.whole there 1 c.requires.may.of.0)
+    let bus = c.args.place.bus in
+    let address = c.args.place.address in
+    let session = c.args.sender.session in
+    let moment = c.args.sender.moment in
+    let fits = c.args.sender.fits in
+    let device = device_in lockable.Gl bus address in
+    let short = nat_lt (length (functions_of bus address state)) (length c.args.functions.now) in
+    let others = (short, C418) ∷ (is_locked state session lockable.Gl bus address, C414) ∷ [] in
+    let there = set_there buses state session moment fits device others c.in-Ok.ensures.refusal in
+    rw (c.key_at-key.ensures, c.device_in.ensures)
+    (port_there buses state session moment fits device c.requires.may.whole there 1 c.requires.may.of.0)
 
 pub set_one-requires-clause-fits : goal.set_one-requires-clause-fits
 set_one-requires-clause-fits g c =
+    let buses = g.R.Rows.buses c.args.rows.now in
     let state = g.R.Rows.state c.args.rows.now in
-    let before = functions_of c.args.place.bus c.args.place.address state in
+    let bus = c.args.place.bus in
+    let address = c.args.place.address in
+    let session = c.args.sender.session in
+    let drive = c.args.drive in
+    let before = functions_of bus address state in
     let given = c.args.functions.now in
-    let enough = (none_applies (gl_refusals state c.args.sender.session c.args.place.bus c.args.place.address given) c.in_default.ensures).1.0 in
-    rw (c.key_at-key.ensures, c.device_in.ensures, c.kept_v.ensures, c.functions_after.ensures, c.functions_of.ensures)
-    (gl_row (g.R.Rows.buses c.args.rows.now) state c.args.sender.session c.args.sender.moment c.args.sender.fits c.args.place.bus c.args.place.address c.args.drive.mode c.args.drive.v c.args.drive.vmax given c.requires.may (ltb-false (length before) (length given) enough))
+    let enough = (none_applies (gl_refusals state session bus address given) c.in-Ok.ensures.refusal).1.0 in
+    rw (c.key_at-key.ensures, c.device_in.ensures, c.kept_v.ensures, c.functions_after.ensures, c.in-Ok.ensures.before)
+    (gl_row buses state session c.args.sender.moment c.args.sender.fits bus address drive.mode drive.v drive.vmax given c.requires.may
+    (ltb-false (length before) (length given) enough))
 
 pub returns-clause-took : goal.returns-clause-took
 returns-clause-took g c =
     let state = g.R.Rows.state c.args.rows.now in
-    let after = functions_after c.args.functions.now (functions_of c.args.place.bus c.args.place.address state) in
-    let updates = put_at c.args.sender.moment (key_at (device_in lockable.Gl c.args.place.bus c.args.place.address) 1) (value.GlState c.args.drive.mode (kept_v c.args.drive.mode c.args.drive.v) c.args.drive.vmax after) None ∷ [] in
+    let bus = c.args.place.bus in
+    let address = c.args.place.address in
+    let mode = c.args.drive.mode in
+    let given = c.args.functions.now in
+    let after = functions_after given (functions_of bus address state) in
+    let driven = value.GlState mode (kept_v mode c.args.drive.v) c.args.drive.vmax after in
+    let updates = put_at c.args.sender.moment (key_at (device_in lockable.Gl bus address) 1) driven None ∷ [] in
+    let refusals = gl_refusals state c.args.sender.session bus address given in
+    let took = c.set_one.ensures.took in
     subst (λ (did : Effect). Took did state (g.R.Rows.state c.set_one.new.rows) c.set_one.new.obeyed)
-    (accepted_done (gl_refusals state c.args.sender.session c.args.place.bus c.args.place.address c.args.functions.now) updates c.in_default.ensures)
-    (rw (c.key_at-key.ensures, c.device_in.ensures, c.kept_v.ensures, c.functions_after.ensures, c.functions_of.ensures) at c.set_one.ensures.took)
+    (accepted_done refusals updates c.in-Ok.ensures.refusal)
+    (rw (c.key_at-key.ensures, c.device_in.ensures, c.kept_v.ensures, c.functions_after.ensures, c.in-Ok.ensures.before) at took)
