@@ -1,11 +1,13 @@
 //! Bytes that are held in order until they are handed over.
 
-ghost use Rattle.std.specs.Prelude.{◌≡◌, ◌≢◌, ◌↔◌, ◌<◌, ◌≤◌, ◌-◌, ◌++◌, ◌==◌, [], ℕ, IfOk, length, take, drop, min};
-ghost use Rattle.std.specs.Io.KnownBytes.{Appends, Keeps, append_known};
+ghost use Rattle.std.specs.Prelude.{◌≡◌, ◌≢◌, ◌↔◌, ◌<◌, ◌≤◌, ◌+◌, ◌-◌, ◌++◌, ◌==◌, [], ℕ, Ok, IfOk, OnOk, OnErr, length, take, drop, min, slice_range};
+ghost use Rattle.std.specs.Io.{StartsWith};
+ghost use Rattle.std.specs.Io.KnownBytes.{Appends, Consumes, IsAtEnd, Keeps, append_known, prepend_known};
 ghost use Rattle.srcp_door.specs.Handing.{refusal_told};
 
 use std::alloc::{AllocError, Global};
-use std::io::{ErrorKind, Write};
+use std::io;
+use std::io::{ErrorKind, Read, Write};
 use std::marker::Model;
 use std::vec::Vec;
 
@@ -19,17 +21,20 @@ pub type Gathered = Held<MOST_GATHERED>;
 /// Bytes in the order in which they came, at most so many. Seen as a list.
 #[derive(Drop)]
 pub struct Held<const MOST: usize> {
-    bytes: Vec<u8>,
+    // The bytes from `start` to `end` are held.
+    buffer: Vec<u8>,
+    start: usize,
+    end: usize,
 }
 
 impl<const MOST: usize> Model for Held<MOST> {
-    ghost use Rattle.std.specs.Prelude.{◌≤◌, List, ℕ, vec_capacity, vec_len};
+    ghost use Rattle.std.specs.Prelude.{◌≡◌, ◌≤◌, List, ℕ, length, slice_range};
 
     ghost Value = { List ℕ };
 
-    ghost view = { λ h. h.bytes.items };
+    ghost view = { λ h. slice_range h.buffer.items h.start h.end };
 
-    ghost invariant = { λ h. (vec_len h.bytes ≤ MOST) × (MOST ≤ vec_capacity h.bytes) };
+    ghost invariant = { λ h. (h.start ≤ h.end) × (h.end ≤ MOST) × (length h.buffer.items ≡ MOST) };
 }
 
 /// What became of held bytes that a writer was handed.
@@ -66,8 +71,12 @@ impl<const MOST: usize> Held<MOST> {
     pub fn new(alloc: Global) -> Result<Held<MOST>, AllocError>
         ensures { IfOk result (λ held. held ≡ []) }
     {
+        let mut buffer = Vec::new(alloc);
+        buffer.resize(MOST, 0)?;
         Ok(Held {
-            bytes: Vec::with_capacity(alloc, MOST)?,
+            buffer,
+            start: 0,
+            end: 0,
         })
     }
 
@@ -76,21 +85,14 @@ impl<const MOST: usize> Held<MOST> {
         ensures count { result ≡ length self.now }
         ensures most { result ≤ MOST }
     {
-        self.bytes.len()
+        self.end - self.start
     }
 
     /// Returns whether none is held.
     pub fn is_empty(&self) -> bool
         ensures { result ≡ (length self.now == 0) }
     {
-        self.bytes.is_empty()
-    }
-
-    /// Returns how many more would be taken.
-    pub fn space(&self) -> usize
-        ensures { result ≡ MOST - length self.now }
-    {
-        MOST - self.bytes.len()
+        self.start == self.end
     }
 
     /// Takes bytes, as many as there is space for, and returns how many those are.
@@ -98,16 +100,41 @@ impl<const MOST: usize> Held<MOST> {
         ensures count { result ≡ min (length bytes.now) (MOST - length self.old) }
         ensures held { self.new ≡ self.old ++ take result bytes.now }
     {
-        let count = bytes.len().min(self.space());
-        self.bytes.extend_from_slice(&bytes[..count]).unwrap();
+        move_to_front(&mut self.buffer, self.start, self.end);
+        self.end -= self.start;
+        self.start = 0;
+        let count = bytes.len().min(MOST - self.end);
+        let space = self.end..self.end + count;
+        self.buffer[space].copy_from_slice(&bytes[..count]);
+        self.end += count;
         count
+    }
+
+    /// Reads once, as much as there is space for, and returns how many bytes came.
+    ///
+    /// # Errors
+    /// Those of the reader. Then the bytes stay as they are.
+    pub fn read_from<R: Read>(&mut self, reader: &mut R) -> io::Result<usize>
+        ensures whole { Keeps (prepend_known self.old (R.remaining reader.old)) (prepend_known self.new (R.remaining reader.new)) }
+        ensures held { StartsWith self.new self.old }
+        ensures read { Consumes (R.remaining reader.old) (R.remaining reader.new) (drop (length self.old) self.new) }
+        ensures count { IfOk result (λ count. length self.new ≡ length self.old + count) }
+        ensures end { result ≡ Ok 0 → length self.old < MOST → IsAtEnd (R.remaining reader.new) }
+        ensures err { OnErr result (self.new ≡ self.old) }
+    {
+        move_to_front(&mut self.buffer, self.start, self.end);
+        self.end -= self.start;
+        self.start = 0;
+        let count = reader.read(&mut self.buffer[self.end..])?;
+        self.end += count;
+        Ok(count)
     }
 
     /// Returns the bytes, the one that came first in front.
     pub fn front(&self) -> &[u8]
         ensures { result.now ≡ self.now }
     {
-        &self.bytes
+        &self.buffer[self.start..self.end]
     }
 
     /// Drops so many, from the first on.
@@ -115,9 +142,7 @@ impl<const MOST: usize> Held<MOST> {
         requires { count ≤ length self.old }
         ensures { self.new ≡ drop count self.old }
     {
-        let end = self.bytes.len();
-        self.bytes.copy_within(count..end, 0);
-        self.bytes.truncate(end - count);
+        self.start += count;
     }
 
     /// Writes the bytes once, as many as the writer takes now. Whatever it answers, what it has and what is held is together
@@ -129,10 +154,10 @@ impl<const MOST: usize> Held<MOST> {
         ensures all { result ≡ HandedOver.All ↔ self.new ≡ [] }
         ensures lost { result ≡ HandedOver.Lost → self.new ≡ self.old }
     {
-        if self.bytes.is_empty() {
+        if self.is_empty() {
             return HandedOver::All;
         }
-        match writer.write(&self.bytes) {
+        match writer.write(self.front()) {
             Ok(0) => HandedOver::Lost,
             Ok(count) => self.after(count),
             Err(fault) => HandedOver::refused(fault.kind()),
@@ -147,10 +172,21 @@ impl<const MOST: usize> Held<MOST> {
         ensures lost { result ≢ HandedOver.Lost }
     {
         self.drop_front(count);
-        if self.bytes.is_empty() {
+        if self.is_empty() {
             HandedOver::All
         } else {
             HandedOver::Later
         }
+    }
+}
+
+/// Moves the bytes from `start` to `end` to the front of a buffer.
+fn move_to_front(buffer: &mut Vec<u8>, start: usize, end: usize)
+    requires { (start ≤ end) × (end ≤ length buffer.old.items) }
+    ensures moved { slice_range buffer.new.items 0 (end - start) ≡ slice_range buffer.old.items start end }
+    ensures len { length buffer.new.items ≡ length buffer.old.items }
+{
+    if start > 0 {
+        buffer.copy_within(start..end, 0);
     }
 }

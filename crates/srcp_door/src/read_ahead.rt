@@ -101,17 +101,12 @@ impl ReadAhead {
         if self.held.len() >= MOST_PIECE {
             return Filled::Unasked;
         }
-        let space = self.held.space();
-        let mut piece = [0; MOST_AHEAD];
-        match reader.read(&mut piece[..space]) {
+        match self.held.read_from(reader) {
             Ok(0) => {
                 self.input = Input::Ended;
                 Filled::Something
             }
-            Ok(count) => {
-                self.held.take(&piece[..count]);
-                Filled::Something
-            }
+            Ok(_) => Filled::Something,
             Err(fault) => self.hear(fault.kind()),
         }
     }
