@@ -78,10 +78,10 @@ impl<R: Rows> Rows for Indexed<R> {
     }
 
     fn set(&mut self, row: Row) {
-        let Some(old) = self.rows.row(&row.shown.key).copied() else {
+        let Some(old) = self.rows.row(&row.shown.key) else {
             return;
         };
-        self.indexes.forget(&old);
+        self.indexes.forget(old);
         self.indexes.note(&row);
         self.rows.set(row);
     }

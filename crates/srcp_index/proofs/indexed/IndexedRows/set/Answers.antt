@@ -1,4 +1,5 @@
 use Rattle.std.proofs.Common.{IsSome, sym, ap, subst, ◌∙◌}
+use Rattle.std.specs.Option.{option_copied}
 use Rattle.srcp_rules.specs.State.{holder_of, put_row}
 use Rattle.srcp_index.specs.declared.indexes.Indexes.{Indexes}
 use Rattle.srcp_index.specs.Indexed.{IsIndexed, HasRoom, due_of, with_row}
@@ -7,23 +8,23 @@ use Rattle.srcp_index.proofs.indexed.IndexedRows.set.Goals as goal
 
 pub note-requires-clause-moments : goal.note-requires-clause-moments
 note-requires-clause-moments g c =
-    let there = sym c.row.ensures ∙ sym c.copied.ensures ∙ c.in-Some.is in
+    let there = sym c.row.ensures ∙ ap option_copied c.in-Some.is in
     subst (λ (both : Indexes). IsSome (due_of c.args.row) → HasRoom both.moments) (sym c.forget.ensures)
     (room_for_due (g.R.Rows.buses c.args.self.now) (g.R.Rows.state c.self.inside.rows) c.self.inside.indexes c.self.inside.count
-    c.self.invariant c.in-Some.old c.args.row there c.requires.fits)
+    c.self.invariant c.in-Some.old.now c.args.row there c.requires.fits)
 
 pub note-requires-clause-sessions : goal.note-requires-clause-sessions
 note-requires-clause-sessions g c =
-    let there = sym c.row.ensures ∙ sym c.copied.ensures ∙ c.in-Some.is in
+    let there = sym c.row.ensures ∙ ap option_copied c.in-Some.is in
     subst (λ (both : Indexes). IsSome (holder_of c.args.row) → HasRoom both.sessions) (sym c.forget.ensures)
     (room_for_held (g.R.Rows.buses c.args.self.now) (g.R.Rows.state c.self.inside.rows) c.self.inside.indexes c.self.inside.count
-    c.self.invariant c.in-Some.old c.args.row there c.requires.fits)
+    c.self.invariant c.in-Some.old.now c.args.row there c.requires.fits)
 
 pub invariant_of-self : goal.invariant_of-self
 invariant_of-self g c =
-    let there = sym c.row.ensures ∙ sym c.copied.ensures ∙ c.in-Some.is in
+    let there = sym c.row.ensures ∙ ap option_copied c.in-Some.is in
     let indexed = set_indexed (g.R.Rows.buses c.args.self.now) (g.R.Rows.state c.self.inside.rows) c.self.inside.indexes
-    c.self.inside.count c.self.invariant c.in-Some.old c.args.row there c.requires.fits in
+    c.self.inside.count c.self.invariant c.in-Some.old.now c.args.row there c.requires.fits in
     subst (λ state. IsIndexed state c.note.new.self c.self.inside.count) (sym c.set.ensures.rows)
     (subst (λ both. IsIndexed (put_row c.args.row (g.R.Rows.state c.self.inside.rows)) both c.self.inside.count)
     (sym (c.note.ensures ∙ ap (with_row c.args.row) c.forget.ensures)) indexed)
