@@ -1,1 +1,2 @@
 mod HeldLaws
+mod Lines

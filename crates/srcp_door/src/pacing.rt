@@ -1,8 +1,9 @@
 //! How many lines are let through in a turn.
 
-ghost use Rattle.std.specs.Prelude.{◌≡◌, ◌<◌, ◌≤◌, ◌+◌, ◌↔◌, ◌⊎◌, ◌==◌, true, false, not, cond, IsTrue, length, slice_index, take};
-ghost use Rattle.srcp_door.specs.Pacing.{Budget, line_weight, line_after, seen_after, seen_of, weight_of, share_after, budget_after};
+ghost use Rattle.std.specs.Prelude.{◌≡◌, ◌<◌, ◌≤◌, ◌+◌, ◌↔◌, ◌⊎◌, ◌==◌, true, false, not, cond, IsTrue, length, slice_index, take, fold};
+ghost use Rattle.srcp_door.specs.Pacing.{Budget, line_weight, line_after, seen_after, seen_of, weight_of, share_after, budget_after, lines};
 
+use memchr::memchr;
 use std::marker::Model;
 
 /// How much the lines of a turn weigh at most while a panel is there. Between two visits of a panel the lines of two
@@ -69,21 +70,30 @@ struct Seen {
 }
 
 impl Seen {
-    /// Returns what is seen after one more byte.
-    fn after(self, byte: u8) -> Seen
-        requires { self.weight ≤ MOST_UNPACED }
-        ensures { result ≡ seen_after self byte }
+    /// Returns what is seen after bytes in which no line ends: the first of them alone says which line they are of.
+    #[tactic(auto, using(crate::proofs::Lines::fold_first))]
+    fn after(self, bytes: &[u8]) -> Seen
+        requires { lines bytes.now ≡ 0 }
+        ensures seen { result ≡ fold seen_after self bytes.now }
+        ensures weight { result.weight ≡ self.weight }
     {
-        if byte == LINE_END {
-            Seen {
-                line: Line::Ended,
-                weight: self.weight + self.line.weight(),
-            }
-        } else {
-            Seen {
-                line: self.line.after(byte),
+        match bytes.first() {
+            Some(first) => Seen {
+                line: self.line.after(*first),
                 weight: self.weight,
-            }
+            },
+            None => self,
+        }
+    }
+
+    /// Returns what is seen after a line end.
+    fn after_end(self) -> Seen
+        requires { self.weight ≤ MOST_UNPACED }
+        ensures { result ≡ seen_after self LINE_END }
+    {
+        Seen {
+            line: Line::Ended,
+            weight: self.weight + self.line.weight(),
         }
     }
 }
@@ -175,6 +185,7 @@ impl Pacing {
 }
 
 /// Returns the longest front whose lines weigh at most so much.
+#[tactic(auto, using(crate::proofs::Lines::seen_of_part))]
 fn front_within(piece: &[u8], line: Line, most: usize) -> Front
     requires { most ≤ MOST_UNPACED }
     ensures within { result.count ≤ length piece.now }
@@ -183,15 +194,19 @@ fn front_within(piece: &[u8], line: Line, most: usize) -> Front
     ensures most { result.count < length piece.now → (slice_index piece.now result.count ≡ 10) × (most < result.seen.weight + HEAVY) }
 {
     let mut seen = Seen { line, weight: 0 };
-    for count in 0..piece.len() {
-        let next = seen.after(piece[count]);
+    let mut start = 0;
+    'lines: while let Some(length) = memchr(LINE_END, &piece[start..]) {
+        let end = start + length;
+        seen = seen.after(&piece[start..end]);
+        let next = seen.after_end();
         if next.weight > most {
-            return Front { count, seen };
+            return Front { count: end, seen };
         }
         seen = next;
+        start = end + 1;
     }
     Front {
         count: piece.len(),
-        seen,
+        seen: seen.after(&piece[start..]),
     }
 }

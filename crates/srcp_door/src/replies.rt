@@ -3,6 +3,8 @@
 ghost use Rattle.std.specs.Prelude.{◌≡◌, ◌<◌, ◌-◌, ◌↔◌, ◌⊎◌, false, IsTrue};
 ghost use Rattle.srcp_door.specs.Pacing.{lines, owed_after};
 
+use memchr::arch::all::memchr::One;
+
 /// What ends a line.
 const LINE_END: u8 = b'\n';
 
@@ -51,5 +53,6 @@ impl Replies {
 fn lines_of(bytes: &[u8]) -> usize
     ensures { result ≡ lines bytes.now }
 {
-    bytes.iter().filter(|byte| **byte == LINE_END).count()
+    // `count` of such an iterator goes from one line end to the next, where that of `memchr_iter` reads each byte.
+    One::new(LINE_END).iter(bytes).count()
 }
