@@ -114,7 +114,7 @@ words_of-cut xs begun word left n k found from at front back =
 pub first_place : (a : ℕ) (xs : List ℕ) (found : Option ℕ) → IsFirstByte (is_byte a) xs found → found ≡ position (is_byte a) xs
 first_place a xs None none =
     let at_no_place : (k : ℕ) → k < length xs → is_byte a (get_or xs k 0) ≡ false
-        = λ k inside. false_from_ne_true (is_byte a (get_or xs k 0)) (none k (omega arith) inside) in
+    = λ k inside. false_from_ne_true (is_byte a (get_or xs k 0)) (none k (omega arith) inside) in
     let is = position_or_len_is (is_byte a) xs (length xs) 0 (omega arith) at_no_place (λ past. absurd (no_less (length xs) past)) in
     rw (is, le-ltb (length xs) (length xs) (omega arith)) refl
   where
@@ -122,7 +122,7 @@ first_place a xs None none =
     no_less n h = omega (arith, h)
 first_place a xs (Some n) found =
     let at_no_place : (k : ℕ) → k < n → is_byte a (get_or xs k 0) ≡ false
-        = λ k earlier. false_from_ne_true (is_byte a (get_or xs k 0)) (found.0.before k (omega arith) earlier) in
+    = λ k earlier. false_from_ne_true (is_byte a (get_or xs k 0)) (found.0.before k (omega arith) earlier) in
     let inside : n < length xs = found.0.high in
     let is = position_or_len_is (is_byte a) xs n 0 (omega (arith, inside)) at_no_place (λ _. found.1) in
     rw (is, lt-ltb n (length xs) inside) refl
