@@ -12,7 +12,8 @@ pub range_length : (bytes : List ℕ) (start end : ℕ) → start ≤ end → en
 range_length bytes start end low high = length-take-le (end - start) (drop start bytes) (omega (arith, low, high, length-drop start bytes))
 
 -- a range that begins later lacks as many in front
-pub begins_later : (bytes : List ℕ) (start end count : ℕ) → count ≤ end - start → slice_range bytes (start + count) end ≡ drop count (slice_range bytes start end)
+pub begins_later : (bytes : List ℕ) (start end count : ℕ) → count ≤ end - start
+    → slice_range bytes (start + count) end ≡ drop count (slice_range bytes start end)
 begins_later bytes start end count few =
     let left = end - (start + count) in
     let all : end - start ≡ count + left = omega (arith, few) in
@@ -36,6 +37,9 @@ pub read_behind : (known left : Option (List ℕ)) (held more now : List ℕ) �
     → Keeps (prepend_known held known) (prepend_known now left) × Consumes known left (drop (length held) now)
 read_behind None left held more now is consumes = (tt, tt)
 read_behind (Some known) (Some left) held more now is consumes =
-    let behind : drop (length held) now ≡ more = ap (drop (length held)) is ∙ drop_at held more (length held) refl in
-    (ap (λ bs. bs ++ left) is ∙ append_assoc held more left ∙ ap (λ bs. held ++ bs) (sym consumes), consumes ∙ ap (λ bs. bs ++ left) (sym behind))
+    let behind : drop (length held) now ≡ more = ap (drop (length held)) is ∙ drop_at held more (length held) refl in (
+      ap (λ bs. bs ++ left) is ∙ append_assoc held more left ∙ ap (λ bs. held ++ bs) (sym consumes),
+      consumes
+          ∙ ap (λ bs. bs ++ left) (sym behind),
+    )
 read_behind (Some known) None held more now is consumes = absurd consumes

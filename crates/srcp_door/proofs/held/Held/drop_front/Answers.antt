@@ -7,5 +7,6 @@ returns g c =
     let bytes = c.self.inside.buffer.items in
     let start = c.self.inside.start in
     let end = c.self.inside.end in
-    let long : length c.args.self.now ≡ end - start = sym (ap length c.self.view_is) ∙ range_length bytes start end (omega arith) (omega arith) in
+    let long : length c.args.self.now ≡ end - start = sym (ap length c.self.view_is)
+    ∙ range_length bytes start end (omega arith) (omega arith) in
     begins_later bytes start end c.args.count (omega (arith, long)) ∙ ap (drop c.args.count) c.self.view_is

@@ -14,8 +14,12 @@ returns-clause-whole g c =
     let mid = drop held bytes in
     let sized : length c.read.new.buf ≡ length (take (length bytes - held) mid) = search rules in
     let long = same_len_mid held (length bytes - held) bytes c.read.new.buf sized in
-    let is = ap (λ b. slice_range b 0 (held + c.in_ok-count.count)) (with_items_is c.move_to_front.new.buffer _ (long ∙ search rules)) ∙ followed_by bytes c.read.new.buf held (length bytes - held) c.in_ok-count.count (omega arith) c.in_ok-count.ensures.bound.0 ∙ ap (λ b. b ++ more) front in
-    (read_behind (g.R.Read.remaining c.args.reader.now) (g.R.Read.remaining c.read.new.self) c.args.self.now more _ is c.in_ok-count.ensures.bytes.0).0
+    let is = ap (λ b. slice_range b 0 (held + c.in_ok-count.count)) (with_items_is c.move_to_front.new.buffer _ (long
+    ∙ search rules))
+    ∙ followed_by bytes c.read.new.buf held (length bytes - held) c.in_ok-count.count (omega arith) c.in_ok-count.ensures.bound.0
+    ∙ ap (λ b. b ++ more) front in
+    (read_behind (g.R.Read.remaining c.args.reader.now)
+    (g.R.Read.remaining c.read.new.self) c.args.self.now more _ is c.in_ok-count.ensures.bytes.0).0
 
 pub returns-clause-read : goal.returns-clause-read
 returns-clause-read g c =
@@ -26,5 +30,9 @@ returns-clause-read g c =
     let mid = drop held bytes in
     let sized : length c.read.new.buf ≡ length (take (length bytes - held) mid) = search rules in
     let long = same_len_mid held (length bytes - held) bytes c.read.new.buf sized in
-    let is = ap (λ b. slice_range b 0 (held + c.in_ok-count.count)) (with_items_is c.move_to_front.new.buffer _ (long ∙ search rules)) ∙ followed_by bytes c.read.new.buf held (length bytes - held) c.in_ok-count.count (omega arith) c.in_ok-count.ensures.bound.0 ∙ ap (λ b. b ++ more) front in
-    (read_behind (g.R.Read.remaining c.args.reader.now) (g.R.Read.remaining c.read.new.self) c.args.self.now more _ is c.in_ok-count.ensures.bytes.0).1
+    let is = ap (λ b. slice_range b 0 (held + c.in_ok-count.count)) (with_items_is c.move_to_front.new.buffer _ (long
+    ∙ search rules))
+    ∙ followed_by bytes c.read.new.buf held (length bytes - held) c.in_ok-count.count (omega arith) c.in_ok-count.ensures.bound.0
+    ∙ ap (λ b. b ++ more) front in
+    (read_behind (g.R.Read.remaining c.args.reader.now)
+    (g.R.Read.remaining c.read.new.self) c.args.self.now more _ is c.in_ok-count.ensures.bytes.0).1
