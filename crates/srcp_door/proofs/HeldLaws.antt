@@ -1,9 +1,10 @@
 -- What is left of a range of a buffer, and what is put behind one.
-use Rattle.std.proofs.Common.{◌≡◌, ℕ, ◌+◌, ◌-◌, ◌≤◌, List, ◌++◌, length, take, drop, refl, sym, ap, ◌∙◌, append_assoc, arith}
+use Rattle.std.proofs.Common.{◌≡◌, ℕ, ◌+◌, ◌-◌, ◌≤◌, List, ◌++◌, length, take, drop, refl, sym, ap, subst, ◌∙◌, append_assoc, arith}
 use Rattle.std.specs.Prelude.{Option, Some, None, slice_range}
+use Rattle.std.specs.Io.{StartsWith}
 use Rattle.std.specs.Io.KnownBytes.{Consumes, Keeps, prepend_known}
 use Rattle.std.proofs.Math.Seq.{take-append-add}
-use Rattle.std.proofs.lemmas.List.{drop-drop, drop-take, length-drop, drop_at, length-take-le, take-append-le}
+use Rattle.std.proofs.lemmas.List.{drop-drop, drop-take, length-drop, drop_at, length-take-le, take-append-drop, take-append-le}
 use Rattle.std.proofs.lemmas.Slice.{between_from_start}
 use borrow.Rule.Slice.PartMut.{put_mid}
 
@@ -34,12 +35,17 @@ followed_by bytes more end space count within few =
 
 -- what was read stands behind what was held
 pub read_behind : (known left : Option (List ℕ)) (held more now : List ℕ) → now ≡ held ++ more → Consumes known left more
-    → Keeps (prepend_known held known) (prepend_known now left) × Consumes known left (drop (length held) now)
-read_behind None left held more now is consumes = (tt, tt)
-read_behind (Some known) (Some left) held more now is consumes =
-    let behind : drop (length held) now ≡ more = ap (drop (length held)) is ∙ drop_at held more (length held) refl in (
-      ap (λ bs. bs ++ left) is ∙ append_assoc held more left ∙ ap (λ bs. held ++ bs) (sym consumes),
-      consumes
-          ∙ ap (λ bs. bs ++ left) (sym behind),
-    )
-read_behind (Some known) None held more now is consumes = absurd consumes
+    → Consumes known left (drop (length held) now)
+read_behind known left held more now is consumes =
+    let behind : drop (length held) now ≡ more = ap (drop (length held)) is ∙ drop_at held more (length held) refl in
+    subst (Consumes known left) (sym behind) consumes
+
+-- so what is held and what the reader has left is together what it was
+pub whole_after : (known left : Option (List ℕ)) (held now : List ℕ) → StartsWith now held → Consumes known left (drop (length held) now)
+    → Keeps (prepend_known held known) (prepend_known now left)
+whole_after None left held now front consumes = tt
+whole_after (Some known) (Some left) held now front consumes =
+    let more = drop (length held) now in
+    let is : now ≡ held ++ more = sym (take-append-drop (length held) now) ∙ ap (λ bs. bs ++ more) front in
+    ap (λ bs. bs ++ left) is ∙ append_assoc held more left ∙ ap (λ bs. held ++ bs) (sym consumes)
+whole_after (Some known) None held now front consumes = absurd consumes

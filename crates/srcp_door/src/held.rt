@@ -2,7 +2,7 @@
 
 ghost use Rattle.std.specs.Prelude.{◌≡◌, ◌≢◌, ◌↔◌, ◌<◌, ◌≤◌, ◌+◌, ◌-◌, ◌++◌, ◌==◌, [], ℕ, Ok, IfOk, OnOk, OnErr, length, take, drop, min, slice_range};
 ghost use Rattle.std.specs.Io.{StartsWith};
-ghost use Rattle.std.specs.Io.KnownBytes.{Appends, Consumes, IsAtEnd, Keeps, append_known, prepend_known};
+ghost use Rattle.std.specs.Io.KnownBytes.{Appends, Consumes, IsAtEnd, Keeps, append_known};
 ghost use Rattle.srcp_door.specs.Handing.{refusal_told};
 
 use std::alloc::{AllocError, Global};
@@ -115,7 +115,6 @@ impl<const MOST: usize> Held<MOST> {
     /// # Errors
     /// Those of the reader. Then the bytes stay as they are.
     pub fn read_from<R: Read>(&mut self, reader: &mut R) -> io::Result<usize>
-        ensures whole { Keeps (prepend_known self.old (R.remaining reader.old)) (prepend_known self.new (R.remaining reader.new)) }
         ensures held { StartsWith self.new self.old }
         ensures read { Consumes (R.remaining reader.old) (R.remaining reader.new) (drop (length self.old) self.new) }
         ensures count { IfOk result (λ count. length self.new ≡ length self.old + count) }

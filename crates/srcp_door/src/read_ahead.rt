@@ -84,6 +84,7 @@ impl ReadAhead {
 
     /// Reads once, as much as there is space for, where less than a piece is held. What is held and what the reader has left
     /// is together what it was.
+    #[tactic(auto, using(crate::proofs::HeldLaws::whole_after))]
     pub fn fill<R: Read>(&mut self, reader: &mut R) -> Filled
         ensures whole { Keeps (prepend_known self.old.bytes (R.remaining reader.old)) (prepend_known self.new.bytes (R.remaining reader.new)) }
         ensures held { StartsWith self.new.bytes self.old.bytes }
