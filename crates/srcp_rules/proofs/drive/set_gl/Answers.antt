@@ -1,26 +1,29 @@
-use Rattle.std.proofs.Common.{length, None, nat_lt, refl, [], ◌∷◌, subst}
+use Rattle.std.proofs.Common.{ℕ, Bool, List, length, None, nat_lt, refl, [], ◌∷◌, subst}
 use Rattle.std.proofs.lemmas.Bool.{ltb-false}
 use Rattle.srcp_info.specs.declared.change.Code.TheVariants.{C414, C418}
 use Rattle.srcp_info.specs.declared.value.Value.TheVariants as value
 use Rattle.srcp_rules.specs.declared.command.Lockable.TheVariants as lockable
+use Rattle.srcp_rules.specs.declared.device.BusAddress.{BusAddress}
+use Rattle.srcp_rules.specs.declared.drive.Drive.{Drive}
 use Rattle.srcp_rules.specs.Command.{kept_v}
 use Rattle.srcp_rules.specs.Effect.{Effect, gl_refusals, functions_after, is_locked, put_at}
 use Rattle.srcp_rules.specs.Obeyed.{Took}
-use Rattle.srcp_rules.specs.State.{device_in, functions_of, key_at}
+use Rattle.srcp_rules.specs.State.{State, Update, device_in, functions_of, key_at}
 use Rattle.srcp_rules.proofs.ObeyLaws.{accepted_done, gl_row, none_applies, port_there, refused_done, set_there}
 use Rattle.srcp_rules.proofs.drive.set_gl.Goals as goal
+
+-- the change that a SET makes where nothing refuses it
+abbrev updates_of : State → (moment : ℕ) → BusAddress → Drive → List Bool → List Update
+updates_of state moment place drive given =
+    let after = functions_after given (functions_of place.bus place.address state) in
+    let driven = value.GlState drive.mode (kept_v drive.mode drive.v) drive.vmax after in
+    put_at moment (key_at (device_in lockable.Gl place.bus place.address) 1) driven None ∷ []
 
 pub returns-in-Err-clause-took : goal.returns-in-Err-clause-took
 returns-in-Err-clause-took g c =
     let state = g.R.Rows.state c.args.rows.now in
-    let bus = c.args.place.bus in
-    let address = c.args.place.address in
-    let mode = c.args.drive.mode in
-    let given = c.args.functions.now in
-    let after = functions_after given (functions_of bus address state) in
-    let driven = value.GlState mode (kept_v mode c.args.drive.v) c.args.drive.vmax after in
-    let updates = put_at c.args.sender.moment (key_at (device_in lockable.Gl bus address) 1) driven None ∷ [] in
-    let refusals = gl_refusals state c.args.sender.session bus address given in
+    let updates = updates_of state c.args.sender.moment c.args.place c.args.drive c.args.functions.now in
+    let refusals = gl_refusals state c.args.sender.session c.args.place.bus c.args.place.address c.args.functions.now in
     subst (λ (did : Effect). Took did state state c.refuse.new.self) (refused_done refusals updates c.in-Err.code c.in-Err.ensures.refusal)
     (record { told = c.refuse.ensures; rows = refl })
 
@@ -69,14 +72,8 @@ set_one-requires-clause-fits g c =
 pub returns-clause-took : goal.returns-clause-took
 returns-clause-took g c =
     let state = g.R.Rows.state c.args.rows.now in
-    let bus = c.args.place.bus in
-    let address = c.args.place.address in
-    let mode = c.args.drive.mode in
-    let given = c.args.functions.now in
-    let after = functions_after given (functions_of bus address state) in
-    let driven = value.GlState mode (kept_v mode c.args.drive.v) c.args.drive.vmax after in
-    let updates = put_at c.args.sender.moment (key_at (device_in lockable.Gl bus address) 1) driven None ∷ [] in
-    let refusals = gl_refusals state c.args.sender.session bus address given in
+    let updates = updates_of state c.args.sender.moment c.args.place c.args.drive c.args.functions.now in
+    let refusals = gl_refusals state c.args.sender.session c.args.place.bus c.args.place.address c.args.functions.now in
     let took = c.set_one.ensures.took in
     subst (λ (did : Effect). Took did state (g.R.Rows.state c.set_one.new.rows) c.set_one.new.obeyed)
     (accepted_done refusals updates c.in-Ok.ensures.refusal)
