@@ -8,34 +8,27 @@ ghost use Rattle.srcp_rules.specs.State.{shown_rows};
 ghost use Rattle.srcp_feed.specs.Cursor.{said};
 ghost use Rattle.srcp_feed.specs.Feed.{beginning, told, told_answer, next_of, after_next, HoldsPassed, IsFirstLineOrNone};
 
+use crate::queue::{MOST_WAITING, Queue};
 use crate::{ChangeLine, Next, Told};
-use circular_buffer::HeapCircularBuffer;
 use srcp_info::{Change, Cursor, LONGEST_LINE};
 use srcp_rules::{Memory, Rows};
 use std::alloc::Global;
 use std::marker::Model;
-
-/// How many changes may wait for one session. SRCP 0.8 has no such limit.
-pub const MOST_WAITING: usize = 256;
 
 /// What one information session is given: the changes that wait, then the next rows of its listing.
 /// It holds how far the listing has come and the changes that wait, and no row.
 #[derive(Drop)]
 pub struct InfoFeed {
     cursor: Cursor,
-    ring: HeapCircularBuffer<ChangeLine>,
+    waiting: Queue,
 }
 
 impl Model for InfoFeed {
-    ghost use Rattle.std.specs.Prelude.{◌≡◌, ◌≤◌, length};
     ghost use Rattle.srcp_feed.specs.Feed.{Feed};
-    ghost use Rattle.srcp_feed.specs.declared.feed.TheConstants.{MOST_WAITING};
 
     ghost Value = { Feed };
 
-    ghost view = { λ f. record { cursor = f.cursor; queue = f.ring.items } };
-
-    ghost invariant = { λ f. (f.ring.capacity ≡ MOST_WAITING) × (length f.ring.items ≤ MOST_WAITING) };
+    ghost view = { λ f. record { cursor = f.cursor; queue = f.waiting } };
 }
 
 impl InfoFeed {
@@ -44,10 +37,9 @@ impl InfoFeed {
     pub fn begin<R: Rows>(alloc: Global, _rows: &R) -> Result<InfoFeed, Memory>
         ensures { IfOk result (λ feed. feed ≡ beginning) }
     {
-        let ring = HeapCircularBuffer::with_capacity(alloc, MOST_WAITING)?;
         Ok(InfoFeed {
             cursor: Cursor::Start,
-            ring,
+            waiting: Queue::new(alloc)?,
         })
     }
 
@@ -73,10 +65,10 @@ impl InfoFeed {
         if !self.cursor.has_reached(&change.change().key()) {
             return Told::Skipped;
         }
-        if self.ring.is_full() {
+        if self.waiting.is_full() {
             return Told::Overrun;
         }
-        self.ring.push_back(change.copied());
+        self.waiting.push(change.copied());
         Told::Queued
     }
 
@@ -85,7 +77,7 @@ impl InfoFeed {
         ensures line { IsFirstLineOrNone result.now self.now.queue }
         ensures most { length result.now ≤ LONGEST_LINE }
     {
-        match self.ring.front() {
+        match self.waiting.first() {
             Some(told) => told.line(),
             None => &[],
         }
@@ -101,8 +93,10 @@ impl InfoFeed {
             → HoldsPassed given self.old (shown_rows (R.state rows.now))
             → HoldsPassed (given ++ said result) self.new (shown_rows (R.state rows.now)) }
     {
-        if let Some(told) = self.ring.pop_front() {
-            return Next::Told(*told.change());
+        if let Some(told) = self.waiting.first() {
+            let change = *told.change();
+            self.waiting.drop_first();
+            return Next::Told(change);
         }
         match rows.row_after(self.cursor) {
             Some(row) => {
@@ -128,6 +122,6 @@ impl InfoFeed {
         ensures value { result ≡ length self.now.queue }
         ensures most { result ≤ MOST_WAITING }
     {
-        self.ring.len()
+        self.waiting.len()
     }
 }
