@@ -270,6 +270,7 @@ impl Connection {
     }
 
     /// Puts in the next line of an information session, where nothing is unsent, and answers what that is.
+    #[inline(always)]
     pub(crate) fn fill<R: Rows>(&mut self, rows: &R) -> Option<Next>
         requires { AllByRecursion IsWellFormedShown (shown_rows (R.state rows.now)) }
         ensures place { self.new ≡ filled (shown_rows (R.state rows.now)) self.old }

@@ -5,6 +5,7 @@ use Rattle.srcp_info.specs.Client.{client, changed, put, IsRisingBy}
 use Rattle.srcp_info.specs.declared.change.Change.{Change}
 use Rattle.srcp_info.specs.declared.change.Change.TheVariants.{Put}
 use Rattle.srcp_info.specs.declared.change.Cursor.{Cursor}
+use Rattle.srcp_info.specs.declared.change.Cursor.TheVariants.{Done}
 use Rattle.srcp_info.specs.declared.change.Row.{Row}
 use Rattle.srcp_info.specs.declared.change.Shown.{Shown}
 use Rattle.srcp_rules.specs.State.{State, shown_rows, row_after}
@@ -23,6 +24,11 @@ empty_of [] e = refl
 empty_of (x ∷ xs) e = cc
 
 -- ---- what is given where nothing waits
+
+-- a listing that is done has no row to come to
+pub no_row_after_done : (state : State) → row_after Done state ≡ None
+no_row_after_done [] = refl
+no_row_after_done (row ∷ state) = no_row_after_done state
 
 -- the row that was found is the first beyond the cursor
 pub beyond_found : (cursor : Cursor) (state : State) (row : Row) → row_after cursor state ≡ Some row → IsNext (Some row) (beyond cursor (shown_rows state))

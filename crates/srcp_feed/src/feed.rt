@@ -1,16 +1,16 @@
 //! The feed of one information session.
 
-ghost use Rattle.std.specs.Prelude.{◌≡◌, ◌≢◌, ◌≤◌, List, ◌++◌, length, IfOk};
+ghost use Rattle.std.specs.Prelude.{◌≡◌, ◌≢◌, ◌≤◌, List, ◌++◌, length, IfOk, option_copied};
 ghost use Rattle.srcp_info.specs.Client.{changed, IsRisingBy};
 ghost use Rattle.srcp_info.specs.declared.change.Change.{Change};
 ghost use Rattle.srcp_info.specs.declared.change.Shown.{Shown};
-ghost use Rattle.srcp_rules.specs.State.{shown_rows};
+ghost use Rattle.srcp_rules.specs.State.{row_after, shown_rows};
 ghost use Rattle.srcp_feed.specs.Cursor.{said};
 ghost use Rattle.srcp_feed.specs.Feed.{beginning, told, told_answer, next_of, after_next, HoldsPassed, IsFirstLineOrNone};
 
 use crate::queue::{MOST_WAITING, Queue};
 use crate::{ChangeLine, Next, Told};
-use srcp_info::{Change, Cursor, LONGEST_LINE};
+use srcp_info::{Change, Cursor, LONGEST_LINE, Row};
 use srcp_rules::{Memory, Rows};
 use std::alloc::Global;
 use std::marker::Model;
@@ -98,7 +98,7 @@ impl InfoFeed {
             self.waiting.drop_first();
             return Next::Told(change);
         }
-        match rows.row_after(self.cursor) {
+        match row_beyond(rows, self.cursor) {
             Some(row) => {
                 self.cursor = Cursor::After(row.shown.key);
                 Next::Listed(row.shown)
@@ -124,4 +124,15 @@ impl InfoFeed {
     {
         self.waiting.len()
     }
+}
+
+/// Returns the row that a listing comes to next. One that is done asks for no row, since a panel is visited often.
+#[tactic(auto, using(crate::proofs::FeedLaws::no_row_after_done))]
+fn row_beyond<R: Rows>(rows: &R, cursor: Cursor) -> Option<&Row>
+    ensures { option_copied result ≡ row_after cursor (R.state rows.now) }
+{
+    if let Cursor::Done = cursor {
+        return None;
+    }
+    rows.row_after(cursor)
 }

@@ -30,6 +30,7 @@ impl<'a, R: Rows> Core<'a, R> {
     }
 
     /// Puts in the next line of an information session, if nothing is unsent, and returns what that is.
+    #[inline(always)]
     pub(crate) fn fill(&mut self, conn: usize) -> Result<Option<Next>, CoreFault>
         ensures absent { IsErr result ↔ (at self.old conn ≡ None) }
         ensures fault { IfErr result (λ fault. fault ≡ CoreFault.NoSuch) }

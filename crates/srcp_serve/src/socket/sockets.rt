@@ -36,6 +36,8 @@ pub(super) struct Sockets {
     peers: Vec<Peer>,
     // The number of the peer that came last.
     last: u32,
+    // The place of the peer that was read or written last.
+    recent: usize,
     leaving: Leaving,
     pacing: Pacing,
     // Whether something happened since the turn began.
@@ -58,6 +60,7 @@ impl Sockets {
             events: Events::with_capacity(alloc, MOST_EVENTS)?,
             peers: Vec::new(alloc),
             last: 0,
+            recent: 0,
             leaving: Leaving::new(alloc)?,
             pacing: Pacing::new(),
             busy: true,
@@ -229,11 +232,21 @@ impl Sockets {
         false
     }
 
-    fn place(&self, number: u32) -> io::Result<usize>
-        ensures { IfOk result (λ place. place < length self.now.peers.items) }
+    /// Returns the place of a peer. It looks first where it found one last, since a peer is written line by line.
+    fn place(&mut self, number: u32) -> io::Result<usize>
+        ensures place { IfOk result (λ place. place < length self.new.peers.items) }
+        ensures last { self.new.last ≡ self.old.last }
     {
+        if let Some(peer) = self.peers.get(self.recent) {
+            if peer.number == number {
+                return Ok(self.recent);
+            }
+        }
         match self.peers.binary_search_by_key(&number, |peer| peer.number) {
-            Ok(place) => Ok(place),
+            Ok(place) => {
+                self.recent = place;
+                Ok(place)
+            }
             Err(_) => Err(io::Error::from(ErrorKind::NotFound)),
         }
     }
