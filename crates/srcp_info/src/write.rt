@@ -60,16 +60,15 @@ fn put_group(group: Group, buffer: &mut LineBuf)
     requires { array_vec_len buffer.old + length (after_spaces (group_words group)) ≤ 256 }
     ensures { buffer.new.items ≡ buffer.old.items ++ after_spaces (group_words group) }
 {
-    let words: &[u8] = match group {
-        Group::Session => b"SESSION",
-        Group::Power => b"POWER",
-        Group::Gl => b"GL",
-        Group::Ga => b"GA",
-        Group::Fb => b"FB",
-        Group::LockGl => b"LOCK GL",
-        Group::LockGa => b"LOCK GA",
-    };
-    put_word(words, buffer);
+    match group {
+        Group::Session => put_bytes(b" SESSION", buffer),
+        Group::Power => put_bytes(b" POWER", buffer),
+        Group::Gl => put_bytes(b" GL", buffer),
+        Group::Ga => put_bytes(b" GA", buffer),
+        Group::Fb => put_bytes(b" FB", buffer),
+        Group::LockGl => put_bytes(b" LOCK GL", buffer),
+        Group::LockGa => put_bytes(b" LOCK GA", buffer),
+    }
 }
 
 /// Appends what a POWER line says: ON or OFF, and the text where there is one.
@@ -91,9 +90,14 @@ fn put_functions(functions: &Bits, buffer: &mut LineBuf)
         + length (after_spaces (map bit_word functions.now)) ≤ 256 }
     ensures { buffer.new.items ≡ buffer.old.items ++ after_spaces (map bit_word functions.now) }
 {
-    for on in functions.as_slice() {
-        put_bit(*on, buffer);
+    let count = functions.len();
+    let bits = functions.as_slice();
+    let mut words = [0; 2 * Bits::CAPACITY];
+    for place in 0..count {
+        words[2 * place] = b' ';
+        words[2 * place + 1] = b'0' + u8::from(bits[place]);
     }
+    put_bytes(&words[..2 * count], buffer);
 }
 
 /// Appends what the line of a row says after the words of its group.
@@ -176,7 +180,7 @@ fn write_row(shown: &Shown, buffer: &mut LineBuf)
         buffer,
     );
     put_value(key, &shown.value, buffer);
-    put_bytes(b"\n", buffer);
+    buffer.push(b'\n');
 }
 
 /// Writes the line of a device that is gone.
@@ -188,7 +192,7 @@ fn write_gone(stamp: u64, device: &Device, buffer: &mut LineBuf)
 {
     put_info(stamp, b"102", device.bus, device.group, buffer);
     put_numeral(device.address, buffer);
-    put_bytes(b"\n", buffer);
+    buffer.push(b'\n');
 }
 
 /// Writes the line that tells of a change, with its LF, into an empty buffer. It has at most 126
@@ -215,7 +219,7 @@ fn write_text(stamp: u64, text: &[u8], buffer: &mut LineBuf)
 {
     put_stamp(stamp, buffer);
     put_word(text, buffer);
-    put_bytes(b"\n", buffer);
+    buffer.push(b'\n');
 }
 
 /// Writes the reply to GO: the moment, and the id of the session that begins.
@@ -227,7 +231,7 @@ fn write_go(stamp: u64, id: u32, buffer: &mut LineBuf)
     put_stamp(stamp, buffer);
     put_word(b"200 OK GO", buffer);
     put_numeral(id, buffer);
-    put_bytes(b"\n", buffer);
+    buffer.push(b'\n');
 }
 
 /// Writes the line of a reply at a moment of `stamp` milliseconds, with its LF, into an empty
