@@ -14,6 +14,18 @@ use crate::value::{Bits, Text, Value};
 use crate::words::{code_text, letter_word, mode_word, switch_word, value_code};
 use srcp_text::{LineBuf, put_bytes, put_number, put_stamp};
 
+/// Appends bytes whose number is known when the program is built. They are pushed one by one, which
+/// then costs less than a copy.
+#[inline(always)]
+fn put_fixed<const N: usize>(bytes: &[u8; N], buffer: &mut LineBuf)
+    requires { array_vec_len buffer.old + length bytes.now ≤ 256 }
+    ensures { buffer.new.items ≡ buffer.old.items ++ bytes.now }
+{
+    for byte in bytes {
+        buffer.push(*byte);
+    }
+}
+
 /// Appends a space and a word.
 fn put_word(word: &[u8], buffer: &mut LineBuf)
     requires { array_vec_len buffer.old + 1 + length word.now ≤ 256 }
@@ -61,13 +73,13 @@ fn put_group(group: Group, buffer: &mut LineBuf)
     ensures { buffer.new.items ≡ buffer.old.items ++ after_spaces (group_words group) }
 {
     match group {
-        Group::Session => put_bytes(b" SESSION", buffer),
-        Group::Power => put_bytes(b" POWER", buffer),
-        Group::Gl => put_bytes(b" GL", buffer),
-        Group::Ga => put_bytes(b" GA", buffer),
-        Group::Fb => put_bytes(b" FB", buffer),
-        Group::LockGl => put_bytes(b" LOCK GL", buffer),
-        Group::LockGa => put_bytes(b" LOCK GA", buffer),
+        Group::Session => put_fixed(b" SESSION", buffer),
+        Group::Power => put_fixed(b" POWER", buffer),
+        Group::Gl => put_fixed(b" GL", buffer),
+        Group::Ga => put_fixed(b" GA", buffer),
+        Group::Fb => put_fixed(b" FB", buffer),
+        Group::LockGl => put_fixed(b" LOCK GL", buffer),
+        Group::LockGa => put_fixed(b" LOCK GA", buffer),
     }
 }
 
@@ -151,15 +163,17 @@ fn put_value(key: &Key, value: &Value, buffer: &mut LineBuf)
 }
 
 /// Appends what all lines of changes begin with, up to the words of the group.
-fn put_info(moment: u64, code: &[u8], bus: u8, group: Group, buffer: &mut LineBuf)
+#[inline(always)]
+fn put_info(moment: u64, code: &[u8; 3], bus: u8, group: Group, buffer: &mut LineBuf)
     requires { array_vec_len buffer.old
         + length (join_with_byte 32 (info_words moment code.now bus group [])) ≤ 256 }
     ensures { buffer.new.items
         ≡ buffer.old.items ++ join_with_byte 32 (info_words moment code.now bus group []) }
 {
     put_stamp(moment, buffer);
-    put_word(code, buffer);
-    put_word(b"INFO", buffer);
+    buffer.push(b' ');
+    put_fixed(code, buffer);
+    put_fixed(b" INFO", buffer);
     put_numeral(u32::from(bus), buffer);
     put_group(group, buffer);
 }
