@@ -10,7 +10,6 @@ ghost use Rattle.srcp_rules.specs.Nested.{AreDevices, AreOfDevice, IsIn, device_
 
 use crate::nested::device_rows::DeviceRows;
 use crate::obeyed::Memory;
-use crate::sorted_rows::{row_after_in, row_in};
 use srcp_info::{Cursor, Device, Group, Key, Row};
 use std::alloc::Global;
 use std::collections::BTreeMap;
@@ -38,7 +37,7 @@ impl<const N: usize> Devices<N> {
         ensures { option_copied result ≡ row_at key.now (device_rows self.now.by_address.entries) }
     {
         match self.by_address.get(&key.address) {
-            Some(device) => row_in(device.as_slice(), key),
+            Some(device) => device.row(key),
             None => None,
         }
     }
@@ -53,7 +52,7 @@ impl<const N: usize> Devices<N> {
             return None;
         };
         for (_, device) in self.by_address.range(from..) {
-            if let Some(row) = row_after_in(device.as_slice(), cursor) {
+            if let Some(row) = device.row_after(cursor) {
                 return Some(row);
             }
         }
