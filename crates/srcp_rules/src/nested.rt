@@ -94,7 +94,7 @@ impl Rows for Nested {
         let Some(rows) = self.by_number.get_mut(&row.shown.key.bus) else {
             return;
         };
-        rows.set(row);
+        rows.set(&row);
     }
 
     fn drop_device(&mut self, device: Device) {

@@ -90,6 +90,7 @@ impl BusRows {
     }
 
     /// The row of the group with the least key beyond the cursor.
+    #[inline(always)]
     pub(crate) fn row_after_in(&self, bus: u8, group: Group, cursor: Cursor) -> Option<&Row>
         requires { AreRowsOfBus bus self.now }
         ensures { option_copied result ≡ row_after cursor (group_rows self.now group) }
@@ -127,18 +128,18 @@ impl BusRows {
     }
 
     /// Sets a row that is there.
-    pub(crate) fn set(&mut self, row: Row)
-        requires bus { AreRowsOfBus row.shown.key.bus self.old }
-        requires there { IsTrue (has_row row.shown.key (bus_rows self.old)) }
-        ensures rows { bus_rows self.new ≡ put_row row (bus_rows self.old) }
-        ensures bus { AreRowsOfBus row.shown.key.bus self.new }
+    pub(crate) fn set(&mut self, row: &Row)
+        requires bus { AreRowsOfBus row.now.shown.key.bus self.old }
+        requires there { IsTrue (has_row row.now.shown.key (bus_rows self.old)) }
+        ensures rows { bus_rows self.new ≡ put_row row.now (bus_rows self.old) }
+        ensures bus { AreRowsOfBus row.now.shown.key.bus self.new }
     {
         match row.shown.key.group {
             Group::Session => self.sessions.set(row),
-            Group::Power => self.power = Some(row),
+            Group::Power => self.power = Some(*row),
             Group::Gl => self.locomotives.set(row),
             Group::Ga => self.accessories.set(row),
-            Group::Fb => set_in(&mut self.feedback, row),
+            Group::Fb => set_in(&mut self.feedback, *row),
             Group::LockGl => self.locomotive_locks.set(row),
             Group::LockGa => self.accessory_locks.set(row),
         }

@@ -55,6 +55,7 @@ impl<const N: usize> DeviceRows<N> {
     }
 
     /// The row with the least key beyond the cursor.
+    #[inline(always)]
     pub(crate) fn row_after(&self, cursor: Cursor) -> Option<&Row>
         ensures { option_copied result ≡ row_after cursor self.now }
     {
@@ -64,13 +65,13 @@ impl<const N: usize> DeviceRows<N> {
     }
 
     /// Sets a row that is there.
-    pub(crate) fn set(&mut self, row: Row)
+    pub(crate) fn set(&mut self, row: &Row)
         requires rising { IsRising self.old }
-        requires there { IsTrue (has_row row.shown.key self.old) }
-        ensures { self.new ≡ put_row row self.old }
+        requires there { IsTrue (has_row row.now.shown.key self.old) }
+        ensures { self.new ≡ put_row row.now self.old }
     {
         if let Ok(place) = place_of(self.as_slice(), &row.shown.key) {
-            self.rows[place] = row;
+            self.rows[place] = *row;
         }
     }
 }
