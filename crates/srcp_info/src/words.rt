@@ -36,7 +36,7 @@ pub(crate) fn switch_word(on: bool) -> &'static [u8]
 }
 
 /// The number of the line that tells of a value: 101 for what a device is, 100 for what it does.
-pub(crate) fn value_code(value: &Value) -> &'static [u8]
+pub(crate) fn value_code(value: &Value) -> &'static [u8; 3]
     ensures { result.now ≡ value_code value.now }
 {
     match value {

@@ -14,6 +14,18 @@ use crate::value::{Bits, Text, Value};
 use crate::words::{code_text, letter_word, mode_word, switch_word, value_code};
 use srcp_text::{LineBuf, put_bytes, put_number, put_stamp};
 
+/// Appends bytes whose number is known when the program is built. They are pushed one by one, which
+/// then costs less than a copy.
+#[inline(always)]
+fn put_fixed<const N: usize>(bytes: &[u8; N], buffer: &mut LineBuf)
+    requires { array_vec_len buffer.old + length bytes.now ≤ 256 }
+    ensures { buffer.new.items ≡ buffer.old.items ++ bytes.now }
+{
+    for byte in bytes {
+        buffer.push(*byte);
+    }
+}
+
 /// Appends a space and a word.
 fn put_word(word: &[u8], buffer: &mut LineBuf)
     requires { array_vec_len buffer.old + 1 + length word.now ≤ 256 }
@@ -60,16 +72,15 @@ fn put_group(group: Group, buffer: &mut LineBuf)
     requires { array_vec_len buffer.old + length (after_spaces (group_words group)) ≤ 256 }
     ensures { buffer.new.items ≡ buffer.old.items ++ after_spaces (group_words group) }
 {
-    let words: &[u8] = match group {
-        Group::Session => b"SESSION",
-        Group::Power => b"POWER",
-        Group::Gl => b"GL",
-        Group::Ga => b"GA",
-        Group::Fb => b"FB",
-        Group::LockGl => b"LOCK GL",
-        Group::LockGa => b"LOCK GA",
-    };
-    put_word(words, buffer);
+    match group {
+        Group::Session => put_fixed(b" SESSION", buffer),
+        Group::Power => put_fixed(b" POWER", buffer),
+        Group::Gl => put_fixed(b" GL", buffer),
+        Group::Ga => put_fixed(b" GA", buffer),
+        Group::Fb => put_fixed(b" FB", buffer),
+        Group::LockGl => put_fixed(b" LOCK GL", buffer),
+        Group::LockGa => put_fixed(b" LOCK GA", buffer),
+    }
 }
 
 /// Appends what a POWER line says: ON or OFF, and the text where there is one.
@@ -91,9 +102,14 @@ fn put_functions(functions: &Bits, buffer: &mut LineBuf)
         + length (after_spaces (map bit_word functions.now)) ≤ 256 }
     ensures { buffer.new.items ≡ buffer.old.items ++ after_spaces (map bit_word functions.now) }
 {
-    for on in functions.as_slice() {
-        put_bit(*on, buffer);
+    let count = functions.len();
+    let bits = functions.as_slice();
+    let mut words = [0; 2 * Bits::CAPACITY];
+    for place in 0..count {
+        words[2 * place] = b' ';
+        words[2 * place + 1] = b'0' + u8::from(bits[place]);
     }
+    put_bytes(&words[..2 * count], buffer);
 }
 
 /// Appends what the line of a row says after the words of its group.
@@ -147,15 +163,17 @@ fn put_value(key: &Key, value: &Value, buffer: &mut LineBuf)
 }
 
 /// Appends what all lines of changes begin with, up to the words of the group.
-fn put_info(moment: u64, code: &[u8], bus: u8, group: Group, buffer: &mut LineBuf)
+#[inline(always)]
+fn put_info(moment: u64, code: &[u8; 3], bus: u8, group: Group, buffer: &mut LineBuf)
     requires { array_vec_len buffer.old
         + length (join_with_byte 32 (info_words moment code.now bus group [])) ≤ 256 }
     ensures { buffer.new.items
         ≡ buffer.old.items ++ join_with_byte 32 (info_words moment code.now bus group []) }
 {
     put_stamp(moment, buffer);
-    put_word(code, buffer);
-    put_word(b"INFO", buffer);
+    buffer.push(b' ');
+    put_fixed(code, buffer);
+    put_fixed(b" INFO", buffer);
     put_numeral(u32::from(bus), buffer);
     put_group(group, buffer);
 }
@@ -176,7 +194,7 @@ fn write_row(shown: &Shown, buffer: &mut LineBuf)
         buffer,
     );
     put_value(key, &shown.value, buffer);
-    put_bytes(b"\n", buffer);
+    buffer.push(b'\n');
 }
 
 /// Writes the line of a device that is gone.
@@ -188,7 +206,7 @@ fn write_gone(stamp: u64, device: &Device, buffer: &mut LineBuf)
 {
     put_info(stamp, b"102", device.bus, device.group, buffer);
     put_numeral(device.address, buffer);
-    put_bytes(b"\n", buffer);
+    buffer.push(b'\n');
 }
 
 /// Writes the line that tells of a change, with its LF, into an empty buffer. It has at most 126
@@ -215,7 +233,7 @@ fn write_text(stamp: u64, text: &[u8], buffer: &mut LineBuf)
 {
     put_stamp(stamp, buffer);
     put_word(text, buffer);
-    put_bytes(b"\n", buffer);
+    buffer.push(b'\n');
 }
 
 /// Writes the reply to GO: the moment, and the id of the session that begins.
@@ -227,7 +245,7 @@ fn write_go(stamp: u64, id: u32, buffer: &mut LineBuf)
     put_stamp(stamp, buffer);
     put_word(b"200 OK GO", buffer);
     put_numeral(id, buffer);
-    put_bytes(b"\n", buffer);
+    buffer.push(b'\n');
 }
 
 /// Writes the line of a reply at a moment of `stamp` milliseconds, with its LF, into an empty

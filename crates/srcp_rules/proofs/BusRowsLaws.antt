@@ -7,7 +7,7 @@ use Rattle.std.specs.List.{AllByRecursion, range_with_len}
 use Rattle.std.specs.List.Sorted.{IsStrictlySortedBy}
 use Rattle.std.specs.Map.{set_value}
 use Rattle.std.specs.Option.{option_map_or, option_or, option_to_list}
-use Rattle.std.specs.Ordering.{nat_cmp}
+use Rattle.std.specs.Ordering.{nat_cmp, is_gt}
 use Rattle.std.specs.BTreeMap.{is_at}
 use Rattle.std.specs.declared.cmp.Ordering.TheVariants.{Less}
 use Rattle.srcp_info.specs.declared.key.Group.{Group}
@@ -15,7 +15,7 @@ use Rattle.srcp_info.specs.declared.key.Group.TheVariants as group
 use Rattle.srcp_info.specs.declared.key.Key.{Key}
 use Rattle.srcp_info.specs.declared.key.Device.{Device}
 use Rattle.srcp_info.specs.declared.change.Row.{Row}
-use Rattle.srcp_info.specs.declared.change.Cursor.{Cursor}
+use Rattle.srcp_info.specs.declared.change.Cursor.TheVariants as cursor
 use Rattle.srcp_info.specs.declared.value.Value.TheVariants as value
 use Rattle.srcp_info.specs.Key.{group_place, has_reached, key_cmp, owns}
 use Rattle.srcp_info.proofs.ClientLaws.{all_put, put_over, rising_put}
@@ -24,7 +24,7 @@ use Rattle.srcp_rules.specs.Rows.{put_rows}
 use Rattle.srcp_rules.specs.declared.nested.bus_rows.BusRows.{BusRows}
 use Rattle.srcp_rules.specs.Nested.{AreDevices, AreOfDevice, AreOfGroup, AreRowsOfBus, AreSorted, IsIn, bus_groups, bus_rows, device_rows, entry_at, group_rows}
 use Rattle.srcp_rules.proofs.FindLaws.{each-weaken}
-use Rattle.srcp_rules.proofs.ListedLaws.{IsTagged, each-listed, row_at-listed}
+use Rattle.srcp_rules.proofs.ListedLaws.{IsTagged, each-listed, row_at-listed, row_after-own}
 use Rattle.srcp_rules.proofs.KeyLaws.{same_key, same_key-true}
 use Rattle.srcp_rules.proofs.StateLaws.{row_key}
 use Rattle.srcp_rules.proofs.OrderLaws.{address_order, group_order, owns-other}
@@ -109,22 +109,6 @@ module _ (bus : ℕ) where
   pub fb_of_group : (first n : ℕ) → AreOfGroup bus group.Fb (map fb_row (range_with_len first n))
   fb_of_group first n = record { rising = fb_rising first n; each = fb_each first n }
 
--- ---- walking along groups
-
--- the row after a cursor in two lists, where the second is looked at only if the first has none
-pub row_after-then : (cursor : Cursor) (xs ys : State) (o r : Option (Bor Row)) → option_copied o ≡ row_after cursor xs
-    → MatchOption o (option_copied r ≡ row_after cursor ys) (λ row. r ≡ Some row) → option_copied r ≡ row_after cursor (xs ++ ys)
-row_after-then cursor xs ys None r e h =
-    h ∙ ap (λ o. option_or o (row_after cursor ys)) e ∙ sym (find-append (λ row. not (has_reached cursor row.shown.key)) xs ys)
-row_after-then cursor xs ys (Some row) r e h =
-    ap option_copied h ∙ ap (λ o. option_or o (row_after cursor ys)) e ∙ sym (find-append (λ row. not (has_reached cursor row.shown.key)) xs ys)
-
-pub append_seven : (a b c d e f g : State) → (((((a ++ b) ++ c) ++ d) ++ e) ++ f) ++ g ≡ a ++ (b ++ (c ++ (d ++ (e ++ (f ++ (g ++ []))))))
-append_seven a b c d e f g =
-    append_assoc ((((a ++ b) ++ c) ++ d) ++ e) f g ∙ append_assoc (((a ++ b) ++ c) ++ d) e (f ++ g)
-    ∙ append_assoc ((a ++ b) ++ c) d (e ++ (f ++ g)) ∙ append_assoc (a ++ b) c (d ++ (e ++ (f ++ g)))
-    ∙ append_assoc a b (c ++ (d ++ (e ++ (f ++ g)))) ∙ ap (λ rows. a ++ (b ++ (c ++ (d ++ (e ++ (f ++ rows)))))) (sym (append-nil g))
-
 -- ---- the groups of a bus
 
 module _ (bus : ℕ) where
@@ -200,24 +184,30 @@ module _ {bus : ℕ} {rows : BusRows} (are : AreRowsOfBus bus rows) where
       → row_at key (bus_rows rows) ≡ option_map_or (λ state. row_at key state) (entry_at (place_of key) (by_place rows)) None
   row_at-place key = row_at-listed whole place_of (OnBus bus) key (by_place rows) tagged (places_rise rows)
 
-  in_group : (key : Key) (g : Group)
-      → option_map_or (λ state. row_at key state) (entry_at (group_place g) (by_place rows)) None ≡ row_at key (group_rows rows g)
-  in_group key group.Session = refl
-  in_group key group.Power = refl
-  in_group key group.Gl = refl
-  in_group key group.Ga = refl
-  in_group key group.Fb = refl
-  in_group key group.LockGl = refl
-  in_group key group.LockGa = refl
+  has_group : (g : Group) → entry_at (group_place g) (by_place rows) ≡ Some (group_rows rows g)
+  has_group group.Session = refl
+  has_group group.Power = refl
+  has_group group.Gl = refl
+  has_group group.Ga = refl
+  has_group group.Fb = refl
+  has_group group.LockGl = refl
+  has_group group.LockGa = refl
 
   pub row_at-group : (key : Key) {g : Group} → key.group ≡ g → row_at key (bus_rows rows) ≡ row_at key (group_rows rows g)
   row_at-group key {g} e =
       row_at-place key
       ∙ ap (λ (h : Group). option_map_or (λ state. row_at key state) (entry_at (group_place h) (by_place rows)) None) e
-      ∙ in_group key g
+      ∙ ap (λ o. option_map_or (λ state. row_at key state) o None) (has_group g)
 
   pub has_row-group : (key : Key) {g : Group} → key.group ≡ g → has_row key (bus_rows rows) ≡ has_row key (group_rows rows g)
   has_row-group key e = ap is_some (row_at-group key e)
+
+  -- a row that the cursor's own group has beyond it is the first of the bus
+  pub row_after-own_group : (last : Key) → last.bus ≡ bus → (row : Row) → row_after (cursor.After last) (group_rows rows last.group) ≡ Some row
+      → row_after (cursor.After last) (bus_rows rows) ≡ Some row
+  row_after-own_group last on row is =
+      row_after-own whole place_of (OnBus bus) (cursor.After last) (place_of last) (λ key x h. ap (λ o. not (is_gt o)) (group_order key last (x ∙ sym on) h))
+      (group_rows rows last.group) row is (by_place rows) tagged (places_rise rows) (has_group last.group)
 
   -- ---- changes of one group
 

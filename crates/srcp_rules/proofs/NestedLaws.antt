@@ -1,5 +1,5 @@
 -- The rows of all buses: look-ups, changes, and how they begin.
-use Rattle.std.specs.Prelude.{◌≡◌, ℕ, zero, suc, ◌<◌, Bool, true, false, ◌&&◌, ◌==◌, cond, is_some, List, [], ◌∷◌, ◌++◌, length, map, flat_map, take, drop, find, slice_index_or, Option, Some, None, IsTrue, Result, Ok, Err, OnOk, OnErr}
+use Rattle.std.specs.Prelude.{◌≡◌, ℕ, zero, suc, ◌<◌, Bool, true, false, ◌&&◌, ◌==◌, cond, is_some, not, List, [], ◌∷◌, ◌++◌, length, map, flat_map, take, drop, find, slice_index_or, Option, Some, None, IsTrue, Result, Ok, Err, OnOk, OnErr}
 use Rattle.std.proofs.Common.{refl, sym, ap, subst, ◌∙◌, arith, append_assoc, true≢false}
 use Rattle.std.proofs.lemmas.Bool.{eqb-true}
 use Rattle.std.proofs.lemmas.Cmp.{nat_cmp_total, tied_itself}
@@ -8,7 +8,7 @@ use Rattle.std.specs.Cmp.{second_so}
 use Rattle.std.specs.List.{AllByRecursion}
 use Rattle.std.specs.Map.{keys_of, set_value}
 use Rattle.std.specs.Option.{option_map_or}
-use Rattle.std.specs.Ordering.{nat_cmp, is_eq, match_ordering}
+use Rattle.std.specs.Ordering.{nat_cmp, is_eq, is_gt, match_ordering}
 use Rattle.std.specs.BTreeMap.{is_at, insert_entry}
 use Rattle.std.specs.BTreeMap.Range.{entries_between}
 use Rattle.std.specs.declared.ops.Bound.TheVariants.{Included, Unbounded}
@@ -19,6 +19,7 @@ use Rattle.srcp_info.specs.declared.key.Key.{Key}
 use Rattle.srcp_info.specs.declared.key.Device.{Device}
 use Rattle.srcp_info.specs.declared.change.Row.{Row}
 use Rattle.srcp_info.specs.declared.change.Cursor.{Cursor}
+use Rattle.srcp_info.specs.declared.change.Cursor.TheVariants as cursor
 use Rattle.srcp_info.specs.Key.{key_cmp, first_key, has_reached, owns}
 use Rattle.srcp_info.specs.WellFormed.{can_go}
 use Rattle.srcp_rules.specs.declared.layout.Bus.{Bus}
@@ -26,7 +27,7 @@ use Rattle.srcp_rules.specs.Layout.{IsLayout, bus_at, row_count, rows_on, server
 use Rattle.srcp_rules.specs.State.{State, IsRising, fb_device, has_row, is_there, key_at, opening, power_device, put_row, row_at, row_after, without}
 use Rattle.srcp_rules.specs.Rows.{put_rows}
 use Rattle.srcp_rules.specs.declared.nested.bus_rows.BusRows.{BusRows}
-use Rattle.srcp_rules.specs.Nested.{AreRowsOfBus, AreRowsOfLayout, AreSorted, bus_rows, entry_at, listed}
+use Rattle.srcp_rules.specs.Nested.{AreRowsOfBus, AreRowsOfLayout, AreSorted, bus_rows, entry_at, group_rows, listed}
 use Rattle.srcp_rules.proofs.FindLaws.{each-weaken}
 use Rattle.srcp_rules.proofs.LayoutLaws.{within_step}
 use Rattle.srcp_rules.proofs.OpeningLaws.{Rising, opening_whole}
@@ -34,9 +35,9 @@ use Rattle.srcp_rules.proofs.PlaceLaws.{each_at}
 use Rattle.srcp_rules.proofs.StateLaws.{has_row-put_row, row_at-without}
 use Rattle.srcp_rules.proofs.PutRowsLaws.{has_row-put_rows}
 use Rattle.srcp_rules.proofs.OrderLaws.{bus_order, greater, owns-other}
-use Rattle.srcp_rules.proofs.ListedLaws.{IsTagged, each-set_value, entry_holds, row_at-listed, row_after-listed}
+use Rattle.srcp_rules.proofs.ListedLaws.{IsTagged, each-set_value, entry_holds, row_at-listed, row_after-listed, row_after-own}
 use Rattle.srcp_rules.proofs.TaggedLaws.{listed-put_row, listed-put_rows, listed-rising, listed-same, listed-without, listed-without_none}
-use Rattle.srcp_rules.proofs.BusRowsLaws.{bus_rising, rows_on_bus}
+use Rattle.srcp_rules.proofs.BusRowsLaws.{bus_rising, row_after-own_group, rows_on_bus}
 
 abbrev Any : Key → Type 0
 Any key = Unit {0}
@@ -103,6 +104,13 @@ module _ {buses : List Bus} {es : List (ℕ × BusRows)} (are : AreRowsOfLayout 
   pub row_after-buses : (cursor : Cursor) (from : ℕ) → ((key : Key) → key.bus < from → has_reached cursor key ≡ true)
       → row_after cursor (listed bus_rows es) ≡ row_after cursor (listed bus_rows (entries_between nat_cmp (Included from) Unbounded es))
   row_after-buses cursor from reached = row_after-listed bus_rows bus_of Any cursor from (λ key any h. reached key h) es tagged
+
+  -- a row that the cursor's own group has beyond it is the first of all
+  pub row_after-own_bus : (last : Key) {rows : BusRows} → Some rows ≡ entry_at last.bus es → (row : Row) → Some row ≡ row_after (cursor.After last) (group_rows rows last.group)
+      → Some row ≡ row_after (cursor.After last) (listed bus_rows es)
+  row_after-own_bus last {rows} e row is =
+      sym (row_after-own bus_rows bus_of Any (cursor.After last) last.bus (λ key any h. ap (λ o. not (is_gt o)) (bus_order key last h)) rows row
+      (row_after-own_group (found_bus e) last refl row (sym is)) es tagged are.sorted (sym e))
 
   -- ---- setting a row
 

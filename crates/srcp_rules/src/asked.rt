@@ -55,6 +55,7 @@ fn power_asked(operation: Operation, bus: &Bus, words: Words<'_>) -> Result<Comm
     }
 }
 
+#[inline(always)]
 fn gl_asked(operation: Operation, bus: &Bus, words: Words<'_>) -> Result<Command, Code>
     ensures { result ≡ asked operation named.Gl bus.now words.entry }
 {
@@ -203,6 +204,7 @@ fn lock_asked(operation: Operation, bus: &Bus, words: Words<'_>) -> Result<Comma
 }
 
 /// The command of the operation and the group.
+#[inline(always)]
 pub(crate) fn asked_of(
     operation: Operation,
     group: Named,

@@ -207,6 +207,7 @@ pub(crate) struct Drive {
 }
 
 /// Address, mode, V, Vmax, and at most 29 functions.
+#[inline(always)]
 pub(crate) fn driven(bus: &Bus, mut words: Words<'_>) -> Result<Drive, Code>
     ensures { (make : ℕ → ℕ → ℕ → ℕ → List Bool → Command) → MatchResult result (λ d. set_gl bus.now make words.entry ≡ Ok (make d.address d.mode d.v d.vmax d.functions)) (λ code. set_gl bus.now make words.entry ≡ Err code) }
 {

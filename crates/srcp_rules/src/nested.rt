@@ -1,11 +1,11 @@
-ghost use Rattle.std.specs.Prelude.{◌≡◌, ◌<◌, [], ◌∷◌, ◌++◌, true, map, IfOk, OnOk};
+ghost use Rattle.std.specs.Prelude.{◌≡◌, ◌<◌, [], ◌∷◌, ◌++◌, true, map, Some, IfOk, IfSome, OnOk};
 ghost use Rattle.std.specs.List.{AllByRecursion};
 ghost use Rattle.std.specs.Map.{keys_of};
 ghost use Rattle.srcp_info.specs.declared.key.Key.{Key};
 ghost use Rattle.srcp_info.specs.Key.{has_reached};
 ghost use Rattle.srcp_rules.specs.Layout.{server};
 ghost use Rattle.srcp_rules.specs.Sought.{sought_after};
-ghost use Rattle.srcp_rules.specs.State.{opening};
+ghost use Rattle.srcp_rules.specs.State.{opening, row_after};
 ghost use Rattle.srcp_rules.specs.Nested.{AreRowsOfBus, AreSorted, bus_rows, listed};
 
 mod bus_rows;
@@ -61,6 +61,9 @@ impl Rows for Nested {
     }
 
     fn row_after(&self, cursor: Cursor) -> Option<&Row> {
+        if let Some(row) = self.row_after_in_group(cursor) {
+            return Some(row);
+        }
         for (number, rows) in self.by_number.range(first_bus(cursor)..) {
             if let Some(row) = rows.row_after(*number, cursor) {
                 return Some(row);
@@ -91,7 +94,7 @@ impl Rows for Nested {
         let Some(rows) = self.by_number.get_mut(&row.shown.key.bus) else {
             return;
         };
-        rows.set(row);
+        rows.set(&row);
     }
 
     fn drop_device(&mut self, device: Device) {
@@ -103,6 +106,17 @@ impl Rows for Nested {
 }
 
 impl Nested {
+    /// The row with the least key beyond the cursor, if it is of the cursor's own group: in a listing nearly each is.
+    fn row_after_in_group(&self, cursor: Cursor) -> Option<&Row>
+        ensures { IfSome result (λ row. Some row.now ≡ row_after cursor self.now.state) }
+    {
+        let Cursor::After(last) = cursor else {
+            return None;
+        };
+        let rows = self.by_number.get(&last.bus)?;
+        rows.row_after_in(last.bus, last.group, cursor)
+    }
+
     /// Finds the first row beyond the cursor that is sought.
     fn first_after(&self, cursor: Cursor, sought: Sought) -> Option<Row>
         ensures { result ≡ sought_after sought cursor self.now.state }

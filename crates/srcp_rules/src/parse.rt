@@ -31,6 +31,7 @@ fn bus_of(buses: &[Bus], word: &[u8]) -> Result<Bus, Code>
 }
 
 /// The bus, then the group, which has to be on it.
+#[inline(always)]
 fn directed(buses: &[Bus], operation: Operation, mut words: Words<'_>) -> Result<Command, Code>
     ensures { result ≡ directed buses.now operation words.entry }
 {
@@ -45,6 +46,7 @@ fn directed(buses: &[Bus], operation: Operation, mut words: Words<'_>) -> Result
 }
 
 /// The operation, then what it is directed at.
+#[inline(always)]
 fn commanded(buses: &[Bus], mut words: Words<'_>) -> Result<Command, Code>
     ensures { result ≡ commanded buses.now words.entry }
 {

@@ -11,6 +11,7 @@ use srcp_info::{Code, Letter, MOST_MILLISECONDS};
 use srcp_text::{is_keyword, read_number};
 
 /// A number from `least` to `most`; any other word is 412.
+#[inline(always)]
 pub(crate) fn number_in(least: u32, most: u32, word: &[u8]) -> Result<u32, Code>
     ensures { result ≡ number_in least most word.now }
 {

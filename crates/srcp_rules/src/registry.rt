@@ -69,7 +69,9 @@ pub(crate) fn set_one<R: Rows>(
     ensures took { Took (accepted (put_at moment key value due ∷ [])) (R.state rows.old) (R.state rows.new) obeyed.new }
     ensures layout { R.buses rows.new ≡ R.buses rows.old }
 {
-    obeyed.changes.push(put(rows, moment, key, value, due));
+    let row = row_put(moment, key, value, due);
+    obeyed.changes.push(put_of(&row));
+    rows.set(row);
 }
 
 /// Answers the row at the key as it is, or 416 where there is none.

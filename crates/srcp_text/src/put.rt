@@ -19,16 +19,30 @@ pub fn put_bytes(bytes: &[u8], line: &mut LineBuf)
 
 /// Appends a number in decimal, without leading zeros: at most 20 bytes, for which the line must
 /// have room.
+#[inline]
 pub fn put_number(number: u64, line: &mut LineBuf)
     requires { array_vec_len line.old + length (decimal number) ≤ 256 }
     ensures { line.new.items ≡ line.old.items ++ decimal number }
 {
     if number < 10 {
         line.push(b'0' + number as u8);
-        return;
+    } else if number < 100 {
+        line.push(b'0' + (number / 10) as u8);
+        line.push(b'0' + (number % 10) as u8);
+    } else {
+        put_long_number(number, line);
     }
-    let mut buffer = itoa::Buffer::new();
-    put_bytes(buffer.format(number).as_bytes(), line);
+}
+
+/// Appends a number of three digits or more. It stands apart, so that a short number needs no scratch.
+#[inline(never)]
+fn put_long_number(number: u64, line: &mut LineBuf)
+    requires { array_vec_len line.old + length (decimal number) ≤ 256 }
+    ensures { line.new.items ≡ line.old.items ++ decimal number }
+{
+    let mut digits = [0; 20];
+    let start = itoa::write_digits(number, &mut digits, 20);
+    put_bytes(&digits[start..], line);
 }
 
 /// Appends the stamp of a moment of `moment` milliseconds: its seconds in decimal, a point, and the
@@ -38,10 +52,11 @@ pub fn put_stamp(moment: u64, line: &mut LineBuf)
     requires { array_vec_len line.old + length (stamp moment) ≤ 256 }
     ensures { line.new.items ≡ line.old.items ++ stamp moment }
 {
-    put_number(moment / 1000, line);
     let past = moment % 1000;
-    line.push(b'.');
-    line.push(b'0' + (past / 100) as u8);
-    line.push(b'0' + (past / 10 % 10) as u8);
-    line.push(b'0' + (past % 10) as u8);
+    let mut text = [b'.'; 24];
+    text[21] = b'0' + (past / 100) as u8;
+    text[22] = b'0' + (past / 10 % 10) as u8;
+    text[23] = b'0' + (past % 10) as u8;
+    let start = itoa::write_digits(moment / 1000, &mut text, 20);
+    put_bytes(&text[start..], line);
 }

@@ -5,7 +5,7 @@ ghost use Rattle.srcp_info.specs.Key.{device_of};
 ghost use Rattle.srcp_info.specs.WellFormed.{can_go};
 ghost use Rattle.srcp_rules.specs.Rows.{put_rows};
 ghost use Rattle.srcp_rules.specs.State.{fb_device, first_row, has_row, key_at, opening_on, put_row, row_after, row_at, without};
-ghost use Rattle.srcp_rules.specs.Nested.{AreOfDevice, AreRowsOfBus, bus_rows, most_rows};
+ghost use Rattle.srcp_rules.specs.Nested.{AreOfDevice, AreRowsOfBus, bus_rows, group_rows, most_rows};
 
 use crate::first_rows::{power_row, push_ports};
 use crate::layout::Bus;
@@ -15,6 +15,17 @@ use crate::rows::MOST_ROWS;
 use crate::sorted_rows::{row_after_in, row_in, set_in};
 use srcp_info::{Cursor, Device, Group, Key, Row};
 use std::alloc::Global;
+
+/// The groups of a bus in the order of a listing.
+const GROUPS: [Group; 7] = [
+    Group::Session,
+    Group::Power,
+    Group::Gl,
+    Group::Ga,
+    Group::Fb,
+    Group::LockGl,
+    Group::LockGa,
+];
 
 /// The rows of one bus.
 #[derive(Drop)]
@@ -70,15 +81,29 @@ impl BusRows {
         requires { AreRowsOfBus bus self.now }
         ensures { option_copied result ≡ row_after cursor (bus_rows self.now) }
     {
-        let power = self.power.as_slice();
-        self.sessions
-            .row_after(bus, Group::Session, cursor)
-            .or_else(|| row_after_in(power, cursor))
-            .or_else(|| self.locomotives.row_after(bus, Group::Gl, cursor))
-            .or_else(|| self.accessories.row_after(bus, Group::Ga, cursor))
-            .or_else(|| row_after_in(&self.feedback, cursor))
-            .or_else(|| self.locomotive_locks.row_after(bus, Group::LockGl, cursor))
-            .or_else(|| self.accessory_locks.row_after(bus, Group::LockGa, cursor))
+        for group in GROUPS {
+            if let Some(row) = self.row_after_in(bus, group, cursor) {
+                return Some(row);
+            }
+        }
+        None
+    }
+
+    /// The row of the group with the least key beyond the cursor.
+    #[inline(always)]
+    pub(crate) fn row_after_in(&self, bus: u8, group: Group, cursor: Cursor) -> Option<&Row>
+        requires { AreRowsOfBus bus self.now }
+        ensures { option_copied result ≡ row_after cursor (group_rows self.now group) }
+    {
+        match group {
+            Group::Session => self.sessions.row_after(bus, group, cursor),
+            Group::Power => row_after_in(self.power.as_slice(), cursor),
+            Group::Gl => self.locomotives.row_after(bus, group, cursor),
+            Group::Ga => self.accessories.row_after(bus, group, cursor),
+            Group::Fb => row_after_in(&self.feedback, cursor),
+            Group::LockGl => self.locomotive_locks.row_after(bus, group, cursor),
+            Group::LockGa => self.accessory_locks.row_after(bus, group, cursor),
+        }
     }
 
     /// Adds the rows of a device that is not there, of a group that comes and goes.
@@ -103,18 +128,18 @@ impl BusRows {
     }
 
     /// Sets a row that is there.
-    pub(crate) fn set(&mut self, row: Row)
-        requires bus { AreRowsOfBus row.shown.key.bus self.old }
-        requires there { IsTrue (has_row row.shown.key (bus_rows self.old)) }
-        ensures rows { bus_rows self.new ≡ put_row row (bus_rows self.old) }
-        ensures bus { AreRowsOfBus row.shown.key.bus self.new }
+    pub(crate) fn set(&mut self, row: &Row)
+        requires bus { AreRowsOfBus row.now.shown.key.bus self.old }
+        requires there { IsTrue (has_row row.now.shown.key (bus_rows self.old)) }
+        ensures rows { bus_rows self.new ≡ put_row row.now (bus_rows self.old) }
+        ensures bus { AreRowsOfBus row.now.shown.key.bus self.new }
     {
         match row.shown.key.group {
             Group::Session => self.sessions.set(row),
-            Group::Power => self.power = Some(row),
+            Group::Power => self.power = Some(*row),
             Group::Gl => self.locomotives.set(row),
             Group::Ga => self.accessories.set(row),
-            Group::Fb => set_in(&mut self.feedback, row),
+            Group::Fb => set_in(&mut self.feedback, *row),
             Group::LockGl => self.locomotive_locks.set(row),
             Group::LockGa => self.accessory_locks.set(row),
         }

@@ -1,8 +1,8 @@
-ghost use Rattle.std.specs.Prelude.{◌≡◌, ◌≤◌, IsTrue, length};
-ghost use Rattle.srcp_rules.specs.State.{IsRising, has_row, put_row};
+ghost use Rattle.std.specs.Prelude.{◌≡◌, ◌≤◌, IsTrue, length, option_copied};
+ghost use Rattle.srcp_rules.specs.State.{IsRising, has_row, put_row, row_after, row_at};
 
 use crate::sorted_rows::place_of;
-use srcp_info::Row;
+use srcp_info::{Cursor, Key, Row, compare};
 use std::marker::Model;
 
 /// The rows of one device by rising port: at most N, which stand in the value itself. Contracts see
@@ -45,14 +45,33 @@ impl<const N: usize> DeviceRows<N> {
         &self.rows[..self.count]
     }
 
+    /// The row at the key. The rows are so few that a look at each costs less than a search.
+    pub(crate) fn row(&self, key: &Key) -> Option<&Row>
+        ensures { option_copied result ≡ row_at key.now self.now }
+    {
+        self.as_slice()
+            .iter()
+            .find(|row| compare(&row.shown.key, key).is_eq())
+    }
+
+    /// The row with the least key beyond the cursor.
+    #[inline(always)]
+    pub(crate) fn row_after(&self, cursor: Cursor) -> Option<&Row>
+        ensures { option_copied result ≡ row_after cursor self.now }
+    {
+        self.as_slice()
+            .iter()
+            .find(|row| !cursor.has_reached(&row.shown.key))
+    }
+
     /// Sets a row that is there.
-    pub(crate) fn set(&mut self, row: Row)
+    pub(crate) fn set(&mut self, row: &Row)
         requires rising { IsRising self.old }
-        requires there { IsTrue (has_row row.shown.key self.old) }
-        ensures { self.new ≡ put_row row self.old }
+        requires there { IsTrue (has_row row.now.shown.key self.old) }
+        ensures { self.new ≡ put_row row.now self.old }
     {
         if let Ok(place) = place_of(self.as_slice(), &row.shown.key) {
-            self.rows[place] = row;
+            self.rows[place] = *row;
         }
     }
 }

@@ -10,7 +10,6 @@ ghost use Rattle.srcp_rules.specs.Nested.{AreDevices, AreOfDevice, IsIn, device_
 
 use crate::nested::device_rows::DeviceRows;
 use crate::obeyed::Memory;
-use crate::sorted_rows::{row_after_in, row_in};
 use srcp_info::{Cursor, Device, Group, Key, Row};
 use std::alloc::Global;
 use std::collections::BTreeMap;
@@ -38,12 +37,13 @@ impl<const N: usize> Devices<N> {
         ensures { option_copied result ≡ row_at key.now (device_rows self.now.by_address.entries) }
     {
         match self.by_address.get(&key.address) {
-            Some(device) => row_in(device.as_slice(), key),
+            Some(device) => device.row(key),
             None => None,
         }
     }
 
     /// The row with the least key beyond the cursor, where these are devices of this group of this bus.
+    #[inline(always)]
     pub(crate) fn row_after(&self, bus: u8, group: Group, cursor: Cursor) -> Option<&Row>
         requires devices { AreDevices bus group self.now.by_address.entries }
         requires fits { FitsInMemory (device_row N.row) }
@@ -53,7 +53,7 @@ impl<const N: usize> Devices<N> {
             return None;
         };
         for (_, device) in self.by_address.range(from..) {
-            if let Some(row) = row_after_in(device.as_slice(), cursor) {
+            if let Some(row) = device.row_after(cursor) {
                 return Some(row);
             }
         }
@@ -80,12 +80,12 @@ impl<const N: usize> Devices<N> {
     }
 
     /// Sets a row that is there.
-    pub(crate) fn set(&mut self, row: Row)
-        requires devices { AreDevices row.shown.key.bus row.shown.key.group self.old.by_address.entries }
-        requires there { IsTrue (has_row row.shown.key (device_rows self.old.by_address.entries)) }
+    pub(crate) fn set(&mut self, row: &Row)
+        requires devices { AreDevices row.now.shown.key.bus row.now.shown.key.group self.old.by_address.entries }
+        requires there { IsTrue (has_row row.now.shown.key (device_rows self.old.by_address.entries)) }
         requires fits { FitsInMemory (device_row N.row) }
-        ensures rows { device_rows self.new.by_address.entries ≡ put_row row (device_rows self.old.by_address.entries) }
-        ensures devices { AreDevices row.shown.key.bus row.shown.key.group self.new.by_address.entries }
+        ensures rows { device_rows self.new.by_address.entries ≡ put_row row.now (device_rows self.old.by_address.entries) }
+        ensures devices { AreDevices row.now.shown.key.bus row.now.shown.key.group self.new.by_address.entries }
     {
         if let Some(device) = self.by_address.get_mut(&row.shown.key.address) {
             device.set(row);
@@ -104,6 +104,7 @@ impl<const N: usize> Devices<N> {
 
 /// An address below which the cursor has reached all keys of the group of the bus; none where it has
 /// reached all of them.
+#[inline(always)]
 fn first_address(bus: u8, group: Group, cursor: Cursor) -> Option<u32>
     ensures none { IfNone result ((key : Key) → IsIn bus group key → has_reached cursor key ≡ true) }
     ensures some { IfSome result (λ from. (key : Key) → IsIn bus group key → key.address < from → has_reached cursor key ≡ true) }

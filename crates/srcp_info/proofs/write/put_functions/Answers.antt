@@ -1,7 +1,9 @@
-use Rattle.std.proofs.Common.{arith, length-append, false}
-use Rattle.srcp_info.specs.Line.{bit_word}
-use Rattle.srcp_info.proofs.LineLaws.{room_next}
+use Rattle.std.proofs.Common.{ℕ, arith, length-set}
+use Rattle.srcp_info.proofs.LineLaws.{bits_next}
 use Rattle.srcp_info.proofs.write.put_functions.Goals as goal
 
-pub put_bit-requires : goal.put_bit-requires
-put_bit-requires c = room_next bit_word c.as_slice-on-items.result.now c.loop-on.on-index false _ c.loop-on.buffer.items 256 c.loop-on-test.true c.loop-on.invariant (rw c.as_slice-on-items.ensures (omega (arith, c.requires, length-append c.args.buffer.now.items)))
+pub loop-place-preserved : goal.loop-place-preserved
+loop-place-preserved c = (
+  omega (arith, c.loop-place.invariant.0, length-set {A = ℕ}),
+  bits_next c.as_slice-bits.result.now c.loop-place.place c.loop-place.words c.from.result (rw c.as_slice-bits.ensures (omega arith)) (omega (arith, c.loop-place.invariant.0)) c.loop-place.invariant.1 c.from.ensures,
+)

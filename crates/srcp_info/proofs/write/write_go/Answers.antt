@@ -12,8 +12,8 @@ put_word-requires c = rw (c.put_stamp.ensures, c.requires) (omega (arith, length
 pub put_numeral-requires : goal.put_numeral-requires
 put_numeral-requires c = rw (c.put_word.ensures, c.put_stamp.ensures, c.requires) (omega (arith, length-append {A = ℕ}, length-stamp-le c.args.stamp (omega arith), id_most c.args.id (omega arith)))
 
-pub put_bytes-requires : goal.put_bytes-requires
-put_bytes-requires c = rw (c.put_numeral.ensures, c.put_word.ensures, c.put_stamp.ensures, c.requires) (omega (arith, length-append {A = ℕ}, length-stamp-le c.args.stamp (omega arith), id_most c.args.id (omega arith)))
+pub push-requires : goal.push-requires
+push-requires c = rw (c.put_numeral.ensures, c.put_word.ensures, c.put_stamp.ensures, c.requires) (omega (arith, length-append {A = ℕ}, length-stamp-le c.args.stamp (omega arith), id_most c.args.id (omega arith)))
 
 pub returns-clause-most : goal.returns-clause-most
-returns-clause-most c = rw (c.put_bytes.ensures, c.put_numeral.ensures, c.put_word.ensures, c.put_stamp.ensures, c.requires) (omega (arith, length-append {A = ℕ}, length-stamp-le c.args.stamp (omega arith), id_most c.args.id (omega arith)))
+returns-clause-most c = rw (c.push.ensures.items, c.put_numeral.ensures, c.put_word.ensures, c.put_stamp.ensures, c.requires) (omega (arith, length-append {A = ℕ}, length-stamp-le c.args.stamp (omega arith), id_most c.args.id (omega arith)))

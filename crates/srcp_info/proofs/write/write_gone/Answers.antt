@@ -8,8 +8,8 @@ put_info-requires c = rw c.requires.empty (omega (arith, room_gone c.args.stamp 
 pub put_numeral-requires : goal.put_numeral-requires
 put_numeral-requires c = rw (c.put_info.ensures, c.requires.empty) (omega (arith, length-append {A = ℕ}, room_gone c.args.stamp c.args.device.now c.requires.well_formed))
 
-pub put_bytes-requires : goal.put_bytes-requires
-put_bytes-requires c = rw (c.put_numeral.ensures, c.put_info.ensures, c.requires.empty) (omega (arith, length-append {A = ℕ}, room_gone c.args.stamp c.args.device.now c.requires.well_formed))
+pub push-requires : goal.push-requires
+push-requires c = rw (c.put_numeral.ensures, c.put_info.ensures, c.requires.empty) (omega (arith, length-append {A = ℕ}, room_gone c.args.stamp c.args.device.now c.requires.well_formed))
 
 pub returns-clause-most : goal.returns-clause-most
-returns-clause-most c = rw (c.put_bytes.ensures, c.put_numeral.ensures, c.put_info.ensures, c.requires.empty) (omega (arith, length-append {A = ℕ}, room_gone c.args.stamp c.args.device.now c.requires.well_formed))
+returns-clause-most c = rw (c.push.ensures.items, c.put_numeral.ensures, c.put_info.ensures, c.requires.empty) (omega (arith, length-append {A = ℕ}, room_gone c.args.stamp c.args.device.now c.requires.well_formed))

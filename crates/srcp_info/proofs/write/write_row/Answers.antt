@@ -11,13 +11,13 @@ put_info-requires c = rw (c.requires.empty, c.value_code.ensures) (omega (arith,
 pub put_value-requires-clause-room : goal.put_value-requires-clause-room
 put_value-requires-clause-room c = rw (c.put_info.ensures, c.requires.empty, c.value_code.ensures) (omega (arith, room_row c.args.shown.now c.requires.well_formed))
 
-pub put_bytes-requires : goal.put_bytes-requires
-put_bytes-requires c = rw (c.put_value.ensures, c.put_info.ensures, c.requires.empty, c.value_code.ensures) (omega (arith, length-append {A = ℕ}, room_row c.args.shown.now c.requires.well_formed))
+pub push-requires : goal.push-requires
+push-requires c = rw (c.put_value.ensures, c.put_info.ensures, c.requires.empty, c.value_code.ensures) (omega (arith, length-append {A = ℕ}, room_row c.args.shown.now c.requires.well_formed))
 
 pub returns-clause-line : goal.returns-clause-line
 returns-clause-line c =
     let shown = c.args.shown.now in
-    rw (c.put_bytes.ensures, c.put_value.ensures, c.put_info.ensures, c.requires.empty, c.value_code.ensures)
+    rw (c.push.ensures.items, c.put_value.ensures, c.put_info.ensures, c.requires.empty, c.value_code.ensures)
     (ap (λ bytes. bytes ++ codes "\n") (sym (info_more shown.stamp (value_code shown.value) shown.key.bus shown.key.group (value_words shown.key.address shown.key.port shown.value))))
 
 pub returns-clause-most : goal.returns-clause-most

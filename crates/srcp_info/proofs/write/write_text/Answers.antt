@@ -8,8 +8,8 @@ put_stamp-requires c = rw c.requires.empty (omega (arith, length-stamp-le c.args
 pub put_word-requires : goal.put_word-requires
 put_word-requires c = rw (c.put_stamp.ensures, c.requires.empty) (omega (arith, c.requires.short, length-stamp-le c.args.stamp (omega arith)))
 
-pub put_bytes-requires : goal.put_bytes-requires
-put_bytes-requires c = rw (c.put_word.ensures, c.put_stamp.ensures, c.requires.empty) (omega (arith, length-append {A = ℕ}, c.requires.short, length-stamp-le c.args.stamp (omega arith)))
+pub push-requires : goal.push-requires
+push-requires c = rw (c.put_word.ensures, c.put_stamp.ensures, c.requires.empty) (omega (arith, length-append {A = ℕ}, c.requires.short, length-stamp-le c.args.stamp (omega arith)))
 
 pub returns-clause-most : goal.returns-clause-most
-returns-clause-most c = rw (c.put_bytes.ensures, c.put_word.ensures, c.put_stamp.ensures, c.requires.empty) (omega (arith, length-append {A = ℕ}, c.requires.short, length-stamp-le c.args.stamp (omega arith)))
+returns-clause-most c = rw (c.push.ensures.items, c.put_word.ensures, c.put_stamp.ensures, c.requires.empty) (omega (arith, length-append {A = ℕ}, c.requires.short, length-stamp-le c.args.stamp (omega arith)))

@@ -1,7 +1,5 @@
-use Rattle.std.specs.Prelude.{IfOk}
-use Rattle.std.proofs.Common.{◌≡◌, ◌+◌, List, Bool, length, Result, sym, ap, subst, ◌∙◌, arith}
-use Rattle.srcp_info.specs.declared.change.Code.{Code}
-use Rattle.srcp_rules.proofs.BitLaws.{and_bits, and_bits-cons, and_bit-length}
+use Rattle.std.proofs.Common.{◌≡◌, ◌+◌, ◌∷◌, [], length, length-append, sym, ap, ◌∙◌, arith}
+use Rattle.srcp_rules.proofs.BitLaws.{and_bits, and_bits-ok}
 use Rattle.srcp_rules.proofs.functions.read_functions.Goals as goal
 
 pub loop-word-preserved : goal.loop-word-preserved
@@ -10,13 +8,12 @@ loop-word-preserved c =
     let word = c.in-Some.word.now in
     let left = c.next.new.self in
     let one_less = ap length c.in-Some.ensures.steps in
+    let one_more : length c.push.new.self ≡ length before + 1 = ap length c.push.ensures ∙ length-append before (c.in-Ok.bit ∷ []) in
     record {
-      few = omega arith;
-      counted = omega (arith, one_less);
+      few = omega (arith, one_more);
+      counted = omega (arith, one_more, one_less);
       read =
-          c.loop-word.invariant.read ∙ ap (and_bits before) c.in-Some.ensures.steps ∙ and_bits-cons before word left
-          ∙ ap (λ (r : Result (List Bool) Code). and_bits r left) (sym c.read_one.ensures);
-      one_each =
-          subst (λ (r : Result (List Bool) Code). IfOk r (λ bits. length bits ≡ c.loop-word.count + 1)) (sym c.read_one.ensures)
-          (and_bit-length c.loop-word.count before word c.loop-word.invariant.one_each);
+          c.loop-word.invariant.read ∙ ap (and_bits before) c.in-Some.ensures.steps
+          ∙ and_bits-ok before word left c.in-Ok.bit (sym c.bit_of.ensures ∙ c.in-Ok.is)
+          ∙ ap (λ bits. and_bits bits left) (sym c.push.ensures);
     }

@@ -17,35 +17,35 @@ asked key are is {ds} h there = (subst (λ (g : Group). AreDevices key.bus g ds)
 
 pub set-requires : goal.set-requires
 set-requires c =
-    let a = asked c.args.row.shown.key c.requires.bus c.in-Session.is c.requires.bus.sessions c.requires.there in
+    let a = asked c.args.row.now.shown.key c.requires.bus c.in-Session.is c.requires.bus.sessions c.requires.there in
     (omega arith, (a.0, (a.1, omega arith)))
 
 pub set-requires-in-Gl : goal.set-requires-in-Gl
 set-requires-in-Gl c =
-    let a = asked c.args.row.shown.key c.requires.bus c.in-Gl.is c.requires.bus.locomotives c.requires.there in
+    let a = asked c.args.row.now.shown.key c.requires.bus c.in-Gl.is c.requires.bus.locomotives c.requires.there in
     (omega arith, (a.0, (a.1, omega arith)))
 
 pub set-requires-in-Ga : goal.set-requires-in-Ga
 set-requires-in-Ga c =
-    let a = asked c.args.row.shown.key c.requires.bus c.in-Ga.is c.requires.bus.accessories c.requires.there in
+    let a = asked c.args.row.now.shown.key c.requires.bus c.in-Ga.is c.requires.bus.accessories c.requires.there in
     (omega arith, (a.0, (a.1, omega arith)))
 
 pub set-requires-in-LockGl : goal.set-requires-in-LockGl
 set-requires-in-LockGl c =
-    let a = asked c.args.row.shown.key c.requires.bus c.in-LockGl.is c.requires.bus.locomotive_locks c.requires.there in
+    let a = asked c.args.row.now.shown.key c.requires.bus c.in-LockGl.is c.requires.bus.locomotive_locks c.requires.there in
     (omega arith, (a.0, (a.1, omega arith)))
 
 pub set-requires-in-LockGa : goal.set-requires-in-LockGa
 set-requires-in-LockGa c =
-    let a = asked c.args.row.shown.key c.requires.bus c.in-LockGa.is c.requires.bus.accessory_locks c.requires.there in
+    let a = asked c.args.row.now.shown.key c.requires.bus c.in-LockGa.is c.requires.bus.accessory_locks c.requires.there in
     (omega arith, (a.0, (a.1, omega arith)))
 
 pub set_in-requires-clause-there : goal.set_in-requires-clause-there
-set_in-requires-clause-there c = sym (has_row-group c.requires.bus c.args.row.shown.key c.in-Fb.is) ∙ c.requires.there
+set_in-requires-clause-there c = sym (has_row-group c.requires.bus c.args.row.now.shown.key c.in-Fb.is) ∙ c.requires.there
 
 pub returns-in-Power-clause-rows : goal.returns-in-Power-clause-rows
 returns-in-Power-clause-rows c =
-    let row = c.args.row in
+    let row = c.args.row.now in
     let rows = c.args.self.now in
     let after : BusRows = record rows { power = Some row } in
     let there = sym (has_row-group c.requires.bus row.shown.key c.in-Power.is) ∙ c.requires.there in
@@ -54,36 +54,36 @@ returns-in-Power-clause-rows c =
 pub returns-in-Session-clause-rows : goal.returns-in-Session-clause-rows
 returns-in-Session-clause-rows c =
     let after : BusRows = record c.args.self.now { sessions = c.set.new.self } in
-    put_row-group c.requires.bus c.args.row after (refl, c.in-Session.is) (refl, refl) c.set.ensures.rows
+    put_row-group c.requires.bus c.args.row.now after (refl, c.in-Session.is) (refl, refl) c.set.ensures.rows
 
 pub returns-in-Gl-clause-rows : goal.returns-in-Gl-clause-rows
 returns-in-Gl-clause-rows c =
     let after : BusRows = record c.args.self.now { locomotives = c.set-in-Gl.new.self } in
-    put_row-group c.requires.bus c.args.row after (refl, c.in-Gl.is) (refl, refl) c.set-in-Gl.ensures.rows
+    put_row-group c.requires.bus c.args.row.now after (refl, c.in-Gl.is) (refl, refl) c.set-in-Gl.ensures.rows
 
 pub returns-in-Ga-clause-rows : goal.returns-in-Ga-clause-rows
 returns-in-Ga-clause-rows c =
     let after : BusRows = record c.args.self.now { accessories = c.set-in-Ga.new.self } in
-    put_row-group c.requires.bus c.args.row after (refl, c.in-Ga.is) (refl, refl) c.set-in-Ga.ensures.rows
+    put_row-group c.requires.bus c.args.row.now after (refl, c.in-Ga.is) (refl, refl) c.set-in-Ga.ensures.rows
 
 pub returns-in-LockGl-clause-rows : goal.returns-in-LockGl-clause-rows
 returns-in-LockGl-clause-rows c =
     let after : BusRows = record c.args.self.now { locomotive_locks = c.set-in-LockGl.new.self } in
-    put_row-group c.requires.bus c.args.row after (refl, c.in-LockGl.is) (refl, refl) c.set-in-LockGl.ensures.rows
+    put_row-group c.requires.bus c.args.row.now after (refl, c.in-LockGl.is) (refl, refl) c.set-in-LockGl.ensures.rows
 
 pub returns-in-LockGa-clause-rows : goal.returns-in-LockGa-clause-rows
 returns-in-LockGa-clause-rows c =
     let after : BusRows = record c.args.self.now { accessory_locks = c.set-in-LockGa.new.self } in
-    put_row-group c.requires.bus c.args.row after (refl, c.in-LockGa.is) (refl, refl) c.set-in-LockGa.ensures.rows
+    put_row-group c.requires.bus c.args.row.now after (refl, c.in-LockGa.is) (refl, refl) c.set-in-LockGa.ensures.rows
 
 pub returns-in-Fb-clause-rows : goal.returns-in-Fb-clause-rows
 returns-in-Fb-clause-rows c =
     let after : BusRows = record c.args.self.now { feedback = c.set_in.new.rows } in
-    put_row-group c.requires.bus c.args.row after (refl, c.in-Fb.is) (refl, refl) c.set_in.ensures
+    put_row-group c.requires.bus c.args.row.now after (refl, c.in-Fb.is) (refl, refl) c.set_in.ensures
 
 pub returns-in-Fb-clause-bus : goal.returns-in-Fb-clause-bus
 returns-in-Fb-clause-bus c =
-    let row = c.args.row in
+    let row = c.args.row.now in
     let bus = row.shown.key.bus in
     let are = c.requires.bus in
     record {

@@ -8,7 +8,7 @@ use Rattle.srcp_rules.proofs.nested.device_rows.DeviceRows.set.Goals as goal
 pub returns-in-Ok : goal.returns-in-Ok
 returns-in-Ok g c =
     let place = c.in-Ok.place in
-    let row = c.args.row in
+    let row = c.args.row.now in
     let inside = c.self.inside in
     let kept = c.args.self.now in
     let at : IsAt kept row.shown.key place = subst (λ state. IsAt state row.shown.key place) c.as_slice.ensures c.in-Ok.ensures.at in
@@ -20,6 +20,6 @@ returns-in-Ok g c =
 -- the key is there, so it has a place
 pub returns-in_default : goal.returns-in_default
 returns-in_default g c =
-    let key = c.args.row.shown.key in
+    let key = c.args.row.now.shown.key in
     let none = ap (row_at key) (sym c.as_slice.ensures) ∙ row_at-gap c.as_slice.result.now key c.in_default.field-0 c.in_default.ensures.gap in
     absurd (true≢false (sym c.requires.there ∙ ap is_some none))

@@ -3,10 +3,10 @@ use Rattle.std.specs.List.{AllByRecursion}
 use Rattle.std.specs.Ordering.{nat_cmp}
 use Rattle.std.specs.BTreeMap.Range.{entries_between}
 use Rattle.std.specs.declared.ops.Bound.TheVariants.{Included, Unbounded}
-use Rattle.srcp_rules.specs.State.{IsRising, row_after}
+use Rattle.srcp_rules.specs.State.{row_after}
 use Rattle.srcp_rules.specs.Nested.{AreOfDevice, device_rows}
 use Rattle.srcp_rules.proofs.ListedLaws.{each-between, first_has, first_has_none}
-use Rattle.srcp_rules.proofs.DeviceLaws.{whole, none_after, row_after-devices}
+use Rattle.srcp_rules.proofs.DeviceLaws.{none_after, row_after-devices}
 use Rattle.srcp_rules.proofs.nested.devices.Devices.row_after.Goals as goal
 
 pub returns-in_default : goal.returns-in_default
@@ -29,13 +29,10 @@ loop-device-init g c =
       rest = row_after-devices bus group entries c.requires.devices c.args.cursor from c.in-Some.ensures.some ∙ ap (λ es. row_after c.args.cursor (device_rows es)) (sym is);
     }
 
-pub row_after_in-requires : goal.row_after_in-requires
-row_after_in-requires g c = subst IsRising (sym c.as_slice.ensures) (subst (AllByRecursion (λ e. AreOfDevice c.args.bus c.args.group e.0 e.1)) c.in-Some-2.ensures.steps c.loop-device.invariant.each).0.rising
-
-pub returns-in-Some-row_after_in : goal.returns-in-Some-row_after_in
-returns-in-Some-row_after_in g c =
-    first_has whole c.args.cursor c.loop-device.device-iterator c.next.new.self (c.in-Some-2.field-0-0.now, c.in-Some-2.device.now) c.in-Some-2.ensures.steps c.in-Some-row_after_in.row.now
-    (c.in-Some-row_after_in.ensures ∙ ap (row_after c.args.cursor) c.as_slice.ensures)
+pub returns-in-Some-row_after : goal.returns-in-Some-row_after
+returns-in-Some-row_after g c =
+    first_has (λ e. e.1) c.args.cursor c.loop-device.device-iterator c.next.new.self (c.in-Some-2.field-0-0.now, c.in-Some-2.device.now) c.in-Some-2.ensures.steps
+    c.in-Some-row_after.row.now c.in-Some-row_after.ensures
     ∙ sym c.loop-device.invariant.rest
 
 pub loop-device-preserved : goal.loop-device-preserved
@@ -44,5 +41,5 @@ loop-device-preserved g c = record {
   finite = tt;
   each = (subst (AllByRecursion (λ e. AreOfDevice c.args.bus c.args.group e.0 e.1)) c.in-Some-2.ensures.steps c.loop-device.invariant.each).1;
   rest = c.loop-device.invariant.rest
-      ∙ first_has_none whole c.args.cursor c.loop-device.device-iterator c.next.new.self (c.in-Some-2.field-0-0.now, c.in-Some-2.device.now) c.in-Some-2.ensures.steps (c.in_default-row_after_in.ensures ∙ ap (row_after c.args.cursor) c.as_slice.ensures);
+      ∙ first_has_none (λ e. e.1) c.args.cursor c.loop-device.device-iterator c.next.new.self (c.in-Some-2.field-0-0.now, c.in-Some-2.device.now) c.in-Some-2.ensures.steps c.in_default-row_after.ensures;
 }

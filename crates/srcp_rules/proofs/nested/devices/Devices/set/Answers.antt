@@ -7,7 +7,7 @@ use Rattle.srcp_rules.proofs.nested.devices.Devices.set.Goals as goal
 
 pub set-requires : goal.set-requires
 set-requires g c =
-    let key = c.args.row.shown.key in
+    let key = c.args.row.now.shown.key in
     let entries = c.args.self.now.by_address.entries in (
       c.requires.fits,
       (
@@ -18,7 +18,7 @@ set-requires g c =
 
 pub returns-in-Some-clause-rows : goal.returns-in-Some-clause-rows
 returns-in-Some-clause-rows g c =
-    let row = c.args.row in
+    let row = c.args.row.now in
     let key = row.shown.key in
     let after = c.set.new.self in
     ap device_rows (c.get_mut.follows.holds after).0
@@ -26,7 +26,7 @@ returns-in-Some-clause-rows g c =
 
 pub returns-in-Some-clause-devices : goal.returns-in-Some-clause-devices
 returns-in-Some-clause-devices g c =
-    let row = c.args.row in
+    let row = c.args.row.now in
     let key = row.shown.key in
     let of = AreOfDevice key.bus key.group in
     let entries = c.args.self.now.by_address.entries in
@@ -42,5 +42,5 @@ returns-in-Some-clause-devices g c =
 -- the row is there, and so is its device
 pub returns-in_default-clause-rows : goal.returns-in_default-clause-rows
 returns-in_default-clause-rows g c =
-    let key = c.args.row.shown.key in
+    let key = c.args.row.now.shown.key in
     absurd (true≢false (sym c.requires.there ∙ sym (ap is_some (row_at-no_device key.bus key.group c.args.self.now.by_address.entries c.requires.devices key c.in_default.ensures.value))))
