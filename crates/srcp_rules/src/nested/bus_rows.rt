@@ -77,6 +77,8 @@ impl BusRows {
     }
 
     /// The row with the least key beyond the cursor, where these are rows of this bus.
+    #[cold]
+    #[inline(never)]
     pub(crate) fn row_after(&self, bus: u8, cursor: Cursor) -> Option<&Row>
         requires { AreRowsOfBus bus self.now }
         ensures { option_copied result ≡ row_after cursor (bus_rows self.now) }
