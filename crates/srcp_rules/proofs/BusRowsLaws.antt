@@ -201,10 +201,12 @@ module _ {bus : ℕ} {rows : BusRows} (are : AreRowsOfBus bus rows) where
   has_row-group key e = ap is_some (row_at-group key e)
 
   -- a row that the cursor's own group has beyond it is the first of the bus
-  pub row_after-own_group : (last : Key) → last.bus ≡ bus → (row : Row) → row_after (cursor.After last) (group_rows rows last.group) ≡ Some row
+  pub row_after-own_group : (last : Key) → last.bus ≡ bus
+      → (row : Row) → row_after (cursor.After last) (group_rows rows last.group) ≡ Some row
       → row_after (cursor.After last) (bus_rows rows) ≡ Some row
   row_after-own_group last on row is =
-      row_after-own whole place_of (OnBus bus) (cursor.After last) (place_of last) (λ key x h. ap (λ o. not (is_gt o)) (group_order key last (x ∙ sym on) h))
+      row_after-own whole place_of (OnBus bus) (cursor.After last) (place_of last)
+      (λ key x h. ap (λ o. not (is_gt o)) (group_order key last (x ∙ sym on) h))
       (group_rows rows last.group) row is (by_place rows) tagged (places_rise rows) (has_group last.group)
 
   -- ---- changes of one group
