@@ -19,6 +19,8 @@ module _ (bits : List Bool) (word : List ℕ) (words : List (List ℕ)) where
   pub and_bits-ok : (bit : Bool) → bit_of word ≡ Ok bit → and_bits bits (word ∷ words) ≡ and_bits (bits ++ bit ∷ []) words
   and_bits-ok bit e = ap after e ∙ by (bits_of words)
     where
-      by : (others : Result (List Bool) Code) → ((others >>= (λ rest. Ok (bit ∷ rest))) >>= (λ rest. Ok (bits ++ rest))) ≡ (others >>= (λ rest. Ok ((bits ++ bit ∷ []) ++ rest)))
+      by : (others : Result (List Bool) Code)
+          → ((others >>= (λ rest. Ok (bit ∷ rest))) >>= (λ rest. Ok (bits ++ rest)))
+          ≡ (others >>= (λ rest. Ok ((bits ++ bit ∷ []) ++ rest)))
       by (Ok rest) = rw append_assoc
       by (Err code) = refl

@@ -1,12 +1,10 @@
 -- The rows of a bus, group by group: look-ups and changes.
-use Rattle.std.specs.Prelude.{◌≡◌, ℕ, zero, suc, ◌+◌, ◌<◌, Bool, true, false, cond, is_some, not, List, [], ◌∷◌, ◌++◌, map, Option, Some, None, MatchOption, Result, Ok, Err, OnOk, OnErr, option_copied}
-use Rattle.std.proofs.Common.{refl, sym, ap, ◌∙◌, arith, append_assoc, true≢false, Bor}
-use Rattle.std.proofs.lemmas.List.{append-nil}
-use Rattle.std.proofs.lemmas.List.Folds.{find-append}
+use Rattle.std.specs.Prelude.{◌≡◌, ℕ, zero, suc, ◌+◌, ◌<◌, Bool, true, false, cond, is_some, not, List, [], ◌∷◌, map, Option, Some, None, MatchOption, Result, Ok, Err, OnOk, OnErr}
+use Rattle.std.proofs.Common.{refl, sym, ap, ◌∙◌, arith, true≢false}
 use Rattle.std.specs.List.{AllByRecursion, range_with_len}
 use Rattle.std.specs.List.Sorted.{IsStrictlySortedBy}
 use Rattle.std.specs.Map.{set_value}
-use Rattle.std.specs.Option.{option_map_or, option_or, option_to_list}
+use Rattle.std.specs.Option.{option_map_or, option_to_list}
 use Rattle.std.specs.Ordering.{nat_cmp, is_gt}
 use Rattle.std.specs.BTreeMap.{is_at}
 use Rattle.std.specs.declared.cmp.Ordering.TheVariants.{Less}
@@ -17,7 +15,7 @@ use Rattle.srcp_info.specs.declared.key.Device.{Device}
 use Rattle.srcp_info.specs.declared.change.Row.{Row}
 use Rattle.srcp_info.specs.declared.change.Cursor.TheVariants as cursor
 use Rattle.srcp_info.specs.declared.value.Value.TheVariants as value
-use Rattle.srcp_info.specs.Key.{group_place, has_reached, key_cmp, owns}
+use Rattle.srcp_info.specs.Key.{group_place, key_cmp, owns}
 use Rattle.srcp_info.proofs.ClientLaws.{all_put, put_over, rising_put}
 use Rattle.srcp_rules.specs.State.{State, IsRising, fb_device, first_row, has_row, power_device, put_row, row_after, row_at, without}
 use Rattle.srcp_rules.specs.Rows.{put_rows}
@@ -203,10 +201,12 @@ module _ {bus : ℕ} {rows : BusRows} (are : AreRowsOfBus bus rows) where
   has_row-group key e = ap is_some (row_at-group key e)
 
   -- a row that the cursor's own group has beyond it is the first of the bus
-  pub row_after-own_group : (last : Key) → last.bus ≡ bus → (row : Row) → row_after (cursor.After last) (group_rows rows last.group) ≡ Some row
+  pub row_after-own_group : (last : Key) → last.bus ≡ bus
+      → (row : Row) → row_after (cursor.After last) (group_rows rows last.group) ≡ Some row
       → row_after (cursor.After last) (bus_rows rows) ≡ Some row
   row_after-own_group last on row is =
-      row_after-own whole place_of (OnBus bus) (cursor.After last) (place_of last) (λ key x h. ap (λ o. not (is_gt o)) (group_order key last (x ∙ sym on) h))
+      row_after-own whole place_of (OnBus bus) (cursor.After last) (place_of last)
+      (λ key x h. ap (λ o. not (is_gt o)) (group_order key last (x ∙ sym on) h))
       (group_rows rows last.group) row is (by_place rows) tagged (places_rise rows) (has_group last.group)
 
   -- ---- changes of one group

@@ -181,21 +181,25 @@ module _ {X : Type 0} (rows : X → State) (tag : Key → ℕ) (P : Key → Type
     row_after-listed [] a = refl
     row_after-listed (e ∷ es) a = row_after_step e es (entries_between nat_cmp (Included n) Unbounded es) a.0 (row_after-listed es a.1) (inside e.0) refl
 
-    own_step : (e : ℕ × X) (es : List (ℕ × X)) (x : X) (row : Row) → IsTagged e → AllByRecursion (λ k. nat_cmp e.0 k ≡ Less) (keys_of es) → row_after cursor (rows x) ≡ Some row
-        → (entry_at n es ≡ Some x → row_after cursor (listed rows es) ≡ Some row) → (o : Ordering) → nat_cmp n e.0 ≡ o → cond (is_eq o) (Some e.1) (entry_at n es) ≡ Some x
+    own_step : (e : ℕ × X) (es : List (ℕ × X)) (x : X) (row : Row) → IsTagged e → AllByRecursion (λ k. nat_cmp e.0 k ≡ Less) (keys_of es)
+        → row_after cursor (rows x) ≡ Some row → (entry_at n es ≡ Some x → row_after cursor (listed rows es) ≡ Some row)
+        → (o : Ordering) → nat_cmp n e.0 ≡ o → cond (is_eq o) (Some e.1) (entry_at n es) ≡ Some x
         → row_after cursor (rows e.1 ++ listed rows es) ≡ Some row
     own_step e es x row a s is ih Less p h = absurd (none-some x (sym (none_above n es (above_trans n e.0 p (keys_of es) s)) ∙ h))
     own_step e es x row a s is ih Equal p h =
         find-append (λ row. not (has_reached cursor row.shown.key)) (rows e.1) (listed rows es)
         ∙ ap (λ o. option_or o (row_after cursor (listed rows es))) (ap (λ y. row_after cursor (rows y)) (same_Some e.1 x h) ∙ is)
-    own_step e es x row a s is ih Greater p h = find_past (λ row. not (has_reached cursor row.shown.key)) (rows e.1) (listed rows es) (all_reached e (above_of n e.0 p) a) ∙ ih h
+    own_step e es x row a s is ih Greater p h =
+        find_past (λ row. not (has_reached cursor row.shown.key)) (rows e.1) (listed rows es) (all_reached e (above_of n e.0 p) a) ∙ ih h
 
     -- a row that the entry of the number has beyond the cursor is the first of all
-    pub row_after-own : (x : X) (row : Row) → row_after cursor (rows x) ≡ Some row → (es : List (ℕ × X)) → AllByRecursion IsTagged es → AreSorted es → entry_at n es ≡ Some x
+    pub row_after-own : (x : X) (row : Row) → row_after cursor (rows x) ≡ Some row
+        → (es : List (ℕ × X)) → AllByRecursion IsTagged es → AreSorted es → entry_at n es ≡ Some x
         → row_after cursor (listed rows es) ≡ Some row
     unfolding IsStrictlySortedBy
     row_after-own x row is [] a s h = absurd (none-some x h)
-    row_after-own x row is (e ∷ es) a s h = own_step e es x row a.0 s.0 is (row_after-own x row is es a.1 s.1) (nat_cmp n e.0) refl h
+    row_after-own x row is (e ∷ es) a s h =
+        own_step e es x row a.0 s.0 is (row_after-own x row is es a.1 s.1) (nat_cmp n e.0) refl h
 
   -- ---- changes of the rows of one number
 
@@ -274,14 +278,16 @@ module _ {X : Type 0} (rows : X → State) (tag : Key → ℕ) (P : Key → Type
 
 module _ {E : Type 0} (rows : E → State) (cursor : Cursor) where
   -- the first entry has the row
-  pub first_has : (es rest : List E) (e : E) → es ≡ e ∷ rest → (row : Row) → Some row ≡ row_after cursor (rows e) → Some row ≡ row_after cursor (flat_map rows es)
+  pub first_has : (es rest : List E) (e : E) → es ≡ e ∷ rest → (row : Row) → Some row ≡ row_after cursor (rows e)
+      → Some row ≡ row_after cursor (flat_map rows es)
   first_has es rest e is row h =
       ap (λ o. option_or o (row_after cursor (flat_map rows rest))) h
       ∙ sym (find-append (λ row. not (has_reached cursor row.shown.key)) (rows e) (flat_map rows rest))
       ∙ ap (λ fs. row_after cursor (flat_map rows fs)) (sym is)
 
   -- the first entry has none
-  pub first_has_none : (es rest : List E) (e : E) → es ≡ e ∷ rest → None ≡ row_after cursor (rows e) → row_after cursor (flat_map rows es) ≡ row_after cursor (flat_map rows rest)
+  pub first_has_none : (es rest : List E) (e : E) → es ≡ e ∷ rest → None ≡ row_after cursor (rows e)
+      → row_after cursor (flat_map rows es) ≡ row_after cursor (flat_map rows rest)
   first_has_none es rest e is h =
       ap (λ fs. row_after cursor (flat_map rows fs)) is
       ∙ find-append (λ row. not (has_reached cursor row.shown.key)) (rows e) (flat_map rows rest)

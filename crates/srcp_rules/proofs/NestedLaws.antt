@@ -106,10 +106,12 @@ module _ {buses : List Bus} {es : List (ℕ × BusRows)} (are : AreRowsOfLayout 
   row_after-buses cursor from reached = row_after-listed bus_rows bus_of Any cursor from (λ key any h. reached key h) es tagged
 
   -- a row that the cursor's own group has beyond it is the first of all
-  pub row_after-own_bus : (last : Key) {rows : BusRows} → Some rows ≡ entry_at last.bus es → (row : Row) → Some row ≡ row_after (cursor.After last) (group_rows rows last.group)
+  pub row_after-own_bus : (last : Key) {rows : BusRows} → Some rows ≡ entry_at last.bus es
+      → (row : Row) → Some row ≡ row_after (cursor.After last) (group_rows rows last.group)
       → Some row ≡ row_after (cursor.After last) (listed bus_rows es)
   row_after-own_bus last {rows} e row is =
-      sym (row_after-own bus_rows bus_of Any (cursor.After last) last.bus (λ key any h. ap (λ o. not (is_gt o)) (bus_order key last h)) rows row
+      sym (row_after-own bus_rows bus_of Any (cursor.After last) last.bus
+      (λ key any h. ap (λ o. not (is_gt o)) (bus_order key last h)) rows row
       (row_after-own_group (found_bus e) last refl row (sym is)) es tagged are.sorted (sym e))
 
   -- ---- setting a row

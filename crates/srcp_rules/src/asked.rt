@@ -55,7 +55,6 @@ fn power_asked(operation: Operation, bus: &Bus, words: Words<'_>) -> Result<Comm
     }
 }
 
-#[inline(always)]
 fn gl_asked(operation: Operation, bus: &Bus, words: Words<'_>) -> Result<Command, Code>
     ensures { result ≡ asked operation named.Gl bus.now words.entry }
 {

@@ -7,7 +7,6 @@ use srcp_info::Code;
 use srcp_text::Words;
 
 /// The next word; where there is none the command is too short, 419.
-#[inline(always)]
 pub(crate) fn next_word<'a>(words: &mut Words<'a>) -> Result<&'a [u8], Code>
     ensures { MatchResult result (λ word. words.old ≡ word.now ∷ words.new) (λ code. (words.old ≡ []) × (code ≡ TooShort)) }
 {
@@ -18,7 +17,6 @@ pub(crate) fn next_word<'a>(words: &mut Words<'a>) -> Result<&'a [u8], Code>
 }
 
 /// Nothing, where no word is left; else the command is too long, 418.
-#[inline(always)]
 pub(crate) fn no_more(mut words: Words<'_>) -> Result<(), Code>
     ensures { MatchResult result (λ _. words.entry ≡ [])
         (λ code. ((word : List ℕ) × (others : List (List ℕ)) × (words.entry ≡ word ∷ others)) × (code ≡ TooLong)) }

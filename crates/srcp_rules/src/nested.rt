@@ -61,7 +61,7 @@ impl Rows for Nested {
     }
 
     fn row_after(&self, cursor: Cursor) -> Option<&Row> {
-        if let Some(row) = self.row_after_in_group(cursor) {
+        if let Some(row) = self.row_after_in_own_group(cursor) {
             return Some(row);
         }
         for (number, rows) in self.by_number.range(first_bus(cursor)..) {
@@ -106,15 +106,15 @@ impl Rows for Nested {
 }
 
 impl Nested {
-    /// The row with the least key beyond the cursor, if it is of the cursor's own group: in a listing nearly each is.
-    fn row_after_in_group(&self, cursor: Cursor) -> Option<&Row>
+    /// Finds the row with the least key beyond the cursor, if it is of the cursor's own group. Nearly each row of a listing is.
+    fn row_after_in_own_group(&self, cursor: Cursor) -> Option<&Row>
         ensures { IfSome result (λ row. Some row.now ≡ row_after cursor self.now.state) }
     {
         let Cursor::After(last) = cursor else {
             return None;
         };
         let rows = self.by_number.get(&last.bus)?;
-        rows.row_after_in(last.bus, last.group, cursor)
+        rows.row_after_in_group(last.bus, last.group, cursor)
     }
 
     /// Finds the first row beyond the cursor that is sought.

@@ -31,7 +31,6 @@ fn bus_of(buses: &[Bus], word: &[u8]) -> Result<Bus, Code>
 }
 
 /// The bus, then the group, which has to be on it.
-#[inline(always)]
 fn directed(buses: &[Bus], operation: Operation, mut words: Words<'_>) -> Result<Command, Code>
     ensures { result ≡ directed buses.now operation words.entry }
 {
@@ -46,7 +45,6 @@ fn directed(buses: &[Bus], operation: Operation, mut words: Words<'_>) -> Result
 }
 
 /// The operation, then what it is directed at.
-#[inline(always)]
 fn commanded(buses: &[Bus], mut words: Words<'_>) -> Result<Command, Code>
     ensures { result ≡ commanded buses.now words.entry }
 {

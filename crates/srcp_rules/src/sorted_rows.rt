@@ -31,6 +31,7 @@ pub(crate) fn row_in<'a>(rows: &'a [Row], key: &Key) -> Option<&'a Row>
 }
 
 /// The row with the least key beyond the cursor.
+#[inline(always)]
 pub(crate) fn row_after_in(rows: &[Row], cursor: Cursor) -> Option<&Row>
     requires { IsRising rows.now }
     ensures { option_copied result ≡ row_after cursor rows.now }

@@ -48,15 +48,15 @@ fn put_long_number(number: u64, line: &mut LineBuf)
 /// Appends the stamp of a moment of `moment` milliseconds: its seconds in decimal, a point, and the
 /// milliseconds past them in three digits, as `12.050`: at most 21 bytes, for which the line must
 /// have room.
+#[inline(always)]
 pub fn put_stamp(moment: u64, line: &mut LineBuf)
     requires { array_vec_len line.old + length (stamp moment) ≤ 256 }
     ensures { line.new.items ≡ line.old.items ++ stamp moment }
 {
-    let past = moment % 1000;
-    let mut text = [b'.'; 24];
-    text[21] = b'0' + (past / 100) as u8;
-    text[22] = b'0' + (past / 10 % 10) as u8;
-    text[23] = b'0' + (past % 10) as u8;
+    let mut text = [0; 24];
+    // The digit 1 before the milliseconds keeps their zeros. The point then takes its place.
+    itoa::write_digits(1000 + moment % 1000, &mut text, 24);
+    text[20] = b'.';
     let start = itoa::write_digits(moment / 1000, &mut text, 20);
     put_bytes(&text[start..], line);
 }

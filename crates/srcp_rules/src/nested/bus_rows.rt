@@ -77,21 +77,23 @@ impl BusRows {
     }
 
     /// The row with the least key beyond the cursor, where these are rows of this bus.
+    #[cold]
+    #[inline(never)]
     pub(crate) fn row_after(&self, bus: u8, cursor: Cursor) -> Option<&Row>
         requires { AreRowsOfBus bus self.now }
         ensures { option_copied result ≡ row_after cursor (bus_rows self.now) }
     {
         for group in GROUPS {
-            if let Some(row) = self.row_after_in(bus, group, cursor) {
+            if let Some(row) = self.row_after_in_group(bus, group, cursor) {
                 return Some(row);
             }
         }
         None
     }
 
-    /// The row of the group with the least key beyond the cursor.
+    /// Finds the row of the group with the least key beyond the cursor.
     #[inline(always)]
-    pub(crate) fn row_after_in(&self, bus: u8, group: Group, cursor: Cursor) -> Option<&Row>
+    pub(crate) fn row_after_in_group(&self, bus: u8, group: Group, cursor: Cursor) -> Option<&Row>
         requires { AreRowsOfBus bus self.now }
         ensures { option_copied result ≡ row_after cursor (group_rows self.now group) }
     {

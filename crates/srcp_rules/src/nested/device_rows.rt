@@ -45,7 +45,7 @@ impl<const N: usize> DeviceRows<N> {
         &self.rows[..self.count]
     }
 
-    /// The row at the key. The rows are so few that a look at each costs less than a search.
+    /// Finds the row at the key. The rows are so few that a look at each costs less than a search.
     pub(crate) fn row(&self, key: &Key) -> Option<&Row>
         ensures { option_copied result ≡ row_at key.now self.now }
     {
@@ -54,7 +54,7 @@ impl<const N: usize> DeviceRows<N> {
             .find(|row| compare(&row.shown.key, key).is_eq())
     }
 
-    /// The row with the least key beyond the cursor.
+    /// Finds the row with the least key beyond the cursor.
     #[inline(always)]
     pub(crate) fn row_after(&self, cursor: Cursor) -> Option<&Row>
         ensures { option_copied result ≡ row_after cursor self.now }

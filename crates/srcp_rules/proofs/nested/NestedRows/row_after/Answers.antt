@@ -34,7 +34,8 @@ row_after-requires c = (subst (AllByRecursion (λ e. AreRowsOfBus e.0 e.1)) c.in
 
 pub returns-in-Some-row_after : goal.returns-in-Some-row_after
 returns-in-Some-row_after c =
-    first_has (λ e. bus_rows e.1) c.args.cursor c.loop-number.number-iterator c.next.new.self (c.in-Some-2.number.now, c.in-Some-2.rows.now)
+    first_has (λ e. bus_rows e.1) c.args.cursor c.loop-number.number-iterator c.next.new.self
+    (c.in-Some-2.number.now, c.in-Some-2.rows.now)
     c.in-Some-2.ensures.steps c.in-Some-row_after.row.now c.in-Some-row_after.ensures
     ∙ sym c.loop-number.invariant.rest
 
@@ -44,6 +45,7 @@ loop-number-preserved c = record {
   finite = tt;
   each = (subst (AllByRecursion (λ e. AreRowsOfBus e.0 e.1)) c.in-Some-2.ensures.steps c.loop-number.invariant.each).1;
   rest = c.loop-number.invariant.rest
-      ∙ first_has_none (λ e. bus_rows e.1) c.args.cursor c.loop-number.number-iterator c.next.new.self (c.in-Some-2.number.now, c.in-Some-2.rows.now)
+      ∙ first_has_none (λ e. bus_rows e.1) c.args.cursor c.loop-number.number-iterator c.next.new.self
+      (c.in-Some-2.number.now, c.in-Some-2.rows.now)
       c.in-Some-2.ensures.steps c.in_default-row_after.ensures;
 }

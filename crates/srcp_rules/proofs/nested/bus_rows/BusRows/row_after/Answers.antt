@@ -15,14 +15,19 @@ more i h = rw add-one (drop-cons bus_groups i group.Session h)
 pub returns-in-Some : goal.returns-in-Some
 returns-in-Some c =
     let i = c.loop-group.group-index in
-    first_has (group_rows c.args.self.now) c.args.cursor (drop i bus_groups) (drop (i + 1) bus_groups) _ (more i c.loop-group-test.true) c.in-Some.row.now c.in-Some.ensures
+    first_has (group_rows c.args.self.now) c.args.cursor (drop i bus_groups) (drop (i + 1) bus_groups) _
+    (more i c.loop-group-test.true) c.in-Some.row.now c.in-Some.ensures
     ∙ sym c.loop-group.invariant
 
 pub loop-group-preserved : goal.loop-group-preserved
 loop-group-preserved c =
     let i = c.loop-group.group-index in
     c.loop-group.invariant
-    ∙ first_has_none (group_rows c.args.self.now) c.args.cursor (drop i bus_groups) (drop (i + 1) bus_groups) _ (more i c.loop-group-test.true) c.in_default.ensures
+    ∙ first_has_none (group_rows c.args.self.now) c.args.cursor (drop i bus_groups) (drop (i + 1) bus_groups) _
+    (more i c.loop-group-test.true) c.in_default.ensures
 
 pub returns : goal.returns
-returns c = sym (c.loop-group.invariant ∙ ap (λ (groups : List Group). row_after c.args.cursor (flat_map (group_rows c.args.self.now) groups)) (drop_all c.loop-group.group-index bus_groups c.loop-group-test.false))
+returns c =
+    sym (c.loop-group.invariant
+    ∙ ap (λ (groups : List Group). row_after c.args.cursor (flat_map (group_rows c.args.self.now) groups))
+    (drop_all c.loop-group.group-index bus_groups c.loop-group-test.false))

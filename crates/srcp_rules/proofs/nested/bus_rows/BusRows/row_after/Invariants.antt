@@ -5,4 +5,5 @@ use Rattle.srcp_rules.specs.Nested.{bus_groups, bus_rows, group_rows}
 use Rattle.srcp_rules.proofs.nested.bus_rows.BusRows.row_after.Given as goal
 
 abbrev pub invariant-loop-group : goal.invariant-loop-group
-invariant-loop-group l = row_after l.cursor (bus_rows l.self) ≡ row_after l.cursor (flat_map (group_rows l.self) (drop l.group-index bus_groups))
+invariant-loop-group l =
+    row_after l.cursor (bus_rows l.self) ≡ row_after l.cursor (flat_map (group_rows l.self) (drop l.group-index bus_groups))

@@ -31,7 +31,8 @@ loop-device-init g c =
 
 pub returns-in-Some-row_after : goal.returns-in-Some-row_after
 returns-in-Some-row_after g c =
-    first_has (λ e. e.1) c.args.cursor c.loop-device.device-iterator c.next.new.self (c.in-Some-2.field-0-0.now, c.in-Some-2.device.now) c.in-Some-2.ensures.steps
+    first_has (λ e. e.1) c.args.cursor c.loop-device.device-iterator c.next.new.self
+    (c.in-Some-2.field-0-0.now, c.in-Some-2.device.now) c.in-Some-2.ensures.steps
     c.in-Some-row_after.row.now c.in-Some-row_after.ensures
     ∙ sym c.loop-device.invariant.rest
 
@@ -41,5 +42,6 @@ loop-device-preserved g c = record {
   finite = tt;
   each = (subst (AllByRecursion (λ e. AreOfDevice c.args.bus c.args.group e.0 e.1)) c.in-Some-2.ensures.steps c.loop-device.invariant.each).1;
   rest = c.loop-device.invariant.rest
-      ∙ first_has_none (λ e. e.1) c.args.cursor c.loop-device.device-iterator c.next.new.self (c.in-Some-2.field-0-0.now, c.in-Some-2.device.now) c.in-Some-2.ensures.steps c.in_default-row_after.ensures;
+      ∙ first_has_none (λ e. e.1) c.args.cursor c.loop-device.device-iterator c.next.new.self
+      (c.in-Some-2.field-0-0.now, c.in-Some-2.device.now) c.in-Some-2.ensures.steps c.in_default-row_after.ensures;
 }
