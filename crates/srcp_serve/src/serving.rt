@@ -95,10 +95,10 @@ fn visit_place<R: Rows, D: Door>(
     ensures told { AsksPeers (D.told door.old) (D.told door.new) }
     ensures course { VisitsPlace place core.old (D.told door.old) places.old core.new (D.told door.new) places.new }
 {
-    let Some(seat) = places[place] else {
+    let Some(seat) = &places[place] else {
         return;
     };
-    if !visit(core, door, &seat, tally) {
+    if !visit(core, door, seat, tally) {
         places[place] = None;
     }
 }
