@@ -9,7 +9,7 @@ use srcp_door::{Filled, Given, HandedOver, Input, Link, MOST_GATHERED, Pacing};
 use std::alloc::{AllocError, Global};
 use std::net::Shutdown;
 
-/// How many bytes of a panel may wait for the next tick. What else may be gathered holds the 300 lines of 126 bytes
+/// How many bytes of a peer may wait for the next tick. What else may be gathered holds the 300 lines of 126 bytes
 /// that a peer is written in a turn at most.
 const MOST_WAITING: usize = MOST_GATHERED - 300 * 126;
 
@@ -58,10 +58,11 @@ impl Peer {
         }
     }
 
-    /// Writes what is gathered, where the socket may take something. To a panel it writes with `tick` alone, or where much is
-    /// gathered.
+    /// Writes what is gathered, where the socket may take something. To a panel, and to a peer of which input is held, it
+    /// writes with `tick` alone, or where much is gathered, since more is to come.
     pub(super) fn hand_over(&mut self, tick: bool) {
-        let waits = !tick && self.is_panel() && self.link.gathered.len() <= MOST_WAITING;
+        let more = self.is_panel() || self.is_busy();
+        let waits = !tick && more && self.link.gathered.len() <= MOST_WAITING;
         if !waits && self.writable && self.link.hand_over(&mut self.stream) == HandedOver::Later {
             self.writable = false;
         }

@@ -1,6 +1,6 @@
 //! The sockets of a door, and the lines that are let through in a turn.
 
-ghost use Rattle.std.specs.Prelude.{◌≡◌, ◌<◌, ◌≤◌, ℕ, Ok, None, IfOk, IfSome, OnErr, length};
+ghost use Rattle.std.specs.Prelude.{◌≡◌, ◌<◌, ◌≤◌, ℕ, Ok, None, IfOk, IfSome, IsTrue, OnErr, length};
 ghost use Rattle.srcp_door.specs.declared.read_ahead.Given.{Given};
 
 use super::leaving::Leaving;
@@ -78,7 +78,8 @@ impl Sockets {
     }
 
     /// Begins a turn: writes what is gathered, waits, and reads what came. With `hurry`, or if there is something to do, it
-    /// does not wait. Panels are written to once a millisecond, or after a turn in which nothing happened.
+    /// does not wait. Panels, and peers of which input is held, are written to once a millisecond, or after a turn in which
+    /// nothing happened.
     ///
     /// # Errors
     /// Fails if the system refuses to wait. The turn has begun all the same.
@@ -97,7 +98,7 @@ impl Sockets {
         waited
     }
 
-    /// Writes what is gathered, to panels with `tick` alone.
+    /// Writes what is gathered; to those for which more is to come, with `tick` alone.
     fn hand_over(&mut self, tick: bool)
         ensures { self.new.last ≡ self.old.last }
     {
@@ -232,15 +233,18 @@ impl Sockets {
         false
     }
 
-    /// Returns the place of a peer. It looks first where it found one last, since a peer is written line by line.
+    /// Returns the place of a peer. It looks first where it found one last, since a peer is written line by line, and then
+    /// behind that, since peers are visited nearly as they came.
     fn place(&mut self, number: u32) -> io::Result<usize>
         ensures place { IfOk result (λ place. place < length self.new.peers.items) }
         ensures last { self.new.last ≡ self.old.last }
     {
-        if let Some(peer) = self.peers.get(self.recent) {
-            if peer.number == number {
-                return Ok(self.recent);
-            }
+        if self.is_at(self.recent, number) {
+            return Ok(self.recent);
+        }
+        self.recent = self.recent.saturating_add(1);
+        if self.is_at(self.recent, number) {
+            return Ok(self.recent);
         }
         match self.peers.binary_search_by_key(&number, |peer| peer.number) {
             Ok(place) => {
@@ -249,5 +253,14 @@ impl Sockets {
             }
             Err(_) => Err(io::Error::from(ErrorKind::NotFound)),
         }
+    }
+
+    /// Returns whether the peer has the place.
+    fn is_at(&self, place: usize, number: u32) -> bool
+        ensures { IsTrue result → place < length self.now.peers.items }
+    {
+        self.peers
+            .get(place)
+            .is_some_and(|peer| peer.number == number)
     }
 }
