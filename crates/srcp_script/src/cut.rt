@@ -5,6 +5,8 @@ ghost use Rattle.std.specs.List.{slice_split, list_any};
 ghost use Rattle.std.specs.Option.{option_copied, option_map_or};
 ghost use Rattle.srcp_script.specs.Script.{parts_behind};
 
+use memchr::memchr;
+
 /// Cuts a text at the first such byte: what stands before it, and what stands behind it, where there is one.
 pub fn cut_at(byte: u8, text: &[u8]) -> (&[u8], Option<&[u8]>)
     ensures parts { slice_split (λ b. b == byte) text.now
@@ -23,5 +25,5 @@ pub fn cut_at(byte: u8, text: &[u8]) -> (&[u8], Option<&[u8]>)
 fn find_byte(byte: u8, text: &[u8]) -> Option<usize>
     ensures { result ≡ position (λ b. b == byte) text.now }
 {
-    text.iter().position(|b| *b == byte)
+    memchr(byte, text)
 }
