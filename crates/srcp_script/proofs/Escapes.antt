@@ -1,5 +1,5 @@
 -- What a text writes, from its first byte on.
-use Rattle.std.proofs.Common.{◌≡◌, ℕ, ◌+◌, ◌*◌, ◌-◌, ◌<◌, ◌≤◌, Bool, false, eqb, ltb, List, [], ◌∷◌, ◌++◌, length, get_or, take, drop, refl, ◌∙◌, subst, arith, Option, Some, None, inl, inr}
+use Rattle.std.proofs.Common.{◌≡◌, ℕ, ◌+◌, ◌*◌, ◌-◌, ◌<◌, ◌≤◌, Bool, false, eqb, ltb, List, [], ◌∷◌, ◌++◌, length, get_or, take, drop, refl, sym, ap, ◌∙◌, append_assoc, subst, arith, Option, Some, None, inl, inr}
 use Rattle.std.specs.Prelude.{option_map}
 use Rattle.std.specs.Char.{digit_value}
 use Rattle.std.specs.List.{slice_split, onto_first}
@@ -88,3 +88,16 @@ unescaped-cut_hex (high ∷ low ∷ text) short = absurd (omega arith)
 -- what is written in front of the rest
 abbrev pub behind : List ℕ → Option (List ℕ) → Option (List ℕ)
 behind bytes more = option_map (λ rest. bytes ++ rest) more
+
+-- what a text writes that has a backslash: the part before that, and then what the escape and the rest write
+pub unescaped_escape : (text plain escape bytes : List ℕ) → parts text ≡ plain ∷ parts escape → behind bytes (unescaped text) ≡ behind (bytes ++ plain) (unescaped (92 ∷ escape))
+unescaped_escape text plain escape bytes is = rw is (rw (joined-nil (escapes (parts escape))) (twice (escapes (parts escape))))
+  where
+    twice : (more : Option (List ℕ)) → behind bytes (joined (Some plain) more) ≡ behind (bytes ++ plain) more
+    twice None = refl
+    twice (Some rest) = ap Some (sym (append_assoc bytes plain rest))
+
+-- one byte more in front of the rest
+pub behind_after : (bytes : List ℕ) (byte : ℕ) (more : Option (List ℕ)) → behind bytes (after byte more) ≡ behind (bytes ++ byte ∷ []) more
+behind_after bytes byte None = refl
+behind_after bytes byte (Some rest) = ap Some (sym (append_assoc bytes (byte ∷ []) rest))

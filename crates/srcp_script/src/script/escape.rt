@@ -5,6 +5,7 @@ ghost use Rattle.std.specs.Char.{digit_value};
 ghost use Rattle.std.specs.Option.{SomeIff};
 ghost use Rattle.srcp_script.specs.Script.{unescaped, after};
 
+use crate::cut::cut_at;
 use crate::script::Cause;
 use std::alloc::Global;
 use std::vec::Vec;
@@ -21,27 +22,15 @@ pub(super) fn unescape(alloc: Global, text: &[u8]) -> Result<Vec<u8>, Cause>
 {
     let mut bytes = Vec::new(alloc);
     let mut rest = text;
-    while !rest.is_empty() {
-        let (byte, behind) = first_byte(rest).ok_or(Cause::Escape)?;
+    loop {
+        let (plain, escape) = cut_at(b'\\', rest);
+        bytes.extend_from_slice(plain).map_err(|_| Cause::Memory)?;
+        let Some(escape) = escape else {
+            return Ok(bytes);
+        };
+        let (byte, behind) = escaped_byte(escape).ok_or(Cause::Escape)?;
         bytes.push(byte).map_err(|_| Cause::Memory)?;
         rest = behind;
-    }
-    Ok(bytes)
-}
-
-/// The first byte that a text writes and what stands behind it; None for a wrong escape.
-fn first_byte(text: &[u8]) -> Option<(u8, &[u8])>
-    requires { 0 < length text.now }
-    ensures first { MatchOption result (unescaped text.now ≡ None) (λ first.
-        unescaped text.now ≡ after first.0 (unescaped first.1.now)) }
-    ensures shorter { IfSome result (λ first. length first.1.now < length text.now) }
-{
-    let byte = text[0];
-    let behind = &text[1..];
-    if byte == b'\\' {
-        escaped_byte(behind)
-    } else {
-        Some((byte, behind))
     }
 }
 
