@@ -1,11 +1,13 @@
 -- The rows of devices of one group of one bus, by address: look-ups and changes.
-use Rattle.std.specs.Prelude.{◌≡◌, ℕ, ◌<◌, true, false, is_some, not, List, [], ◌∷◌, ◌++◌, length, filter, Option, Some, None}
+use Rattle.std.specs.Prelude.{◌≡◌, ℕ, ◌<◌, Bool, true, false, cond, is_some, not, List, [], ◌∷◌, ◌++◌, length, filter, find, nat_lt, slice_get, Option, Some, None}
 use Rattle.std.proofs.Common.{refl, sym, ap, subst, ◌∙◌, arith, true≢false}
+use Rattle.std.proofs.lemmas.Bool.Decides.{nat_tests}
+use Rattle.std.proofs.lemmas.Option.{none-some, same_Some}
 use Rattle.std.specs.List.{AllByRecursion}
 use Rattle.std.specs.List.Sorted.{IsStrictlySortedBy}
 use Rattle.std.specs.Map.{set_value, remove_entry}
 use Rattle.std.specs.Option.{option_map_or}
-use Rattle.std.specs.Ordering.{nat_cmp}
+use Rattle.std.specs.Ordering.{is_gt, nat_cmp}
 use Rattle.std.specs.BTreeMap.{is_at, insert_entry}
 use Rattle.std.specs.BTreeMap.Range.{entries_between}
 use Rattle.std.specs.declared.ops.Bound.TheVariants.{Included, Unbounded}
@@ -15,14 +17,15 @@ use Rattle.srcp_info.specs.declared.key.Key.{Key}
 use Rattle.srcp_info.specs.declared.key.Device.{Device}
 use Rattle.srcp_info.specs.declared.change.Row.{Row}
 use Rattle.srcp_info.specs.declared.change.Cursor.{Cursor}
+use Rattle.srcp_info.specs.declared.change.Cursor.TheVariants as at
 use Rattle.srcp_info.specs.Key.{is_after, key_cmp, device_of, has_reached, owns}
-use Rattle.srcp_info.proofs.ClientLaws.{all_put, rising_put}
+use Rattle.srcp_info.proofs.ClientLaws.{after_from_less, all_put, rising_put}
 use Rattle.srcp_rules.specs.State.{State, IsRising, has_row, key_at, put_row, row_at, row_after, without}
 use Rattle.srcp_rules.specs.Rows.{put_rows}
-use Rattle.srcp_rules.proofs.FindLaws.{each-weaken}
+use Rattle.srcp_rules.proofs.FindLaws.{each-weaken, find_same}
 use Rattle.srcp_rules.proofs.StateLaws.{row_key, row_at-first}
 use Rattle.srcp_rules.specs.Nested.{AreDevices, AreOfDevice, IsIn, device_rows, entry_at}
-use Rattle.srcp_rules.proofs.OrderLaws.{address_order, device_in_group, owns-other, owns-own}
+use Rattle.srcp_rules.proofs.OrderLaws.{address_order, device_in_group, device_order, group_alike, owns-other, owns-own}
 use Rattle.srcp_rules.proofs.PutLaws.{find_none, put_rows-new, without-all}
 use Rattle.srcp_rules.proofs.ListedLaws.{IsTagged, each-listed, entry_holds, row_at-listed, row_after-listed}
 use Rattle.srcp_rules.proofs.TaggedLaws.{listed-put_row, listed-put_rows_new, listed-rising, listed-without_all}
@@ -39,6 +42,34 @@ some-put_row row rows = some (filter (λ other. is_after row.shown.key other.sho
     some : (xs ys : State) → 0 < length (xs ++ row ∷ ys)
     some [] ys = omega arith
     some (x ∷ xs) ys = omega arith
+
+-- of rows beyond the cursor the first is the next
+first_beyond : (cursor : Cursor) (rows : State) → AllByRecursion (λ row. has_reached cursor row.shown.key ≡ false) rows → row_after cursor rows ≡ slice_get rows 0
+first_beyond cursor [] h = refl
+first_beyond cursor (row ∷ rows) h = ap (λ b. cond (not b) (Some row) (row_after cursor rows)) h.0
+
+first_of_both : (rows rest : State) → 0 < length rows → slice_get (rows ++ rest) 0 ≡ slice_get rows 0
+first_of_both [] rest h = absurd (omega (arith, h))
+first_of_both (row ∷ rows) rest h = refl
+
+-- a number is above another
+above : (m n : ℕ) → not (not (is_gt (nat_cmp m n))) ≡ nat_lt n m
+above m n = grind (arith, nat_tests)
+
+module _ (last : Key) (address : ℕ) (rows : State) (device : AreOfDevice last.bus last.group address rows) where
+  -- the key's own device has the first row of a greater port beyond it
+  pub row_after-own_device : address ≡ last.address → row_after (at.After last) rows ≡ find (λ row. nat_lt last.port row.shown.key.port) rows
+  row_after-own_device e =
+      find_same (λ row. not (has_reached (at.After last) row.shown.key)) (λ row. nat_lt last.port row.shown.key.port) rows
+      (each-weaken {P = λ row. IsIn last.bus last.group row.shown.key × (row.shown.key.address ≡ address)}
+      (λ row t. ap (λ o. not (not (is_gt o))) (device_order row.shown.key last t.0.0 t.0.1 (t.1 ∙ e)) ∙ above row.shown.key.port last.port) rows device.each)
+
+  -- and a later one its first row
+  pub row_after-later_device : last.address < address → row_after (at.After last) rows ≡ slice_get rows 0
+  row_after-later_device h =
+      first_beyond (at.After last) rows
+      (each-weaken {P = λ row. IsIn last.bus last.group row.shown.key × (row.shown.key.address ≡ address)}
+      (λ row t. ap not (after_from_less row.shown.key last (address_order last row.shown.key (sym t.0.0) (sym t.0.1) (omega (arith, h, t.1))))) rows device.each)
 
 module _ (bus : ℕ) (g : Group) where
   abbrev Here : Key → Type 0
@@ -58,6 +89,23 @@ module _ (bus : ℕ) (g : Group) where
   -- a device does not own keys of another address
   apart : (device : Device) (key : Key) → Here key → (key.address ≡ device.address → ⊥) → owns device key ≡ false
   apart device key x h = owns-other device key (λ e. h (ap (λ (d : Device). d.address) e))
+
+  abbrev least : Key
+  least = record { bus = bus; group = g; address = 0; port = 0 }
+
+  -- a cursor outside the group has reached all of its keys or none
+  all_or_none : (cursor : Cursor) → ((last : Key) → cursor ≡ at.After last → Here last → ⊥) → (key : Key) → Here key
+      → has_reached cursor key ≡ has_reached cursor least
+  all_or_none at.Start outside key x = refl
+  all_or_none (at.After last) outside key x = ap (λ o. not (is_gt o)) (group_alike bus g key least last x (refl, refl) (outside last refl))
+  all_or_none at.Done outside key x = refl
+
+  -- the first row of all is that of the first device
+  pub first_device : (es : List (ℕ × State)) → AllByRecursion (λ e. AreOfDevice bus g e.0 e.1) es → (e : ℕ × State) → slice_get es 0 ≡ Some e
+      → slice_get (device_rows es) 0 ≡ slice_get e.1 0
+  first_device [] each e is = absurd (none-some e is)
+  first_device (f ∷ fs) each e is =
+      first_of_both f.1 (device_rows fs) each.0.some ∙ ap (λ (x : ℕ × State). slice_get x.1 0) (same_Some f e is)
 
   module _ (es : List (ℕ × State)) (devices : AreDevices bus g es) where
     tagged : AllByRecursion (IsTagged whole address_of Here) es
@@ -88,13 +136,20 @@ module _ (bus : ℕ) (g : Group) where
     pub row_at-no_device : (key : Key) → None ≡ entry_at key.address es → None ≡ row_at key (device_rows es)
     row_at-no_device key e = ap (λ o. option_map_or (λ rows. row_at key rows) o None) e ∙ sym (row_at-devices key)
 
-    pub row_after-devices : (cursor : Cursor) (from : ℕ) → ((key : Key) → Here key → key.address < from → has_reached cursor key ≡ true)
-        → row_after cursor (device_rows es) ≡ row_after cursor (device_rows (entries_between nat_cmp (Included from) Unbounded es))
-    row_after-devices cursor from reached = row_after-listed whole address_of Here cursor from reached es tagged
+    module _ (cursor : Cursor) (outside : (last : Key) → cursor ≡ at.After last → Here last → ⊥) where
+      reached : (b : Bool) → has_reached cursor least ≡ b → AllByRecursion (λ row. has_reached cursor row.shown.key ≡ b) (device_rows es)
+      reached b e =
+          each-weaken {P = λ row. Here row.shown.key} (λ row h. all_or_none cursor outside row.shown.key h ∙ e) (device_rows es) devices_in_group
 
-    -- a cursor that has reached all keys of the group has none of its rows beyond it
-    pub none_after : (cursor : Cursor) → ((key : Key) → Here key → has_reached cursor key ≡ true) → row_after cursor (device_rows es) ≡ None
-    none_after cursor reached = find_none (λ row. not (has_reached cursor row.shown.key)) (device_rows es) (each-weaken {P = λ row. Here row.shown.key} (λ row h. ap not (reached row.shown.key h)) (device_rows es) devices_in_group)
+      -- a cursor that has reached all keys of the group has none of its rows beyond it
+      pub none_after : has_reached cursor least ≡ true → row_after cursor (device_rows es) ≡ None
+      none_after e =
+          find_none (λ row. not (has_reached cursor row.shown.key)) (device_rows es)
+          (each-weaken {P = λ row. has_reached cursor row.shown.key ≡ true} (λ row h. ap not h) (device_rows es) (reached true e))
+
+      -- and one that has reached none has them all
+      pub first_after : has_reached cursor least ≡ false → row_after cursor (device_rows es) ≡ slice_get (device_rows es) 0
+      first_after e = first_beyond cursor (device_rows es) (reached false e)
 
     -- ---- changes
 
@@ -132,6 +187,14 @@ module _ (bus : ℕ) (g : Group) where
         → device_rows (insert_entry nat_cmp es key.address added) ≡ put_rows added (device_rows es)
     devices-insert key here added new free =
         listed-put_rows_new whole address_of Here in_order key.address added new.each es tagged devices.sorted added (absent_by key here free (entry_at key.address es) refl) (put_rows-new added new.rising)
+
+-- no row of an address below the key's is beyond it
+pub row_after-devices : (last : Key) (es : List (ℕ × State)) → AreDevices last.bus last.group es
+    → row_after (at.After last) (device_rows es)
+    ≡ row_after (at.After last) (device_rows (entries_between nat_cmp (Included last.address) Unbounded es))
+row_after-devices last es devices =
+    row_after-listed whole address_of (Here last.bus last.group) (at.After last) last.address
+    (λ key x h. ap (λ o. not (is_gt o)) (address_order key last x.0 x.1 h)) es (tagged last.bus last.group es devices)
 
 -- no devices are devices of any group
 pub no_devices : (bus : ℕ) (g : Group) (es : List (ℕ × State)) → es ≡ [] → AreDevices bus g es

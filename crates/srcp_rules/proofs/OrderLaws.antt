@@ -3,12 +3,13 @@ use Rattle.std.specs.Prelude.{◌≡◌, ℕ, ◌<◌, Bool, true, false}
 use Rattle.std.proofs.Common.{refl, sym, ap, ◌∙◌, arith}
 use Rattle.std.proofs.lemmas.Cmp.{nat_cmp_total, by_ranked, ranked, tied_itself}
 use Rattle.std.specs.Ordering.{nat_cmp, ordering_then}
+use Rattle.std.specs.declared.cmp.Ordering.{Ordering}
 use Rattle.std.specs.declared.cmp.Ordering.TheVariants.{Less, Equal, Greater}
 use Rattle.srcp_info.specs.declared.key.Group.{Group}
 use Rattle.srcp_info.specs.declared.key.Key.{Key}
 use Rattle.srcp_info.specs.declared.key.Device.{Device}
 use Rattle.srcp_info.specs.Key.{group_place, group_cmp, key_cmp, device_of, owns}
-use Rattle.srcp_info.proofs.KeyLaws.{owns-device_of, device_from_owns}
+use Rattle.srcp_info.proofs.KeyLaws.{nat_tie, owns-device_of, device_from_owns, same_group}
 use Rattle.srcp_rules.specs.State.{key_at}
 use Rattle.srcp_rules.specs.Nested.{IsIn}
 
@@ -41,12 +42,33 @@ address_order a b e f h =
     ∙ ap (λ o. ordering_then o (ordering_then (nat_cmp a.address b.address) ports)) (same (group_place a.group) (group_place b.group) (ap group_place f))
     ∙ ap (λ o. ordering_then o ports) (less a.address b.address h)
 
+pub device_order : (a b : Key) → a.bus ≡ b.bus → a.group ≡ b.group → a.address ≡ b.address → key_cmp a b ≡ nat_cmp a.port b.port
+device_order a b e f g =
+    let ports = nat_cmp a.port b.port in
+    ap (λ o. ordering_then o (ordering_then (group_cmp a.group b.group) (ordering_then (nat_cmp a.address b.address) ports))) (same a.bus b.bus e)
+    ∙ ap (λ o. ordering_then o (ordering_then (nat_cmp a.address b.address) ports)) (same (group_place a.group) (group_place b.group) (ap group_place f))
+    ∙ ap (λ o. ordering_then o ports) (same a.address b.address g)
+
 pub port_order : (device : Device) (p q : ℕ) → p < q → key_cmp (key_at device p) (key_at device q) ≡ Less
-port_order device p q h =
-    ap (λ o. ordering_then o (ordering_then (nat_cmp (group_place device.group) (group_place device.group)) (ordering_then (nat_cmp device.address device.address) (nat_cmp p q)))) (tied_itself nat_cmp_total device.bus)
-    ∙ ap (λ o. ordering_then o (ordering_then (nat_cmp device.address device.address) (nat_cmp p q))) (tied_itself nat_cmp_total (group_place device.group))
-    ∙ ap (λ o. ordering_then o (nat_cmp p q)) (tied_itself nat_cmp_total device.address)
-    ∙ less p q h
+port_order device p q h = device_order (key_at device p) (key_at device q) refl refl refl ∙ less p q h
+
+leads : (o p r s : Ordering) → (o ≡ Equal → p ≡ Equal → ⊥) → ordering_then o (ordering_then p r) ≡ ordering_then o (ordering_then p s)
+leads Less p r s h = refl
+leads Equal Less r s h = refl
+leads Equal Equal r s h = absurd (h refl refl)
+leads Equal Greater r s h = refl
+leads Greater p r s h = refl
+
+-- keys of one group stand alike to a key that is not of it
+pub group_alike : (bus : ℕ) (g : Group) (a b other : Key) → IsIn bus g a → IsIn bus g b → (IsIn bus g other → ⊥)
+    → key_cmp a other ≡ key_cmp b other
+group_alike bus g a b other x y h =
+    ap (λ n. ordering_then (nat_cmp n other.bus) (ordering_then (group_cmp a.group other.group) (ordering_then (nat_cmp a.address other.address) (nat_cmp a.port other.port)))) x.0
+    ∙ ap (λ (k : Group). ordering_then (nat_cmp bus other.bus) (ordering_then (group_cmp k other.group) (ordering_then (nat_cmp a.address other.address) (nat_cmp a.port other.port)))) x.1
+    ∙ leads (nat_cmp bus other.bus) (group_cmp g other.group) _ (ordering_then (nat_cmp b.address other.address) (nat_cmp b.port other.port))
+    (λ e f. h (sym (nat_tie bus other.bus e), sym (same_group g other.group (nat_tie (group_place g) (group_place other.group) f))))
+    ∙ ap (λ n. ordering_then (nat_cmp n other.bus) (ordering_then (group_cmp g other.group) (ordering_then (nat_cmp b.address other.address) (nat_cmp b.port other.port)))) (sym y.0)
+    ∙ ap (λ (k : Group). ordering_then (nat_cmp b.bus other.bus) (ordering_then (group_cmp k other.group) (ordering_then (nat_cmp b.address other.address) (nat_cmp b.port other.port)))) (sym y.1)
 
 -- ---- what a device owns
 

@@ -1,8 +1,10 @@
 ghost use Rattle.std.specs.Prelude.{◌≡◌, ◌≤◌, IsTrue, length, option_copied};
+ghost use Rattle.srcp_info.specs.declared.change.Cursor.TheVariants.{After};
+ghost use Rattle.srcp_rules.specs.Nested.{AreOfDevice};
 ghost use Rattle.srcp_rules.specs.State.{IsRising, has_row, put_row, row_after, row_at};
 
 use crate::sorted_rows::place_of;
-use srcp_info::{Cursor, Key, Row, compare};
+use srcp_info::{Key, Row, compare};
 use std::marker::Model;
 
 /// The rows of one device by rising port: at most N, which stand in the value itself. Contracts see
@@ -54,14 +56,19 @@ impl<const N: usize> DeviceRows<N> {
             .find(|row| compare(&row.shown.key, key).is_eq())
     }
 
-    /// Finds the row with the least key beyond the cursor.
+    /// Finds the row with the least key beyond a key of the group, where this is the device at an address from the key's on.
+    /// The rows of the key's own device differ from it by their ports alone.
     #[inline(always)]
-    pub(crate) fn row_after(&self, cursor: Cursor) -> Option<&Row>
-        ensures { option_copied result ≡ row_after cursor self.now }
+    pub(crate) fn row_after(&self, address: u32, last: &Key) -> Option<&Row>
+        requires device { AreOfDevice last.now.bus last.now.group address self.now }
+        requires from { last.now.address ≤ address }
+        ensures { option_copied result ≡ row_after (After last.now) self.now }
     {
-        self.as_slice()
-            .iter()
-            .find(|row| !cursor.has_reached(&row.shown.key))
+        let rows = self.as_slice();
+        if address != last.address {
+            return rows.first();
+        }
+        rows.iter().find(|row| row.shown.key.port > last.port)
     }
 
     /// Sets a row that is there.

@@ -1,12 +1,12 @@
-ghost use Rattle.std.specs.Prelude.{◌≡◌, ◌<◌, ◌≤◌, ℕ, [], true, false, IsTrue, IfNone, IfSome, OnOk, OnErr, length, option_copied};
+ghost use Rattle.std.specs.Prelude.{◌≡◌, ◌≤◌, ℕ, [], false, IsTrue, OnOk, OnErr, length, option_copied, slice_get};
 ghost use Rattle.std.specs.Mem.{FitsInMemory};
 ghost use Rattle.srcp_rules.specs.Rows.{put_rows};
 ghost use Rattle.srcp_rules.specs.State.{has_row, key_at, put_row, row_after, row_at, without};
 ghost use Rattle.srcp_info.specs.declared.key.Group.{Group};
-ghost use Rattle.srcp_info.specs.declared.key.Key.{Key};
-ghost use Rattle.srcp_info.specs.Key.{device_of, has_reached};
+ghost use Rattle.srcp_info.specs.declared.change.Cursor.TheVariants.{After};
+ghost use Rattle.srcp_info.specs.Key.{device_of};
 ghost use Rattle.srcp_rules.specs.contracts.nested.device_rows.DeviceRows.{the_row as device_row};
-ghost use Rattle.srcp_rules.specs.Nested.{AreDevices, AreOfDevice, IsIn, device_rows};
+ghost use Rattle.srcp_rules.specs.Nested.{AreDevices, AreOfDevice, device_rows};
 
 use crate::nested::device_rows::DeviceRows;
 use crate::obeyed::Memory;
@@ -42,6 +42,16 @@ impl<const N: usize> Devices<N> {
         }
     }
 
+    /// The row with the least key.
+    fn first(&self) -> Option<&Row>
+        requires devices { (bus : ℕ) × (group : Group) × AreDevices bus group self.now.by_address.entries }
+        requires fits { FitsInMemory (device_row N.row) }
+        ensures { option_copied result ≡ slice_get (device_rows self.now.by_address.entries) 0 }
+    {
+        let (_, device) = self.by_address.first_key_value()?;
+        device.as_slice().first()
+    }
+
     /// The row with the least key beyond the cursor, where these are devices of this group of this bus.
     #[inline(always)]
     pub(crate) fn row_after(&self, bus: u8, group: Group, cursor: Cursor) -> Option<&Row>
@@ -49,11 +59,28 @@ impl<const N: usize> Devices<N> {
         requires fits { FitsInMemory (device_row N.row) }
         ensures { option_copied result ≡ row_after cursor (device_rows self.now.by_address.entries) }
     {
-        let Some(from) = first_address(bus, group, cursor) else {
-            return None;
+        let least = Key {
+            bus,
+            group,
+            address: 0,
+            port: 0,
         };
-        for (_, device) in self.by_address.range(from..) {
-            if let Some(row) = device.row_after(cursor) {
+        match cursor {
+            Cursor::After(last) if last.bus == bus && last.group == group => self.row_beyond(&last),
+            _ if cursor.has_reached(&least) => None,
+            _ => self.first(),
+        }
+    }
+
+    /// Finds the row with the least key beyond a key of the group itself.
+    #[inline(always)]
+    fn row_beyond(&self, last: &Key) -> Option<&Row>
+        requires devices { AreDevices last.now.bus last.now.group self.now.by_address.entries }
+        requires fits { FitsInMemory (device_row N.row) }
+        ensures { option_copied result ≡ row_after (After last.now) (device_rows self.now.by_address.entries) }
+    {
+        for (address, device) in self.by_address.range(last.address..) {
+            if let Some(row) = device.row_after(*address, last) {
                 return Some(row);
             }
         }
@@ -99,25 +126,5 @@ impl<const N: usize> Devices<N> {
         ensures devices { AreDevices device.bus device.group self.new.by_address.entries }
     {
         let _ = self.by_address.remove(&device.address);
-    }
-}
-
-/// An address below which the cursor has reached all keys of the group of the bus; none where it has
-/// reached all of them.
-#[inline(always)]
-fn first_address(bus: u8, group: Group, cursor: Cursor) -> Option<u32>
-    ensures none { IfNone result ((key : Key) → IsIn bus group key → has_reached cursor key ≡ true) }
-    ensures some { IfSome result (λ from. (key : Key) → IsIn bus group key → key.address < from → has_reached cursor key ≡ true) }
-{
-    let first = Key {
-        bus,
-        group,
-        address: 0,
-        port: 0,
-    };
-    match cursor {
-        Cursor::After(last) if last.bus == bus && last.group == group => Some(last.address),
-        _ if cursor.has_reached(&first) => None,
-        _ => Some(0),
     }
 }
