@@ -178,8 +178,9 @@ fn put_info(moment: u64, code: &[u8; 3], bus: u8, group: Group, buffer: &mut Lin
     put_group(group, buffer);
 }
 
-/// Writes the line of a row.
-fn write_row(shown: &Shown, buffer: &mut LineBuf)
+/// Writes the line that tells of a row, with its LF, into an empty buffer. It has at most 126 bytes,
+/// and takes no memory. It is the line that `write_change` writes of a change to this row.
+pub fn write_shown(shown: &Shown, buffer: &mut LineBuf)
     requires well_formed { IsWellFormedShown shown.now }
     requires empty { buffer.old.items ≡ [] }
     ensures line { buffer.new.items ≡ line (Change.Put shown.now) }
@@ -219,7 +220,7 @@ pub fn write_change(change: &Change, buffer: &mut LineBuf)
     ensures most { array_vec_len buffer.new ≤ LONGEST_LINE }
 {
     match change {
-        Change::Put(shown) => write_row(shown, buffer),
+        Change::Put(shown) => write_shown(shown, buffer),
         Change::Gone { stamp, device } => write_gone(*stamp, device, buffer),
     }
 }
@@ -263,7 +264,7 @@ pub fn write_reply(stamp: u64, reply: &Reply, buffer: &mut LineBuf)
         Reply::Protocol => write_text(stamp, b"201 OK PROTOCOL SRCP", buffer),
         Reply::Mode => write_text(stamp, b"202 OK CONNECTIONMODE", buffer),
         Reply::Go(id) => write_go(stamp, *id, buffer),
-        Reply::Shows(shown) => write_row(shown, buffer),
+        Reply::Shows(shown) => write_shown(shown, buffer),
         Reply::Refused(code) => write_text(stamp, code_text(*code), buffer),
     }
 }

@@ -3,7 +3,7 @@ use lib.Chars.{codes}
 use Rattle.srcp_info.specs.Line.{value_words, value_code}
 use Rattle.srcp_info.proofs.LineLaws.{room_row, info_more, length-line-le}
 use Rattle.srcp_info.specs.declared.change.Change.TheVariants.{Put}
-use Rattle.srcp_info.proofs.write.write_row.Goals as goal
+use Rattle.srcp_info.proofs.write.write_shown.Goals as goal
 
 pub put_info-requires : goal.put_info-requires
 put_info-requires c = rw (c.requires.empty, c.value_code.ensures) (omega (arith, room_row c.args.shown.now c.requires.well_formed))
