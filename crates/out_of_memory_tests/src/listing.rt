@@ -6,7 +6,7 @@ use crate::calls::one_bus;
 use crate::outcome::{Outcome, Refused};
 use srcp_core::{ConnRecord, Item, Record, run};
 use srcp_feed::Next;
-use srcp_info::{Change, Row, write_change};
+use srcp_info::{Row, write_shown};
 use srcp_rules::Rows;
 use srcp_script::read_script;
 use srcp_text::LineBuf;
@@ -85,7 +85,7 @@ fn print_row<W: Write>(row: &Row, out: &mut W) -> io::Result<()>
     requires { IsWellFormedShown row.now.shown }
 {
     let mut line = LineBuf::new();
-    write_change(&Change::Put(row.shown), &mut line);
+    write_shown(&row.shown, &mut line);
     let due = row.due;
     write!(out, "{due:?} ")?;
     out.write_all(&line)

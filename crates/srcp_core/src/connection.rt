@@ -1,9 +1,10 @@
 //! What is kept of one connection.
-ghost use Rattle.std.specs.Prelude.{◌≡◌, ◌≤◌, ◌+◌, [], length, drop, true, ◌&&◌, ◌||◌, IfOk, Some, is_some, vec_capacity};
+ghost use Rattle.std.specs.Prelude.{◌≡◌, ◌≤◌, ◌+◌, ◌++◌, ◌⊎◌, [], length, drop, true, ◌&&◌, ◌||◌, IfOk, Some, is_some, vec_capacity};
 ghost use Rattle.srcp_rules.specs.State.{shown_rows};
 ghost use Rattle.std.specs.List.{AllByRecursion};
-ghost use Rattle.srcp_info.specs.Line.{reply_line};
+ghost use Rattle.srcp_info.specs.Line.{line as change_line, reply_line};
 ghost use Rattle.srcp_info.specs.WellFormed.{IsWellFormed, IsWellFormedReply, IsWellFormedShown};
+ghost use Rattle.srcp_feed.specs.Feed.{next_of, after_next};
 ghost use Rattle.srcp_text.specs.Marks.{Line, TooLong};
 ghost use Rattle.srcp_core.specs.Connection.{is_nil, line_of};
 ghost use Rattle.srcp_core.specs.Machine.{queue_of, fresh_place, with_unsent, without_sent, entered_place, panel_for, feed_in, has_overrun, is_panel, told_place, filled, item_from, IsTellable, asked_of, heard, live_session_of, longest};
@@ -12,9 +13,9 @@ use crate::handshake::{Greeting, greet};
 use crate::limits::MOST_UNSENT;
 use crate::line::Asked;
 use srcp_feed::{ChangeLine, InfoFeed, Next, Told};
-use srcp_info::{Change, Code, LONGEST_LINE, Mode, Reply, write_change, write_reply};
+use srcp_info::{Code, LONGEST_LINE, Mode, Reply, write_change, write_reply, write_shown};
 use srcp_rules::{Layout, Memory, Rows, parse_command};
-use srcp_text::{Fed, LineBuf, LineReader};
+use srcp_text::{Fed, LineBuf, LineReader, put_bytes};
 use std::alloc::Global;
 use std::marker::Model;
 
@@ -51,14 +52,15 @@ pub struct Connection {
     mode: Mode,
     session: u32,
     ended: bool,
-    // The bytes from `start` on are unsent.
+    // The line of an information session, or else the replies: one of the two is empty. The bytes from `start` on are unsent.
+    line: LineBuf,
     reply: Vec<u8>,
     start: usize,
     panel: Panel,
 }
 
 impl Model for Connection {
-    ghost use Rattle.std.specs.Prelude.{◌≡◌, ◌≤◌, length, drop, vec_capacity};
+    ghost use Rattle.std.specs.Prelude.{◌≡◌, ◌≤◌, ◌⊎◌, ◌++◌, [], length, drop, vec_capacity};
     ghost use Rattle.std.specs.List.{AllByRecursion};
     ghost use Rattle.srcp_info.specs.WellFormed.{IsWellFormed};
     ghost use Rattle.srcp_core.specs.Held.{Place};
@@ -67,9 +69,9 @@ impl Model for Connection {
 
     ghost Value = { Place };
 
-    ghost view = { λ c. record { reader = c.reader; mode = c.mode; session = c.session; ended = c.ended; unsent = drop c.start c.reply.items; panel = c.panel } };
+    ghost view = { λ c. record { reader = c.reader; mode = c.mode; session = c.session; ended = c.ended; unsent = drop c.start (c.line.items ++ c.reply.items); panel = c.panel } };
 
-    ghost invariant = { λ c. (c.start ≤ length c.reply.items) × (length c.reply.items ≤ MOST_UNSENT) × (MOST_UNSENT ≤ vec_capacity c.reply) × AllByRecursion IsWellFormed (queue_of c.panel) };
+    ghost invariant = { λ c. ((c.line.items ≡ []) ⊎ (c.reply.items ≡ [])) × (c.start ≤ length (c.line.items ++ c.reply.items)) × (length (c.line.items ++ c.reply.items) ≤ MOST_UNSENT) × (MOST_UNSENT ≤ vec_capacity c.reply) × AllByRecursion IsWellFormed (queue_of c.panel) };
 }
 
 impl Connection {
@@ -84,6 +86,7 @@ impl Connection {
             mode: Mode::Command,
             session: 0,
             ended: false,
+            line: LineBuf::new(),
             reply,
             start: 0,
             panel: Panel::Absent,
@@ -126,7 +129,11 @@ impl Connection {
         ensures bytes { result.now ≡ self.now.unsent }
         ensures most { length result.now ≤ MOST_UNSENT }
     {
-        &self.reply[self.start..]
+        if self.line.is_empty() {
+            &self.reply[self.start..]
+        } else {
+            &self.line.as_slice()[self.start..]
+        }
     }
 
     /// Puts bytes at the end of what is to be sent.
@@ -134,7 +141,7 @@ impl Connection {
         requires { length self.old.unsent + length line.now ≤ MOST_UNSENT }
         ensures { self.new ≡ with_unsent line.now self.old }
     {
-        compact(&mut self.reply, self.start);
+        compact(&mut self.line, &mut self.reply, self.start);
         self.start = 0;
         self.reply.extend_from_slice(line).unwrap();
     }
@@ -176,6 +183,7 @@ impl Connection {
         };
         if let Told::Overrun = feed.tell_line(change) {
             self.panel = Panel::Overran;
+            self.line.clear();
             self.reply.clear();
             self.start = 0;
         }
@@ -277,52 +285,89 @@ impl Connection {
         ensures item { result ≡ item_from (shown_rows (R.state rows.now)) self.old.unsent (feed_in self.old.panel) }
         ensures most { self.old.unsent ≡ [] → length self.new.unsent ≤ LONGEST_LINE }
     {
-        if self.start < self.reply.len() {
+        if !self.unsent().is_empty() {
             return None;
         }
         let Panel::Listening(feed) = &mut self.panel else {
             return None;
         };
+        self.line.clear();
         self.reply.clear();
         self.start = 0;
-        self.reply.extend_from_slice(feed.first_line()).unwrap();
-        let next = feed.next(rows);
-        if self.reply.is_empty() {
-            put_next(&next, &mut self.reply);
-        }
-        Some(next)
+        Some(give(feed, rows, &mut self.line))
     }
 }
 
-/// Puts the line of what is given into an empty buffer.
-fn put_next(next: &Next, buffer: &mut Vec<u8>)
-    requires well_formed { IsTellable next.now }
-    requires empty { buffer.old.items ≡ [] }
-    requires room { MOST_UNSENT ≤ vec_capacity buffer.old }
-    ensures line { buffer.new.items ≡ line_of next.now }
-    ensures most { length buffer.new.items ≤ LONGEST_LINE }
-    ensures capacity { vec_capacity buffer.old ≤ vec_capacity buffer.new }
+/// Writes the line of what the session is given next into an empty buffer, and returns what that is.
+#[inline(always)]
+fn give<R: Rows>(feed: &mut InfoFeed, rows: &R, line: &mut LineBuf) -> Next
+    requires well_formed { AllByRecursion IsWellFormed feed.old.queue }
+    requires shown { AllByRecursion IsWellFormedShown (shown_rows (R.state rows.now)) }
+    requires empty { line.old.items ≡ [] }
+    ensures answer { result ≡ next_of (shown_rows (R.state rows.now)) feed.old }
+    ensures feed { feed.new ≡ after_next (shown_rows (R.state rows.now)) feed.old }
+    ensures line { line.new.items ≡ line_of result }
+    ensures most { length line.new.items ≤ LONGEST_LINE }
 {
-    let change = match next {
-        Next::Told(change) => *change,
-        Next::Listed(row) => Change::Put(*row),
-        Next::Settled => return,
+    let Some(first) = feed.first() else {
+        let next = feed.next(rows);
+        write_next(&next, line);
+        return next;
     };
-    let mut line = LineBuf::new();
-    write_change(&change, &mut line);
-    buffer.extend_from_slice(line.as_slice()).unwrap();
+    let change = *first.change();
+    write_told(first, line);
+    feed.drop_first();
+    Next::Told(change)
 }
 
-/// The bytes from there on stand at the buffer's front.
-fn compact(buffer: &mut Vec<u8>, start: usize)
-    requires { start ≤ length buffer.old.items }
-    ensures items { buffer.new.items ≡ drop start buffer.old.items }
-    ensures capacity { vec_capacity buffer.new ≡ vec_capacity buffer.old }
+/// Writes the line of a change into an empty buffer. It makes none if one stands beside the change.
+#[inline(always)]
+fn write_told(told: &ChangeLine, line: &mut LineBuf)
+    requires well_formed { IsWellFormed told.now }
+    requires empty { line.old.items ≡ [] }
+    ensures line { line.new.items ≡ change_line told.now }
+    ensures most { length line.new.items ≤ LONGEST_LINE }
 {
+    let made = told.line();
+    if made.is_empty() {
+        write_change(told.change(), line);
+        return;
+    }
+    put_bytes(made, line);
+}
+
+/// Writes the line of what is given into an empty buffer.
+fn write_next(next: &Next, line: &mut LineBuf)
+    requires well_formed { IsTellable next.now }
+    requires empty { line.old.items ≡ [] }
+    ensures line { line.new.items ≡ line_of next.now }
+    ensures most { length line.new.items ≤ LONGEST_LINE }
+{
+    match next {
+        Next::Told(change) => write_change(change, line),
+        Next::Listed(row) => write_shown(row, line),
+        Next::Settled => (),
+    }
+}
+
+/// Moves what is unsent, which are the bytes from `start` on, to the front of the replies.
+fn compact(line: &mut LineBuf, reply: &mut Vec<u8>, start: usize)
+    requires one { (line.old.items ≡ []) ⊎ (reply.old.items ≡ []) }
+    requires within { start ≤ length (line.old.items ++ reply.old.items) }
+    requires room { MOST_UNSENT ≤ vec_capacity reply.old }
+    ensures line { line.new.items ≡ [] }
+    ensures items { reply.new.items ≡ drop start (line.old.items ++ reply.old.items) }
+    ensures capacity { MOST_UNSENT ≤ vec_capacity reply.new }
+{
+    if !line.is_empty() {
+        reply.extend_from_slice(&line.as_slice()[start..]).unwrap();
+        line.clear();
+        return;
+    }
     if start == 0 {
         return;
     }
-    let end = buffer.len();
-    buffer.copy_within(start..end, 0);
-    buffer.truncate(end - start);
+    let end = reply.len();
+    reply.copy_within(start..end, 0);
+    reply.truncate(end - start);
 }

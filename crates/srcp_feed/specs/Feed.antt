@@ -65,8 +65,3 @@ HoldsPassed given feed rows = client (given ++ feed.queue) ≡ passed feed.curso
 -- the bytes are the line of the change, or there are none
 abbrev pub IsLineOrNone : List ℕ → Change → Type 0
 IsLineOrNone bytes change = (bytes ≡ []) ⊎ (bytes ≡ line change)
-
--- the bytes are the line of the first of the changes, or there are none
-abbrev pub IsFirstLineOrNone : List ℕ → List Change → Type 0
-IsFirstLineOrNone bytes [] = bytes ≡ []
-IsFirstLineOrNone bytes (change ∷ changes) = IsLineOrNone bytes change

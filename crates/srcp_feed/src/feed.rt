@@ -1,16 +1,16 @@
 //! The feed of one information session.
 
-ghost use Rattle.std.specs.Prelude.{◌≡◌, ◌≢◌, ◌≤◌, List, ◌++◌, length, IfOk, option_copied};
+ghost use Rattle.std.specs.Prelude.{◌≡◌, ◌≢◌, ◌<◌, ◌≤◌, List, ◌++◌, drop, length, IfOk, option_copied, slice_get};
 ghost use Rattle.srcp_info.specs.Client.{changed, IsRisingBy};
 ghost use Rattle.srcp_info.specs.declared.change.Change.{Change};
 ghost use Rattle.srcp_info.specs.declared.change.Shown.{Shown};
 ghost use Rattle.srcp_rules.specs.State.{row_after, shown_rows};
 ghost use Rattle.srcp_feed.specs.Cursor.{said};
-ghost use Rattle.srcp_feed.specs.Feed.{beginning, told, told_answer, next_of, after_next, HoldsPassed, IsFirstLineOrNone};
+ghost use Rattle.srcp_feed.specs.Feed.{beginning, told, told_answer, next_of, after_next, HoldsPassed};
 
 use crate::queue::{MOST_WAITING, Queue};
 use crate::{ChangeLine, Next, Told};
-use srcp_info::{Change, Cursor, LONGEST_LINE, Row};
+use srcp_info::{Change, Cursor, Row};
 use srcp_rules::{Memory, Rows};
 use std::alloc::Global;
 use std::marker::Model;
@@ -72,15 +72,19 @@ impl InfoFeed {
         Told::Queued
     }
 
-    /// Lends the line of the first change that waits. It has no bytes if none waits, or if that line was not made.
-    pub fn first_line(&self) -> &[u8]
-        ensures line { IsFirstLineOrNone result.now self.now.queue }
-        ensures most { length result.now ≤ LONGEST_LINE }
+    /// Lends the first change that waits, with its line.
+    pub fn first(&self) -> Option<&ChangeLine>
+        ensures { option_copied result ≡ slice_get self.now.queue 0 }
     {
-        match self.waiting.first() {
-            Some(told) => told.line(),
-            None => &[],
-        }
+        self.waiting.first()
+    }
+
+    /// Drops the first change that waits, which the session was given.
+    pub fn drop_first(&mut self)
+        requires { 0 < length self.old.queue }
+        ensures { self.new ≡ record self.old { queue = drop 1 self.old.queue } }
+    {
+        self.waiting.drop_first();
     }
 
     /// What the session is given next: the first change that waits, else the least row above the cursor, else

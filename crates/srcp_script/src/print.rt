@@ -12,7 +12,7 @@ ghost use Rattle.srcp_rules.specs.State.{shown_rows};
 ghost use Rattle.srcp_script.specs.Output.{finish_word, fault_word, ended, connection_line, connection_lines, refusal_line, rows_line, printed};
 
 use srcp_core::{ConnRecord, CoreFault, Finish, Record, Refusal};
-use srcp_info::{Change, Row, Shown, write_change};
+use srcp_info::{Row, Shown, write_shown};
 use srcp_text::LineBuf;
 use std::alloc::{AllocError, Global};
 use std::string::String;
@@ -153,6 +153,6 @@ pub fn print_shown(shown: &Shown, text: &mut Vec<u8>) -> Result<(), AllocError>
     ensures { OnOk result (text.new.items ≡ text.old.items ++ line (change.Put shown.now)) }
 {
     let mut line = LineBuf::new();
-    write_change(&Change::Put(*shown), &mut line);
+    write_shown(shown, &mut line);
     text.extend_from_slice(&line)
 }

@@ -1,27 +1,13 @@
--- Laws of one place.
-use Rattle.std.proofs.Common.{◌≡◌, ℕ, ◌<◌, Bool, true, false, not, List, [], ◌∷◌, length, refl, arith}
+-- What an information session is given next can be told.
+use Rattle.std.proofs.Common.{◌≡◌, Bool, true, false, not, List, [], ◌∷◌, refl}
 use Rattle.std.specs.List.{AllByRecursion}
-use Rattle.std.specs.Prelude.{Option, None}
 use Rattle.srcp_info.specs.Key.{has_reached}
 use Rattle.srcp_info.specs.WellFormed.{IsWellFormed, IsWellFormedShown}
 use Rattle.srcp_info.specs.declared.change.Change.{Change}
 use Rattle.srcp_info.specs.declared.change.Cursor.{Cursor}
 use Rattle.srcp_info.specs.declared.change.Shown.{Shown}
 use Rattle.srcp_feed.specs.Feed.{Feed, next_of}
-use Rattle.srcp_core.specs.Held.{Place}
-use Rattle.srcp_core.specs.Machine.{filled, filled_from, item_from, IsTellable, feed_in}
-
--- nothing is put in where something is unsent
-pub filled_still : (rows : List Shown) (p : Place) → 0 < length p.unsent → filled rows p ≡ p
-filled_still rows p h = from p.unsent h
-  where
-    from : (bytes : List ℕ) → 0 < length bytes → filled_from rows p bytes (feed_in p.panel) ≡ p
-    from [] h = absurd (omega arith)
-    from (byte ∷ bytes) h = refl
-
-pub item_still : (rows : List Shown) (bytes : List ℕ) (feed : Option Feed) → 0 < length bytes → item_from rows bytes feed ≡ None
-item_still rows [] feed h = absurd (omega arith)
-item_still rows (byte ∷ bytes) feed h = refl
+use Rattle.srcp_core.specs.Machine.{IsTellable}
 
 listed_tellable : (cursor : Cursor) (rows : List Shown) → AllByRecursion IsWellFormedShown rows → IsTellable (next_of rows (record { cursor = cursor; queue = [] }))
 listed_tellable cursor [] r = tt
