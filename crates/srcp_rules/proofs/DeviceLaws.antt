@@ -1,5 +1,6 @@
 -- The rows of devices of one group of one bus, by address: look-ups and changes.
-use Rattle.std.specs.Prelude.{◌≡◌, ℕ, ◌<◌, Bool, true, false, cond, is_some, not, List, [], ◌∷◌, ◌++◌, length, filter, find, nat_lt, slice_get, Option, Some, None}
+use Rattle.std.specs.Prelude.{◌≡◌, ℕ, ◌<◌, Bool, true, false, cond, is_some, not, List, [], ◌∷◌, ◌++◌, length, filter, find}
+use Rattle.std.specs.Prelude.{Option, Some, None, nat_lt, slice_get}
 use Rattle.std.proofs.Common.{refl, sym, ap, subst, ◌∙◌, arith, true≢false}
 use Rattle.std.proofs.lemmas.Bool.Decides.{nat_tests}
 use Rattle.std.proofs.lemmas.Option.{none-some, same_Some}
@@ -44,7 +45,8 @@ some-put_row row rows = some (filter (λ other. is_after row.shown.key other.sho
     some (x ∷ xs) ys = omega arith
 
 -- of rows beyond the cursor the first is the next
-first_beyond : (cursor : Cursor) (rows : State) → AllByRecursion (λ row. has_reached cursor row.shown.key ≡ false) rows → row_after cursor rows ≡ slice_get rows 0
+first_beyond : (cursor : Cursor) (rows : State) → AllByRecursion (λ row. has_reached cursor row.shown.key ≡ false) rows
+    → row_after cursor rows ≡ slice_get rows 0
 first_beyond cursor [] h = refl
 first_beyond cursor (row ∷ rows) h = ap (λ b. cond (not b) (Some row) (row_after cursor rows)) h.0
 
@@ -58,18 +60,22 @@ above m n = grind (arith, nat_tests)
 
 module _ (last : Key) (address : ℕ) (rows : State) (device : AreOfDevice last.bus last.group address rows) where
   -- the key's own device has the first row of a greater port beyond it
-  pub row_after-own_device : address ≡ last.address → row_after (at.After last) rows ≡ find (λ row. nat_lt last.port row.shown.key.port) rows
+  pub row_after-own_device : address ≡ last.address
+      → row_after (at.After last) rows ≡ find (λ row. nat_lt last.port row.shown.key.port) rows
   row_after-own_device e =
       find_same (λ row. not (has_reached (at.After last) row.shown.key)) (λ row. nat_lt last.port row.shown.key.port) rows
       (each-weaken {P = λ row. IsIn last.bus last.group row.shown.key × (row.shown.key.address ≡ address)}
-      (λ row t. ap (λ o. not (not (is_gt o))) (device_order row.shown.key last t.0.0 t.0.1 (t.1 ∙ e)) ∙ above row.shown.key.port last.port) rows device.each)
+      (λ row t. ap (λ o. not (not (is_gt o))) (device_order row.shown.key last t.0.0 t.0.1 (t.1 ∙ e)) ∙ above row.shown.key.port last.port)
+      rows device.each)
 
   -- and a later one its first row
   pub row_after-later_device : last.address < address → row_after (at.After last) rows ≡ slice_get rows 0
   row_after-later_device h =
       first_beyond (at.After last) rows
       (each-weaken {P = λ row. IsIn last.bus last.group row.shown.key × (row.shown.key.address ≡ address)}
-      (λ row t. ap not (after_from_less row.shown.key last (address_order last row.shown.key (sym t.0.0) (sym t.0.1) (omega (arith, h, t.1))))) rows device.each)
+      (λ row t. ap not
+      (after_from_less row.shown.key last (address_order last row.shown.key (sym t.0.0) (sym t.0.1) (omega (arith, h, t.1)))))
+      rows device.each)
 
 module _ (bus : ℕ) (g : Group) where
   abbrev Here : Key → Type 0
@@ -101,8 +107,8 @@ module _ (bus : ℕ) (g : Group) where
   all_or_none at.Done outside key x = refl
 
   -- the first row of all is that of the first device
-  pub first_device : (es : List (ℕ × State)) → AllByRecursion (λ e. AreOfDevice bus g e.0 e.1) es → (e : ℕ × State) → slice_get es 0 ≡ Some e
-      → slice_get (device_rows es) 0 ≡ slice_get e.1 0
+  pub first_device : (es : List (ℕ × State)) → AllByRecursion (λ e. AreOfDevice bus g e.0 e.1) es
+      → (e : ℕ × State) → slice_get es 0 ≡ Some e → slice_get (device_rows es) 0 ≡ slice_get e.1 0
   first_device [] each e is = absurd (none-some e is)
   first_device (f ∷ fs) each e is =
       first_of_both f.1 (device_rows fs) each.0.some ∙ ap (λ (x : ℕ × State). slice_get x.1 0) (same_Some f e is)
@@ -139,7 +145,8 @@ module _ (bus : ℕ) (g : Group) where
     module _ (cursor : Cursor) (outside : (last : Key) → cursor ≡ at.After last → Here last → ⊥) where
       reached : (b : Bool) → has_reached cursor least ≡ b → AllByRecursion (λ row. has_reached cursor row.shown.key ≡ b) (device_rows es)
       reached b e =
-          each-weaken {P = λ row. Here row.shown.key} (λ row h. all_or_none cursor outside row.shown.key h ∙ e) (device_rows es) devices_in_group
+          each-weaken {P = λ row. Here row.shown.key} (λ row h. all_or_none cursor outside row.shown.key h ∙ e)
+          (device_rows es) devices_in_group
 
       -- a cursor that has reached all keys of the group has none of its rows beyond it
       pub none_after : has_reached cursor least ≡ true → row_after cursor (device_rows es) ≡ None

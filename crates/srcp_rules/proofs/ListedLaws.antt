@@ -311,5 +311,6 @@ from_of n m Greater e h = absurd (true≢false (sym h))
 pub each-from : {X : Type 0} (Q : ℕ × X → Type 0) (n : ℕ) (es : List (ℕ × X)) → AllByRecursion Q es
     → AllByRecursion (λ e. Q e × (n ≤ e.0)) (entries_between nat_cmp (Included n) Unbounded es)
 each-from Q n es a =
-    each-weaken {P = λ e. Q e × (range_contains nat_cmp (Included n) Unbounded e.0 ≡ true)} (λ e t. (t.0, from_of n e.0 (nat_cmp n e.0) refl t.1))
+    each-weaken {P = λ e. Q e × (range_contains nat_cmp (Included n) Unbounded e.0 ≡ true)}
+    (λ e t. (t.0, from_of n e.0 (nat_cmp n e.0) refl t.1))
     (entries_between nat_cmp (Included n) Unbounded es) (each_filtered Q (λ e. range_contains nat_cmp (Included n) Unbounded e.0) es a)

@@ -42,12 +42,15 @@ address_order a b e f h =
     ∙ ap (λ o. ordering_then o (ordering_then (nat_cmp a.address b.address) ports)) (same (group_place a.group) (group_place b.group) (ap group_place f))
     ∙ ap (λ o. ordering_then o ports) (less a.address b.address h)
 
+-- how keys of one group of one bus stand
+abbrev inner : Key → Key → Ordering
+inner a b = ordering_then (nat_cmp a.address b.address) (nat_cmp a.port b.port)
+
 pub device_order : (a b : Key) → a.bus ≡ b.bus → a.group ≡ b.group → a.address ≡ b.address → key_cmp a b ≡ nat_cmp a.port b.port
 device_order a b e f g =
-    let ports = nat_cmp a.port b.port in
-    ap (λ o. ordering_then o (ordering_then (group_cmp a.group b.group) (ordering_then (nat_cmp a.address b.address) ports))) (same a.bus b.bus e)
-    ∙ ap (λ o. ordering_then o (ordering_then (nat_cmp a.address b.address) ports)) (same (group_place a.group) (group_place b.group) (ap group_place f))
-    ∙ ap (λ o. ordering_then o ports) (same a.address b.address g)
+    ap (λ o. ordering_then o (ordering_then (group_cmp a.group b.group) (inner a b))) (same a.bus b.bus e)
+    ∙ ap (λ o. ordering_then o (inner a b)) (same (group_place a.group) (group_place b.group) (ap group_place f))
+    ∙ ap (λ o. ordering_then o (nat_cmp a.port b.port)) (same a.address b.address g)
 
 pub port_order : (device : Device) (p q : ℕ) → p < q → key_cmp (key_at device p) (key_at device q) ≡ Less
 port_order device p q h = device_order (key_at device p) (key_at device q) refl refl refl ∙ less p q h
@@ -59,16 +62,18 @@ leads Equal Equal r s h = absurd (h refl refl)
 leads Equal Greater r s h = refl
 leads Greater p r s h = refl
 
+in_group : (bus : ℕ) (g : Group) (a b : Key) → IsIn bus g a
+    → key_cmp a b ≡ ordering_then (nat_cmp bus b.bus) (ordering_then (group_cmp g b.group) (inner a b))
+in_group bus g a b x = λ i. ordering_then (nat_cmp (x.0 i) b.bus) (ordering_then (group_cmp (x.1 i) b.group) (inner a b))
+
 -- keys of one group stand alike to a key that is not of it
 pub group_alike : (bus : ℕ) (g : Group) (a b other : Key) → IsIn bus g a → IsIn bus g b → (IsIn bus g other → ⊥)
     → key_cmp a other ≡ key_cmp b other
 group_alike bus g a b other x y h =
-    ap (λ n. ordering_then (nat_cmp n other.bus) (ordering_then (group_cmp a.group other.group) (ordering_then (nat_cmp a.address other.address) (nat_cmp a.port other.port)))) x.0
-    ∙ ap (λ (k : Group). ordering_then (nat_cmp bus other.bus) (ordering_then (group_cmp k other.group) (ordering_then (nat_cmp a.address other.address) (nat_cmp a.port other.port)))) x.1
-    ∙ leads (nat_cmp bus other.bus) (group_cmp g other.group) _ (ordering_then (nat_cmp b.address other.address) (nat_cmp b.port other.port))
+    in_group bus g a other x
+    ∙ leads (nat_cmp bus other.bus) (group_cmp g other.group) (inner a other) (inner b other)
     (λ e f. h (sym (nat_tie bus other.bus e), sym (same_group g other.group (nat_tie (group_place g) (group_place other.group) f))))
-    ∙ ap (λ n. ordering_then (nat_cmp n other.bus) (ordering_then (group_cmp g other.group) (ordering_then (nat_cmp b.address other.address) (nat_cmp b.port other.port)))) (sym y.0)
-    ∙ ap (λ (k : Group). ordering_then (nat_cmp b.bus other.bus) (ordering_then (group_cmp k other.group) (ordering_then (nat_cmp b.address other.address) (nat_cmp b.port other.port)))) (sym y.1)
+    ∙ sym (in_group bus g b other y)
 
 -- ---- what a device owns
 

@@ -42,7 +42,7 @@ impl<const N: usize> Devices<N> {
         }
     }
 
-    /// The row with the least key.
+    /// Finds the row with the least key.
     fn first(&self) -> Option<&Row>
         requires devices { (bus : ℕ) × (group : Group) × AreDevices bus group self.now.by_address.entries }
         requires fits { FitsInMemory (device_row N.row) }

@@ -1,4 +1,4 @@
-use Rattle.std.proofs.Common.{◌≡◌, sym, ap, ◌∙◌, slice_get}
+use Rattle.std.proofs.Common.{sym, ap, ◌∙◌, slice_get}
 use Rattle.srcp_rules.specs.State.{State}
 use Rattle.srcp_rules.proofs.DeviceLaws.{first_device}
 use Rattle.srcp_rules.proofs.nested.devices.Devices.first.Goals as goal

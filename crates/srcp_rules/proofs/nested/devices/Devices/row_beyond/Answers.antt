@@ -1,14 +1,18 @@
-use Rattle.std.proofs.Common.{◌≡◌, ◌≤◌, sym, ap, subst, ◌∙◌}
+use Rattle.std.proofs.Common.{◌≡◌, ℕ, ◌≤◌, sym, ap, subst, ◌∙◌}
 use Rattle.std.specs.List.{AllByRecursion}
 use Rattle.std.specs.Ordering.{nat_cmp}
 use Rattle.std.specs.BTreeMap.Range.{entries_between}
 use Rattle.std.specs.declared.ops.Bound.TheVariants.{Included, Unbounded}
 use Rattle.srcp_info.specs.declared.change.Cursor.TheVariants.{After}
-use Rattle.srcp_rules.specs.State.{row_after}
+use Rattle.srcp_info.specs.declared.key.Key.{Key}
+use Rattle.srcp_rules.specs.State.{State, row_after}
 use Rattle.srcp_rules.specs.Nested.{AreOfDevice, device_rows}
 use Rattle.srcp_rules.proofs.ListedLaws.{each-from, first_has, first_has_none}
 use Rattle.srcp_rules.proofs.DeviceLaws.{row_after-devices}
 use Rattle.srcp_rules.proofs.nested.devices.Devices.row_beyond.Goals as goal
+
+abbrev FromKey : Key → ℕ × State → Type 0
+FromKey last e = AreOfDevice last.bus last.group e.0 e.1 × (last.address ≤ e.0)
 
 pub loop-address-init : goal.loop-address-init
 loop-address-init g c =
@@ -22,7 +26,7 @@ loop-address-init g c =
       can = tt;
       finite = tt;
       each =
-          subst (AllByRecursion (λ e. AreOfDevice last.bus last.group e.0 e.1 × (last.address ≤ e.0))) (sym is)
+          subst (AllByRecursion (FromKey c.args.last.now)) (sym is)
           (each-from (λ e. AreOfDevice last.bus last.group e.0 e.1) last.address entries c.requires.devices.each);
       rest =
           row_after-devices last entries c.requires.devices
@@ -31,8 +35,7 @@ loop-address-init g c =
 
 pub row_after-requires : goal.row_after-requires
 row_after-requires g c =
-    let last = c.args.last.now in
-    (c.requires.fits, (subst (AllByRecursion (λ e. AreOfDevice last.bus last.group e.0 e.1 × (last.address ≤ e.0))) c.in-Some.ensures.steps c.loop-address.invariant.each).0)
+    (c.requires.fits, (subst (AllByRecursion (FromKey c.args.last.now)) c.in-Some.ensures.steps c.loop-address.invariant.each).0)
 
 pub returns-in-Some-row_after : goal.returns-in-Some-row_after
 returns-in-Some-row_after g c =
@@ -43,13 +46,12 @@ returns-in-Some-row_after g c =
 
 pub loop-address-preserved : goal.loop-address-preserved
 loop-address-preserved g c =
-    let last = c.args.last.now in
     record {
       can = tt;
       finite = tt;
       each =
-          (subst (AllByRecursion (λ e. AreOfDevice last.bus last.group e.0 e.1 × (last.address ≤ e.0))) c.in-Some.ensures.steps c.loop-address.invariant.each).1;
+          (subst (AllByRecursion (FromKey c.args.last.now)) c.in-Some.ensures.steps c.loop-address.invariant.each).1;
       rest = c.loop-address.invariant.rest
-          ∙ first_has_none (λ e. e.1) (After last) c.loop-address.address-iterator c.next.new.self
+          ∙ first_has_none (λ e. e.1) (After c.args.last.now) c.loop-address.address-iterator c.next.new.self
           (c.in-Some.address.now, c.in-Some.device.now) c.in-Some.ensures.steps c.in_default.ensures;
     }
