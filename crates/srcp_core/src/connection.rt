@@ -13,9 +13,11 @@ use crate::handshake::{Greeting, greet};
 use crate::limits::MOST_UNSENT;
 use crate::line::Asked;
 use srcp_feed::{ChangeLine, InfoFeed, Next, Told};
-use srcp_info::{Code, LONGEST_LINE, Mode, Reply, write_change, write_reply, write_shown};
+use srcp_info::{
+    Code, InfoLine, LONGEST_LINE, Mode, Reply, write_change, write_reply, write_shown,
+};
 use srcp_rules::{Layout, Memory, Rows, parse_command};
-use srcp_text::{Fed, LineBuf, LineReader, put_bytes};
+use srcp_text::{Fed, LineReader, put_bytes};
 use std::alloc::Global;
 use std::marker::Model;
 
@@ -53,7 +55,7 @@ pub struct Connection {
     session: u32,
     ended: bool,
     // The line of an information session, or else the replies: one of the two is empty. The bytes from `start` on are unsent.
-    line: LineBuf,
+    line: InfoLine,
     reply: Vec<u8>,
     start: usize,
     panel: Panel,
@@ -86,7 +88,7 @@ impl Connection {
             mode: Mode::Command,
             session: 0,
             ended: false,
-            line: LineBuf::new(),
+            line: InfoLine::new(),
             reply,
             start: 0,
             panel: Panel::Absent,
@@ -152,7 +154,7 @@ impl Connection {
         requires room { length self.old.unsent + longest reply.now ≤ MOST_UNSENT }
         ensures { self.new ≡ with_unsent (reply_line moment reply.now) self.old }
     {
-        let mut line = LineBuf::new();
+        let mut line = InfoLine::new();
         write_reply(moment, reply, &mut line);
         self.put(line.as_slice());
     }
@@ -291,7 +293,7 @@ impl Connection {
         let Panel::Listening(feed) = &mut self.panel else {
             return None;
         };
-        self.line.clear();
+        self.line = InfoLine::new();
         self.reply.clear();
         self.start = 0;
         Some(give(feed, rows, &mut self.line))
@@ -300,7 +302,7 @@ impl Connection {
 
 /// Writes the line of what the session is given next into an empty buffer, and returns what that is.
 #[inline(always)]
-fn give<R: Rows>(feed: &mut InfoFeed, rows: &R, line: &mut LineBuf) -> Next
+fn give<R: Rows>(feed: &mut InfoFeed, rows: &R, line: &mut InfoLine) -> Next
     requires well_formed { AllByRecursion IsWellFormed feed.old.queue }
     requires shown { AllByRecursion IsWellFormedShown (shown_rows (R.state rows.now)) }
     requires empty { line.old.items ≡ [] }
@@ -322,7 +324,7 @@ fn give<R: Rows>(feed: &mut InfoFeed, rows: &R, line: &mut LineBuf) -> Next
 
 /// Writes the line of a change into an empty buffer. It makes none if one stands beside the change.
 #[inline(always)]
-fn write_told(told: &ChangeLine, line: &mut LineBuf)
+fn write_told(told: &ChangeLine, line: &mut InfoLine)
     requires well_formed { IsWellFormed told.now }
     requires empty { line.old.items ≡ [] }
     ensures line { line.new.items ≡ change_line told.now }
@@ -337,7 +339,7 @@ fn write_told(told: &ChangeLine, line: &mut LineBuf)
 }
 
 /// Writes the line of what is given into an empty buffer.
-fn write_next(next: &Next, line: &mut LineBuf)
+fn write_next(next: &Next, line: &mut InfoLine)
     requires well_formed { IsTellable next.now }
     requires empty { line.old.items ≡ [] }
     ensures line { line.new.items ≡ line_of next.now }
@@ -351,7 +353,7 @@ fn write_next(next: &Next, line: &mut LineBuf)
 }
 
 /// Moves what is unsent, which are the bytes from `start` on, to the front of the replies.
-fn compact(line: &mut LineBuf, reply: &mut Vec<u8>, start: usize)
+fn compact(line: &mut InfoLine, reply: &mut Vec<u8>, start: usize)
     requires one { (line.old.items ≡ []) ⊎ (reply.old.items ≡ []) }
     requires within { start ≤ length (line.old.items ++ reply.old.items) }
     requires room { MOST_UNSENT ≤ vec_capacity reply.old }

@@ -4,8 +4,7 @@ ghost use Rattle.std.specs.Prelude.{◌≡◌, ◌≤◌, length};
 ghost use Rattle.srcp_info.specs.WellFormed.{IsWellFormed};
 ghost use Rattle.srcp_feed.specs.Feed.{IsLineOrNone};
 
-use srcp_info::{Change, LONGEST_LINE, write_change};
-use srcp_text::LineBuf;
+use srcp_info::{Change, InfoLine, LONGEST_LINE, write_change};
 use std::marker::Model;
 
 /// A change, and the line that tells it if that was made, so that one line is made for all panels.
@@ -37,7 +36,7 @@ impl ChangeLine {
         requires { IsWellFormed change.now }
         ensures { result ≡ change.now }
     {
-        let mut line = LineBuf::new();
+        let mut line = InfoLine::new();
         write_change(change, &mut line);
         let len = line.len();
         let mut bytes = [0; LONGEST_LINE];

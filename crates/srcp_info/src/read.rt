@@ -21,8 +21,7 @@ use crate::scan::{
 };
 use crate::value::{Text, Value};
 use crate::well_formed::is_well_formed;
-use crate::write::write_change;
-use srcp_text::LineBuf;
+use crate::write::{InfoLine, write_change};
 
 /// What follows the words of the group in the line of a row.
 #[derive(Clone, Copy)]
@@ -286,7 +285,7 @@ pub fn read_change(line: &[u8]) -> Option<Change>
     if !is_well_formed(change) {
         return None;
     }
-    let mut written = LineBuf::new();
+    let mut written = InfoLine::new();
     write_change(&change, &mut written);
     written.pop();
     if written.as_slice() == line {

@@ -12,13 +12,17 @@ use crate::key::{Device, Group, Key};
 use crate::limits::{LONGEST_LINE, LONGEST_SHORT_REPLY};
 use crate::value::{Bits, Text, Value};
 use crate::words::{code_text, letter_word, mode_word, switch_word, value_code};
-use srcp_text::{LineBuf, put_bytes, put_number, put_stamp};
+use arrayvec::ArrayVec;
+use srcp_text::{put_bytes, put_number, put_stamp};
+
+/// A line that is being written, with room for the longest line. Its bytes stand in the value itself, so it takes no memory.
+pub type InfoLine = ArrayVec<u8, LONGEST_LINE>;
 
 /// Appends bytes whose number is known when the program is built. They are pushed one by one, which
 /// then costs less than a copy.
 #[inline(always)]
-fn put_fixed<const N: usize>(bytes: &[u8; N], buffer: &mut LineBuf)
-    requires { array_vec_len buffer.old + length bytes.now ≤ 256 }
+fn put_fixed<const M: usize, const N: usize>(bytes: &[u8; M], buffer: &mut ArrayVec<u8, N>)
+    requires { array_vec_len buffer.old + length bytes.now ≤ N }
     ensures { buffer.new.items ≡ buffer.old.items ++ bytes.now }
 {
     for byte in bytes {
@@ -27,8 +31,8 @@ fn put_fixed<const N: usize>(bytes: &[u8; N], buffer: &mut LineBuf)
 }
 
 /// Appends a space and a word.
-fn put_word(word: &[u8], buffer: &mut LineBuf)
-    requires { array_vec_len buffer.old + 1 + length word.now ≤ 256 }
+fn put_word<const N: usize>(word: &[u8], buffer: &mut ArrayVec<u8, N>)
+    requires { array_vec_len buffer.old + 1 + length word.now ≤ N }
     ensures { buffer.new.items ≡ buffer.old.items ++ 32 ∷ word.now }
 {
     buffer.push(b' ');
@@ -36,8 +40,8 @@ fn put_word(word: &[u8], buffer: &mut LineBuf)
 }
 
 /// Appends a space and a bit: 1 where it is on, else 0.
-fn put_bit(on: bool, buffer: &mut LineBuf)
-    requires { array_vec_len buffer.old + 1 + length (bit_word on) ≤ 256 }
+fn put_bit<const N: usize>(on: bool, buffer: &mut ArrayVec<u8, N>)
+    requires { array_vec_len buffer.old + 1 + length (bit_word on) ≤ N }
     ensures { buffer.new.items ≡ buffer.old.items ++ 32 ∷ bit_word on }
 {
     buffer.push(b' ');
@@ -49,8 +53,8 @@ fn put_bit(on: bool, buffer: &mut LineBuf)
 }
 
 /// Appends a space and a number.
-fn put_numeral(number: u32, buffer: &mut LineBuf)
-    requires { array_vec_len buffer.old + 1 + length (decimal number) ≤ 256 }
+fn put_numeral<const N: usize>(number: u32, buffer: &mut ArrayVec<u8, N>)
+    requires { array_vec_len buffer.old + 1 + length (decimal number) ≤ N }
     ensures { buffer.new.items ≡ buffer.old.items ++ 32 ∷ decimal number }
 {
     buffer.push(b' ');
@@ -58,8 +62,8 @@ fn put_numeral(number: u32, buffer: &mut LineBuf)
 }
 
 /// Appends each number after a space.
-fn put_numerals(numbers: &[u32], buffer: &mut LineBuf)
-    requires { array_vec_len buffer.old + length (after_spaces (map decimal numbers.now)) ≤ 256 }
+fn put_numerals<const N: usize>(numbers: &[u32], buffer: &mut ArrayVec<u8, N>)
+    requires { array_vec_len buffer.old + length (after_spaces (map decimal numbers.now)) ≤ N }
     ensures { buffer.new.items ≡ buffer.old.items ++ after_spaces (map decimal numbers.now) }
 {
     for number in numbers {
@@ -68,8 +72,8 @@ fn put_numerals(numbers: &[u32], buffer: &mut LineBuf)
 }
 
 /// Appends the words of a group.
-fn put_group(group: Group, buffer: &mut LineBuf)
-    requires { array_vec_len buffer.old + length (after_spaces (group_words group)) ≤ 256 }
+fn put_group<const N: usize>(group: Group, buffer: &mut ArrayVec<u8, N>)
+    requires { array_vec_len buffer.old + length (after_spaces (group_words group)) ≤ N }
     ensures { buffer.new.items ≡ buffer.old.items ++ after_spaces (group_words group) }
 {
     match group {
@@ -84,9 +88,9 @@ fn put_group(group: Group, buffer: &mut LineBuf)
 }
 
 /// Appends what a POWER line says: ON or OFF, and the text where there is one.
-fn put_power(on: bool, text: &Text, buffer: &mut LineBuf)
+fn put_power<const N: usize>(on: bool, text: &Text, buffer: &mut ArrayVec<u8, N>)
     requires { array_vec_len buffer.old
-        + length (after_spaces (value_words 0 0 (Value.Power on text.now))) ≤ 256 }
+        + length (after_spaces (value_words 0 0 (Value.Power on text.now))) ≤ N }
     ensures { buffer.new.items
         ≡ buffer.old.items ++ after_spaces (value_words 0 0 (Value.Power on text.now)) }
 {
@@ -97,9 +101,9 @@ fn put_power(on: bool, text: &Text, buffer: &mut LineBuf)
 }
 
 /// Appends each function as 1 or 0.
-fn put_functions(functions: &Bits, buffer: &mut LineBuf)
+fn put_functions<const N: usize>(functions: &Bits, buffer: &mut ArrayVec<u8, N>)
     requires { array_vec_len buffer.old
-        + length (after_spaces (map bit_word functions.now)) ≤ 256 }
+        + length (after_spaces (map bit_word functions.now)) ≤ N }
     ensures { buffer.new.items ≡ buffer.old.items ++ after_spaces (map bit_word functions.now) }
 {
     let count = functions.len();
@@ -113,10 +117,10 @@ fn put_functions(functions: &Bits, buffer: &mut LineBuf)
 }
 
 /// Appends what the line of a row says after the words of its group.
-fn put_value(key: &Key, value: &Value, buffer: &mut LineBuf)
+fn put_value<const N: usize>(key: &Key, value: &Value, buffer: &mut ArrayVec<u8, N>)
     requires fits_key { IsValueAt key.now.group key.now.port value.now }
     requires room { array_vec_len buffer.old
-        + length (after_spaces (value_words key.now.address key.now.port value.now)) ≤ 256 }
+        + length (after_spaces (value_words key.now.address key.now.port value.now)) ≤ N }
     ensures { buffer.new.items
         ≡ buffer.old.items ++ after_spaces (value_words key.now.address key.now.port value.now) }
 {
@@ -164,9 +168,15 @@ fn put_value(key: &Key, value: &Value, buffer: &mut LineBuf)
 
 /// Appends what all lines of changes begin with, up to the words of the group.
 #[inline(always)]
-fn put_info(moment: u64, code: &[u8; 3], bus: u8, group: Group, buffer: &mut LineBuf)
+fn put_info<const N: usize>(
+    moment: u64,
+    code: &[u8; 3],
+    bus: u8,
+    group: Group,
+    buffer: &mut ArrayVec<u8, N>,
+)
     requires { array_vec_len buffer.old
-        + length (join_with_byte 32 (info_words moment code.now bus group [])) ≤ 256 }
+        + length (join_with_byte 32 (info_words moment code.now bus group [])) ≤ N }
     ensures { buffer.new.items
         ≡ buffer.old.items ++ join_with_byte 32 (info_words moment code.now bus group []) }
 {
@@ -178,10 +188,11 @@ fn put_info(moment: u64, code: &[u8; 3], bus: u8, group: Group, buffer: &mut Lin
     put_group(group, buffer);
 }
 
-/// Writes the line that tells of a row, with its LF, into an empty buffer. It has at most 126 bytes,
-/// and takes no memory. It is the line that `write_change` writes of a change to this row.
-pub fn write_shown(shown: &Shown, buffer: &mut LineBuf)
+/// Writes the line that tells of a row, with its LF, into an empty buffer with room for the longest line. It has at most 126
+/// bytes, and takes no memory. It is the line that `write_change` writes of a change to this row.
+pub fn write_shown<const N: usize>(shown: &Shown, buffer: &mut ArrayVec<u8, N>)
     requires well_formed { IsWellFormedShown shown.now }
+    requires fits { LONGEST_LINE ≤ N }
     requires empty { buffer.old.items ≡ [] }
     ensures line { buffer.new.items ≡ line (Change.Put shown.now) }
     ensures most { array_vec_len buffer.new ≤ LONGEST_LINE }
@@ -199,8 +210,9 @@ pub fn write_shown(shown: &Shown, buffer: &mut LineBuf)
 }
 
 /// Writes the line of a device that is gone.
-fn write_gone(stamp: u64, device: &Device, buffer: &mut LineBuf)
+fn write_gone<const N: usize>(stamp: u64, device: &Device, buffer: &mut ArrayVec<u8, N>)
     requires well_formed { IsWellFormed (Change.Gone stamp device.now) }
+    requires fits { LONGEST_LINE ≤ N }
     requires empty { buffer.old.items ≡ [] }
     ensures line { buffer.new.items ≡ line (Change.Gone stamp device.now) }
     ensures most { array_vec_len buffer.new ≤ LONGEST_LINE }
@@ -210,11 +222,12 @@ fn write_gone(stamp: u64, device: &Device, buffer: &mut LineBuf)
     buffer.push(b'\n');
 }
 
-/// Writes the line that tells of a change, with its LF, into an empty buffer. It has at most 126
-/// bytes, and takes no memory. The line's form is that of SRCP 0.8, with one space between two words,
+/// Writes the line that tells of a change, with its LF, into an empty buffer with room for the longest line. It has at most
+/// 126 bytes, and takes no memory. The line's form is that of SRCP 0.8, with one space between two words,
 /// numbers without leading zeros, and capital letters alone.
-pub fn write_change(change: &Change, buffer: &mut LineBuf)
+pub fn write_change<const N: usize>(change: &Change, buffer: &mut ArrayVec<u8, N>)
     requires well_formed { IsWellFormed change.now }
+    requires fits { LONGEST_LINE ≤ N }
     requires empty { buffer.old.items ≡ [] }
     ensures line { buffer.new.items ≡ line change.now }
     ensures most { array_vec_len buffer.new ≤ LONGEST_LINE }
@@ -226,8 +239,9 @@ pub fn write_change(change: &Change, buffer: &mut LineBuf)
 }
 
 /// Writes a moment and a text as a line.
-fn write_text(stamp: u64, text: &[u8], buffer: &mut LineBuf)
+fn write_text<const N: usize>(stamp: u64, text: &[u8], buffer: &mut ArrayVec<u8, N>)
     requires short { length text.now ≤ 40 }
+    requires fits { LONGEST_LINE ≤ N }
     requires empty { buffer.old.items ≡ [] }
     ensures line { buffer.new.items ≡ spaced (stamp_of stamp ∷ text.now ∷ []) }
     ensures most { array_vec_len buffer.new ≤ LONGEST_SHORT_REPLY }
@@ -238,8 +252,9 @@ fn write_text(stamp: u64, text: &[u8], buffer: &mut LineBuf)
 }
 
 /// Writes the reply to GO: the moment, and the id of the session that begins.
-fn write_go(stamp: u64, id: u32, buffer: &mut LineBuf)
-    requires { buffer.old.items ≡ [] }
+fn write_go<const N: usize>(stamp: u64, id: u32, buffer: &mut ArrayVec<u8, N>)
+    requires fits { LONGEST_LINE ≤ N }
+    requires empty { buffer.old.items ≡ [] }
     ensures line { buffer.new.items ≡ reply_line stamp (Reply.Go id) }
     ensures most { array_vec_len buffer.new ≤ LONGEST_SHORT_REPLY }
 {
@@ -252,8 +267,9 @@ fn write_go(stamp: u64, id: u32, buffer: &mut LineBuf)
 /// Writes the line of a reply at a moment of `stamp` milliseconds, with its LF, into an empty
 /// buffer. A row that is shown keeps its own stamp. The line has at most 126 bytes, and at most 64
 /// where it shows no row. It takes no memory.
-pub fn write_reply(stamp: u64, reply: &Reply, buffer: &mut LineBuf)
+pub fn write_reply<const N: usize>(stamp: u64, reply: &Reply, buffer: &mut ArrayVec<u8, N>)
     requires well_formed { IsWellFormedReply reply.now }
+    requires fits { LONGEST_LINE ≤ N }
     requires empty { buffer.old.items ≡ [] }
     ensures line { buffer.new.items ≡ reply_line stamp reply.now }
     ensures most { array_vec_len buffer.new ≤ LONGEST_LINE }

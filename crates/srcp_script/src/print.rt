@@ -12,8 +12,7 @@ ghost use Rattle.srcp_rules.specs.State.{shown_rows};
 ghost use Rattle.srcp_script.specs.Output.{finish_word, fault_word, ended, connection_line, connection_lines, refusal_line, rows_line, printed};
 
 use srcp_core::{ConnRecord, CoreFault, Finish, Record, Refusal};
-use srcp_info::{Row, Shown, write_shown};
-use srcp_text::LineBuf;
+use srcp_info::{InfoLine, Row, Shown, write_shown};
 use std::alloc::{AllocError, Global};
 use std::string::String;
 use std::vec::Vec;
@@ -152,7 +151,7 @@ pub fn print_shown(shown: &Shown, text: &mut Vec<u8>) -> Result<(), AllocError>
     requires { IsWellFormedShown shown.now }
     ensures { OnOk result (text.new.items ≡ text.old.items ++ line (change.Put shown.now)) }
 {
-    let mut line = LineBuf::new();
+    let mut line = InfoLine::new();
     write_shown(shown, &mut line);
     text.extend_from_slice(&line)
 }

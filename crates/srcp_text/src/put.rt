@@ -10,8 +10,8 @@ use arrayvec::ArrayVec;
 pub type LineBuf = ArrayVec<u8, 256>;
 
 /// Appends bytes as they are. The line must have room for them.
-pub fn put_bytes(bytes: &[u8], line: &mut LineBuf)
-    requires { array_vec_len line.old + length bytes.now ≤ 256 }
+pub fn put_bytes<const N: usize>(bytes: &[u8], line: &mut ArrayVec<u8, N>)
+    requires { array_vec_len line.old + length bytes.now ≤ N }
     ensures { line.new.items ≡ line.old.items ++ bytes.now }
 {
     line.try_extend_from_slice(bytes).unwrap();
@@ -20,8 +20,8 @@ pub fn put_bytes(bytes: &[u8], line: &mut LineBuf)
 /// Appends a number in decimal, without leading zeros: at most 20 bytes, for which the line must
 /// have room.
 #[inline]
-pub fn put_number(number: u64, line: &mut LineBuf)
-    requires { array_vec_len line.old + length (decimal number) ≤ 256 }
+pub fn put_number<const N: usize>(number: u64, line: &mut ArrayVec<u8, N>)
+    requires { array_vec_len line.old + length (decimal number) ≤ N }
     ensures { line.new.items ≡ line.old.items ++ decimal number }
 {
     if number < 10 {
@@ -36,8 +36,8 @@ pub fn put_number(number: u64, line: &mut LineBuf)
 
 /// Appends a number of three digits or more. It stands apart, so that a short number needs no scratch.
 #[inline(never)]
-fn put_long_number(number: u64, line: &mut LineBuf)
-    requires { array_vec_len line.old + length (decimal number) ≤ 256 }
+fn put_long_number<const N: usize>(number: u64, line: &mut ArrayVec<u8, N>)
+    requires { array_vec_len line.old + length (decimal number) ≤ N }
     ensures { line.new.items ≡ line.old.items ++ decimal number }
 {
     let mut digits = [0; 20];
@@ -49,8 +49,8 @@ fn put_long_number(number: u64, line: &mut LineBuf)
 /// milliseconds past them in three digits, as `12.050`: at most 21 bytes, for which the line must
 /// have room.
 #[inline(always)]
-pub fn put_stamp(moment: u64, line: &mut LineBuf)
-    requires { array_vec_len line.old + length (stamp moment) ≤ 256 }
+pub fn put_stamp<const N: usize>(moment: u64, line: &mut ArrayVec<u8, N>)
+    requires { array_vec_len line.old + length (stamp moment) ≤ N }
     ensures { line.new.items ≡ line.old.items ++ stamp moment }
 {
     let mut text = [0; 24];

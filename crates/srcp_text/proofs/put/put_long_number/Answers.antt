@@ -3,4 +3,4 @@ use Rattle.std.proofs.lemmas.Fmt.{length-decimal-le}
 use Rattle.srcp_text.proofs.put.put_long_number.Goals as goal
 
 pub write_digits-start-requires : goal.write_digits-start-requires
-write_digits-start-requires c = search (rules, length-decimal-le 20)
+write_digits-start-requires g c = search (rules, length-decimal-le 20)

@@ -5,13 +5,13 @@ use Rattle.srcp_text.proofs.StampLaws.{drop-point}
 use Rattle.srcp_text.proofs.put.put_stamp.Goals as goal
 
 pub write_digits-requires : goal.write_digits-requires
-write_digits-requires c = search (rules, length-decimal-le 4)
+write_digits-requires g c = search (rules, length-decimal-le 4)
 
 pub write_digits-start-requires : goal.write_digits-start-requires
-write_digits-start-requires c = search (rules, length-decimal-le 20)
+write_digits-start-requires g c = search (rules, length-decimal-le 20)
 
 pub returns : goal.returns
-returns c =
+returns g c =
     let text = c.write_digits in
     let tail = drop-point text.new.buf text.result (c.args.moment % 1000) (omega arith) (omega arith) text.ensures.start text.ensures.written in
     let written = rw tail at c.write_digits-start.ensures.written in
