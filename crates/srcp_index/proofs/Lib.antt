@@ -4,3 +4,4 @@ pub mod Pairs
 pub mod RowSums
 pub mod PairsOfRows
 pub mod IndexedLaws
+pub mod Least

@@ -1,3 +1,4 @@
 pub mod Ranked
 pub mod Pairs
 pub mod Indexed
+pub mod Earliest

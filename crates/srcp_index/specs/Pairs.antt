@@ -1,5 +1,6 @@
 -- Pairs of a rank and a key, and their order since a moment.
-use Rattle.std.specs.Prelude.{ℕ, ◌-◌, Bool, not, nat_le, ◌&&◌, List}
+use Rattle.std.specs.Prelude.{◌≡◌, ℕ, ◌≤◌, ◌-◌, Bool, not, nat_le, ◌&&◌, List, [], Option, Some, None, Any}
+use Rattle.std.specs.List.{AllByRecursion}
 use Rattle.std.specs.Ordering.{nat_cmp, ordering_then, is_lt}
 use Rattle.std.specs.declared.cmp.Ordering.{Ordering}
 use Rattle.srcp_info.specs.declared.change.Cursor.{Cursor}
@@ -22,3 +23,8 @@ pub record Held : Type 0 where
 -- the rank has come, and the key is beyond the cursor
 abbrev pub is_ripe : (moment : ℕ) → Cursor → Pair → Bool
 is_ripe moment cursor pair = nat_le pair.rank moment && not (has_reached cursor pair.key)
+
+-- the least rank of the pairs: no pair has a lesser one, and one pair has it; none if there is no pair
+abbrev pub IsLeastRank : Option ℕ → List Pair → Type 0
+IsLeastRank None pairs = pairs ≡ []
+IsLeastRank (Some rank) pairs = AllByRecursion (λ pair. rank ≤ pair.rank) pairs × Any (λ pair. pair.rank ≡ rank) pairs

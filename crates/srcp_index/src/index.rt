@@ -1,10 +1,10 @@
 //! Pairs of a rank and a key in order, in memory that is reserved beforehand.
-ghost use Rattle.std.specs.Prelude.{◌≡◌, ◌+◌, ◌<◌, ◌≤◌, ◌==◌, [], length, take, drop, find, true, false, IsTrue, IfOk, OnOk, slice_get};
+ghost use Rattle.std.specs.Prelude.{◌≡◌, ◌+◌, ◌<◌, ◌≤◌, ◌==◌, [], length, take, drop, find, fold, min, nat_le, take_while, true, false, IsTrue, IfOk, OnOk, slice_get};
 ghost use Rattle.std.specs.VecDeque.{deque_len, deque_capacity};
 ghost use Rattle.std.specs.List.{AllByRecursion};
 ghost use Rattle.std.specs.List.Sorted.{IsPermutation};
 ghost use Rattle.srcp_index.specs.Ranked.{IsRanked, put, taken, ranked};
-ghost use Rattle.srcp_index.specs.Pairs.{before, is_ripe, order};
+ghost use Rattle.srcp_index.specs.Pairs.{IsLeastRank, before, is_ripe, order};
 
 use srcp_info::{Cursor, Key, compare as compare_keys};
 use std::alloc::{AllocError, Global};
@@ -127,6 +127,25 @@ fn first_in(pairs: &VecDeque<Pair>, rank: u64) -> Option<Pair>
     (pair.rank == rank).then_some(pair)
 }
 
+/// Returns the least of this rank and those that have come. Their pairs are at the front, and it looks no further.
+fn least_come(pairs: &VecDeque<Pair>, since: u64, rank: u64) -> u64
+    ensures { result ≡ fold (λ least pair. min least pair.rank) rank (take_while (λ pair. nat_le pair.rank since) pairs.now.items) }
+{
+    pairs
+        .iter()
+        .take_while(|pair| pair.rank <= since)
+        .fold(rank, |least, pair| least.min(pair.rank))
+}
+
+/// Returns the least rank.
+fn least_in(pairs: &VecDeque<Pair>, since: u64) -> Option<u64>
+    requires { IsRanked (before since) pairs.now.items }
+    ensures { IsLeastRank result pairs.now.items }
+{
+    let first = pairs.front()?;
+    Some(least_come(pairs, since, first.rank))
+}
+
 /// Pairs in the order since a moment. Contracts see them as that list, with the moment and how many there is room for.
 #[derive(Drop)]
 pub(crate) struct Index {
@@ -211,6 +230,13 @@ impl Index {
         ensures { result ≡ find (is_ripe self.now.since cursor) self.now.pairs }
     {
         ripe_in(&self.pairs, self.since, cursor)
+    }
+
+    /// Returns the least rank; none if there is no pair.
+    pub(crate) fn least(&self) -> Option<u64>
+        ensures { IsLeastRank result self.now.pairs }
+    {
+        least_in(&self.pairs, self.since)
     }
 
     /// Returns the first pair of a rank.

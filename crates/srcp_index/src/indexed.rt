@@ -1,6 +1,7 @@
 //! The rows that a keeper has, with an index of their due moments and one of the sessions that hold locks.
 ghost use Rattle.std.specs.Prelude.{◌≡◌, ◌+◌, ◌<◌, ◌≤◌, length};
 ghost use Rattle.std.specs.List.{AllByRecursion};
+ghost use Rattle.srcp_index.specs.Earliest.{IsEarliestDue};
 ghost use Rattle.srcp_index.specs.Indexed.{IsIndexed};
 
 use crate::indexes::Indexes;
@@ -29,6 +30,15 @@ impl<R: Rows> Model for Indexed<R> {
     ghost view = { λ x. x.rows };
 
     ghost invariant = { λ x. IsIndexed (R.state x.rows) x.indexes x.count };
+}
+
+impl<R: Rows> Indexed<R> {
+    /// Returns the moment at which the first of the rows falls due; none if no row has a due moment.
+    pub fn earliest_due(&self) -> Option<u64>
+        ensures { IsEarliestDue result (R.state self.now) }
+    {
+        self.indexes.moments.least()
+    }
 }
 
 impl<R: Rows> Rows for Indexed<R> {
