@@ -143,6 +143,20 @@ impl ReadAhead {
         self.held.is_empty()
     }
 
+    /// Returns whether there is no space for more.
+    pub fn is_full(&self) -> bool
+        ensures { IsTrue result ↔ MOST_AHEAD ≤ length self.now.bytes }
+    {
+        self.held.len() >= MOST_AHEAD
+    }
+
+    /// Returns whether `fill` would ask the reader.
+    pub fn is_wanting(&self) -> bool
+        ensures { IsTrue result ↔ ((self.now.input ≡ Input.Open) × (length self.now.bytes < MOST_PIECE)) }
+    {
+        self.input == Input::Open && self.held.len() < MOST_PIECE
+    }
+
     /// Returns what the reader is known to give after what was read.
     pub fn input(&self) -> Input
         ensures { result ≡ self.now.input }

@@ -1,7 +1,7 @@
 //! Moments that never go back.
 
-ghost use Rattle.std.specs.Prelude.{◌≡◌, ◌<◌, ◌≤◌, ◌+◌, ◌*◌, ◌↔◌, IsTrue, max};
-ghost use Rattle.srcp_door.specs.Moments.{Moments, next_moment, target};
+ghost use Rattle.std.specs.Prelude.{◌≡◌, ◌<◌, ◌≤◌, ◌+◌, ◌-◌, ◌*◌, ◌↔◌, IsTrue, max};
+ghost use Rattle.srcp_door.specs.Moments.{Moments, next_moment, passed, target};
 
 use std::marker::Model;
 
@@ -43,6 +43,16 @@ impl Timekeeper {
         }
     }
 
+    /// Goes on to the present where nothing falls due, and else to the moment before the first that does. So only time in
+    /// which something falls due is made up in steps. `due` is the moment at which that is, if there is one.
+    pub fn pass(&mut self, elapsed: u64, due: Option<u64>)
+        ensures { self.new ≡ record self.old { last = passed self.old.last (target self.old elapsed) due } }
+    {
+        let goal = self.goal(elapsed);
+        let calm = due.map_or(goal, |due| due.saturating_sub(1));
+        self.last = self.last.max(goal.min(calm));
+    }
+
     /// Returns the moment to be told, where the clock that is never set shows so many milliseconds.
     pub fn tell(&mut self, elapsed: u64) -> u64
         ensures told { result ≡ next_moment STEP MOST_BEHIND self.old.last (target self.old elapsed) }
@@ -53,7 +63,7 @@ impl Timekeeper {
         ensures reached { target self.old elapsed ≤ self.old.last + STEP → result ≡ max self.old.last (target self.old elapsed) }
         ensures behind { target self.old elapsed ≤ result + MOST_BEHIND }
     {
-        let goal = self.wall.saturating_add(elapsed.saturating_sub(self.start));
+        let goal = self.goal(elapsed);
         let step = self.last.saturating_add(STEP);
         let far = goal.saturating_sub(MOST_BEHIND);
         self.last = self.last.max(goal.min(step.max(far)));
@@ -64,6 +74,20 @@ impl Timekeeper {
     pub fn is_late(&self, elapsed: u64) -> bool
         ensures { IsTrue result ↔ self.now.last < target self.now elapsed }
     {
-        self.last < self.wall.saturating_add(elapsed.saturating_sub(self.start))
+        self.last < self.goal(elapsed)
+    }
+
+    /// Returns how many milliseconds are left from the moment that was told last to that one; 0 if it has come.
+    pub fn left_until(&self, moment: u64) -> u64
+        ensures { result ≡ moment - self.now.last }
+    {
+        moment.saturating_sub(self.last)
+    }
+
+    /// Returns the time that the clock that is never set stands for.
+    fn goal(&self, elapsed: u64) -> u64
+        ensures { result ≡ target self.now elapsed }
+    {
+        self.wall.saturating_add(elapsed.saturating_sub(self.start))
     }
 }
