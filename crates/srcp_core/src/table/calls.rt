@@ -1,5 +1,6 @@
 //! Moments, and the end of a connection.
 ghost use Rattle.std.specs.Prelude.{◌≡◌, None, IsSome, MatchResult};
+ghost use Rattle.srcp_index.specs.Earliest.{IsEarliestDue};
 ghost use Rattle.srcp_core.specs.Held.{at};
 ghost use Rattle.srcp_core.specs.Machine.{hung_up, advanced};
 
@@ -16,6 +17,14 @@ impl<'a, R: Rows> Core<'a, R> {
     {
         self.moment = self.moment.max(moment);
         carry_out_due(&mut self.rows, &mut self.connections, self.moment);
+    }
+
+    /// Returns the moment at which the first of the rows falls due, in milliseconds; none if no row has a due moment. Until then
+    /// `advance` changes no row, if nothing else is called meanwhile.
+    pub fn earliest_due(&self) -> Option<u64>
+        ensures { IsEarliestDue result self.now.rows }
+    {
+        self.rows.earliest_due()
     }
 
     /// Takes a connection out. Its session then ends, if it has one that did not end: its locks are taken out in key order,
