@@ -27,15 +27,36 @@ def listens_on_the_loopback_alone(program):
 
 
 def stamps_are_the_time(program):
+    """Also after a rest: then nothing fell due, so no time has to be made up in steps."""
     with served(program) as (port, _):
         throttle = Client(port, "COMMAND")
-        for pause in (0, 0.5):
+        for pause in (0, 0.5, 3):
             time.sleep(pause)
             throttle.socket.sendall(b"SET 1 POWER ON\n")
             late = time.time() - float(throttle.line().split()[0])
             if abs(late) > 2:
                 return f"a stamp is {late:.3f} s late"
     return None
+
+
+def server_that_rests_is_not_woken(program):
+    """Nothing happens, though a lock ends in an hour: the server sleeps until a client asks for something."""
+    with served(program) as (port, server):
+        throttle, _panel = Client(port, "COMMAND"), Client(port, "INFO")
+        throttle.asks("INIT 1 GL 3 N 1 28 5", "SET 1 LOCK GL 3 3600")
+        time.sleep(0.3)
+        before = sleeps(server)
+        time.sleep(1)
+        woken = sleeps(server) - before
+        reply = throttle.asks("GET 1 POWER")
+    got, want = (woken, reply), (0, "100 INFO 1 POWER OFF")
+    return None if got == want else f"how often it was woken in a second, and a reply: {got}"
+
+
+def sleeps(server):
+    """How many times the server went to sleep so far."""
+    status = Path(f"/proc/{server.pid}/status").read_text()
+    return int(re.search(r"^voluntary_ctxt_switches:\s+(\d+)", status, re.M)[1])
 
 
 def pulse_ends_in_time(program):
@@ -237,6 +258,7 @@ def peers_that_were_let_go_and_stay(program):
     return None if got == want else f"after 10 seconds: descriptors that are kept, and a reply: {got}"
 
 
-DOOR_CASES = (listens_on_the_loopback_alone, stamps_are_the_time, pulse_ends_in_time, end_of_a_session_is_answered,
-              slow_reader_gets_every_byte, peers_that_reset_leave_their_places, half_closed_panel_is_served,
-              panels_that_read_are_kept, panels_that_leave_in_midst_of_changes, peers_that_were_let_go_and_stay)
+DOOR_CASES = (listens_on_the_loopback_alone, stamps_are_the_time, server_that_rests_is_not_woken, pulse_ends_in_time,
+              end_of_a_session_is_answered, slow_reader_gets_every_byte, peers_that_reset_leave_their_places,
+              half_closed_panel_is_served, panels_that_read_are_kept, panels_that_leave_in_midst_of_changes,
+              peers_that_were_let_go_and_stay)

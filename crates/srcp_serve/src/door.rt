@@ -46,6 +46,13 @@ pub trait Door {
     /// The calls so far with their answers, where the door tells them.
     ghost told: { Self → Option (List Call) } = { λ _. None };
 
+    /// Takes the moment at which something falls due next, if anything does. `serve` says it before it asks for a moment, so a
+    /// door that waits in `now` knows how long it may. A door that does not wait needs none of it.
+    fn expect(&mut self, _due: Option<u64>)
+        ensures faults { faults self.new ≡ faults self.old }
+        ensures told { told self.new ≡ told self.old }
+    {}
+
     /// The present moment, in milliseconds since 1970.
     ///
     /// # Errors

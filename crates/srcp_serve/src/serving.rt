@@ -103,7 +103,8 @@ fn visit_place<R: Rows, D: Door>(
     }
 }
 
-/// Takes the present moment; where the door fails to tell it, the core keeps the one before.
+/// Takes the present moment; where the door fails to tell it, the core keeps the one before. The door is told first until
+/// when it may wait.
 fn take_moment<R: Rows, D: Door>(core: &mut Core<'_, R>, door: &mut D, tally: &mut Tally)
     requires { tally.old.faults ≤ D.faults door.old }
     ensures faults { CountsFaults tally.old.faults (D.faults door.old) tally.new.faults (D.faults door.new) }
@@ -111,6 +112,7 @@ fn take_moment<R: Rows, D: Door>(core: &mut Core<'_, R>, door: &mut D, tally: &m
     ensures denied { core.new.denied ≡ core.old.denied }
     ensures course { TakesMoment core.old (D.told door.old) core.new (D.told door.new) }
 {
+    door.expect(core.earliest_due());
     match door.now() {
         Ok(moment) => core.advance(moment),
         Err(_) => tally.fault(),

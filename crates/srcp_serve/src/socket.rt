@@ -1,6 +1,6 @@
 //! A door over the system's sockets.
 
-ghost use Rattle.std.specs.Prelude.{◌≡◌, IfOk};
+ghost use Rattle.std.specs.Prelude.{◌≡◌, Some, IfOk};
 ghost use Rattle.srcp_serve.specs.Calls.{one_more};
 
 mod fault;
@@ -33,8 +33,9 @@ const REST: u64 = 8;
 /// Peers over TCP on the machine itself, at 127.0.0.1, with the clock that it was handed. Each peer has a number above
 /// those of all peers before it.
 ///
-/// `now` begins a turn. It writes what is gathered to the sockets, waits 8 milliseconds at most if there is nothing to do,
-/// and reads up to 4,096 bytes of each peer ahead. What a peer is written is gathered, up to 40,960 bytes of it.
+/// `now` begins a turn. It writes what is gathered to the sockets. If there is nothing to do, it waits until a socket is ready
+/// or something falls due. Then it reads up to 4,096 bytes of each peer ahead. What a peer is written is gathered, up to 40,960
+/// bytes of it.
 ///
 /// While a panel is there, the lines that are handed out in a turn weigh at most 88, and the rest waits for the next turns. A
 /// peer whose input ends is told to have ended after a turn that wrote nothing to it. One that is let go is kept aside until
@@ -47,6 +48,8 @@ pub struct SocketDoor<C: Clock + Drop> {
     elapsed: u64,
     // Whether the moment that was told last is behind the time.
     late: bool,
+    // The moment at which something falls due next, if anything does.
+    due: Option<u64>,
     tally: Tally,
 }
 
@@ -72,6 +75,7 @@ impl<C: Clock + Drop> SocketDoor<C> {
                 timekeeper,
                 elapsed: 0,
                 late: false,
+                due: None,
                 tally: Tally::new(),
             }),
             Err(error) => Err(fault_of(&error)),
@@ -80,10 +84,19 @@ impl<C: Clock + Drop> SocketDoor<C> {
 
     /// Has `now` wait so many milliseconds at most where nothing happens, 0 for no wait.
     pub fn wait_at_most(&mut self, milliseconds: u64)
-        ensures wait { self.new.sockets.patience ≡ milliseconds }
+        ensures wait { self.new.sockets.patience ≡ Some milliseconds }
         ensures tally { self.new.tally ≡ self.old.tally }
     {
         self.sockets.wait_at_most(milliseconds);
+    }
+
+    /// Returns how many milliseconds a turn may wait from the last moment on; `None` if nothing falls due.
+    fn calm(&self) -> Option<u64> {
+        if self.late {
+            return Some(0);
+        }
+        let due = self.due?;
+        Some(self.timekeeper.left_until(due))
     }
 
     /// Counts a call that failed, and says which it was.
@@ -128,6 +141,7 @@ impl<C: Clock + Drop> Drop for SocketDoor<C> {
             timekeeper: _,
             elapsed: _,
             late: _,
+            due: _,
             tally: _,
         } = self;
     }
@@ -136,16 +150,22 @@ impl<C: Clock + Drop> Drop for SocketDoor<C> {
 impl<C: Clock + Drop> Door for SocketDoor<C> {
     ghost faults = { λ d. d.tally.faults };
 
-    /// Begins a turn. Returns milliseconds since 1970, which never go back, and which catch up in steps of 10 where no turn
-    /// began for long.
+    fn expect(&mut self, due: Option<u64>) {
+        self.due = due;
+    }
+
+    /// Begins a turn. Returns milliseconds since 1970, which never go back. Where no turn began for long, they catch up in steps
+    /// of 10 from the moment on at which something falls due.
     fn now(&mut self) -> Result<u64, DoorFault> {
-        if self.sockets.begin_turn(self.elapsed, self.late).is_err() {
+        let calm = self.calm();
+        if self.sockets.begin_turn(self.elapsed, calm).is_err() {
             self.clock.sleep(Duration::from_millis(REST));
         }
         let Ok(time) = self.clock.monotonic() else {
             return Err(self.failed(DoorFault::Now));
         };
         self.elapsed = milliseconds(time);
+        self.timekeeper.pass(self.elapsed, self.due);
         let moment = self.timekeeper.tell(self.elapsed);
         self.late = self.timekeeper.is_late(self.elapsed);
         Ok(moment)

@@ -81,27 +81,29 @@ fn refuses_a_port_that_is_taken(rt: HostRuntime) -> Result<(), Fail> {
 }
 
 #[test]
-fn time_goes_forward_in_steps(rt: HostRuntime) -> Result<(), Fail> {
+fn time_goes_forward_in_steps_where_something_falls_due(rt: HostRuntime) -> Result<(), Fail> {
     let clock = Hands {
         wall: Cell::new(10_000_000),
         elapsed: Cell::new(500),
     };
     let mut door = SocketDoor::listen(&rt, rt.alloc(), free_port(&rt)?, &clock)?;
     door.wait_at_most(0);
-    // The wall clock is set back by an hour; then nothing runs for 32 milliseconds, and for an hour.
-    for (wall, elapsed, moment) in [
-        (10_000_000, 500, 10_000_000),
-        (6_400_007, 507, 10_000_007),
-        (6_400_039, 539, 10_000_017),
-        (6_400_039, 539, 10_000_027),
-        (6_400_039, 539, 10_000_037),
-        (6_400_039, 539, 10_000_039),
-        (6_400_039, 539, 10_000_039),
-        (10_000_039, 3_600_539, 13_000_039),
-        (10_000_039, 3_600_539, 13_000_049),
+    // The wall clock is set back by an hour. Nothing runs for 32 milliseconds in which nothing falls due, for 32 in which
+    // something does, and for an hour in which something does at once.
+    for (wall, elapsed, due, moment) in [
+        (10_000_000, 500, None, 10_000_000),
+        (6_400_007, 507, None, 10_000_007),
+        (6_400_039, 539, Some(10_000_040), 10_000_039),
+        (6_400_071, 571, Some(10_000_042), 10_000_051),
+        (6_400_071, 571, Some(10_000_053), 10_000_062),
+        (6_400_071, 571, Some(10_000_090), 10_000_071),
+        (10_000_071, 3_600_571, Some(10_000_090), 13_000_071),
+        (10_000_071, 3_600_571, Some(13_000_072), 13_000_081),
+        (10_000_071, 3_600_571, None, 13_600_071),
     ] {
         clock.wall.set(wall);
         clock.elapsed.set(elapsed);
+        door.expect(due);
         assert_eq!(rt; door.now(), Ok(moment));
     }
     Ok(())

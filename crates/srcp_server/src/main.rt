@@ -21,6 +21,9 @@ use std::time::Clock;
 use std::vec::Vec;
 use std::{env, fs, io};
 
+/// How long a turn waits at most if the words say how many turns are made, in milliseconds.
+const LONGEST_TURN: u64 = 8;
+
 /// Does what the words ask for. A fault is told on the standard error and by the status.
 fn main(rt: HostRuntime) -> ExitCode {
     let words = match words_given(&rt) {
@@ -136,6 +139,9 @@ fn serve_layout<R: Files + AllocGlobal + Net + Clock>(
     let Ok(mut core) = Core::<Nested>::new(rt.alloc(), &config.layout, 0, 0) else {
         return Err(ToolFault::Memory);
     };
+    if turns < u64::MAX {
+        door.wait_at_most(LONGEST_TURN);
+    }
     serve(&mut core, &mut door, turns);
     Ok(())
 }

@@ -84,6 +84,11 @@ impl Leaving {
         self.leavers.retain(|leaver| !leaver.parted);
     }
 
+    /// Returns whether nobody is kept.
+    pub(super) fn is_empty(&self) -> bool {
+        self.leavers.is_empty()
+    }
+
     /// Returns whether something is gathered that a socket may still take.
     pub(super) fn is_owed(&self) -> bool {
         self.leavers.iter().any(|leaver| leaver.peer.is_owed())

@@ -21,6 +21,8 @@ pub(super) struct Peer {
     link: Link,
     // Whether a read may find something.
     readable: bool,
+    // Whether its input was found to be over, which a read has still to tell.
+    closed: bool,
     // Whether the socket may take something.
     writable: bool,
     // Whether a read was asked in this turn.
@@ -42,6 +44,7 @@ impl Peer {
             stream,
             link: Link::new(alloc)?,
             readable: true,
+            closed: false,
             writable: true,
             asked: false,
             shut: false,
@@ -50,7 +53,10 @@ impl Peer {
 
     /// Notes what its socket was found ready for.
     pub(super) fn wake(&mut self, event: &Event) {
-        if event.is_readable() || event.is_read_closed() || event.is_error() {
+        if event.is_read_closed() || event.is_error() {
+            self.closed = true;
+        }
+        if event.is_readable() || self.closed {
             self.readable = true;
         }
         if event.is_writable() || event.is_error() {
@@ -59,21 +65,32 @@ impl Peer {
     }
 
     /// Writes what is gathered, where the socket may take something. To a panel, and to a peer of which input is held, it
-    /// writes with `tick` alone, or where much is gathered, since more is to come.
-    pub(super) fn hand_over(&mut self, tick: bool) {
+    /// writes with `tick` alone, or where much is gathered, since more is to come. Returns whether the socket took something,
+    /// or was found to take no more.
+    pub(super) fn hand_over(&mut self, tick: bool) -> bool {
         let more = self.is_panel() || self.is_busy();
         let waits = !tick && more && self.link.gathered.len() <= MOST_WAITING;
-        if !waits && self.writable && self.link.hand_over(&mut self.stream) == HandedOver::Later {
+        if waits || !self.writable || !self.link.is_owed() {
+            return false;
+        }
+        let before = self.link.gathered.len();
+        if self.link.hand_over(&mut self.stream) == HandedOver::Later {
             self.writable = false;
         }
+        self.link.lost || self.link.gathered.len() < before
     }
 
-    /// Reads its socket, where a read may find something.
+    /// Reads its socket, where a read may find something. After one that left space nothing is there, but for the end.
     fn fill(&mut self)
         ensures { self.new.number ≡ self.old.number }
     {
-        if self.readable && self.link.fill(&mut self.stream) == Filled::Later {
-            self.readable = false;
+        if !self.readable {
+            return;
+        }
+        match self.link.fill(&mut self.stream) {
+            Filled::Later => self.readable = false,
+            Filled::Something => self.readable = self.closed || self.link.ahead.is_full(),
+            Filled::Unasked | Filled::Again => (),
         }
     }
 
@@ -118,6 +135,11 @@ impl Peer {
     /// Returns whether the next turn has something of it. What the core did not ask for in the last turn waits.
     pub(super) fn is_busy(&self) -> bool {
         self.asked && self.link.has_more()
+    }
+
+    /// Returns whether a call of the system was interrupted, and has to be made again.
+    pub(super) fn is_interrupted(&self) -> bool {
+        self.writable && self.link.is_owed() || self.readable && self.link.ahead.is_wanting()
     }
 
     /// Returns whether something is gathered that its socket may still take.

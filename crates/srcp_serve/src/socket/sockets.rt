@@ -1,6 +1,6 @@
 //! The sockets of a door, and the lines that are let through in a turn.
 
-ghost use Rattle.std.specs.Prelude.{◌≡◌, ◌<◌, ◌≤◌, ℕ, Ok, None, IfOk, IfSome, IsTrue, OnErr, length};
+ghost use Rattle.std.specs.Prelude.{◌≡◌, ◌<◌, ◌≤◌, ℕ, Ok, None, Some, IfOk, IfSome, IsTrue, OnErr, length};
 ghost use Rattle.srcp_door.specs.declared.read_ahead.Given.{Given};
 
 use super::leaving::Leaving;
@@ -14,8 +14,12 @@ use std::io::ErrorKind;
 use std::time::Duration;
 use std::vec::Vec;
 
-/// How long a turn waits at most where nothing happens, in milliseconds, unless it is told otherwise.
+/// How long a turn waits at most in milliseconds where a call of the system is to be made again, or a peer that was let go is
+/// kept aside.
 const PAUSE: u64 = 8;
+
+/// How long a turn waits at most for what falls due, in milliseconds: an hour.
+const LONGEST_WAIT: u64 = 3_600_000;
 
 /// How many sockets may be found ready at once.
 const MOST_EVENTS: usize = 128;
@@ -44,8 +48,8 @@ pub(super) struct Sockets {
     busy: bool,
     // When the turn before began, in milliseconds of the clock that is never set.
     began: u64,
-    // How long a turn waits at most, in milliseconds.
-    patience: u64,
+    // How long a turn waits at most, in milliseconds, where that was said.
+    patience: Option<u64>,
 }
 
 impl Sockets {
@@ -65,31 +69,31 @@ impl Sockets {
             pacing: Pacing::new(),
             busy: true,
             began: 0,
-            patience: PAUSE,
+            patience: None,
         })
     }
 
     /// Has a turn wait so many milliseconds at most.
     pub(super) fn wait_at_most(&mut self, milliseconds: u64)
-        ensures wait { self.new.patience ≡ milliseconds }
+        ensures wait { self.new.patience ≡ Some milliseconds }
         ensures last { self.new.last ≡ self.old.last }
     {
-        self.patience = milliseconds;
+        self.patience = Some(milliseconds);
     }
 
-    /// Begins a turn: writes what is gathered, waits, and reads what came. With `hurry`, or if there is something to do, it
-    /// does not wait. Panels, and peers of which input is held, are written to once a millisecond, or after a turn in which
-    /// nothing happened.
+    /// Begins a turn: writes what is gathered, waits, and reads what came. It waits until a socket is ready, and at most so many
+    /// milliseconds where `calm` says that. If there is something to do, it does not wait. Panels, and peers of which input is
+    /// held, are written to once a millisecond, or after a turn in which nothing happened.
     ///
     /// # Errors
     /// Fails if the system refuses to wait. The turn has begun all the same.
-    pub(super) fn begin_turn(&mut self, now: u64, hurry: bool) -> io::Result<()>
+    pub(super) fn begin_turn(&mut self, now: u64, calm: Option<u64>) -> io::Result<()>
         ensures { self.new.last ≡ self.old.last }
     {
         let tick = now != self.began || !self.busy;
         self.began = now;
         self.hand_over(tick);
-        let waited = self.wait(tick, hurry);
+        let waited = self.wait(tick, calm);
         let panel = self.peers.iter().any(|peer| peer.is_panel());
         let clear = self.pacing.begin_turn(panel);
         for peer in &mut self.peers {
@@ -98,36 +102,48 @@ impl Sockets {
         waited
     }
 
-    /// Writes what is gathered; to those for which more is to come, with `tick` alone.
+    /// Writes what is gathered; to those for which more is to come, with `tick` alone. Where a socket took something, the core
+    /// may have more for it, which makes the turn a busy one.
     fn hand_over(&mut self, tick: bool)
         ensures { self.new.last ≡ self.old.last }
     {
         for peer in &mut self.peers {
-            peer.hand_over(tick);
+            if peer.hand_over(tick) {
+                self.busy = true;
+            }
         }
         self.leaving.part(self.began);
     }
 
     /// Waits until a socket is ready, and notes which are. Where something is held of a peer, the system is asked with `tick`
     /// alone.
-    fn wait(&mut self, tick: bool, hurry: bool) -> io::Result<()>
+    fn wait(&mut self, tick: bool, calm: Option<u64>) -> io::Result<()>
         ensures { self.new.last ≡ self.old.last }
     {
         let held = self.peers.iter().any(|peer| peer.is_busy());
-        let busy = self.busy || hurry || held;
+        let busy = self.busy || held;
         self.busy = false;
         if held && !tick {
             return Ok(());
         }
-        self.poll_for(if busy { 0 } else { self.patience })
+        let most = if busy { Some(0) } else { self.most_wait(calm) };
+        self.poll_for(most)
     }
 
-    /// Waits so many milliseconds at most until a socket is ready, and notes which are.
-    fn poll_for(&mut self, patience: u64) -> io::Result<()>
+    /// Returns how many milliseconds a turn with nothing to do waits at most; `None` if only a socket ends the wait.
+    fn most_wait(&self, calm: Option<u64>) -> Option<u64> {
+        let interrupted = self.wanted || self.peers.iter().any(|peer| peer.is_interrupted());
+        let pause = (interrupted || !self.leaving.is_empty()).then_some(PAUSE);
+        let calm = calm.map(|left| left.min(LONGEST_WAIT));
+        [self.patience, pause, calm].into_iter().flatten().min()
+    }
+
+    /// Waits until a socket is ready, so many milliseconds at most if that is said, and notes which are.
+    fn poll_for(&mut self, most: Option<u64>) -> io::Result<()>
         ensures { self.new.last ≡ self.old.last }
     {
         self.poll
-            .poll(&mut self.events, Some(Duration::from_millis(patience)))?;
+            .poll(&mut self.events, most.map(Duration::from_millis))?;
         for event in &self.events {
             let Token(token) = event.token();
             if token == LISTENER.0 {
@@ -229,7 +245,7 @@ impl Sockets {
         if !self.leaving.is_owed() && !self.peers.iter().any(|peer| peer.is_owed()) {
             return true;
         }
-        let _ = self.poll_for(PAUSE);
+        let _ = self.poll_for(Some(PAUSE));
         false
     }
 

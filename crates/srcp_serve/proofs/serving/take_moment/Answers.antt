@@ -1,4 +1,4 @@
-use Rattle.std.proofs.Common.{ap}
+use Rattle.std.proofs.Common.{ap, sym}
 use Rattle.srcp_serve.specs.declared.tally.Tally.{Tally}
 use Rattle.srcp_serve.proofs.Hosting.{keeps_moment, takes_moment}
 use Rattle.srcp_serve.proofs.Tallies.{one_failed}
@@ -6,16 +6,22 @@ use Rattle.srcp_serve.proofs.Turning.{asks_moment}
 use Rattle.srcp_serve.proofs.serving.take_moment.Goals as goal
 
 pub returns-in-Err-clause-faults : goal.returns-in-Err-clause-faults
-returns-in-Err-clause-faults g c = one_failed c.args.tally.now.faults (g.D.Door.faults c.args.door.now) _ _ c.requires (ap (λ (t : Tally). t.faults) c.fault.ensures) c.in-Err.ensures.err
+returns-in-Err-clause-faults g c =
+    rw (sym c.expect.ensures.faults) (one_failed c.args.tally.now.faults (g.D.Door.faults c.expect.new.self) _ _
+    (rw c.expect.ensures.faults c.requires) (ap (λ (t : Tally). t.faults) c.fault.ensures) c.in-Err.ensures.err)
 
 pub returns-in-Ok-clause-told : goal.returns-in-Ok-clause-told
-returns-in-Ok-clause-told g c = asks_moment _ _ _ c.now.ensures.told
+returns-in-Ok-clause-told g c = rw (sym c.expect.ensures.told) (asks_moment _ _ _ c.now.ensures.told)
 
 pub returns-in-Err-clause-told : goal.returns-in-Err-clause-told
-returns-in-Err-clause-told g c = asks_moment _ _ _ c.now.ensures.told
+returns-in-Err-clause-told g c = rw (sym c.expect.ensures.told) (asks_moment _ _ _ c.now.ensures.told)
 
 pub returns-in-Ok-clause-course : goal.returns-in-Ok-clause-course
-returns-in-Ok-clause-course g c = takes_moment c.in-Ok.moment c.args.core.now c.advance.new.self (g.D.Door.told c.args.door.now) (g.D.Door.told c.now.new.self) c.in-Ok.ensures.told c.advance.ensures
+returns-in-Ok-clause-course g c =
+    rw (sym c.expect.ensures.told) (takes_moment c.in-Ok.moment c.args.core.now c.advance.new.self (g.D.Door.told c.expect.new.self)
+    (g.D.Door.told c.now.new.self) c.in-Ok.ensures.told c.advance.ensures)
 
 pub returns-in-Err-clause-course : goal.returns-in-Err-clause-course
-returns-in-Err-clause-course g c = keeps_moment c.in-Err.field-0 c.args.core.now (g.D.Door.told c.args.door.now) (g.D.Door.told c.now.new.self) c.in-Err.ensures.told
+returns-in-Err-clause-course g c =
+    rw (sym c.expect.ensures.told) (keeps_moment c.in-Err.field-0 c.args.core.now (g.D.Door.told c.expect.new.self)
+    (g.D.Door.told c.now.new.self) c.in-Err.ensures.told)
