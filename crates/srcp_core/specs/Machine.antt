@@ -68,6 +68,11 @@ is_panel Absent = false
 is_panel (Listening feed) = true
 is_panel Overran = true
 
+-- the connection of a place has an information session
+abbrev pub has_panel : Option Place → Bool
+has_panel None = false
+has_panel (Some p) = is_panel p.panel
+
 -- more changes came upon it than may wait
 abbrev pub has_overrun : Panel → Bool
 has_overrun Absent = false

@@ -250,7 +250,7 @@ impl Connection {
     }
 
     /// Whether it has an information session.
-    fn is_panel(&self) -> bool
+    pub(crate) fn is_panel(&self) -> bool
         ensures { result ≡ is_panel self.now.panel }
     {
         !matches!(self.panel, Panel::Absent)

@@ -1,8 +1,9 @@
 //! Moments, and the end of a connection.
 ghost use Rattle.std.specs.Prelude.{◌≡◌, None, IsSome, MatchResult};
+ghost use Rattle.std.specs.List.{list_any};
 ghost use Rattle.srcp_index.specs.Earliest.{IsEarliestDue};
 ghost use Rattle.srcp_core.specs.Held.{at};
-ghost use Rattle.srcp_core.specs.Machine.{hung_up, advanced};
+ghost use Rattle.srcp_core.specs.Machine.{advanced, has_panel, hung_up};
 
 use super::Core;
 use super::walk::{carry_out_due, free_all};
@@ -25,6 +26,19 @@ impl<'a, R: Rows> Core<'a, R> {
         ensures { IsEarliestDue result self.now.rows }
     {
         self.rows.earliest_due()
+    }
+
+    /// Returns whether a connection has an information session. While none has, nothing is left to send of a connection once
+    /// `outgoing` lent none, if nothing comes of it meanwhile.
+    pub fn has_panels(&self) -> bool
+        ensures { result ≡ list_any has_panel self.now.places }
+    {
+        for (_, connection) in self.connections.iter() {
+            if connection.is_panel() {
+                return true;
+            }
+        }
+        false
     }
 
     /// Takes a connection out. Its session then ends, if it has one that did not end: its locks are taken out in key order,
