@@ -156,10 +156,13 @@ def wait_that_fails(program):
     with served_with_faults(program, (WAIT,), fault_of) as (port, server):
         throttle = Client(port, "COMMAND")
         refuses.set()
+        # the wait that began before that ends by a command
+        throttle.socket.sendall(b"CHECK 1 POWER\n")
         before = calls[WAIT]
         share = processor_share(server, 1)
         tries = calls[WAIT] - before
         refuses.clear()
+        throttle.line()
         reply = throttle.asks("GET 1 POWER")
     if share > 0.2 or not 0 < tries < 500:
         return f"it waits {tries} times a second, and takes {share:.0%} of a processor"

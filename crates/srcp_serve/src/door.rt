@@ -46,9 +46,10 @@ pub trait Door {
     /// The calls so far with their answers, where the door tells them.
     ghost told: { Self → Option (List Call) } = { λ _. None };
 
-    /// Takes the moment at which something falls due next, if anything does. `serve` says it before it asks for a moment, so a
-    /// door that waits in `now` knows how long it may. A door that does not wait needs none of it.
-    fn expect(&mut self, _due: Option<u64>)
+    /// Takes what may come without a word from any peer: the moment at which something falls due next, if anything does, and
+    /// whether a panel is there, for which a change may wait. `serve` says it before it asks for a moment, so a door that waits in
+    /// `now` knows how long it may. A door that does not wait needs none of it.
+    fn expect(&mut self, _due: Option<u64>, _panels: bool)
         ensures faults { faults self.new ≡ faults self.old }
         ensures told { told self.new ≡ told self.old }
     {}

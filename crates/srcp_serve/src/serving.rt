@@ -9,9 +9,9 @@ mod visit;
 
 use crate::door::{Door, Served};
 use crate::tally::Tally;
-use srcp_core::{Core, MOST_CONNECTIONS};
+use srcp_core::{Core, MOST_CONNECTIONS, MOST_IN_PIECE};
 use srcp_rules::Rows;
-use visit::{Seat, close, let_go, visit};
+use visit::{PieceBuffer, Seat, close, let_go, visit};
 
 /// Serves the peers of a door for so many turns, over a core that has no connection. In each turn the door is asked for
 /// the moment and for one peer that wants in, and then every peer that has a place is visited, in the order of the
@@ -26,9 +26,10 @@ pub fn serve<R: Rows, D: Door>(core: &mut Core<'_, R>, door: &mut D, turns: u64)
 {
     let mut places = [None; MOST_CONNECTIONS];
     let mut tally = Tally::new();
+    let mut buffer = [0; MOST_IN_PIECE];
     let mut opened = 0;
     for _ in 0..turns {
-        let opens = turn(core, door, &mut places, &mut tally);
+        let opens = turn(core, door, &mut places, &mut tally, &mut buffer);
         opened = one_more_if(opens, opened);
     }
     Served {
@@ -52,6 +53,7 @@ fn turn<R: Rows, D: Door>(
     door: &mut D,
     places: &mut [Option<Seat>; MOST_CONNECTIONS],
     tally: &mut Tally,
+    buffer: &mut PieceBuffer,
 ) -> bool
     requires { tally.old.faults ≤ D.faults door.old }
     ensures faults { CountsFaults tally.old.faults (D.faults door.old) tally.new.faults (D.faults door.new) }
@@ -60,7 +62,7 @@ fn turn<R: Rows, D: Door>(
 {
     take_moment(core, door, tally);
     let opens = let_in(core, door, places, tally);
-    visit_places(core, door, places, tally);
+    visit_places(core, door, places, tally, buffer);
     opens
 }
 
@@ -70,6 +72,7 @@ fn visit_places<R: Rows, D: Door>(
     door: &mut D,
     places: &mut [Option<Seat>; MOST_CONNECTIONS],
     tally: &mut Tally,
+    buffer: &mut PieceBuffer,
 )
     requires { tally.old.faults ≤ D.faults door.old }
     ensures faults { CountsFaults tally.old.faults (D.faults door.old) tally.new.faults (D.faults door.new) }
@@ -77,7 +80,7 @@ fn visit_places<R: Rows, D: Door>(
     ensures course { VisitsPlaces core.old (D.told door.old) places.old core.new (D.told door.new) places.new }
 {
     for place in 0..MOST_CONNECTIONS {
-        visit_place(core, door, places, place, tally);
+        visit_place(core, door, places, place, tally, buffer);
     }
 }
 
@@ -88,6 +91,7 @@ fn visit_place<R: Rows, D: Door>(
     places: &mut [Option<Seat>; MOST_CONNECTIONS],
     place: usize,
     tally: &mut Tally,
+    buffer: &mut PieceBuffer,
 )
     requires counted { tally.old.faults ≤ D.faults door.old }
     requires within { place < 64 }
@@ -98,7 +102,7 @@ fn visit_place<R: Rows, D: Door>(
     let Some(seat) = &places[place] else {
         return;
     };
-    if !visit(core, door, seat, tally) {
+    if !visit(core, door, seat, tally, buffer) {
         places[place] = None;
     }
 }
@@ -112,7 +116,7 @@ fn take_moment<R: Rows, D: Door>(core: &mut Core<'_, R>, door: &mut D, tally: &m
     ensures denied { core.new.denied ≡ core.old.denied }
     ensures course { TakesMoment core.old (D.told door.old) core.new (D.told door.new) }
 {
-    door.expect(core.earliest_due());
+    door.expect(core.earliest_due(), core.has_panels());
     match door.now() {
         Ok(moment) => core.advance(moment),
         Err(_) => tally.fault(),

@@ -50,6 +50,8 @@ pub struct SocketDoor<C: Clock + Drop> {
     late: bool,
     // The moment at which something falls due next, if anything does.
     due: Option<u64>,
+    // Whether a panel is there.
+    panels: bool,
     tally: Tally,
 }
 
@@ -76,6 +78,7 @@ impl<C: Clock + Drop> SocketDoor<C> {
                 elapsed: 0,
                 late: false,
                 due: None,
+                panels: false,
                 tally: Tally::new(),
             }),
             Err(error) => Err(fault_of(&error)),
@@ -142,6 +145,7 @@ impl<C: Clock + Drop> Drop for SocketDoor<C> {
             elapsed: _,
             late: _,
             due: _,
+            panels: _,
             tally: _,
         } = self;
     }
@@ -150,15 +154,17 @@ impl<C: Clock + Drop> Drop for SocketDoor<C> {
 impl<C: Clock + Drop> Door for SocketDoor<C> {
     ghost faults = { λ d. d.tally.faults };
 
-    fn expect(&mut self, due: Option<u64>) {
+    fn expect(&mut self, due: Option<u64>, panels: bool) {
         self.due = due;
+        self.panels = panels;
     }
 
     /// Begins a turn. Returns milliseconds since 1970, which never go back. Where no turn began for long, they catch up in steps
     /// of 10 from the moment on at which something falls due.
     fn now(&mut self) -> Result<u64, DoorFault> {
         let calm = self.calm();
-        if self.sockets.begin_turn(self.elapsed, calm).is_err() {
+        let begun = self.sockets.begin_turn(self.elapsed, calm, self.panels);
+        if begun.is_err() {
             self.clock.sleep(Duration::from_millis(REST));
         }
         let Ok(time) = self.clock.monotonic() else {

@@ -13,6 +13,9 @@ use srcp_rules::Rows;
 /// How many times a peer is written to in a turn.
 const MOST_WRITES: u32 = 300;
 
+/// The room for what is read of a peer at once. One is kept for all, since it would be cleared for each visit.
+pub(super) type PieceBuffer = [u8; MOST_IN_PIECE];
+
 /// A peer that was let in, and the key of its connection.
 #[derive(Clone, Copy)]
 pub(super) struct Seat {
@@ -38,13 +41,14 @@ pub(super) fn visit<R: Rows, D: Door>(
     door: &mut D,
     seat: &Seat,
     tally: &mut Tally,
+    buffer: &mut PieceBuffer,
 ) -> bool
     requires { tally.old.faults ≤ D.faults door.old }
     ensures faults { CountsFaults tally.old.faults (D.faults door.old) tally.new.faults (D.faults door.new) }
     ensures asks { AsksPeers (D.told door.old) (D.told door.new) }
     ensures told { Visits seat.now.peer seat.now.key core.old (D.told door.old) core.new (D.told door.new) result }
 {
-    if !exchange(core, door, seat, tally) {
+    if !exchange(core, door, seat, tally, buffer) {
         let_go(core, door, seat, tally);
         return false;
     }
@@ -61,13 +65,14 @@ fn exchange<R: Rows, D: Door>(
     door: &mut D,
     seat: &Seat,
     tally: &mut Tally,
+    buffer: &mut PieceBuffer,
 ) -> bool
     requires { tally.old.faults ≤ D.faults door.old }
     ensures faults { CountsFaults tally.old.faults (D.faults door.old) tally.new.faults (D.faults door.new) }
     ensures asks { AsksPeers (D.told door.old) (D.told door.new) }
     ensures told { Exchanges seat.now.peer seat.now.key core.old (D.told door.old) core.new (D.told door.new) result }
 {
-    if !read_in(core, door, seat, tally) {
+    if !read_in(core, door, seat, tally, buffer) {
         return false;
     }
     write_out(core, door, seat, tally)
@@ -109,6 +114,7 @@ fn read_in<R: Rows, D: Door>(
     door: &mut D,
     seat: &Seat,
     tally: &mut Tally,
+    buffer: &mut PieceBuffer,
 ) -> bool
     requires { tally.old.faults ≤ D.faults door.old }
     ensures faults { CountsFaults tally.old.faults (D.faults door.old) tally.new.faults (D.faults door.new) }
@@ -118,8 +124,7 @@ fn read_in<R: Rows, D: Door>(
     if !core.ready(seat.key) {
         return true;
     }
-    let mut buffer = [0; MOST_IN_PIECE];
-    match door.read(seat.peer, &mut buffer) {
+    match door.read(seat.peer, buffer) {
         Ok(Got::Bytes(count)) => core.receive(seat.key, &buffer[..count]).is_ok(),
         Ok(Got::Nothing) => true,
         Ok(Got::Ended) => false,

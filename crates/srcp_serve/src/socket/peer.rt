@@ -23,10 +23,12 @@ pub(super) struct Peer {
     readable: bool,
     // Whether its input was found to be over, which a read has still to tell.
     closed: bool,
+    // Whether the last read was interrupted.
+    again: bool,
     // Whether the socket may take something.
     writable: bool,
-    // Whether a read was asked in this turn.
-    asked: bool,
+    // Whether its last write was cut short. The core has more for it then, and takes no input of it.
+    cut: bool,
     // Whether the socket was told that nothing more is written.
     shut: bool,
 }
@@ -45,8 +47,9 @@ impl Peer {
             link: Link::new(alloc)?,
             readable: true,
             closed: false,
+            again: false,
             writable: true,
-            asked: false,
+            cut: false,
             shut: false,
         })
     }
@@ -65,8 +68,8 @@ impl Peer {
     }
 
     /// Writes what is gathered, where the socket may take something. To a panel, and to a peer of which input is held, it
-    /// writes with `tick` alone, or where much is gathered, since more is to come. Returns whether the socket took something,
-    /// or was found to take no more.
+    /// writes with `tick` alone, or where much is gathered, since more is to come. Returns whether the core can go on writing
+    /// to it: its last write was cut short, and now there is space or the socket is lost.
     pub(super) fn hand_over(&mut self, tick: bool) -> bool {
         let more = self.is_panel() || self.is_busy();
         let waits = !tick && more && self.link.gathered.len() <= MOST_WAITING;
@@ -77,7 +80,7 @@ impl Peer {
         if self.link.hand_over(&mut self.stream) == HandedOver::Later {
             self.writable = false;
         }
-        self.link.lost || self.link.gathered.len() < before
+        self.cut && (self.link.lost || self.link.gathered.len() < before)
     }
 
     /// Reads its socket, where a read may find something. After one that left space nothing is there, but for the end.
@@ -87,7 +90,9 @@ impl Peer {
         if !self.readable {
             return;
         }
-        match self.link.fill(&mut self.stream) {
+        let filled = self.link.fill(&mut self.stream);
+        self.again = filled == Filled::Again;
+        match filled {
             Filled::Later => self.readable = false,
             Filled::Something => self.readable = self.closed || self.link.ahead.is_full(),
             Filled::Unasked | Filled::Again => (),
@@ -98,7 +103,6 @@ impl Peer {
     pub(super) fn begin_turn(&mut self, clear: bool) {
         self.fill();
         self.link.begin_turn(clear);
-        self.asked = false;
     }
 
     /// Writes what is gathered, shuts the socket for writing behind that, and drops what still comes: a socket that is closed
@@ -121,7 +125,6 @@ impl Peer {
     pub(super) fn read(&mut self, pacing: &mut Pacing, buffer: &mut [u8]) -> Given
         ensures count { (n : ℕ) → result ≡ Given.Bytes n → (0 < n) × (n ≤ length buffer.old) }
     {
-        self.asked = true;
         self.link.read(pacing, buffer)
     }
 
@@ -129,17 +132,23 @@ impl Peer {
     pub(super) fn write(&mut self, bytes: &[u8]) -> usize
         ensures { result ≤ length bytes.now }
     {
-        self.link.write(bytes)
+        let count = self.link.write(bytes);
+        self.cut = count < bytes.len();
+        count
     }
 
-    /// Returns whether the next turn has something of it. What the core did not ask for in the last turn waits.
+    /// Returns whether the next turn has something of it that the core takes: input is held or may be read, or its end is to
+    /// be told.
     pub(super) fn is_busy(&self) -> bool {
-        self.asked && self.link.has_more()
+        let ahead = &self.link.ahead;
+        let reads = self.readable && !self.again && ahead.is_wanting();
+        let ends = ahead.is_over() && !self.link.is_owed();
+        !self.cut && (reads || ends || self.link.has_more())
     }
 
     /// Returns whether a call of the system was interrupted, and has to be made again.
     pub(super) fn is_interrupted(&self) -> bool {
-        self.writable && self.link.is_owed() || self.readable && self.link.ahead.is_wanting()
+        self.writable && self.link.is_owed() || self.again
     }
 
     /// Returns whether something is gathered that its socket may still take.

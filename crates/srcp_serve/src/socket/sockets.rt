@@ -83,50 +83,62 @@ impl Sockets {
 
     /// Begins a turn: writes what is gathered, waits, and reads what came. It waits until a socket is ready, and at most so many
     /// milliseconds where `calm` says that. If there is something to do, it does not wait. Panels, and peers of which input is
-    /// held, are written to once a millisecond, or after a turn in which nothing happened.
+    /// held, are written to once a millisecond, or before a wait.
     ///
     /// # Errors
     /// Fails if the system refuses to wait. The turn has begun all the same.
-    pub(super) fn begin_turn(&mut self, now: u64, calm: Option<u64>) -> io::Result<()>
+    pub(super) fn begin_turn(&mut self, now: u64, calm: Option<u64>, panels: bool) -> io::Result<()>
         ensures { self.new.last ≡ self.old.last }
     {
-        let tick = now != self.began || !self.busy;
+        let tick = now != self.began || !self.has_more(panels);
         self.began = now;
-        self.hand_over(tick);
-        let waited = self.wait(tick, calm);
-        let panel = self.peers.iter().any(|peer| peer.is_panel());
-        let clear = self.pacing.begin_turn(panel);
+        let room = self.hand_over(tick);
+        let more = room || self.has_more(panels);
+        let waited = self.wait(tick, more, calm);
+        let clear = self.pacing.begin_turn(panels);
         for peer in &mut self.peers {
             peer.begin_turn(clear);
         }
         waited
     }
 
-    /// Writes what is gathered; to those for which more is to come, with `tick` alone. Where a socket took something, the core
-    /// may have more for it, which makes the turn a busy one.
-    fn hand_over(&mut self, tick: bool)
+    /// Returns whether the next turn has something to do, though no socket says so: input is held, or something happened and a
+    /// change may wait for a panel, or the next newcomer wants in.
+    fn has_more(&self, panels: bool) -> bool {
+        let happened = self.busy && (panels || self.wanted);
+        happened || self.is_held()
+    }
+
+    /// Returns whether input of a peer is held that the core takes.
+    fn is_held(&self) -> bool {
+        self.peers.iter().any(|peer| peer.is_busy())
+    }
+
+    /// Writes what is gathered; to those for which more is to come, with `tick` alone. Returns whether the core can go on
+    /// writing to a peer for which it has more.
+    fn hand_over(&mut self, tick: bool) -> bool
         ensures { self.new.last ≡ self.old.last }
     {
+        let mut room = false;
         for peer in &mut self.peers {
             if peer.hand_over(tick) {
-                self.busy = true;
+                room = true;
             }
         }
         self.leaving.part(self.began);
+        room
     }
 
-    /// Waits until a socket is ready, and notes which are. Where something is held of a peer, the system is asked with `tick`
-    /// alone.
-    fn wait(&mut self, tick: bool, calm: Option<u64>) -> io::Result<()>
+    /// Notes which sockets are ready. If there is no `more` to do, it waits for one. Where input is held, the system is asked
+    /// with `tick` alone.
+    fn wait(&mut self, tick: bool, more: bool, calm: Option<u64>) -> io::Result<()>
         ensures { self.new.last ≡ self.old.last }
     {
-        let held = self.peers.iter().any(|peer| peer.is_busy());
-        let busy = self.busy || held;
         self.busy = false;
-        if held && !tick {
+        if !tick && self.is_held() {
             return Ok(());
         }
-        let most = if busy { Some(0) } else { self.most_wait(calm) };
+        let most = if more { Some(0) } else { self.most_wait(calm) };
         self.poll_for(most)
     }
 
@@ -241,7 +253,7 @@ impl Sockets {
     /// Writes what is gathered, and waits a little where the sockets did not take all. Returns whether they did.
     pub(super) fn deliver(&mut self, now: u64) -> bool {
         self.began = now;
-        self.hand_over(true);
+        let _ = self.hand_over(true);
         if !self.leaving.is_owed() && !self.peers.iter().any(|peer| peer.is_owed()) {
             return true;
         }
