@@ -21,7 +21,7 @@ from serving import Client, served  # noqa: E402
 from bench_serve import COMMAND, drain, pipelined  # noqa: E402
 from soak import CONFIG, script  # noqa: E402
 
-PANELS = 4
+PANELS = 31
 SECONDS_WITHOUT_A_LINE = 30
 CALLGRIND = ["valgrind", "--tool=callgrind", "--callgrind-out-file=/dev/null"]
 LAST_ROW = b" 1 FB 8 0\n"

@@ -28,7 +28,7 @@ pub(super) struct Peer {
     // Whether the socket may take something.
     writable: bool,
     // Whether its last write was cut short. The core has more for it then, and takes no input of it.
-    cut: bool,
+    pub cut: bool,
     // Whether the socket was told that nothing more is written.
     shut: bool,
 }
@@ -68,8 +68,8 @@ impl Peer {
     }
 
     /// Writes what is gathered, where the socket may take something. To a panel, and to a peer of which input is held, it
-    /// writes with `tick` alone, or where much is gathered, since more is to come. Returns whether the core can go on writing
-    /// to it: its last write was cut short, and now there is space or the socket is lost.
+    /// writes with `tick` alone, or where much is gathered, since more is to come. Returns whether the socket took something,
+    /// or was found to take no more.
     pub(super) fn hand_over(&mut self, tick: bool) -> bool {
         let more = self.is_panel() || self.is_busy();
         let waits = !tick && more && self.link.gathered.len() <= MOST_WAITING;
@@ -80,7 +80,7 @@ impl Peer {
         if self.link.hand_over(&mut self.stream) == HandedOver::Later {
             self.writable = false;
         }
-        self.cut && (self.link.lost || self.link.gathered.len() < before)
+        self.link.lost || self.link.gathered.len() < before
     }
 
     /// Reads its socket, where a read may find something. After one that left space nothing is there, but for the end.

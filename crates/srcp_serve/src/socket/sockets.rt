@@ -92,7 +92,7 @@ impl Sockets {
     {
         let tick = now != self.began || !self.has_more(panels);
         self.began = now;
-        let room = self.hand_over(tick);
+        let room = self.hand_over(tick, panels);
         let more = room || self.has_more(panels);
         let waited = self.wait(tick, more, calm);
         let clear = self.pacing.begin_turn(panels);
@@ -114,16 +114,15 @@ impl Sockets {
         self.peers.iter().any(|peer| peer.is_busy())
     }
 
-    /// Writes what is gathered; to those for which more is to come, with `tick` alone. Returns whether the core can go on
-    /// writing to a peer for which it has more.
-    fn hand_over(&mut self, tick: bool) -> bool
+    /// Writes what is gathered; to those for which more is to come, with `tick` alone. Returns whether the next turn is not to
+    /// wait for that: the core can go on writing to a peer, or panels were written to, and commands may have come meanwhile.
+    fn hand_over(&mut self, tick: bool, panels: bool) -> bool
         ensures { self.new.last ≡ self.old.last }
     {
         let mut room = false;
         for peer in &mut self.peers {
-            if peer.hand_over(tick) {
-                room = true;
-            }
+            let took = peer.hand_over(tick);
+            room |= took && (panels || peer.cut);
         }
         self.leaving.part(self.began);
         room
@@ -253,7 +252,7 @@ impl Sockets {
     /// Writes what is gathered, and waits a little where the sockets did not take all. Returns whether they did.
     pub(super) fn deliver(&mut self, now: u64) -> bool {
         self.began = now;
-        let _ = self.hand_over(true);
+        let _ = self.hand_over(true, false);
         if !self.leaving.is_owed() && !self.peers.iter().any(|peer| peer.is_owed()) {
             return true;
         }
