@@ -14,6 +14,7 @@ pub mod RunsAnEvent
 pub mod RunsBytes
 pub mod RecordIsOfTheCourse
 pub mod RunPromises
+pub mod OutlinesAreKept
 pub mod CallsFollowTheCourse
 pub mod PiecesFollowTheCourse
 pub mod AnswersAgree

@@ -1,5 +1,5 @@
 -- To be believed: what a run promises of the connections that it tells of, and of the registry.
-use Rattle.std.specs.Prelude.{◌≡◌, ℕ, Bool, true, IsTrue, List, length, fold, Some}
+use Rattle.std.specs.Prelude.{◌≡◌, ℕ, Bool, true, false, IsTrue, List, [], map, length, fold, Some}
 use Rattle.std.specs.List.{AllByRecursion}
 use Rattle.srcp_rules.specs.declared.layout.Bus.{Bus}
 use Rattle.srcp_rules.specs.State.{IsWhole}
@@ -53,3 +53,19 @@ pub record IsPromised (buses : List Bus) (events : List PlainEvent) (run : Recor
   pub connections : (number : ℕ) (one : ConnRecord) → numbered number run.connections ≡ Some one
       → IsRecordedConnection buses (all_under grants events) number one
   pub registry : IsRecordedRegistry buses (all_under grants events) run
+
+-- ---- a run in outline
+
+-- what is kept of a connection: what it was sent, and how it stands
+abbrev pub connection_outline : ConnRecord → ConnRecord
+connection_outline one = record { session = 0; info = false; go_step = 0; sent = one.sent; items = []; finish = one.finish }
+
+-- the outline of a record: no steps, and this of each connection
+abbrev pub outline : Record → Record
+outline run = record { steps = []; connections = map connection_outline run.connections; refused = run.refused; rows = run.rows; denied = run.denied }
+
+-- the record is the outline of one that keeps what a run promises
+pub record IsPromisedOutline (buses : List Bus) (events : List PlainEvent) (run : Record) : Type 0 where
+  pub whole : Record
+  pub promised : IsPromised buses events whole
+  pub is : run ≡ outline whole

@@ -1,5 +1,5 @@
 -- The model of the code: what a run has told so far.
-use Rattle.std.specs.Prelude.{ℕ, zero, suc, false, if◌then◌else◌, List, [], ◌∷◌, ◌++◌, length, Option, Some, None, fold}
+use Rattle.std.specs.Prelude.{◌≡◌, ℕ, zero, suc, Bool, true, false, if◌then◌else◌, List, [], ◌∷◌, ◌++◌, map, length, Option, Some, None, fold}
 use Rattle.std.specs.Prelude.{slice_get, slice_set, slice_index_or}
 use Rattle.srcp_feed.specs.declared.next.Next.{Next}
 use Rattle.srcp_feed.specs.declared.next.Next.TheVariants.{Told, Listed, Settled}
@@ -7,6 +7,7 @@ use Rattle.srcp_core.specs.Connection.{Connection, is_open, sent}
 use Rattle.srcp_core.specs.Course.{is_info}
 use Rattle.srcp_core.specs.Held.{Held}
 use Rattle.srcp_core.specs.Machine.{finish_at}
+use Rattle.srcp_core.specs.Promised.{connection_outline}
 use Rattle.srcp_core.specs.declared.record.ConnRecord.{ConnRecord}
 use Rattle.srcp_core.specs.declared.record.CoreFault.{CoreFault}
 use Rattle.srcp_core.specs.declared.record.Finish.TheVariants.{Live, Shut}
@@ -105,3 +106,28 @@ finished held (key ∷ keys) (one ∷ records) = finished_by held key one ∷ fi
 -- the event of that number was refused
 abbrev pub with_refusal : ℕ → CoreFault → Recording → Recording
 with_refusal event cause r = record r { refused = r.refused ++ record { event = event; fault = cause } ∷ [] }
+
+-- ---- what is kept of a recording
+
+-- the outline of a recording
+abbrev pub recording_outline : Recording → Recording
+recording_outline r = record { keys = r.keys; steps = []; connections = map connection_outline r.connections; refused = r.refused }
+
+-- the recording in full, or its outline
+abbrev pub kept : (in_full : Bool) → Recording → Recording
+kept true r = r
+kept false r = recording_outline r
+
+-- what a recorder has: whether it keeps recordings in full, and what it keeps of one
+pub record Kept : Type 0 where
+  pub in_full : Bool
+  pub told : Recording
+
+-- whichever recording it is that was kept, one is kept now that is its next
+pub record Keeps (IsNext : Recording → Recording → Type 0) (old new : Kept) : Type 0 where
+  pub in_full : new.in_full ≡ old.in_full
+  pub each : (r : Recording) → old.told ≡ kept old.in_full r → (later : Recording) × (new.told ≡ kept old.in_full later) × IsNext r later
+
+-- the recording that is kept becomes the changed one
+abbrev pub Becomes : (change : Recording → Recording) → Kept → Kept → Type 0
+Becomes change old new = Keeps (λ r later. later ≡ change r) old new

@@ -1,12 +1,13 @@
 -- The model of the code: what a run keeps beside the course of its events, and what comes of one more event.
-use Rattle.std.specs.Prelude.{◌≡◌, ◌+◌, ◌++◌, ◌∷◌, [], ℕ, Bool, true, IsTrue, List, map, take, fold, length, min, Option, Some, None}
+use Rattle.std.specs.Prelude.{◌≡◌, ◌+◌, ◌++◌, ◌∷◌, [], ℕ, Bool, true, false, IsTrue, List, map, take, fold, length, min, Option, Some, None}
 use Rattle.std.specs.List.{AllByRecursion}
 use Rattle.srcp_rules.specs.declared.layout.Bus.{Bus}
 use Rattle.srcp_rules.specs.Layout.{IsLayout}
 use Rattle.srcp_core.specs.Course.{World, start, counted, fault, accepted, course, denied_in, denied_over}
 use Rattle.srcp_core.specs.Held.{Held}
 use Rattle.srcp_core.specs.Machine.{let_out, item_at, unsent_at, changed_at, without_sent}
-use Rattle.srcp_core.specs.Recording.{Recording, key_of, without_key, record_of, gave, took}
+use Rattle.srcp_core.specs.Promised.{outline}
+use Rattle.srcp_core.specs.Recording.{Recording, key_of, without_key, record_of, gave, took, Kept, Keeps}
 use Rattle.srcp_core.specs.Laws.{HasMoment, IsRecordOf}
 use Rattle.srcp_core.specs.Stands.{StandsFor}
 use Rattle.srcp_core.specs.declared.record.Record.{Record}
@@ -68,6 +69,13 @@ pub record FollowsAs (number : ℕ) (event : PlainEvent) (r : Recording) (held :
   pub counted : later.denied ≡ denied_by held.denied grants
   pub asked : CountsAsked r held later (under grants event)
 
+-- the same of a recorder, of whichever recording it keeps
+abbrev pub Happens : PlainEvent → Option CoreFault → Kept → Held → Kept → Held → Type 0
+Happens event refusal old held new later = Keeps (λ r later_r. HappensAs event refusal r held later_r later) old new
+
+abbrev pub Follows : ℕ → PlainEvent → Kept → Held → Kept → Held → Type 0
+Follows number event old held new later = Keeps (λ r later_r. FollowsAs number event r held later_r later) old new
+
 -- a call leads from the course of any events to that with its event
 abbrev pub LeadsTo : Event → Held → Held → Type 0
 LeadsTo event old new =
@@ -117,6 +125,17 @@ pub record RunsRecord (buses : List Bus) (events : List PlainEvent) (run : Recor
   pub counted : run.denied ≡ fold denied_by 0 grants
   pub asked : run.denied ≡ denied_over buses 0 start (all_under grants events)
   pub is : IsRecordOf buses (all_under grants events) run
+
+-- a record in full, or its outline
+abbrev pub told_in : (in_full : Bool) → Record → Record
+told_in true run = run
+told_in false run = outline run
+
+-- the record is that, of one that is of the course
+pub record RunsTold (in_full : Bool) (buses : List Bus) (events : List PlainEvent) (run : Record) : Type 0 where
+  pub whole : Record
+  pub runs : RunsRecord buses events whole
+  pub is : run ≡ told_in in_full whole
 
 -- the moment that an event tells has 64 bits
 abbrev pub HasPlainMoment : PlainEvent → Type 0

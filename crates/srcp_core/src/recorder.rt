@@ -4,7 +4,7 @@ ghost use Rattle.std.specs.List.{AllByRecursion};
 ghost use Rattle.srcp_info.specs.WellFormed.{IsWellFormedShown};
 ghost use Rattle.srcp_core.specs.Course.{is_info};
 ghost use Rattle.srcp_core.specs.Machine.{steps_in};
-ghost use Rattle.srcp_core.specs.Recording.{key_of, nothing_recorded, opened, shut, began, noted, gave, took, with_item, without_key, changed_record, finished};
+ghost use Rattle.srcp_core.specs.Recording.{key_of, nothing_recorded, opened, shut, began, noted, stepped, gave, took, with_item, with_refusal, without_key, changed_record, finished, Becomes};
 
 use crate::entries::Entries;
 use crate::line::LineRecord;
@@ -20,6 +20,8 @@ use std::marker::Model;
 #[derive(Drop)]
 pub(crate) struct Recorder {
     alloc: Global,
+    // Whether steps and items are kept, and of each connection all else that its record has.
+    in_full: bool,
     // The key of each connection, while it is open.
     keys: Vec<Option<usize>>,
     steps: Vec<Step>,
@@ -28,20 +30,21 @@ pub(crate) struct Recorder {
 }
 
 impl Model for Recorder {
-    ghost use Rattle.srcp_core.specs.Recording.{Recording};
+    ghost use Rattle.srcp_core.specs.Recording.{Kept};
 
-    ghost Value = { Recording };
+    ghost Value = { Kept };
 
-    ghost view = { λ r. record { keys = r.keys.items; steps = r.steps.items; connections = r.connections.items; refused = r.refused.items } };
+    ghost view = { λ r. record { in_full = r.in_full; told = record { keys = r.keys.items; steps = r.steps.items; connections = r.connections.items; refused = r.refused.items } } };
 }
 
 impl Recorder {
-    /// Nothing yet.
-    pub(crate) fn new(alloc: Global) -> Recorder
-        ensures { result ≡ nothing_recorded }
+    /// Nothing yet. What comes is kept in full, or its outline alone.
+    pub(crate) fn new(alloc: Global, in_full: bool) -> Recorder
+        ensures { result ≡ record { in_full = in_full; told = nothing_recorded } }
     {
         Recorder {
             alloc,
+            in_full,
             keys: Vec::new(alloc),
             steps: Vec::new(alloc),
             connections: Vec::new(alloc),
@@ -51,7 +54,7 @@ impl Recorder {
 
     /// The key of a connection, while it is open.
     pub(crate) fn key(&self, conn: usize) -> Option<usize>
-        ensures { result ≡ key_of conn self.now.keys }
+        ensures { result ≡ key_of conn self.now.told.keys }
     {
         let index = conn.checked_sub(1)?;
         *self.keys.get(index)?
@@ -59,7 +62,7 @@ impl Recorder {
 
     /// A connection was opened under a key.
     pub(crate) fn opened(&mut self, key: usize) -> Result<(), Memory>
-        ensures { OnOk result (self.new ≡ opened key self.old) }
+        ensures { OnOk result (Becomes (opened key) self.old self.new) }
     {
         self.keys.push(Some(key))?;
         self.connections.push(ConnRecord {
@@ -75,7 +78,7 @@ impl Recorder {
 
     /// A connection was shut.
     pub(crate) fn shut(&mut self, conn: usize)
-        ensures { self.new ≡ shut conn self.old }
+        ensures { Becomes (shut conn) self.old self.new }
     {
         free(&mut self.keys, conn);
         finish(&mut self.connections, conn, Finish::Shut);
@@ -83,21 +86,24 @@ impl Recorder {
 
     /// The event of that number was refused.
     pub(crate) fn refused(&mut self, event: usize, fault: CoreFault) -> Result<(), Memory>
-        ensures { OnOk result (self.new ≡ record self.old { refused = self.old.refused ++ record { event = event; fault = fault } ∷ [] }) }
+        ensures { OnOk result (Becomes (with_refusal event fault) self.old self.new) }
     {
         Ok(self.refused.push(Refusal { event, fault })?)
     }
 
     /// The registry took a step.
     pub(crate) fn step(&mut self, step: &Step) -> Result<(), Memory>
-        ensures { OnOk result (self.new ≡ record self.old { steps = self.old.steps ++ step.now ∷ [] }) }
+        ensures { OnOk result (Becomes (stepped (step.now ∷ [])) self.old self.new) }
     {
+        if !self.in_full {
+            return Ok(());
+        }
         Ok(self.steps.extend_from_slice(&[*step])?)
     }
 
     /// A line of a connection was answered.
     pub(crate) fn answered(&mut self, conn: usize, line: &LineRecord) -> Result<(), Memory>
-        ensures { OnOk result (self.new ≡ noted conn (steps_in line.now) self.old) }
+        ensures { OnOk result (Becomes (noted conn (steps_in line.now)) self.old self.new) }
     {
         if let Some(step) = &line.step {
             self.note(conn, step)?;
@@ -110,7 +116,7 @@ impl Recorder {
 
     /// The registry took a step at a line of a connection.
     fn note(&mut self, conn: usize, step: &Step) -> Result<(), Memory>
-        ensures { OnOk result (self.new ≡ noted conn (step.now ∷ []) self.old) }
+        ensures { OnOk result (Becomes (noted conn (step.now ∷ [])) self.old self.new) }
     {
         self.step(step)?;
         self.began(conn, step);
@@ -119,8 +125,11 @@ impl Recorder {
 
     /// A session began, where the step was that.
     fn began(&mut self, conn: usize, step: &Step)
-        ensures { self.new ≡ began conn step.now self.old }
+        ensures { Becomes (began conn step.now) self.old self.new }
     {
+        if !self.in_full {
+            return;
+        }
         if let Step::Began { session, mode, .. } = step {
             let go_step = self.steps.len();
             begin(&mut self.connections, conn, *session, *mode, go_step);
@@ -129,8 +138,11 @@ impl Recorder {
 
     /// An information session was given this, if anything. That nothing is left is no line.
     pub(crate) fn gave(&mut self, conn: usize, item: Option<Next>) -> Result<(), Memory>
-        ensures { OnOk result (self.new ≡ gave conn item self.old) }
+        ensures { OnOk result (Becomes (gave conn item) self.old self.new) }
     {
+        if !self.in_full {
+            return Ok(());
+        }
         match item {
             None | Some(Next::Settled) => Ok(()),
             Some(what) => give(&mut self.connections, conn, self.steps.len(), what),
@@ -139,7 +151,7 @@ impl Recorder {
 
     /// These bytes were taken of a connection.
     pub(crate) fn took(&mut self, conn: usize, bytes: &[u8]) -> Result<(), Memory>
-        ensures { OnOk result (self.new ≡ took conn bytes.now self.old) }
+        ensures { OnOk result (Becomes (took conn bytes.now) self.old self.new) }
     {
         take(&mut self.connections, conn, bytes)
     }
@@ -147,9 +159,9 @@ impl Recorder {
     /// The record of the run, by how the core stands at the end.
     pub(crate) fn record<R: Rows>(mut self, core: &Core<'_, R>) -> Result<Record, Memory>
         ensures well_formed { IfOk result (λ run. AllByRecursion (λ row. IsWellFormedShown row.shown) run.rows) }
-        ensures steps { IfOk result (λ run. run.steps ≡ self.steps) }
-        ensures refused { IfOk result (λ run. run.refused ≡ self.refused) }
-        ensures connections { IfOk result (λ run. run.connections ≡ finished core.now self.keys self.connections) }
+        ensures steps { IfOk result (λ run. run.steps ≡ self.told.steps) }
+        ensures refused { IfOk result (λ run. run.refused ≡ self.told.refused) }
+        ensures connections { IfOk result (λ run. run.connections ≡ finished core.now self.told.keys self.told.connections) }
         ensures rows { IfOk result (λ run. run.rows ≡ core.now.rows) }
         ensures denied { IfOk result (λ run. run.denied ≡ core.now.denied) }
     {

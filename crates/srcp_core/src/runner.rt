@@ -3,9 +3,10 @@ ghost use Rattle.std.specs.Prelude.{◌≡◌, ◌≤◌, IfOk, OnOk};
 ghost use Rattle.std.specs.List.{AllByRecursion};
 ghost use Rattle.srcp_info.specs.WellFormed.{IsMoment, IsWellFormedShown};
 ghost use Rattle.srcp_rules.specs.Layout.{IsLayout};
-ghost use Rattle.srcp_core.specs.Promised.{IsPromised};
-ghost use Rattle.srcp_core.specs.Run.{RunsRecord, PlainMoments, HasPlainMoment};
-ghost use Rattle.srcp_core.specs.Run.{HappensAs, FollowsAs, count_at, taken_at, taking};
+ghost use Rattle.srcp_core.specs.Promised.{IsPromised, IsPromisedOutline};
+ghost use Rattle.srcp_core.specs.Recording.{Becomes};
+ghost use Rattle.srcp_core.specs.Run.{RunsTold, PlainMoments, HasPlainMoment};
+ghost use Rattle.srcp_core.specs.Run.{Happens, Follows, count_at, taken_at, taking};
 
 use crate::event::Event;
 use crate::record::{CoreFault, Record, Step};
@@ -47,20 +48,43 @@ pub fn run<R: Rows>(alloc: Global, layout: &Layout, events: &[Event]) -> Result<
     ensures well_formed { IfOk result (λ run. AllByRecursion (λ row. IsWellFormedShown row.shown) run.rows) }
     ensures promised { IfOk result (λ run. IsPromised layout.now events.now run) }
 {
-    carry_out::<R>(alloc, layout, events)
+    carry_out::<R>(alloc, layout, events, true)
 }
 
-/// Carries out all events.
-fn carry_out<R: Rows>(alloc: Global, layout: &Layout, events: &[Event]) -> Result<Record, RunFault>
+/// Carries out the events as `run` does, and returns the outline of its record: no steps, and of each connection only what it
+/// was sent and how it stands. The rows and the refused events are the same.
+///
+/// It takes less memory, since it keeps no change beside each line that a panel was sent.
+///
+/// # Errors
+/// `Memory` if memory was refused to the core when it was made, or to the record.
+pub fn run_in_outline<R: Rows>(
+    alloc: Global,
+    layout: &Layout,
+    events: &[Event],
+) -> Result<Record, RunFault>
     ensures well_formed { IfOk result (λ run. AllByRecursion (λ row. IsWellFormedShown row.shown) run.rows) }
-    ensures record { IfOk result (λ run. RunsRecord layout.now events.now run) }
+    ensures promised { IfOk result (λ run. IsPromisedOutline layout.now events.now run) }
+{
+    carry_out::<R>(alloc, layout, events, false)
+}
+
+/// Carries out all events. The record is kept in full, or its outline alone.
+fn carry_out<R: Rows>(
+    alloc: Global,
+    layout: &Layout,
+    events: &[Event],
+    in_full: bool,
+) -> Result<Record, RunFault>
+    ensures well_formed { IfOk result (λ run. AllByRecursion (λ row. IsWellFormedShown row.shown) run.rows) }
+    ensures record { IfOk result (λ run. RunsTold in_full layout.now events.now run) }
     ensures moments { IfOk result (λ _. PlainMoments events.now) }
     ensures laid_out { IfOk result (λ _. IsLayout layout.now) }
 {
     // Called for its contract, which says the layout's limits.
     let _ = layout.buses();
     let mut core = Core::<R>::new(alloc, layout, 0, 0)?;
-    let mut recorder = Recorder::new(alloc);
+    let mut recorder = Recorder::new(alloc, in_full);
     for index in 0..events.len() {
         follow(&mut core, &mut recorder, index + 1, &events[index])?;
     }
@@ -74,7 +98,7 @@ fn follow<R: Rows>(
     number: usize,
     event: &Event,
 ) -> Result<(), Memory>
-    ensures course { OnOk result (FollowsAs number event.now recorder.old core.old recorder.new core.new) }
+    ensures course { OnOk result (Follows number event.now recorder.old core.old recorder.new core.new) }
     ensures moment { HasPlainMoment event.now }
 {
     if let Some(fault) = happen(core, recorder, event)? {
@@ -89,7 +113,7 @@ fn happen<R: Rows>(
     recorder: &mut Recorder,
     event: &Event,
 ) -> Result<Option<CoreFault>, Memory>
-    ensures course { IfOk result (λ refusal. HappensAs event.now refusal recorder.old core.old recorder.new core.new) }
+    ensures course { IfOk result (λ refusal. Happens event.now refusal recorder.old core.old recorder.new core.new) }
     ensures moment { HasPlainMoment event.now }
 {
     match event {
@@ -106,7 +130,7 @@ fn open<R: Rows>(
     core: &mut Core<'_, R>,
     recorder: &mut Recorder,
 ) -> Result<Option<CoreFault>, Memory>
-    ensures { IfOk result (λ refusal. HappensAs Event.Open refusal recorder.old core.old recorder.new core.new) }
+    ensures { IfOk result (λ refusal. Happens Event.Open refusal recorder.old core.old recorder.new core.new) }
 {
     match core.connect() {
         Ok(key) => {
@@ -124,7 +148,7 @@ fn bytes<R: Rows>(
     conn: usize,
     piece: &[u8],
 ) -> Result<Option<CoreFault>, Memory>
-    ensures { IfOk result (λ refusal. HappensAs (Event.Bytes conn piece.now) refusal recorder.old core.old recorder.new core.new) }
+    ensures { IfOk result (λ refusal. Happens (Event.Bytes conn piece.now) refusal recorder.old core.old recorder.new core.new) }
 {
     let Some(key) = recorder.key(conn) else {
         return Ok(Some(CoreFault::NoSuch));
@@ -147,7 +171,7 @@ fn room<R: Rows>(
     conn: usize,
     bytes: usize,
 ) -> Result<Option<CoreFault>, Memory>
-    ensures { IfOk result (λ refusal. HappensAs (Event.Room conn bytes) refusal recorder.old core.old recorder.new core.new) }
+    ensures { IfOk result (λ refusal. Happens (Event.Room conn bytes) refusal recorder.old core.old recorder.new core.new) }
 {
     let Some(key) = recorder.key(conn) else {
         return Ok(Some(CoreFault::NoSuch));
@@ -173,7 +197,7 @@ fn take<R: Rows>(
 ) -> Result<usize, Memory>
     ensures most { IfOk result (λ count. count ≤ most) }
     ensures count { IfOk result (λ count. count ≡ count_at key most core.old) }
-    ensures recorder { OnOk result (recorder.new ≡ taking conn key most core.old recorder.old) }
+    ensures recorder { OnOk result (Becomes (taking conn key most core.old) recorder.old recorder.new) }
     ensures core { OnOk result (core.new ≡ taken_at key most core.old) }
     ensures denied { core.new.denied ≡ core.old.denied }
 {
@@ -199,7 +223,7 @@ fn advance<R: Rows>(
     recorder: &mut Recorder,
     moment: u64,
 ) -> Result<Option<CoreFault>, Memory>
-    ensures course { IfOk result (λ refusal. HappensAs (Event.At moment) refusal recorder.old core.old recorder.new core.new) }
+    ensures course { IfOk result (λ refusal. Happens (Event.At moment) refusal recorder.old core.old recorder.new core.new) }
     ensures fits { IsMoment moment }
 {
     core.advance(moment);
@@ -213,7 +237,7 @@ fn shut<R: Rows>(
     recorder: &mut Recorder,
     conn: usize,
 ) -> Result<Option<CoreFault>, Memory>
-    ensures { IfOk result (λ refusal. HappensAs (Event.Shut conn) refusal recorder.old core.old recorder.new core.new) }
+    ensures { IfOk result (λ refusal. Happens (Event.Shut conn) refusal recorder.old core.old recorder.new core.new) }
 {
     let Some(key) = recorder.key(conn) else {
         return Ok(Some(CoreFault::NoSuch));

@@ -1,15 +1,19 @@
 -- A run of a script's events.
-use Rattle.std.proofs.Common.{◌≡◌, ◌∙◌, ℕ, List, map, Result, Ok, Err, ap, sym}
-use Rattle.std.specs.Prelude.{IfOk}
+use Rattle.std.proofs.Common.{◌≡◌, ◌∙◌, ℕ, ◌+◌, List, [], ◌∷◌, ◌++◌, map, Result, Ok, Err, refl, ap, sym}
+use Rattle.std.specs.List.{enumerate_from}
+use Rattle.srcp_info.specs.Client.{listing}
+use Rattle.srcp_rules.specs.State.{shown_rows}
+use Rattle.std.specs.Prelude.{IfOk, flat_map}
 use Rattle.srcp_rules.specs.declared.layout.Bus.{Bus}
 use Rattle.srcp_core.specs.Connection.{recorded}
 use Rattle.srcp_core.specs.Course.{World, course, history, state}
-use Rattle.srcp_core.specs.Promised.{IsPromised}
+use Rattle.srcp_core.specs.Promised.{IsPromised, IsPromisedOutline, outline, connection_outline}
 use Rattle.srcp_core.specs.Under.{all_under, step_told}
 use Rattle.srcp_core.specs.declared.event.Event.{Event}
+use Rattle.srcp_core.specs.declared.record.ConnRecord.{ConnRecord}
 use Rattle.srcp_core.specs.declared.record.Record.{Record}
 use Rattle.srcp_core.proofs.Agreement.MemoryAnswers.{gives_as_if}
-use Rattle.srcp_script.specs.Output.{printed}
+use Rattle.srcp_script.specs.Output.{connection_lines, printed, refusal_line, rows_line}
 use Rattle.srcp_tool.specs.Output.{replayed, run_of}
 
 -- where no growth was refused it gives what it gives where memory gives all
@@ -23,9 +27,19 @@ run_is buses events told p d =
     ∙ ap (λ denied. record { steps = map step_told w.steps; connections = map (recorded (history buses w)) w.connections; refused = w.refused; rows = state buses w; denied = denied }) d
     ∙ ap (λ v. record { steps = map step_told v.steps; connections = map (recorded (history buses v)) v.connections; refused = v.refused; rows = state buses v; denied = 0 }) (gives_as_if buses p.grants events (p.given d))
 
+lines_same : (number : ℕ) (tolds : List ConnRecord) → flat_map connection_lines (enumerate_from number (map connection_outline tolds)) ≡ flat_map connection_lines (enumerate_from number tolds)
+lines_same number [] = refl
+lines_same number (one ∷ tolds) = ap (λ text. connection_lines (number, one) ++ text) (lines_same (number + 1) tolds)
+
+-- a record prints the same without its history
+printed_same : (run : Record) → printed (outline run) ≡ printed run
+printed_same run = ap (λ text. text ++ flat_map refusal_line run.refused ++ rows_line run.rows ++ listing (shown_rows run.rows)) (lines_same 1 run.connections)
+
 -- what is printed of the run is what the script prints
-pub replays : {A E : Type 0} (buses : List Bus) (events : List Event) (told : Record) (input : List ℕ) (result : Result A E) (items : A → List ℕ) → IsPromised buses events told
+pub replays : {A E : Type 0} (buses : List Bus) (events : List Event) (told : Record) (input : List ℕ) (result : Result A E) (items : A → List ℕ) → IsPromisedOutline buses events told
     → ((buses : List Bus) → replayed buses input ≡ Ok (printed (run_of buses events))) → IfOk result (λ text. (told.denied ≡ 0) × (items text ≡ printed told))
     → IfOk result (λ text. replayed buses input ≡ Ok (items text))
-replays buses events told input (Ok text) items promised reads is = reads buses ∙ ap (λ run. Ok (printed run)) (sym (run_is buses events told promised is.0)) ∙ ap Ok (sym is.1)
-replays buses events told input (Err fault) items promised reads is = tt
+replays buses events told input (Ok text) items p reads is =
+    let none : p.whole.denied ≡ 0 = sym (ap (λ (run : Record). run.denied) p.is) ∙ is.0 in
+    reads buses ∙ ap (λ run. Ok (printed run)) (sym (run_is buses events p.whole p.promised none)) ∙ ap Ok (sym (is.1 ∙ ap printed p.is ∙ printed_same p.whole))
+replays buses events told input (Err fault) items p reads is = tt

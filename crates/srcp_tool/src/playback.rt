@@ -10,7 +10,7 @@ ghost use Rattle.srcp_tool.specs.Output.{RefusesFor, Writes, run_of, replayed};
 use crate::fault::ToolFault;
 use crate::input::{INPUT_LIMIT, read_input};
 use crate::output::write_whole;
-use srcp_core::{Event, Record, run};
+use srcp_core::{Event, Record, run_in_outline};
 use srcp_rules::{Layout, Rows};
 use srcp_script::{print_record, read_script};
 use std::alloc::Global;
@@ -33,7 +33,7 @@ pub fn replay_text<K: Rows>(
     ensures stops { IfErr result (RefusesFor (λ fault. replayed layout.now input.now ≡ Err fault)) }
 {
     let events = events_of(alloc, input)?;
-    let told = run::<K>(alloc, layout, &events)?;
+    let told = run_in_outline::<K>(alloc, layout, &events)?;
     print_run(alloc, &told)
 }
 

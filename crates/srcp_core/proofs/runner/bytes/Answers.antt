@@ -1,22 +1,34 @@
-use Rattle.std.proofs.Common.{sym, ◌∙◌, subst}
+use Rattle.std.proofs.Common.{ap, sym, ◌∙◌, subst}
 use Rattle.srcp_core.specs.Machine.{steps_in}
-use Rattle.srcp_core.specs.Recording.{Recording}
+use Rattle.srcp_core.specs.Recording.{Recording, key_of}
+use Rattle.srcp_core.proofs.Agreement.OutlinesAreKept.{keeps_as, keeps_same, keeps_then, keys_kept}
 use Rattle.srcp_core.proofs.Agreement.RunsAnEvent.{no_bytes_happens}
 use Rattle.srcp_core.proofs.Agreement.RunsBytes.{bytes_refused, bytes_room, reads_first, reads_more, bytes_happens, ReadsOn}
 use Rattle.srcp_core.proofs.runner.bytes.Goals as goal
 
 pub returns-in_default : goal.returns-in_default
-returns-in_default g c = no_bytes_happens c.args.conn c.args.piece.now c.args.recorder.now c.args.core.now (sym c.key.ensures ∙ c.in_default.is)
+returns-in_default g c =
+    keeps_same c.args.recorder.now (λ r e. no_bytes_happens c.args.conn c.args.piece.now r c.args.core.now (ap (key_of c.args.conn) (sym
+    (keys_kept c.args.recorder.now r e)) ∙ sym c.key.ensures ∙ c.in_default.is))
 
 pub returns-in-Some-bytes_fault : goal.returns-in-Some-bytes_fault
 returns-in-Some-bytes_fault g c =
-    bytes_refused c.args.conn c.in-Some.key c.args.piece.now c.args.recorder.now c.args.core.now c.in-Some-bytes_fault.fault (sym c.key.ensures ∙ c.in-Some.is) (sym c.bytes_fault.ensures ∙ c.in-Some-bytes_fault.is)
+    keeps_same c.args.recorder.now
+    (λ r e. bytes_refused c.args.conn c.in-Some.key c.args.piece.now r c.args.core.now c.in-Some-bytes_fault.fault (ap (key_of
+    c.args.conn) (sym (keys_kept c.args.recorder.now r e)) ∙ sym c.key.ensures ∙ c.in-Some.is)
+    (sym c.bytes_fault.ensures ∙ c.in-Some-bytes_fault.is))
 
 pub loop-stop-init : goal.loop-stop-init
 loop-stop-init g c =
     let free = sym c.bytes_fault.ensures ∙ c.in_default-bytes_fault.is in
     let room = bytes_room c.in-Some.key c.args.piece.now c.args.core.now free in
-    record { few = room.0; room = room.1; reads = reads_first c.args.conn c.in-Some.key c.args.piece.now c.args.recorder.now c.args.core.now (sym c.key.ensures ∙ c.in-Some.is) free }
+    record {
+      few = room.0;
+      room = room.1;
+      reads = keeps_same c.args.recorder.now
+          (λ r e. reads_first c.args.conn c.in-Some.key c.args.piece.now r c.args.core.now (ap (key_of c.args.conn) (sym (keys_kept
+          c.args.recorder.now r e)) ∙ sym c.key.ensures ∙ c.in-Some.is) free);
+    }
 
 pub loop-stop-preserved : goal.loop-stop-preserved
 loop-stop-preserved g c =
@@ -24,11 +36,19 @@ loop-stop-preserved g c =
     record {
       few = c.loop-stop.invariant.few;
       room = line.room;
-      reads = subst (λ (r : Recording). ReadsOn c.args.conn c.in-Some.key c.args.piece.now c.args.recorder.now c.args.core.now c.in-Some-answer_line.stop r c.answer_line.new.self) (sym c.in_ok-answered.ensures)
-          (reads_more c.args.conn c.in-Some.key c.args.piece.now c.args.recorder.now c.args.core.now c.loop-stop.start c.in-Some-answer_line.stop c.in-Some-answer_line.line.granted (steps_in c.in-Some-answer_line.line) c.loop-stop.recorder c.loop-stop.core c.answer_line.new.self
-          line.onward line.is line.steps line.counted c.loop-stop.invariant.reads);
+      reads = keeps_then c.args.recorder.now c.loop-stop.recorder c.answered.new.self
+          (λ r s t e reads is.
+          subst (λ (x : Recording). ReadsOn c.args.conn c.in-Some.key c.args.piece.now r c.args.core.now c.in-Some-answer_line.stop x
+          c.answer_line.new.self) (sym is)
+          (reads_more c.args.conn c.in-Some.key c.args.piece.now r c.args.core.now c.loop-stop.start c.in-Some-answer_line.stop
+          c.in-Some-answer_line.line.granted (steps_in c.in-Some-answer_line.line) s c.loop-stop.core c.answer_line.new.self
+          line.onward line.is line.steps line.counted reads))
+          c.loop-stop.invariant.reads c.in_ok-answered.ensures;
     }
 
 pub returns : goal.returns
 returns g c =
-    bytes_happens c.args.conn c.in-Some.key c.args.piece.now c.args.recorder.now c.args.core.now c.loop-stop.start c.loop-stop.recorder c.loop-stop.core c.answer_line.new.self c.in_default-answer_line.ensures.none c.loop-stop.invariant.reads
+    keeps_as c.args.recorder.now c.loop-stop.recorder
+    (λ r s reads. bytes_happens c.args.conn c.in-Some.key c.args.piece.now r c.args.core.now c.loop-stop.start s c.loop-stop.core
+    c.answer_line.new.self c.in_default-answer_line.ensures.none reads)
+    c.loop-stop.invariant.reads

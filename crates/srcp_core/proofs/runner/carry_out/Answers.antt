@@ -1,6 +1,8 @@
-use Rattle.std.proofs.Common.{◌≤◌, length, ◌∙◌, refl, arith}
+use Rattle.std.proofs.Common.{◌≤◌, length, ◌∙◌, refl, sym, ap, arith}
 use Rattle.std.proofs.lemmas.Option.{slice_get_read}
+use Rattle.srcp_core.specs.Recording.{Kept, kept, nothing_recorded}
 use Rattle.srcp_core.specs.Under.{all_under}
+use Rattle.srcp_core.proofs.Agreement.OutlinesAreKept.{nothing_kept, record_at, record_from, record_kept}
 use Rattle.srcp_core.proofs.Agreement.RunPromises.{moments_all, moments_more}
 use Rattle.srcp_core.proofs.Agreement.RecordIsOfTheCourse.{record_is, runs_all, runs_none, follows_more}
 use Rattle.srcp_core.proofs.runner.carry_out.Goals as goal
@@ -8,14 +10,22 @@ use Rattle.srcp_core.proofs.runner.carry_out.Goals as goal
 pub returns-clause-record : goal.returns-clause-record
 returns-clause-record g c =
     let all : length c.args.events.now ≤ c.loop-index.index = omega (arith, c.loop-index-test.false) in
-    let u = runs_all c.args.layout.now c.args.events.now c.loop-index.index c.loop-index.recorder c.loop-index.core all c.loop-index.invariant.runs in
+    let r = c.loop-index.invariant.runs.0 in
+    let held = c.loop-index.core in
+    let u = runs_all c.args.layout.now c.args.events.now c.loop-index.index r held all c.loop-index.invariant.runs.2 in
+    let e = c.in_ok-record.ensures in
     record {
-      grants = u.grants;
-      count = u.count;
-      counted = c.in_ok-record.ensures.denied ∙ u.counted;
-      asked = c.in_ok-record.ensures.denied ∙ u.asked;
-      is = record_is c.args.layout.now (all_under u.grants c.args.events.now) c.loop-index.recorder c.loop-index.core c.in_ok-record.field-0 c.buses.ensures.laid_out u.runs
-          c.in_ok-record.ensures.steps c.in_ok-record.ensures.refused c.in_ok-record.ensures.connections c.in_ok-record.ensures.rows;
+      whole = record_at r held;
+      runs = record {
+        grants = u.grants;
+        count = u.count;
+        counted = u.counted;
+        asked = u.asked;
+        is = record_is c.args.layout.now (all_under u.grants c.args.events.now) r held (record_at r held) c.buses.ensures.laid_out
+            u.runs refl refl refl refl;
+      };
+      is = record_from c.in_ok-record.field-0 c.loop-index.recorder.told held e.steps e.refused e.connections e.rows e.denied
+          ∙ ap (λ x. record_at x held) c.loop-index.invariant.runs.1 ∙ record_kept c.args.in_full r held;
     }
 
 pub returns-clause-moments : goal.returns-clause-moments
@@ -27,12 +37,32 @@ pub returns-clause-laid_out : goal.returns-clause-laid_out
 returns-clause-laid_out g c = c.buses.ensures.laid_out
 
 pub loop-index-init : goal.loop-index-init
-loop-index-init g c = record { runs = runs_none c.args.layout.now c.args.events.now c.new-recorder.result c.in_ok-core.core c.new-recorder.ensures c.in_ok-core.ensures; moments = tt }
+loop-index-init g c = record {
+  in_full = ap (λ (x : Kept). x.in_full) c.new-recorder.ensures;
+  runs = (
+    nothing_recorded,
+    ap (λ (x : Kept). x.told) c.new-recorder.ensures
+        ∙ nothing_kept c.args.in_full,
+    runs_none c.args.layout.now c.args.events.now nothing_recorded c.in_ok-core.core refl
+        c.in_ok-core.ensures,
+  );
+  moments = tt;
+}
 
 pub loop-index-preserved : goal.loop-index-preserved
 loop-index-preserved g c =
-    let at = slice_get_read c.args.events.now (length c.args.events.now) c.loop-index.index c.index-events-index.result refl c.loop-index-test.true c.index-events-index.is in record {
-      runs = follows_more c.args.layout.now c.args.events.now c.loop-index.index c.index-events-index.result c.loop-index.recorder c.follow.new.recorder c.loop-index.core c.follow.new.core c.buses.ensures.laid_out at
-          c.in_ok-follow.ensures.course c.loop-index.invariant.runs;
-      moments = moments_more c.args.events.now c.loop-index.index c.index-events-index.result at c.follow.ensures.moment c.loop-index.invariant.moments;
+    let at = slice_get_read c.args.events.now (length c.args.events.now) c.loop-index.index c.index-events-index.result refl
+    c.loop-index-test.true c.index-events-index.is in
+    let i = c.loop-index.invariant in
+    let course = c.in_ok-follow.ensures.course in
+    let next = course.each i.runs.0 (i.runs.1 ∙ ap (λ h. kept h i.runs.0) (sym i.in_full)) in
+    record {
+      in_full = course.in_full ∙ i.in_full;
+      runs = (
+        next.0,
+        next.1 ∙ ap (λ h. kept h next.0) i.in_full,
+        follows_more c.args.layout.now c.args.events.now c.loop-index.index c.index-events-index.result i.runs.0 next.0
+            c.loop-index.core c.follow.new.core c.buses.ensures.laid_out at next.2 i.runs.2,
+      );
+      moments = moments_more c.args.events.now c.loop-index.index c.index-events-index.result at c.follow.ensures.moment i.moments;
     }

@@ -1,10 +1,12 @@
-use Rattle.std.proofs.Common.{take}
+use Rattle.std.proofs.Common.{◌≡◌, take}
 use Rattle.std.specs.List.{AllByRecursion}
+use Rattle.srcp_core.specs.Recording.{Recording, kept}
 use Rattle.srcp_core.specs.Run.{RunsUnder, HasPlainMoment}
 use Rattle.srcp_core.proofs.runner.carry_out.Given as goal
 
 abbrev pub invariant-loop-index : goal.invariant-loop-index
 invariant-loop-index g l = record {
-  runs : RunsUnder l.layout (take l.index l.events) l.recorder l.core;
+  in_full : l.recorder.in_full ≡ l.in_full;
+  runs : (r : Recording) × (l.recorder.told ≡ kept l.in_full r) × RunsUnder l.layout (take l.index l.events) r l.core;
   moments : AllByRecursion HasPlainMoment (take l.index l.events);
 }

@@ -1,10 +1,11 @@
 use Rattle.std.proofs.Common.{◌≡◌}
+use Rattle.srcp_core.specs.Recording.{Keeps}
 use Rattle.srcp_core.proofs.Agreement.RunsAnEvent.{GivesOn}
 use Rattle.srcp_core.proofs.runner.room.Given as goal
 
 abbrev pub invariant-loop-count : goal.invariant-loop-count
 invariant-loop-count g l = record {
-  gives : GivesOn l.conn l.key l.bytes l.fn.recorder l.fn.core l.left l.recorder l.core;
+  gives : Keeps (λ first_r r. GivesOn l.conn l.key l.bytes first_r l.fn.core l.left r l.core) l.fn.recorder l.recorder;
   denied : l.core.denied ≡ l.fn.core.denied;
 }
 

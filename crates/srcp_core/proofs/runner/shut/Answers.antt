@@ -1,28 +1,45 @@
 use Rattle.std.proofs.Common.{sym, ◌∙◌, refl, ap, None, Some, [], ◌∷◌}
 use Rattle.srcp_core.specs.Machine.{live_session}
-use Rattle.srcp_core.specs.Recording.{Recording, shut, stepped}
+use Rattle.srcp_core.specs.Recording.{Recording, key_of, shut, stepped}
 use Rattle.srcp_core.specs.declared.event.Event.TheVariants.{Shut}
 use Rattle.srcp_core.specs.declared.record.Step.TheVariants.{Ended}
+use Rattle.srcp_core.proofs.Agreement.OutlinesAreKept.{keeps_changed, keeps_same, keeps_then, keys_kept}
 use Rattle.srcp_core.proofs.Agreement.RunsAnEvent.{told_as, no_shut_happens, gone_happens, shut_happens, shut_count, with_end}
 use Rattle.srcp_core.proofs.runner.shut.Goals as goal
 
 pub returns-in_default : goal.returns-in_default
-returns-in_default g c = no_shut_happens c.args.conn c.args.recorder.now c.args.core.now (sym c.key.ensures ∙ c.in_default.is)
+returns-in_default g c =
+    keeps_same c.args.recorder.now (λ r e. no_shut_happens c.args.conn r c.args.core.now (ap (key_of c.args.conn) (sym (keys_kept
+    c.args.recorder.now r e)) ∙ sym c.key.ensures ∙ c.in_default.is))
 
 pub returns-in-Err : goal.returns-in-Err
 returns-in-Err g c =
-    gone_happens (Shut c.args.conn) (Some c.in-Err.fault) c.args.conn c.in-Some.key c.args.recorder.now c.args.core.now c.args.recorder.now c.hangup.new.self (sym c.key.ensures ∙ c.in-Some.is) c.in-Err.ensures.absent.1 (shut_count c.in-Some.key c.args.core.now c.hangup.new.self c.hangup.ensures.core)
+    keeps_same c.args.recorder.now
+    (λ r e. gone_happens (Shut c.args.conn) (Some c.in-Err.fault) c.args.conn c.in-Some.key r c.args.core.now r c.hangup.new.self (ap
+    (key_of c.args.conn) (sym (keys_kept c.args.recorder.now r e)) ∙ sym c.key.ensures ∙ c.in-Some.is)
+    c.in-Err.ensures.absent.1 (shut_count c.in-Some.key c.args.core.now c.hangup.new.self c.hangup.ensures.core))
 
 pub returns-in_ok-step : goal.returns-in_ok-step
 returns-in_ok-step g c =
-    told_as (Shut c.args.conn) None c.args.recorder.now c.args.core.now (with_end (live_session c.in-Some.key c.args.core.now) c.moment.result (shut c.args.conn c.args.recorder.now)) c.step.new.self c.hangup.new.self c.hangup.new.self
-    (c.in_ok-step.ensures
-    ∙ ap (λ (r : Recording). stepped (Ended c.in-Some-session.session c.moment.result ∷ []) r) c.shut.ensures
-    ∙ ap (λ o. with_end o c.moment.result (shut c.args.conn c.args.recorder.now)) (sym c.in-Some-session.is ∙ c.live_session-session.ensures)) refl
-    (shut_happens c.args.conn c.in-Some.key c.args.recorder.now c.args.core.now c.hangup.new.self c.moment.result (sym c.key.ensures ∙ c.in-Some.is) c.hangup.ensures.core c.moment.ensures)
+    keeps_then c.args.recorder.now c.shut.new.self c.step.new.self
+    (λ r s t e gone ends.
+    told_as (Shut c.args.conn) None r c.args.core.now (with_end (live_session c.in-Some.key c.args.core.now) c.moment.result (shut
+    c.args.conn r)) t c.hangup.new.self c.hangup.new.self
+    (ends
+    ∙ ap (λ (x : Recording). stepped (Ended c.in-Some-session.session c.moment.result ∷ []) x) gone
+    ∙ ap (λ o. with_end o c.moment.result (shut c.args.conn r)) (sym c.in-Some-session.is ∙ c.live_session-session.ensures)) refl
+    (shut_happens c.args.conn c.in-Some.key r c.args.core.now c.hangup.new.self c.moment.result (ap (key_of c.args.conn) (sym (keys_kept
+    c.args.recorder.now r e)) ∙ sym c.key.ensures ∙ c.in-Some.is) c.hangup.ensures.core c.moment.ensures))
+    c.shut.ensures c.in_ok-step.ensures
 
 pub returns-in_default-session : goal.returns-in_default-session
 returns-in_default-session g c =
-    told_as (Shut c.args.conn) None c.args.recorder.now c.args.core.now (with_end (live_session c.in-Some.key c.args.core.now) c.hangup.new.self.moment (shut c.args.conn c.args.recorder.now)) c.shut.new.self c.hangup.new.self c.hangup.new.self
-    (c.shut.ensures ∙ ap (λ o. with_end o c.hangup.new.self.moment (shut c.args.conn c.args.recorder.now)) (sym c.in_default-session.is ∙ c.live_session-session.ensures)) refl
-    (shut_happens c.args.conn c.in-Some.key c.args.recorder.now c.args.core.now c.hangup.new.self c.hangup.new.self.moment (sym c.key.ensures ∙ c.in-Some.is) c.hangup.ensures.core refl)
+    keeps_changed (shut c.args.conn) c.args.recorder.now c.shut.new.self
+    (λ r e.
+    told_as (Shut c.args.conn) None r c.args.core.now (with_end (live_session c.in-Some.key c.args.core.now) c.hangup.new.self.moment
+    (shut c.args.conn r)) (shut c.args.conn r) c.hangup.new.self c.hangup.new.self
+    (ap (λ o. with_end o c.hangup.new.self.moment (shut c.args.conn r)) (sym c.in_default-session.is
+    ∙ c.live_session-session.ensures)) refl
+    (shut_happens c.args.conn c.in-Some.key r c.args.core.now c.hangup.new.self c.hangup.new.self.moment (ap (key_of c.args.conn) (sym
+    (keys_kept c.args.recorder.now r e)) ∙ sym c.key.ensures ∙ c.in-Some.is) c.hangup.ensures.core refl))
+    c.shut.ensures

@@ -1,5 +1,5 @@
 use Rattle.std.proofs.Common.{List, subst}
-use Rattle.srcp_core.specs.Promised.{IsPromised}
+use Rattle.srcp_core.specs.Promised.{IsPromisedOutline}
 use Rattle.srcp_core.specs.declared.event.Event.{Event}
 use Rattle.srcp_tool.proofs.Replays.{replays}
 use Rattle.srcp_tool.proofs.playback.replay_text.Goals as goal
@@ -7,4 +7,4 @@ use Rattle.srcp_tool.proofs.playback.replay_text.Goals as goal
 pub returns-clause-text : goal.returns-clause-text
 returns-clause-text g c =
     replays c.args.layout.now c.in_ok-events.events.items c.in_ok-told.told c.args.input.now c.print_run.result (λ text. text.items)
-    (subst (λ (events : List Event). IsPromised c.args.layout.now events c.in_ok-told.told) c.deref.ensures.value c.in_ok-told.ensures.promised) c.in_ok-events.ensures.events c.print_run.ensures.text
+    (subst (λ (events : List Event). IsPromisedOutline c.args.layout.now events c.in_ok-told.told) c.deref.ensures.value c.in_ok-told.ensures.promised) c.in_ok-events.ensures.events c.print_run.ensures.text

@@ -1,0 +1,223 @@
+-- A recorder that keeps an outline keeps of each change what that makes of the outline.
+use Rattle.std.proofs.Common.{◌≡◌, ℕ, zero, suc, Bool, true, false, List, [], ◌∷◌, ◌++◌, map, refl, ap, sym, ◌∙◌, subst}
+use Rattle.std.proofs.lemmas.Option.{slice_get-map}
+use Rattle.std.specs.Option.{option_map}
+use Rattle.std.specs.Prelude.{Option, Some, None, Result, Ok, Err, IfOk, slice_get, slice_set}
+use Rattle.srcp_feed.specs.declared.next.Next.{Next}
+use Rattle.srcp_feed.specs.declared.next.Next.TheVariants.{Told, Listed, Settled}
+use Rattle.srcp_rules.specs.declared.layout.Bus.{Bus}
+use Rattle.srcp_rules.specs.Layout.{IsLayout}
+use Rattle.srcp_core.specs.Held.{Held}
+use Rattle.srcp_core.specs.Promised.{connection_outline, IsPromised, IsPromisedOutline}
+use Rattle.srcp_core.specs.Recording.{Recording, Kept, Keeps, Becomes, recording_outline, kept, changed_in, changed_record, shut, began, gave, took, finished, finished_by, nothing_recorded}
+use Rattle.srcp_core.specs.Run.{RunsTold, PlainMoments, told_in}
+use Rattle.srcp_core.specs.declared.event.Event.{Event as PlainEvent}
+use Rattle.srcp_core.specs.declared.record.ConnRecord.{ConnRecord}
+use Rattle.srcp_core.specs.declared.record.Finish.TheVariants.{Shut as ShutFinish}
+use Rattle.srcp_core.specs.declared.record.Record.{Record}
+use Rattle.srcp_core.specs.declared.record.Step.{Step}
+use Rattle.srcp_core.specs.declared.record.Step.TheVariants as told
+use Rattle.srcp_core.proofs.Agreement.RunPromises.{promised}
+
+-- ---- what a recorder keeps
+
+-- the keys are kept in any case
+pub kept_keys : (in_full : Bool) (r : Recording) → (kept in_full r).keys ≡ r.keys
+kept_keys true r = refl
+kept_keys false r = refl
+
+pub keys_kept : (old : Kept) (r : Recording) → old.told ≡ kept old.in_full r → old.told.keys ≡ r.keys
+keys_kept old r e = ap (λ (x : Recording). x.keys) e ∙ kept_keys old.in_full r
+
+-- what the change makes of what is kept is kept of what it makes of all
+pub becomes : (change : Recording → Recording) (old new : Kept)
+    → ((in_full : Bool) (r : Recording) → change (kept in_full r) ≡ kept in_full (change r))
+    → new.in_full ≡ old.in_full → new.told ≡ change old.told → Becomes change old new
+becomes change old new law same is = record { in_full = same; each = λ r e. (change r, is ∙ ap change e ∙ law old.in_full r, refl) }
+
+-- nothing is kept of the change
+pub stays : (change : Recording → Recording) (old new : Kept) → old.in_full ≡ false
+    → ((r : Recording) → recording_outline (change r) ≡ recording_outline r) → new ≡ old → Becomes change old new
+stays change old new off law is = record {
+  in_full = ap (λ (x : Kept). x.in_full) is;
+  each = λ r e.
+      let same : kept old.in_full r ≡ kept old.in_full (change r) = subst (λ h. kept h r ≡ kept h (change r)) (sym off) (sym (law r)) in
+      (change r, ap (λ (x : Kept). x.told) is ∙ e ∙ same, refl);
+}
+
+-- one thing follows, and then another
+pub keeps_then : {P Q R : Recording → Recording → Type 0} (a b c : Kept)
+    → ((r s t : Recording) → a.told ≡ kept a.in_full r → P r s → Q s t → R r t) → Keeps P a b → Keeps Q b c → Keeps R a c
+keeps_then a b c both p q = record {
+  in_full = q.in_full ∙ p.in_full;
+  each = λ r e.
+      let first = p.each r e in
+      let second = q.each first.0 (subst (λ h. b.told ≡ kept h first.0) (sym p.in_full) first.1) in
+      (second.0, subst (λ h. c.told ≡ kept h second.0) p.in_full second.1, both r first.0 second.0 e first.2 second.2);
+}
+
+-- what follows follows in another way
+pub keeps_as : {P Q : Recording → Recording → Type 0} (old new : Kept) → ((r later : Recording) → P r later → Q r later)
+    → Keeps P old new → Keeps Q old new
+keeps_as old new law p = record { in_full = p.in_full; each = λ r e. let one = p.each r e in (one.0, one.1, law r one.0 one.2) }
+
+-- what follows of the changed recording follows
+pub keeps_changed : {P : Recording → Recording → Type 0} (change : Recording → Recording) (old new : Kept)
+    → ((r : Recording) → old.told ≡ kept old.in_full r → P r (change r)) → Becomes change old new → Keeps P old new
+keeps_changed change old new law b = record {
+  in_full = b.in_full;
+  each = λ r e.
+      let one = b.each r e in
+      (change r, one.1 ∙ ap (kept old.in_full) one.2, law r e);
+}
+
+-- what holds of a recording to which nothing happens
+pub keeps_same : {P : Recording → Recording → Type 0} (old : Kept) → ((r : Recording) → old.told ≡ kept old.in_full r → P r r)
+    → Keeps P old old
+keeps_same old law = record { in_full = refl; each = λ r e. (r, e, law r e) }
+
+-- ---- each change
+
+set_kept : (tolds : List ConnRecord) (n : ℕ) (one : ConnRecord)
+    → slice_set (map connection_outline tolds) n (connection_outline one) ≡ map connection_outline (slice_set tolds n one)
+set_kept [] n one = refl
+set_kept (x ∷ tolds) zero one = refl
+set_kept (x ∷ tolds) (suc n) one = ap (λ ts. connection_outline x ∷ ts) (set_kept tolds n one)
+
+changed_kept : (n : ℕ) (f : ConnRecord → ConnRecord) → ((one : ConnRecord) → f (connection_outline one) ≡ connection_outline (f one))
+    → (tolds : List ConnRecord)
+    → changed_record n f (map connection_outline tolds) ≡ map connection_outline (changed_record n f tolds)
+changed_kept zero f law tolds = refl
+changed_kept (suc n) f law tolds = ap (changed_in n f (map connection_outline tolds)) (slice_get-map connection_outline tolds n)
+    ∙ by (slice_get tolds n)
+  where
+    by : (o : Option ConnRecord)
+        → changed_in n f (map connection_outline tolds) (option_map connection_outline o) ≡ map connection_outline (changed_in n f tolds
+        o)
+    by None = refl
+    by (Some one) = ap (slice_set (map connection_outline tolds) n) (law one) ∙ set_kept tolds n (f one)
+
+changed_aside : (n : ℕ) (f : ConnRecord → ConnRecord) → ((one : ConnRecord) → connection_outline (f one) ≡ connection_outline one)
+    → (tolds : List ConnRecord)
+    → map connection_outline (changed_record n f tolds) ≡ map connection_outline tolds
+changed_aside zero f law tolds = refl
+changed_aside (suc n) f law tolds = by (slice_get tolds n) refl
+  where
+    same : (tolds : List ConnRecord) (k : ℕ) (one : ConnRecord) → slice_get tolds k ≡ Some one
+        → map connection_outline (slice_set tolds k (f one)) ≡ map connection_outline tolds
+    same [] k one e = refl
+    same (x ∷ tolds) zero one e = let is : x ≡ one = cc in ap (λ y. y ∷ map connection_outline tolds) (law one
+        ∙ ap connection_outline (sym is))
+    same (x ∷ tolds) (suc k) one e = ap (λ ys. connection_outline x ∷ ys) (same tolds k one e)
+
+    by : (o : Option ConnRecord) → slice_get tolds n ≡ o
+        → map connection_outline (changed_in n f tolds o) ≡ map connection_outline tolds
+    by None e = refl
+    by (Some one) e = same tolds n one e
+
+abbrev with_connections : Recording → List ConnRecord → Recording
+with_connections r tolds = record { keys = r.keys; steps = []; connections = tolds; refused = r.refused }
+
+pub shut_kept : (n : ℕ) (in_full : Bool) (r : Recording) → shut n (kept in_full r) ≡ kept in_full (shut n r)
+shut_kept n true r = refl
+shut_kept n false r = ap (with_connections (shut n r)) (changed_kept n (λ one. record one { finish = ShutFinish }) (λ one. refl)
+    r.connections)
+
+pub took_kept : (n : ℕ) (bytes : List ℕ) (in_full : Bool) (r : Recording)
+    → took n bytes (kept in_full r) ≡ kept in_full (took n bytes r)
+took_kept n bytes true r = refl
+took_kept n bytes false r = ap (with_connections r) (changed_kept n (λ one. record one { sent = one.sent ++ bytes }) (λ one. refl)
+    r.connections)
+
+pub began_aside : (n : ℕ) (step : Step) (r : Recording) → recording_outline (began n step r) ≡ recording_outline r
+began_aside n (told.Obeyed session moment command) r = refl
+began_aside n (told.Began session moment mode) r = ap (with_connections r) (changed_aside n _ (λ one. refl) r.connections)
+began_aside n (told.Moment moment) r = refl
+began_aside n (told.Ended session moment) r = refl
+
+pub gave_aside : (n : ℕ) (item : Option Next) (r : Recording) → recording_outline (gave n item r) ≡ recording_outline r
+gave_aside n None r = refl
+gave_aside n (Some (Told change)) r = ap (with_connections r) (changed_aside n _ (λ one. refl) r.connections)
+gave_aside n (Some (Listed row)) r = ap (with_connections r) (changed_aside n _ (λ one. refl) r.connections)
+gave_aside n (Some Settled) r = refl
+
+-- ---- the record
+
+finished_kept : (held : Held) (keys : List (Option ℕ)) (tolds : List ConnRecord)
+    → finished held keys (map connection_outline tolds) ≡ map connection_outline (finished held keys tolds)
+finished_kept held [] tolds = refl
+finished_kept held (key ∷ keys) [] = refl
+finished_kept held (key ∷ keys) (one ∷ tolds) = ap (λ x. x ∷ finished held keys (map connection_outline tolds)) (by key)
+    ∙ ap (λ xs. connection_outline (finished_by held key one) ∷ xs) (finished_kept held keys tolds)
+  where
+    by : (key : Option ℕ) → finished_by held key (connection_outline one) ≡ connection_outline (finished_by held key one)
+    by None = refl
+    by (Some key) = refl
+
+-- the record of a recording at the end
+abbrev pub record_at : Recording → Held → Record
+record_at r held = record {
+  steps = r.steps;
+  connections = finished held r.keys r.connections;
+  refused = r.refused;
+  rows = held.rows;
+  denied = held.denied;
+}
+
+pub record_from : (run : Record) (told : Recording) (held : Held) → run.steps ≡ told.steps → run.refused ≡ told.refused
+    → run.connections ≡ finished held told.keys told.connections → run.rows ≡ held.rows
+    → run.denied ≡ held.denied → run ≡ record_at told held
+record_from run told held s r c w d =
+    ap (λ x. record run { steps = x }) s
+    ∙ ap (λ x. record run { steps = told.steps; refused = x }) r
+    ∙ ap (λ x. record run { steps = told.steps; refused = told.refused; connections = x }) c
+    ∙ ap (λ x. record {
+      steps = told.steps;
+      refused = told.refused;
+      connections = finished held told.keys told.connections;
+      rows = x;
+      denied = run.denied;
+    }) w
+    ∙ ap (λ x. record {
+      steps = told.steps;
+      refused = told.refused;
+      connections = finished held told.keys told.connections;
+      rows =
+          held.rows;
+      denied = x;
+    }) d
+
+pub nothing_kept : (in_full : Bool) → nothing_recorded ≡ kept in_full nothing_recorded
+nothing_kept true = refl
+nothing_kept false = refl
+
+pub record_kept : (in_full : Bool) (r : Recording) (held : Held) → record_at (kept in_full r) held ≡ told_in in_full (record_at r held)
+record_kept true r held = refl
+record_kept false r held = ap (λ tolds. record {
+  steps = [];
+  connections = tolds;
+  refused = r.refused;
+  rows = held.rows;
+  denied =
+      held.denied;
+}) (finished_kept held r.keys r.connections)
+
+-- ---- what a run promises
+
+pub promised_whole : {E : Type 0} (buses : List Bus) (events : List PlainEvent) (result : Result Record E)
+    → IfOk result (λ run. RunsTold true buses events run) → IfOk result (λ _. PlainMoments events) → IfOk result (λ _. IsLayout buses)
+    → IfOk result (λ run. IsPromised buses events run)
+promised_whole buses events (Ok run) t moments layout = subst (λ (x : Record). IsPromised buses events x) (sym t.is) (promised {E = ℕ}
+    buses events (Ok t.whole) t.runs moments layout)
+promised_whole buses events (Err fault) t moments layout = tt
+
+pub promised_outline : {E : Type 0} (buses : List Bus) (events : List PlainEvent) (result : Result Record E)
+    → IfOk result (λ run. RunsTold false buses events run) → IfOk result (λ _. PlainMoments events)
+    → IfOk result (λ _. IsLayout buses) → IfOk result (λ run. IsPromisedOutline buses events run)
+promised_outline buses events (Ok run) t moments layout = record {
+  whole = t.whole;
+  promised = promised {E = ℕ} buses events (Ok
+      t.whole) t.runs moments layout;
+  is = t.is;
+}
+promised_outline buses events (Err fault) t moments layout = tt
