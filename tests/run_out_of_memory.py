@@ -21,7 +21,7 @@ TRIALS = {"ring": 3, "feed": 5, "mirror": 4, "layout": 5, "connect": 8, "configu
           "serve": 9, "play-flat": 62, "play-nested": 66, "listing-flat": 39, "listing-nested": 42}
 LISTINGS = ("listing-flat", "listing-nested")
 # how many growths of a listing's trial are left out: they read its script, which is not its run
-READING = 16
+READING = 11
 BEFORE = 200
 OUTCOME = re.compile(r"^== (\S+)-(\d+)\n((?:.*\n)*?)(\w+)\n(?=== |\Z)", re.M)
 

@@ -20,7 +20,8 @@ pub(super) fn unescape(alloc: Global, text: &[u8]) -> Result<Vec<u8>, Cause>
     ensures causes { IfErr result (λ cause. cause ≢ Cause.Memory → cause ≡ Cause.Escape) }
     ensures refused { IfErr result (λ cause. cause ≢ Cause.Memory → unescaped text.now ≡ None) }
 {
-    let mut bytes = Vec::new(alloc);
+    // The text has a byte for each that it writes, and more for one that it escapes.
+    let mut bytes = Vec::with_capacity(alloc, text.len()).map_err(|_| Cause::Memory)?;
     let mut rest = text;
     loop {
         let (plain, escape) = cut_at(b'\\', rest);
