@@ -37,18 +37,18 @@ def peak_of(process):
         return 0
 
 
-def measured(program, path):
-    """Seconds and peak memory in KiB of a run over the file, its output dropped: the memory by a run of its own."""
+def measured(words, path, output=os.devnull):
+    """Seconds and peak memory in KiB of a program with its words over the file: the memory by a run of its own."""
     seconds, peak = 0.0, 0
     for watched in (False, True):
-        with open(path, "rb") as source, open(os.devnull, "wb") as sink:
+        with open(path, "rb") as source, open(output, "wb") as sink:
             begun = time.monotonic()
-            running = subprocess.Popen([program, "mirror"], stdin=source, stdout=sink)
+            running = subprocess.Popen(words, stdin=source, stdout=sink)
             while watched and running.poll() is None:
                 peak = max(peak, peak_of(running))
                 time.sleep(0.001)
             if running.wait() != 0:
-                sys.exit(f"{program} mirror ended with {running.returncode}")
+                sys.exit(f"{' '.join(words)} ended with {running.returncode}")
             seconds = seconds if watched else time.monotonic() - begun
     return seconds, peak
 
@@ -60,7 +60,7 @@ def folded(program, told, given):
         file.flush()
         size = os.path.getsize(file.name)
         assert size <= LIMIT, size
-        seconds, peak = measured(program, file.name)
+        seconds, peak = measured([program, "mirror"], file.name)
     print(f"{told.format(size=size)}: {seconds:.2f} s, {size / seconds / 1e6:.1f} MB/s, peak {peak} KiB")
 
 

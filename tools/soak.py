@@ -3,15 +3,16 @@
 
 Throttles come and go, command locomotives, accessories, sensors, power and locks; panels come and go and read at
 different speeds, some of them too slowly. The events are drawn from a fixed seed and replayed in scripts that stay below
-the input's limit, each a run of its own. It fails where a run fails or prints something that is no record.
+the input's limit, each a run of its own, and once more to see how much memory it holds. It fails where a run fails or prints
+something that is no record.
 """
 import os
 import random
 import re
-import subprocess
 import sys
 import tempfile
-import time
+
+from bench_mirror import measured
 
 SCRIPT_BYTES = 16_000_000
 EVENTS_A_SCRIPT = 250_000
@@ -101,26 +102,21 @@ def main():
     wanted = int(sys.argv[2]) if len(sys.argv) > 2 else 1_000_000
     done, seconds, peak, seed = 0, 0.0, 0, 1
     with tempfile.TemporaryDirectory() as room:
-        config = os.path.join(room, "layout.toml")
+        config, source, printed = (os.path.join(room, name) for name in ("layout.toml", "script", "record"))
         with open(config, "wb") as file:
             file.write(CONFIG)
         while done < wanted:
             text, count = script(seed, min(EVENTS_A_SCRIPT, wanted - done))
-            source = os.path.join(room, "script")
             with open(source, "wb") as file:
                 file.write(text)
-            begun = time.monotonic()
-            with open(source, "rb") as given, open(os.path.join(room, "record"), "wb") as taken:
-                running = subprocess.Popen([program, "replay", "--config", config], stdin=given, stdout=taken)
-                _, status, usage = os.wait4(running.pid, 0)
-            seconds += time.monotonic() - begun
-            with open(os.path.join(room, "record"), "rb") as file:
+            took, held = measured([program, "replay", "--config", config], source, printed)
+            with open(printed, "rb") as file:
                 record = file.read()
-            if status != 0 or not re.search(rb"^rows \d+\n", record, re.M):
-                sys.exit(f"script {seed}: status {status}, {len(record)} bytes printed")
+            if not re.search(rb"^rows \d+\n", record, re.M):
+                sys.exit(f"script {seed}: {len(record)} bytes printed, which are no record")
             overruns = len(re.findall(rb"^connection \d+ \d+ overrun\n", record, re.M))
             print(f"script {seed}: {count} events, {len(record)} bytes printed, {overruns} panels overran")
-            done, peak, seed = done + count, max(peak, usage.ru_maxrss), seed + 1
+            done, seconds, peak, seed = done + count, seconds + took, max(peak, held), seed + 1
     print(f"{done} events in {seconds:.1f} s: {done / seconds:.0f} events a second, peak {peak} KiB")
 
 
