@@ -24,4 +24,5 @@ pub mod Visiting
 pub mod Fairness
 pub mod Turning
 pub mod Hosting
+mod FreePlaces
 pub mod HostedTurns

@@ -1,5 +1,5 @@
 -- How the places of a server stand for the course, and what a turn does to them, function by function.
-use Rattle.std.specs.Prelude.{Bool, ⊤, ◌≡◌, ℕ, ◌+◌, ◌≤◌, true, false, ◌==◌, if◌then◌else◌, List, [], ◌∷◌, ◌++◌, map, length, filter_map, flat_map, fold, count_by, is_some, Option, Some, None, Result, Ok}
+use Rattle.std.specs.Prelude.{Bool, ⊤, ◌≡◌, ◌⊎◌, ℕ, ◌+◌, ◌≤◌, drop, slice_set, true, false, ◌==◌, if◌then◌else◌, List, [], ◌∷◌, ◌++◌, map, length, filter_map, flat_map, fold, count_by, is_some, Option, Some, None, Result, Ok}
 use Rattle.std.specs.List.{list_all, list_any, AllByRecursion}
 use Rattle.srcp_rules.specs.Layout.{IsLayout}
 use Rattle.srcp_rules.specs.declared.layout.Bus.{Bus}
@@ -15,6 +15,14 @@ use Rattle.srcp_serve.specs.Turns.{is_of_peer}
 use Rattle.srcp_serve.specs.Visits.{AddsGiven, AreAbout}
 use Rattle.srcp_serve.specs.declared.door.DoorFault.{DoorFault}
 use Rattle.srcp_serve.specs.declared.serving.visit.Seat.{Seat as Own}
+
+-- all places from this one on are free
+abbrev pub AreFreeFrom : ℕ → List (Option Own) → Type 0
+AreFreeFrom place owns = AllByRecursion (λ own. own ≡ None) (drop place owns)
+
+-- the place is as it was, or it was freed; the others are as they were
+abbrev pub MayFree : ℕ → (old new : List (Option Own)) → Type 0
+MayFree place old new = (new ≡ old) ⊎ (new ≡ slice_set old place None)
 
 -- ---- visits
 

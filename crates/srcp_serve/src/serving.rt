@@ -1,15 +1,17 @@
 //! Serving: what a server asks of its door in each turn, and what it makes of the answers.
 
-ghost use Rattle.std.specs.Prelude.{◌≡◌, ◌<◌, ◌≤◌, ◌+◌, is_none, position};
-ghost use Rattle.srcp_serve.specs.Places.{LetsIn, MakesTurn, one_if, SeatsPeer, ServesCourse, TakesMoment, VisitsPlace, VisitsPlaces};
+ghost use Rattle.std.specs.Prelude.{◌≡◌, ◌<◌, ◌≤◌, ◌+◌};
+ghost use Rattle.srcp_serve.specs.Places.{LetsIn, MakesTurn, MayFree, one_if, SeatsPeer, ServesCourse, TakesMoment, VisitsPlace, VisitsPlaces};
 ghost use Rattle.srcp_serve.specs.Tally.{CountsFaults};
 ghost use Rattle.srcp_serve.specs.Turns.{AsksMoment, AsksNewcomer, AsksPeers, AsksTurn, AsksTurns};
 
+mod places;
 mod visit;
 
 use crate::door::{Door, Served};
 use crate::tally::Tally;
-use srcp_core::{Core, MOST_CONNECTIONS, MOST_IN_PIECE};
+use places::Places;
+use srcp_core::{Core, MOST_IN_PIECE};
 use srcp_rules::Rows;
 use visit::{PieceBuffer, Seat, close, let_go, visit};
 
@@ -24,7 +26,7 @@ pub fn serve<R: Rows, D: Door>(core: &mut Core<'_, R>, door: &mut D, turns: u64)
     ensures told { AsksTurns turns (D.told door.old) (D.told door.new) }
     ensures course { ServesCourse turns result.opened core.old (D.told door.old) core.new (D.told door.new) }
 {
-    let mut places = [None; MOST_CONNECTIONS];
+    let mut places = Places::new();
     let mut tally = Tally::new();
     let mut buffer = [0; MOST_IN_PIECE];
     let mut opened = 0;
@@ -51,7 +53,7 @@ fn one_more_if(counts: bool, count: u64) -> u64
 fn turn<R: Rows, D: Door>(
     core: &mut Core<'_, R>,
     door: &mut D,
-    places: &mut [Option<Seat>; MOST_CONNECTIONS],
+    places: &mut Places,
     tally: &mut Tally,
     buffer: &mut PieceBuffer,
 ) -> bool
@@ -70,7 +72,7 @@ fn turn<R: Rows, D: Door>(
 fn visit_places<R: Rows, D: Door>(
     core: &mut Core<'_, R>,
     door: &mut D,
-    places: &mut [Option<Seat>; MOST_CONNECTIONS],
+    places: &mut Places,
     tally: &mut Tally,
     buffer: &mut PieceBuffer,
 )
@@ -79,7 +81,8 @@ fn visit_places<R: Rows, D: Door>(
     ensures told { AsksPeers (D.told door.old) (D.told door.new) }
     ensures course { VisitsPlaces core.old (D.told door.old) places.old core.new (D.told door.new) places.new }
 {
-    for place in 0..MOST_CONNECTIONS {
+    let end = places.end();
+    for place in 0..end {
         visit_place(core, door, places, place, tally, buffer);
     }
 }
@@ -88,7 +91,7 @@ fn visit_places<R: Rows, D: Door>(
 fn visit_place<R: Rows, D: Door>(
     core: &mut Core<'_, R>,
     door: &mut D,
-    places: &mut [Option<Seat>; MOST_CONNECTIONS],
+    places: &mut Places,
     place: usize,
     tally: &mut Tally,
     buffer: &mut PieceBuffer,
@@ -98,12 +101,13 @@ fn visit_place<R: Rows, D: Door>(
     ensures faults { CountsFaults tally.old.faults (D.faults door.old) tally.new.faults (D.faults door.new) }
     ensures told { AsksPeers (D.told door.old) (D.told door.new) }
     ensures course { VisitsPlace place core.old (D.told door.old) places.old core.new (D.told door.new) places.new }
+    ensures places { MayFree place places.old places.new }
 {
-    let Some(seat) = &places[place] else {
+    let Some(seat) = places.seat(place) else {
         return;
     };
     if !visit(core, door, seat, tally, buffer) {
-        places[place] = None;
+        places.free(place);
     }
 }
 
@@ -127,7 +131,7 @@ fn take_moment<R: Rows, D: Door>(core: &mut Core<'_, R>, door: &mut D, tally: &m
 fn let_in<R: Rows, D: Door>(
     core: &mut Core<'_, R>,
     door: &mut D,
-    places: &mut [Option<Seat>; MOST_CONNECTIONS],
+    places: &mut Places,
     tally: &mut Tally,
 ) -> bool
     requires { tally.old.faults ≤ D.faults door.old }
@@ -150,7 +154,7 @@ fn seat<R: Rows, D: Door>(
     core: &mut Core<'_, R>,
     door: &mut D,
     peer: u32,
-    places: &mut [Option<Seat>; MOST_CONNECTIONS],
+    places: &mut Places,
     tally: &mut Tally,
 ) -> bool
     requires { tally.old.faults ≤ D.faults door.old }
@@ -164,16 +168,10 @@ fn seat<R: Rows, D: Door>(
     };
     let seat = Seat { peer, key };
     // A core that lets one in has fewer connections than there are places.
-    let Some(free) = first_free(places) else {
+    let Some(free) = places.first_free() else {
         let_go(core, door, &seat, tally);
         return false;
     };
-    places[free] = Some(seat);
+    places.give(free, seat);
     true
-}
-
-fn first_free(places: &[Option<Seat>; MOST_CONNECTIONS]) -> Option<usize>
-    ensures { result ≡ position is_none places.now }
-{
-    places.iter().position(|place| place.is_none())
 }

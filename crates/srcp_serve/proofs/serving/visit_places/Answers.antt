@@ -1,12 +1,16 @@
-use Rattle.std.proofs.Common.{◌≡◌, arith}
-use Rattle.srcp_serve.proofs.Hosting.{places_first, places_on, places_all}
+use Rattle.std.proofs.Common.{◌≡◌, ◌∙◌, ℕ, arith, subst, sym}
+use Rattle.srcp_serve.specs.Places.{AreFreeFrom}
+use Rattle.srcp_serve.proofs.FreePlaces.{length_kept, places_rest, still_free}
+use Rattle.srcp_serve.proofs.Hosting.{places_first, places_on}
 use Rattle.srcp_serve.proofs.Tallies.{counts_then, none_failed}
 use Rattle.srcp_serve.proofs.Turning.{asks_none, asks_then}
 use Rattle.srcp_serve.proofs.serving.visit_places.Goals as goal
 
 pub loop-place-init : goal.loop-place-init
 loop-place-init g c = record {
-  long = c.told-places;
+  long = c.end-end.ensures.all;
+  free = c.end-end.ensures.free;
+  most = c.end-end.ensures.most;
   faults = none_failed _ _ c.requires;
   told = asks_none (g.D.Door.told c.args.door.now);
   course = places_first c.args.core.now (g.D.Door.told c.args.door.now) c.args.places.now;
@@ -14,11 +18,19 @@ loop-place-init g c = record {
 
 pub loop-place-preserved : goal.loop-place-preserved
 loop-place-preserved g c = record {
-  long = c.visit_place.array_long;
+  long = length_kept c.loop-place.place c.loop-place.places c.visit_place.new.places c.visit_place.ensures.places
+      ∙ c.loop-place.invariant.long;
+  free = still_free c.end-end.result c.loop-place.place c.loop-place.places c.visit_place.new.places c.visit_place.ensures.places
+      c.loop-place.invariant.free;
+  most = c.loop-place.invariant.most;
   faults = counts_then _ _ _ _ _ _ c.loop-place.invariant.faults c.visit_place.ensures.faults;
-  told = asks_then (g.D.Door.told c.args.door.now) (g.D.Door.told c.loop-place.door) (g.D.Door.told c.visit_place.new.door) c.loop-place.invariant.told c.visit_place.ensures.told;
-  course = places_on c.loop-place.place c.args.core.now c.loop-place.core c.visit_place.new.core (g.D.Door.told c.args.door.now) (g.D.Door.told c.loop-place.door) (g.D.Door.told c.visit_place.new.door) c.args.places.now c.loop-place.places c.visit_place.new.places
-      c.loop-place.invariant.long c.loop-place-test.true c.visit_place.ensures.course c.loop-place.invariant.course c.visit_place.ensures.told;
+  told = asks_then (g.D.Door.told c.args.door.now) (g.D.Door.told c.loop-place.door) (g.D.Door.told c.visit_place.new.door)
+      c.loop-place.invariant.told c.visit_place.ensures.told;
+  course = places_on c.loop-place.place c.args.core.now c.loop-place.core c.visit_place.new.core (g.D.Door.told c.args.door.now)
+      (g.D.Door.told c.loop-place.door) (g.D.Door.told c.visit_place.new.door) c.args.places.now c.loop-place.places
+      c.visit_place.new.places
+      c.loop-place.invariant.long (omega (arith, c.loop-place-test.true, c.loop-place.invariant.most)) c.visit_place.ensures.course
+      c.loop-place.invariant.course c.visit_place.ensures.told;
 }
 
 pub visit_place-requires-clause-counted : goal.visit_place-requires-clause-counted
@@ -32,5 +44,8 @@ returns-clause-told g c = c.loop-place.invariant.told
 
 pub returns-clause-course : goal.returns-clause-course
 returns-clause-course g c =
-    let most : c.loop-place.place ≡ 64 = omega (arith, c.loop-place-test.false, c.loop-place.auto.place-end) in
-    places_all c.loop-place.place c.args.core.now c.loop-place.core (g.D.Door.told c.args.door.now) (g.D.Door.told c.loop-place.door) c.args.places.now c.loop-place.places c.loop-place.invariant.long most c.loop-place.invariant.course
+    let i = c.loop-place.invariant in
+    let last : c.loop-place.place ≡ c.end-end.result = omega (arith, c.loop-place-test.false, c.loop-place.auto.place-end) in
+    places_rest c.args.core.now c.loop-place.core (g.D.Door.told c.args.door.now) (g.D.Door.told c.loop-place.door) c.args.places.now
+    c.loop-place.places i.long c.loop-place.place (omega (arith, last, i.most))
+    (subst (λ (n : ℕ). AreFreeFrom n c.loop-place.places) (sym last) i.free) i.course
