@@ -36,8 +36,6 @@ enum Wrote {
 
 /// Reads from the peer and writes to it. Answers whether it keeps its place: it is let go where it is lost, or where
 /// its connection is to be closed.
-// Not inlined, so that a turn goes fast over the places that are free.
-#[inline(never)]
 pub(super) fn visit<R: Rows, D: Door>(
     core: &mut Core<'_, R>,
     door: &mut D,
