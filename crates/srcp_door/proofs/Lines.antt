@@ -5,7 +5,7 @@ use Rattle.std.proofs.Common.{subst, sym, ap, ◌∙◌, ⊎_elim}
 use Rattle.std.proofs.lemmas.Bool.{cases_Bool, cond_both}
 use Rattle.std.proofs.lemmas.Grind.{common_steps}
 use Rattle.std.proofs.lemmas.List.{take_rest}
-use Rattle.std.proofs.lemmas.List.Sums.{sum_by-cons, count_by_more_no, fold-append, fold_more}
+use Rattle.std.proofs.lemmas.List.Sums.{sum_by-append, sum_by-cons, count_by_more_no, count_by_more_yes, fold-append, fold_more}
 use Rattle.memchr.specs.Find.{Passes, is_byte, Nowhere, NoneBefore}
 use Rattle.srcp_door.specs.Pacing.{lines, begins_light, line_after, seen_after, seen_of}
 use Rattle.srcp_door.specs.declared.pacing.Line.{Line}
@@ -80,3 +80,19 @@ pub seen_of-end : (line : Line) (bytes : List ℕ) (i : ℕ) → i < length byte
     → seen_of line (take (i + 1) bytes) ≡ seen_after (seen_of line (take i bytes)) 10
 seen_of-end line bytes i within here =
     fold_more seen_after (record { line = line; weight = 0 }) bytes i 0 within ∙ ap (seen_after (seen_of line (take i bytes))) here
+
+-- a front has the lines of a shorter one where a search finds no line end behind that
+pub lines_of_part : (bytes : List ℕ) (i j : ℕ) → i ≤ j → j ≤ length bytes
+    → Nowhere (Passes (is_byte 10) (rest bytes i)) 0 (j - i) → lines (take i bytes) ≡ lines (take j bytes)
+lines_of_part bytes i j le within nowhere =
+    let none = lines-part bytes i j within nowhere in
+    let parts : i + (j - i) ≡ j = omega arith in
+    let sum = sum_by-append (λ (byte : ℕ). cond (byte == 10) 1 0) (take i bytes) (take (j - i) (drop i bytes)) in
+    let split : lines (take (i + (j - i)) bytes) ≡ lines (take i bytes) + lines (take (j - i) (drop i bytes)) = rw take-add sum in
+    let same = ap (λ n. lines (take n bytes)) parts in
+    omega (arith, split, same, none)
+
+-- a front has one line more than the one that lacks its line end
+pub lines_of-end : (bytes : List ℕ) (i : ℕ) → i < length bytes → slice_index bytes i ≡ 10
+    → lines (take (i + 1) bytes) ≡ lines (take i bytes) + 1
+lines_of-end bytes i within here = count_by_more_yes (λ byte. byte == 10) bytes i 0 within (ap (λ byte. byte == 10) here)

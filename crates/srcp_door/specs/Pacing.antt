@@ -63,6 +63,6 @@ budget_after budget share handed more = record {
 abbrev pub lines : List ℕ → ℕ
 lines bytes = count_by (λ byte. byte == 10) bytes
 
--- what a peer is owed after it sent bytes
-abbrev pub owed_after : Replies → List ℕ → Replies
-owed_after replies sent = record { owed = min (replies.owed + lines sent) (2 ^ 64 - 1); panel = replies.panel }
+-- what a peer is owed after it sent so many lines
+abbrev pub owed_after : Replies → ℕ → Replies
+owed_after replies count = record { owed = min (replies.owed + count) (2 ^ 64 - 1); panel = replies.panel }

@@ -110,7 +110,7 @@ impl Link {
             × (result ≡ cond pacing.old.end (due_end self.old.lost self.old.ahead.input self.old.ending) Given.Nothing)
             × (pacing.new ≡ record { left = pacing.old.left; refused = pacing.old.refused; end = cond (is_told result) false pacing.old.end }) }
         ensures handed { self.old.ahead.bytes ≢ [] → (is_told result ≡ not (length (given result buffer.new) == 0))
-            × (self.new ≡ record { gathered = self.old.gathered; ahead = self.new.ahead; ending = self.old.ending; share = share_after self.old.share (given result buffer.new); replies = owed_after self.old.replies (given result buffer.new); lost = self.old.lost })
+            × (self.new ≡ record { gathered = self.old.gathered; ahead = self.new.ahead; ending = self.old.ending; share = share_after self.old.share (given result buffer.new); replies = owed_after self.old.replies (lines (given result buffer.new)); lost = self.old.lost })
             × (pacing.new ≡ budget_after pacing.old self.old.share (given result buffer.new)
             (not (length (given result buffer.new) == min (min (length buffer.old) MOST_PIECE) (length self.old.ahead.bytes)))) }
         ensures len { length buffer.new ≡ length buffer.old }
@@ -120,9 +120,9 @@ impl Link {
         }
         let within = buffer.len().min(MOST_PIECE);
         let piece = self.ahead.piece(within);
-        let most = pacing.allow(&mut self.share, piece);
-        self.replies.sent(&piece[..most]);
-        self.ahead.hand_out(most, buffer)
+        let allowed = pacing.allow(&mut self.share, piece);
+        self.replies.sent(allowed.lines);
+        self.ahead.hand_out(allowed.count, buffer)
     }
 
     /// Returns whether a read has something to hand out or to tell now or in the next turn.

@@ -98,11 +98,20 @@ impl Seen {
     }
 }
 
-/// A prefix of some bytes.
+/// A prefix of some bytes, and what was seen of it.
 #[derive(Clone, Copy)]
 struct Front {
-    count: usize,
+    prefix: Prefix,
     seen: Seen,
+}
+
+/// A prefix of a piece.
+#[derive(Clone, Copy)]
+pub struct Prefix {
+    /// How many bytes it has.
+    pub count: usize,
+    /// How many lines end in it.
+    pub lines: usize,
 }
 
 /// How much the lines that are let through may still weigh in this turn, whether a peer was refused its first one, and
@@ -151,14 +160,15 @@ impl Pacing {
         round
     }
 
-    /// Returns how many bytes of a peer's piece may be handed out now. A peer that has its mark gets no line, and one that
+    /// Returns the prefix of a peer's piece that may be handed out now. A peer that has its mark gets no line, and one that
     /// gets a line gets its mark. Bytes that end no line may always be handed out.
-    pub fn allow(&mut self, share: &mut Share, piece: &[u8]) -> usize
-        ensures within { result ≤ length piece.now }
-        ensures few { weight_of share.old.line (take result piece.now) ≤ cond share.old.mark 0 self.old.left }
-        ensures most { result < length piece.now → (slice_index piece.now result ≡ 10) × ((share.old.mark ≡ true) ⊎ (self.new.left < HEAVY)) }
-        ensures share { share.new ≡ share_after share.old (take result piece.now) }
-        ensures budget { self.new ≡ budget_after self.old share.old (take result piece.now) (not (result == length piece.now)) }
+    pub fn allow(&mut self, share: &mut Share, piece: &[u8]) -> Prefix
+        ensures within { result.count ≤ length piece.now }
+        ensures lines { result.lines ≡ lines (take result.count piece.now) }
+        ensures few { weight_of share.old.line (take result.count piece.now) ≤ cond share.old.mark 0 self.old.left }
+        ensures most { result.count < length piece.now → (slice_index piece.now result.count ≡ 10) × ((share.old.mark ≡ true) ⊎ (self.new.left < HEAVY)) }
+        ensures share { share.new ≡ share_after share.old (take result.count piece.now) }
+        ensures budget { self.new ≡ budget_after self.old share.old (take result.count piece.now) (not (result.count == length piece.now)) }
         ensures fair { IsTrue self.new.refused → self.new.left < HEAVY }
     {
         let most = if share.mark { 0 } else { self.left };
@@ -167,10 +177,10 @@ impl Pacing {
         share.line = front.seen.line;
         if front.seen.weight > 0 {
             share.mark = true;
-        } else if !share.mark && front.count < piece.len() {
+        } else if !share.mark && front.prefix.count < piece.len() {
             self.refused = true;
         }
-        front.count
+        front.prefix
     }
 
     /// Returns whether the end of a peer may be told now, which is then the one of this turn.
@@ -188,25 +198,30 @@ impl Pacing {
 #[tactic(auto, using(crate::proofs::Lines::seen_of_part))]
 fn front_within(piece: &[u8], line: Line, most: usize) -> Front
     requires { most ≤ MOST_UNPACED }
-    ensures within { result.count ≤ length piece.now }
-    ensures seen { result.seen ≡ seen_of line (take result.count piece.now) }
+    ensures within { result.prefix.count ≤ length piece.now }
+    ensures lines { result.prefix.lines ≡ lines (take result.prefix.count piece.now) }
+    ensures seen { result.seen ≡ seen_of line (take result.prefix.count piece.now) }
     ensures few { result.seen.weight ≤ most }
-    ensures most { result.count < length piece.now → (slice_index piece.now result.count ≡ 10) × (most < result.seen.weight + HEAVY) }
+    ensures most { result.prefix.count < length piece.now → (slice_index piece.now result.prefix.count ≡ 10) × (most < result.seen.weight + HEAVY) }
 {
     let mut seen = Seen { line, weight: 0 };
+    let mut lines = 0;
     let mut start = 0;
     'lines: while let Some(length) = memchr(LINE_END, &piece[start..]) {
         let end = start + length;
         seen = seen.after(&piece[start..end]);
         let next = seen.after_end();
         if next.weight > most {
-            return Front { count: end, seen };
+            let prefix = Prefix { count: end, lines };
+            return Front { prefix, seen };
         }
         seen = next;
+        lines += 1;
         start = end + 1;
     }
+    let count = piece.len();
     Front {
-        count: piece.len(),
+        prefix: Prefix { count, lines },
         seen: seen.after(&piece[start..]),
     }
 }

@@ -29,11 +29,11 @@ impl Replies {
         }
     }
 
-    /// Adds the lines that end in bytes that the peer sent.
-    pub fn sent(&mut self, bytes: &[u8])
-        ensures { self.new ≡ owed_after self.old bytes.now }
+    /// Adds the lines that the peer sent.
+    pub fn sent(&mut self, lines: usize)
+        ensures { self.new ≡ owed_after self.old lines }
     {
-        self.owed = self.owed.saturating_add(lines_of(bytes));
+        self.owed = self.owed.saturating_add(lines);
     }
 
     /// Takes off the lines that end in bytes that the peer was written.
