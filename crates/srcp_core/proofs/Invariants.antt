@@ -5,6 +5,7 @@ pub mod EveryPlaceIsTold
 pub mod ChangesOneByOne
 pub mod DueInOneWalk
 pub mod PlacesCover
+pub mod PanelsStay
 pub mod SessionRows
 pub mod CoreStaysSound
 pub mod LinesAsk

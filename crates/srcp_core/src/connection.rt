@@ -1,5 +1,5 @@
 //! What is kept of one connection.
-ghost use Rattle.std.specs.Prelude.{◌≡◌, ◌≤◌, ◌+◌, ◌++◌, ◌⊎◌, [], length, drop, true, ◌&&◌, ◌||◌, IfOk, Some, is_some, vec_capacity};
+ghost use Rattle.std.specs.Prelude.{◌≡◌, ◌≤◌, ◌+◌, ◌++◌, ◌⊎◌, [], length, drop, true, ◌&&◌, ◌||◌, IfOk, Some, vec_capacity};
 ghost use Rattle.srcp_rules.specs.State.{shown_rows};
 ghost use Rattle.std.specs.List.{AllByRecursion};
 ghost use Rattle.srcp_info.specs.Line.{line as change_line, reply_line};
@@ -165,13 +165,6 @@ impl Connection {
         ensures { self.new ≡ without_sent count self.old }
     {
         self.start += count;
-    }
-
-    /// Whether it has an information session that did not overrun.
-    pub(crate) fn is_listening(&self) -> bool
-        ensures { result ≡ is_some (feed_in self.now.panel) }
-    {
-        matches!(self.panel, Panel::Listening(_))
     }
 
     /// Tells an information session a change. Where it would have to wait and can not, the session is over: what

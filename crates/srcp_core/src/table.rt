@@ -49,6 +49,8 @@ pub struct Core<'a, R: Rows> {
     moment: u64,
     last_id: u32,
     connections: Slab<Connection>,
+    // Whether a connection has an information session.
+    panels: bool,
     denied: u64,
     /// What came of the last command, kept so that its room is made once.
     obeyed: Obeyed,
@@ -56,14 +58,16 @@ pub struct Core<'a, R: Rows> {
 
 impl<'a, R: Rows> Model for Core<'a, R> {
     ghost use Rattle.std.specs.Prelude.{◌≡◌, ◌≤◌};
+    ghost use Rattle.std.specs.List.{list_any};
     ghost use Rattle.srcp_core.specs.Held.{Held, IsSound};
+    ghost use Rattle.srcp_core.specs.Machine.{has_panel};
     ghost use Rattle.srcp_core.specs.declared.limits.TheConstants.{MOST_CONNECTIONS};
 
     ghost Value = { Held };
 
     ghost view = { λ c. record { buses = c.layout.now; rows = R.state c.rows; moment = c.moment; last_id = c.last_id; places = c.connections.slots; denied = c.denied } };
 
-    ghost invariant = { λ c. IsSound (record { buses = c.layout.now; rows = R.state c.rows; moment = c.moment; last_id = c.last_id; places = c.connections.slots; denied = c.denied }) × (R.buses c.rows ≡ c.layout.now) × (MOST_CONNECTIONS ≤ c.connections.capacity) };
+    ghost invariant = { λ c. IsSound (record { buses = c.layout.now; rows = R.state c.rows; moment = c.moment; last_id = c.last_id; places = c.connections.slots; denied = c.denied }) × (R.buses c.rows ≡ c.layout.now) × (MOST_CONNECTIONS ≤ c.connections.capacity) × (c.panels ≡ list_any has_panel c.connections.slots) };
 }
 
 impl<'a, R: Rows> Core<'a, R> {
@@ -93,6 +97,7 @@ impl<'a, R: Rows> Core<'a, R> {
             moment,
             last_id,
             connections,
+            panels: false,
             denied: 0,
             obeyed: Obeyed::new(),
         })
@@ -104,6 +109,7 @@ impl<'a, R: Rows> Core<'a, R> {
     ///
     /// # Errors
     /// `Full` if 64 connections are open, and `Memory` if memory is refused, which is counted. All else stays as it is.
+    #[tactic(auto, using(crate::proofs::Invariants::PanelsStay::panels_inserted))]
     pub fn connect(&mut self) -> Result<usize, CoreFault>
         ensures admitted { IfOk result (λ key. IsAdmitted key self.old self.new) }
         ensures refused { IfErr result (λ fault. IsNotAdmitted fault self.old self.new) }

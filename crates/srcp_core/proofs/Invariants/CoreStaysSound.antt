@@ -24,9 +24,9 @@ use Rattle.srcp_rules.proofs.KeyLaws.{same_key, same_key-true}
 use Rattle.std.proofs.lemmas.Bool.{le-leb, eqb-false}
 use Rattle.std.proofs.Math.Nat.{pos_of_ne-zero}
 use Rattle.srcp_core.specs.declared.connection.Panel.{Panel}
-use Rattle.srcp_core.specs.Machine.{changed_at, changed_in, changed_places, carried, told_all, told_each, freed_of, freed_place, entered_place, session_begun, filled, filled_from, live_session_of, feed_in, panel_for}
+use Rattle.srcp_core.specs.declared.connection.Panel.TheVariants.{Absent, Listening, Overran}
+use Rattle.srcp_core.specs.Machine.{changed_at, changed_in, changed_places, carried, told_all, told_each, freed_of, freed_place, entered_place, session_begun, filled, filled_from, live_session_of, feed_in, is_panel, panel_for}
 use Rattle.srcp_info.specs.declared.change.Shown.{Shown}
-use Rattle.srcp_feed.specs.Feed.{Feed}
 use Rattle.srcp_core.proofs.Invariants.ChangesOneByOne.{change_in}
 use Rattle.srcp_core.proofs.Invariants.PlacesCover.{IsMild, mild_itself, mild_live, Covers, covers_itself, covers_set, covers_free, covers_told_each, told_each_count, set_count, free_other, sessions_covered, place_set, place_set_here, where_is, Where, Here, Away, no_place}
 use Rattle.srcp_core.proofs.Invariants.SessionRows.{no_session-opening}
@@ -250,7 +250,7 @@ sound_carried_as held updates rows places r p s =
 pub sound_ended : (key session : ℕ) (held : Held) → IsMoment held.moment → IsSessionAt session key held → IsSound held → IsSound (freed_of session (changed_at key (λ p. record p { ended = true }) held))
 sound_ended key session held now here s =
     let ends : Place → Place = λ p. record p { ended = true } in
-    let later = sound_changed_at key ends held (λ p. record { session = refl; ended = λ h. no_end p h }) s in
+    let later = sound_changed_at key ends held (λ p. record { session = refl; ended = λ h. no_end p h; panel = refl }) s in
     let now_there : at (changed_at key ends held) key ≡ Some (ends here.place) = ended_here here.place here.here in
     sound_freed session (changed_at key ends held) now (subst (λ n. n ≤ held.last_id) here.own (s.sessions.ids key here.place here.here))
     (subst (λ n. IsOver n (changed_at key ends held).places) here.own (over_ended key (changed_at key ends held) (ends here.place) now_there here.live.began refl later)) later
@@ -280,12 +280,13 @@ sound_hung_up key held p session e own began fewer s =
     (sound_free key held p e fewer s)
 
 pub filled_mild : (rows : List Shown) (p : Place) → IsMild p (filled rows p)
-filled_mild rows p = by p.unsent (feed_in p.panel)
+filled_mild rows p = by p.unsent p.panel refl
   where
-    by : (bytes : List ℕ) (feed : Option Feed) → IsMild p (filled_from rows p bytes feed)
-    by (byte ∷ bytes) feed = mild_itself p
-    by [] None = mild_itself p
-    by [] (Some feed) = record { session = refl; ended = λ h. h }
+    by : (bytes : List ℕ) (panel : Panel) → p.panel ≡ panel → IsMild p (filled_from rows p bytes (feed_in panel))
+    by (byte ∷ bytes) panel e = mild_itself p
+    by [] Absent e = mild_itself p
+    by [] (Listening feed) e = record { session = refl; ended = λ h. h; panel = ap is_panel (sym e) }
+    by [] Overran e = mild_itself p
 
 pub sound_place : (key : ℕ) (held : Held) (p q : Place) → at held key ≡ Some p → IsMild p q → IsSound held → IsSound (record held { places = slice_set held.places key (Some q) })
 sound_place key held p q e mild s =

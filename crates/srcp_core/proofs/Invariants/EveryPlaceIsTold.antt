@@ -1,13 +1,11 @@
 -- The walk that tells every connection a change.
-use Rattle.std.proofs.Common.{◌≡◌, ℕ, zero, suc, ◌+◌, List, [], ◌∷◌, refl, ap, sym, ◌∙◌, add-one, true≢false}
-use Rattle.std.specs.Prelude.{Option, Some, None, slice_index_or, slice_set, count_by, is_some, Bool, false, if◌then◌else◌}
+use Rattle.std.proofs.Common.{◌≡◌, ℕ, zero, suc, ◌+◌, List, [], ◌∷◌, refl, ap, sym, ◌∙◌, add-one}
+use Rattle.std.specs.Prelude.{Option, Some, None, slice_index_or, slice_set, count_by, is_some, Bool, if◌then◌else◌}
 use Rattle.std.specs.Option.{option_map}
-use Rattle.std.proofs.lemmas.List.{set-get_or}
 use Rattle.std.proofs.lemmas.List.Sums.{sum_by-cons}
 use Rattle.srcp_info.specs.declared.change.Change.{Change}
 use Rattle.srcp_core.specs.Held.{Place}
-use Rattle.srcp_feed.specs.Feed.{Feed}
-use Rattle.srcp_core.specs.Machine.{feed_in, told_feed, told_place, told_all, told_upto}
+use Rattle.srcp_core.specs.Machine.{told_place, told_all, told_upto}
 
 pub told_upto_at : (change : Change) (key : ℕ) (places : List (Option Place)) → slice_index_or (told_upto change key places) key None ≡ slice_index_or places key None
 told_upto_at change zero places = refl
@@ -38,22 +36,6 @@ pub told_step_none : (change : Change) (key : ℕ) (places now : List (Option Pl
 told_step_none change key places now e h =
     let here : slice_index_or places key None ≡ None = sym (told_upto_at change key places) ∙ ap (λ ps. slice_index_or ps key None) (sym e) ∙ h in
     e ∙ sym (told_upto_none change key places here) ∙ ap (λ k. told_upto change k places) (sym (add-one key))
-
--- a connection that does not listen is told nothing
-unheard : (change : Change) (place : Place) (feed : Option Feed) → feed_in place.panel ≡ feed → is_some feed ≡ false → told_place change place ≡ place
-unheard change place None e silent = ap (told_feed change place) e
-unheard change place (Some feed) e silent = absurd (true≢false silent)
-
-pub told_past_none : (change : Change) (key : ℕ) (places : List (Option Place)) → told_upto change key places ≡ places → slice_index_or places key None ≡ None
-    → told_upto change (key + 1) places ≡ places
-told_past_none change key places e h = sym (told_step_none change key places places (sym e) h)
-
-pub told_past_some : (change : Change) (key : ℕ) (places : List (Option Place)) (place : Place) → told_upto change key places ≡ places → slice_index_or places key None ≡ Some place
-    → is_some (feed_in place.panel) ≡ false → told_upto change (key + 1) places ≡ places
-told_past_some change key places place e h silent =
-    sym (told_step_some change key places places place (sym e) h)
-    ∙ ap (λ p. slice_set places key (Some p)) (unheard change place (feed_in place.panel) refl silent)
-    ∙ ap (slice_set places key) (sym h) ∙ set-get_or places key None
 
 pub count_by_cons : {X : Type 0} (p : X → Bool) (x : X) (xs : List X) → count_by p (x ∷ xs) ≡ (if p x then 1 else 0) + count_by p xs
 count_by_cons p x xs = sum_by-cons (λ y. if p y then 1 else 0) x xs

@@ -19,7 +19,6 @@ use Rattle.srcp_core.specs.declared.line.Asked.{Asked}
 use Rattle.srcp_core.specs.declared.line.Asked.TheVariants.{Dropped, Greets, Commands}
 use Rattle.srcp_core.proofs.Invariants.PlacesCover.{IsMild, place_set_here, where_is, Here, Away}
 use Rattle.srcp_core.proofs.Invariants.AnswersHaveRoom.{answered_gains}
-use Rattle.srcp_core.proofs.Invariants.CoreStaysSound.{sound_place}
 
 -- ---- how long an answer is
 
@@ -122,16 +121,14 @@ pub heard_mild : (buses : List Bus) (piece : List ℕ) (start : ℕ) (p : Place)
 heard_mild buses piece start p = by (position is_lf (drop start piece))
   where
     ends : (whole : Option (List ℕ)) (stop : ℕ) → IsMild p (heard_from buses p (fed_at whole stop, after_lf whole)).1
-    ends None stop = record { session = refl; ended = λ h. h }
-    ends (Some bytes) stop = record { session = refl; ended = λ h. h }
+    ends None stop = record { session = refl; ended = λ h. h; panel = refl }
+    ends (Some bytes) stop = record { session = refl; ended = λ h. h; panel = refl }
 
     by : (o : Option ℕ) → IsMild p (heard_from buses p (feed_at p.reader.begun start (drop start piece) o)).1
-    by None = record { session = refl; ended = λ h. h }
+    by None = record { session = refl; ended = λ h. h; panel = refl }
     by (Some len) = ends (extended p.reader.begun (take len (drop start piece))) (start + len + 1)
 
 -- and the core is as sound as before
-pub sound_heard : (key : ℕ) (piece : List ℕ) (start : ℕ) (held : Held) (p new : Place) → at held key ≡ Some p → new ≡ (heard held.buses piece start p).1 → IsSound held → IsSound (record held { places = slice_set held.places key (Some new) })
-sound_heard key piece start held p new there is s = sound_place key held p new there (subst (IsMild p) (sym is) (heard_mild held.buses piece start p)) s
 
 -- ---- in a piece
 

@@ -5,19 +5,21 @@ use Rattle.std.specs.Prelude.{◌&&◌, Option, Some, None, is_some, slice_set, 
 use Rattle.srcp_info.specs.declared.change.Change.{Change}
 use Rattle.srcp_rules.specs.State.{State, session_device, is_there}
 use Rattle.srcp_feed.specs.Cursor.{concerns}
-use Rattle.srcp_feed.specs.Feed.{Feed, is_full, told}
+use Rattle.srcp_feed.specs.Feed.{is_full, told}
 use Rattle.srcp_core.specs.Held.{Place, place_at, IsLive, AreSessions}
-use Rattle.srcp_core.specs.Machine.{told_feed, told_place, told_all, told_each, feed_in, changed_in, changed_places}
-use Rattle.srcp_core.specs.declared.connection.Panel.TheVariants.{Listening, Overran}
+use Rattle.srcp_core.specs.Machine.{is_panel, told_feed, told_place, told_all, told_each, feed_in, changed_in, changed_places}
+use Rattle.srcp_core.specs.declared.connection.Panel.{Panel}
+use Rattle.srcp_core.specs.declared.connection.Panel.TheVariants.{Absent, Listening, Overran}
 use Rattle.srcp_core.proofs.Invariants.EveryPlaceIsTold.{count_by_cons, told_all_count, told_all_at}
 
--- the session is the same, and an end is not undone
+-- the session is the same, an end is not undone, and a panel stays one
 pub record IsMild (p q : Place) : Type 0 where
   pub session : q.session ≡ p.session
   pub ended : q.ended ≡ false → p.ended ≡ false
+  pub panel : is_panel q.panel ≡ is_panel p.panel
 
 pub mild_itself : (p : Place) → IsMild p p
-mild_itself p = record { session = refl; ended = λ h. h }
+mild_itself p = record { session = refl; ended = λ h. h; panel = refl }
 
 pub mild_live : (p q : Place) → IsMild p q → IsLive q → IsLive p
 mild_live p q m l = record { began = subst (λ n. 0 < n) m.session l.began; not_ended = m.ended l.not_ended }
@@ -38,7 +40,11 @@ pub covers_across : (a b c : List (Option Place)) → Covers a b → Covers b c 
 covers_across a b c f g key q e =
     let s = g key q e in
     let t = f key s.p s.there in
-    record { p = t.p; there = t.there; mild = record { session = s.mild.session ∙ t.mild.session; ended = λ h. t.mild.ended (s.mild.ended h) } }
+    record {
+      p = t.p;
+      there = t.there;
+      mild = record { session = s.mild.session ∙ t.mild.session; ended = λ h. t.mild.ended (s.mild.ended h); panel = s.mild.panel ∙ t.mild.panel };
+    }
 
 -- ---- a place is set
 
@@ -97,14 +103,16 @@ free_other places key p at m r e s =
 -- ---- a change is told
 
 pub told_mild : (change : Change) (p : Place) → IsMild p (told_place change p)
-told_mild change p = by (feed_in p.panel)
+told_mild change p = by p.panel refl
   where
-    by : (feed : Option Feed) → IsMild p (told_feed change p feed)
-    by None = mild_itself p
-    by (Some feed) = elim (concerns feed.cursor change && is_full feed) as (λ t. IsMild p (cond t (record p { unsent = []; panel = Overran }) (record p { panel = Listening (told change feed) }))) [
-      | true ↦ record { session = refl; ended = λ h. h }
-      | false ↦ record { session = refl; ended = λ h. h }
-    ]
+    by : (panel : Panel) → p.panel ≡ panel → IsMild p (told_feed change p (feed_in panel))
+    by Absent e = mild_itself p
+    by Overran e = mild_itself p
+    by (Listening feed) e = elim (concerns feed.cursor change && is_full feed)
+        as (λ t. IsMild p (cond t (record p { unsent = []; panel = Overran }) (record p { panel = Listening (told change feed) }))) [
+          | true ↦ record { session = refl; ended = λ h. h; panel = ap is_panel (sym e) }
+          | false ↦ record { session = refl; ended = λ h. h; panel = ap is_panel (sym e) }
+        ]
 
 pub covers_told : (change : Change) (places : List (Option Place)) → Covers places (told_all change places)
 covers_told change places key q e = by (place_at places key) refl (sym (told_all_at change places key) ∙ e)

@@ -11,7 +11,7 @@ ghost use Rattle.srcp_core.specs.Under.{denied_by, wants_memory};
 ghost use Rattle.srcp_core.specs.Machine.{changed_at, unsent_at, one_denied, replied, denied_line, session_begun, goes, greeted, carried, freed_of, answered, commanded, longest, longest_answer, steps_answered, steps_gone, steps_greeted, steps_commanded, steps_in, IsAsked};
 
 use super::Core;
-use super::walk::{free_all, tell_all, tell_each};
+use super::walk::{any_panel, free_all, tell_all, tell_each};
 use crate::connection::Panel;
 use crate::handshake::Greeting;
 use crate::limits::{LAST_ID, MOST_UNSENT};
@@ -114,11 +114,12 @@ impl<'a, R: Rows> Core<'a, R> {
         let panel = Panel::of_mode(self.alloc, mode, &self.rows)?;
         let change = begin_session(&mut self.rows, id, self.moment, mode)?;
         self.last_id = id;
-        tell_all(&mut self.connections, &change);
+        tell_all(&mut self.connections, self.panels, &change);
         let Some(connection) = self.connections.get_mut(conn) else {
             return Ok(());
         };
         connection.enter(id, panel);
+        self.panels = any_panel(&self.connections);
         Ok(())
     }
 
@@ -197,7 +198,11 @@ impl<'a, R: Rows> Core<'a, R> {
         if is_denied(&self.obeyed.reply) {
             return None;
         }
-        tell_each(&mut self.connections, self.obeyed.changes.as_slice());
+        tell_each(
+            &mut self.connections,
+            self.panels,
+            self.obeyed.changes.as_slice(),
+        );
         Some(Outcome {
             reply: self.obeyed.reply,
             ends: self.obeyed.ends,
@@ -213,7 +218,13 @@ impl<'a, R: Rows> Core<'a, R> {
             return;
         };
         connection.end();
-        free_all(&mut self.rows, &mut self.connections, session, self.moment);
+        free_all(
+            &mut self.rows,
+            &mut self.connections,
+            self.panels,
+            session,
+            self.moment,
+        );
     }
 
     /// Puts a reply at the end of what is to be sent.

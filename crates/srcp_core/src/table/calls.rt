@@ -6,7 +6,7 @@ ghost use Rattle.srcp_core.specs.Held.{at};
 ghost use Rattle.srcp_core.specs.Machine.{advanced, has_panel, hung_up};
 
 use super::Core;
-use super::walk::{carry_out_due, free_all};
+use super::walk::{any_panel, carry_out_due, free_all};
 use crate::record::CoreFault;
 use srcp_rules::Rows;
 
@@ -17,7 +17,12 @@ impl<'a, R: Rows> Core<'a, R> {
         ensures { self.new ≡ advanced moment self.old }
     {
         self.moment = self.moment.max(moment);
-        carry_out_due(&mut self.rows, &mut self.connections, self.moment);
+        carry_out_due(
+            &mut self.rows,
+            &mut self.connections,
+            self.panels,
+            self.moment,
+        );
     }
 
     /// Returns the moment at which the first of the rows falls due, in milliseconds; none if no row has a due moment. Until then
@@ -33,12 +38,7 @@ impl<'a, R: Rows> Core<'a, R> {
     pub fn has_panels(&self) -> bool
         ensures { result ≡ list_any has_panel self.now.places }
     {
-        for (_, connection) in self.connections.iter() {
-            if connection.is_panel() {
-                return true;
-            }
-        }
-        false
+        self.panels
     }
 
     /// Takes a connection out. Its session then ends, if it has one that did not end: its locks are taken out in key order,
@@ -54,8 +54,15 @@ impl<'a, R: Rows> Core<'a, R> {
         let Some(connection) = self.connections.try_remove(conn) else {
             return Err(CoreFault::NoSuch);
         };
+        self.panels = any_panel(&self.connections);
         if let Some(session) = connection.live_session() {
-            free_all(&mut self.rows, &mut self.connections, session, self.moment);
+            free_all(
+                &mut self.rows,
+                &mut self.connections,
+                self.panels,
+                session,
+                self.moment,
+            );
         }
         Ok(())
     }

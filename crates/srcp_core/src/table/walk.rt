@@ -1,11 +1,11 @@
 //! Walks over all connections, and over the changes of a moment and of a session's end.
 ghost use Rattle.std.specs.Prelude.{◌≡◌, ◌≤◌, map};
-ghost use Rattle.std.specs.List.{AllByRecursion};
+ghost use Rattle.std.specs.List.{AllByRecursion, list_any};
 ghost use Rattle.srcp_info.specs.declared.change.Change.{Change};
 ghost use Rattle.srcp_info.specs.WellFormed.{IsWellFormed};
 ghost use Rattle.srcp_rules.specs.Due.{due, freed};
 ghost use Rattle.srcp_rules.specs.State.{IsWhole, updated_all};
-ghost use Rattle.srcp_core.specs.Machine.{told_all, told_each, told_upto};
+ghost use Rattle.srcp_core.specs.Machine.{has_panel, told_all, told_each, told_upto};
 
 use crate::connection::Connection;
 use slab::Slab;
@@ -13,19 +13,31 @@ use srcp_feed::ChangeLine;
 use srcp_info::{Change, Cursor};
 use srcp_rules::{Rows, due_next, free_next};
 
-/// Every connection is told the change.
-pub(crate) fn tell_all(connections: &mut Slab<Connection>, change: &Change)
-    requires { IsWellFormed change.now }
+/// Returns whether a connection has an information session.
+pub(crate) fn any_panel(connections: &Slab<Connection>) -> bool
+    ensures { result ≡ list_any has_panel connections.now.slots }
+{
+    for (_, connection) in connections.iter() {
+        if connection.is_panel() {
+            return true;
+        }
+    }
+    false
+}
+
+/// Tells every connection the change. Where none has an information session, it walks over no places.
+pub(crate) fn tell_all(connections: &mut Slab<Connection>, panels: bool, change: &Change)
+    requires panels { panels ≡ list_any has_panel connections.old.slots }
+    requires change { IsWellFormed change.now }
     ensures slots { connections.new.slots ≡ told_all change.now connections.old.slots }
     ensures capacity { connections.new.capacity ≡ connections.old.capacity }
 {
-    let end = end_of_keys(connections);
-    let first = first_panel(connections, end);
-    if first == end {
+    if !panels {
         return;
     }
+    let end = end_of_keys(connections);
     let told = ChangeLine::new(change);
-    for key in first..end {
+    for key in 0..end {
         if let Some(connection) = connections.get_mut(key) {
             connection.tell(&told);
         }
@@ -44,29 +56,16 @@ fn end_of_keys(connections: &Slab<Connection>) -> usize
     }
 }
 
-/// Returns the least key of a connection that may be told a change; `end` if there is none below it.
-fn first_panel(connections: &Slab<Connection>, end: usize) -> usize
-    ensures within { result ≤ end }
-    ensures before { (change : Change) → told_upto change result connections.now.slots ≡ connections.now.slots }
-{
-    for key in 0..end {
-        if let Some(connection) = connections.get(key) {
-            if connection.is_listening() {
-                return key;
-            }
-        }
-    }
-    end
-}
-
-/// And is told each change in turn.
-pub(crate) fn tell_each(connections: &mut Slab<Connection>, changes: &[Change])
-    requires { AllByRecursion IsWellFormed changes.now }
+/// Tells every connection each change in turn.
+#[tactic(auto, using(crate::proofs::Invariants::PanelsStay::panels_told_each))]
+pub(crate) fn tell_each(connections: &mut Slab<Connection>, panels: bool, changes: &[Change])
+    requires panels { panels ≡ list_any has_panel connections.old.slots }
+    requires changes { AllByRecursion IsWellFormed changes.now }
     ensures slots { connections.new.slots ≡ told_each changes.now connections.old.slots }
     ensures capacity { connections.new.capacity ≡ connections.old.capacity }
 {
     for change in changes {
-        tell_all(connections, change);
+        tell_all(connections, panels, change);
     }
 }
 
@@ -74,23 +73,31 @@ pub(crate) fn tell_each(connections: &mut Slab<Connection>, changes: &[Change])
 pub(crate) fn free_all<R: Rows>(
     rows: &mut R,
     connections: &mut Slab<Connection>,
+    panels: bool,
     session: u32,
     moment: u64,
 )
     requires whole { IsWhole (R.buses rows.old) (R.state rows.old) }
+    requires panels { panels ≡ list_any has_panel connections.old.slots }
     ensures layout { R.buses rows.new ≡ R.buses rows.old }
     ensures rows { R.state rows.new ≡ updated_all (freed (R.state rows.old) session moment) (R.state rows.old) }
     ensures slots { connections.new.slots ≡ told_each (map (λ update. update.change) (freed (R.state rows.old) session moment)) connections.old.slots }
     ensures capacity { connections.new.capacity ≡ connections.old.capacity }
 {
     while let Some(change) = free_next(rows, session, moment) {
-        tell_all(connections, &change);
+        tell_all(connections, panels, &change);
     }
 }
 
 /// What is due at the moment is carried out in key order, and every connection is told.
-pub(crate) fn carry_out_due<R: Rows>(rows: &mut R, connections: &mut Slab<Connection>, moment: u64)
+pub(crate) fn carry_out_due<R: Rows>(
+    rows: &mut R,
+    connections: &mut Slab<Connection>,
+    panels: bool,
+    moment: u64,
+)
     requires whole { IsWhole (R.buses rows.old) (R.state rows.old) }
+    requires panels { panels ≡ list_any has_panel connections.old.slots }
     ensures layout { R.buses rows.new ≡ R.buses rows.old }
     ensures rows { R.state rows.new ≡ updated_all (due (R.state rows.old) moment) (R.state rows.old) }
     ensures slots { connections.new.slots ≡ told_each (map (λ update. update.change) (due (R.state rows.old) moment)) connections.old.slots }
@@ -98,7 +105,7 @@ pub(crate) fn carry_out_due<R: Rows>(rows: &mut R, connections: &mut Slab<Connec
 {
     let mut at = Cursor::Start;
     while let Some(change) = due_next(rows, moment, at) {
-        tell_all(connections, &change);
+        tell_all(connections, panels, &change);
         at = Cursor::After(change.key());
     }
 }

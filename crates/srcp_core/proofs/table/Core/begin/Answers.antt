@@ -4,6 +4,7 @@ use Rattle.srcp_core.specs.Held.{Held, IsSound}
 use Rattle.srcp_core.specs.Machine.{session_begun}
 use Rattle.srcp_core.proofs.Invariants.CoreStaysSound.{begun_is, sound_begun}
 use Rattle.srcp_core.proofs.Invariants.PlacesCover.{set_as, none_as}
+use Rattle.srcp_core.proofs.Invariants.PanelsStay.{panels_told}
 use Rattle.srcp_core.proofs.table.Core.begin.Goals as goal
 
 pub returns-clause-ok : goal.returns-clause-ok
@@ -30,6 +31,7 @@ invariant_of-self-2 g c =
           (sound_begun c.args.conn c.args.id c.args.mode held c.self.invariant.0.moment next (omega arith) c.self.invariant.0),
       c.in_ok-change.ensures.layout ∙ c.self.invariant.1,
       subst (λ n. 64 ≤ n) (sym c.tell_all.ensures.capacity) c.self.invariant.2,
+      c.any_panel-self-inside.ensures,
     )
 
 pub invariant_of-self-in_default : goal.invariant_of-self-in_default
@@ -42,4 +44,5 @@ invariant_of-self-in_default g c =
           (sound_begun c.args.conn c.args.id c.args.mode held c.self.invariant.0.moment next (omega arith) c.self.invariant.0),
       c.in_ok-change.ensures.layout ∙ c.self.invariant.1,
       subst (λ n. 64 ≤ n) (sym c.tell_all.ensures.capacity) c.self.invariant.2,
+      rw (c.tell_all.ensures.slots, panels_told) c.self.invariant.3,
     )

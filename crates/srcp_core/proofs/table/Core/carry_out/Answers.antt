@@ -6,6 +6,7 @@ use Rattle.srcp_core.specs.Held.{Held, IsSound}
 use Rattle.srcp_core.specs.Machine.{told_each}
 use Rattle.srcp_core.proofs.Invariants.RefusalsChangeNothing.{denied_same, given_took}
 use Rattle.srcp_core.proofs.Invariants.CoreStaysSound.{sound_obeyed, sound_carried_as}
+use Rattle.srcp_core.proofs.Invariants.PanelsStay.{panels_told_each}
 use Rattle.srcp_core.proofs.table.Core.carry_out.Goals as goal
 
 pub invariant_of-self-2 : goal.invariant_of-self-2
@@ -19,6 +20,7 @@ invariant_of-self-2 g c =
           (sound_obeyed c.args.session held.moment c.args.command.now held c.self.invariant.0.moment of row c.self.invariant.0),
       c.obey_into.ensures.layout ∙ c.self.invariant.1,
       subst (λ n. 64 ≤ n) (sym c.tell_each.ensures.capacity) c.self.invariant.2,
+      rw (c.tell_each.ensures.slots, panels_told_each) c.self.invariant.3,
     )
 
 pub invariant_of-self : goal.invariant_of-self
@@ -28,4 +30,5 @@ invariant_of-self g c =
       subst (λ (s : State). IsSound (record held { rows = s })) (sym same) c.self.invariant.0,
       c.obey_into.ensures.layout ∙ c.self.invariant.1,
       c.self.invariant.2,
+      c.self.invariant.3,
     )

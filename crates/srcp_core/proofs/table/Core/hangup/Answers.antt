@@ -5,6 +5,7 @@ use Rattle.srcp_core.specs.Held.{Held, Place, at, open_count}
 use Rattle.srcp_core.specs.Machine.{freed_place, told_each}
 use Rattle.srcp_core.proofs.Invariants.ChangesOneByOne.{change_in}
 use Rattle.srcp_core.proofs.Invariants.CoreStaysSound.{live_session_is, sound_hung_up, sound_carried_as}
+use Rattle.srcp_core.proofs.Invariants.PanelsStay.{panels_told_each}
 use Rattle.srcp_core.proofs.table.Core.hangup.Goals as goal
 
 pub invariant_of-self-in-Some-live_session : goal.invariant_of-self-in-Some-live_session
@@ -20,4 +21,5 @@ invariant_of-self-in-Some-live_session g c =
           (sound_hung_up c.args.conn held c.in-Some.connection session there live.0 live.1 count c.self.invariant.0),
       c.free_all.ensures.layout ∙ c.self.invariant.1,
       subst (λ n. 64 ≤ n) (sym (c.free_all.ensures.capacity ∙ c.in-Some.ensures.capacity)) c.self.invariant.2,
+      rw (c.free_all.ensures.slots, panels_told_each) c.any_panel-self-inside.ensures,
     )

@@ -1,6 +1,8 @@
 use Rattle.std.proofs.Common.{sym, ap, subst, ◌∙◌}
+use Rattle.std.specs.List.{list_any}
 use Rattle.srcp_rules.specs.Layout.{IsLayout}
 use Rattle.srcp_rules.specs.State.{opening}
+use Rattle.srcp_core.specs.Machine.{has_panel}
 use Rattle.srcp_core.proofs.Invariants.CoreStaysSound.{sound_opening}
 use Rattle.srcp_core.proofs.table.Core.new.Goals as goal
 
@@ -16,4 +18,5 @@ invariant_of-result g c = (
       (c.stamp_all.ensures.rows ∙ ap (λ buses. opening buses c.args.moment) c.in_ok-rows.ensures.layout) c.in_ok-connections.connections.slots c.in_ok-connections.ensures.empty,
   c.stamp_all.ensures.layout ∙ c.in_ok-rows.ensures.layout,
   c.in_ok-connections.ensures.capacity,
+  sym (ap (list_any has_panel) c.in_ok-connections.ensures.empty),
 )

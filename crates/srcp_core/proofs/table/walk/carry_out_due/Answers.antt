@@ -5,10 +5,11 @@ use Rattle.srcp_rules.specs.State.{updated_all}
 use Rattle.srcp_core.specs.Machine.{told_each}
 use Rattle.srcp_core.proofs.Invariants.DueInOneWalk.{AreAhead, all_ahead, due_ahead, due_goes_on, due_stops}
 use Rattle.srcp_core.proofs.Invariants.ChangesOneByOne.{change_in}
+use Rattle.srcp_core.proofs.Invariants.PanelsStay.{panels_told}
 use Rattle.srcp_core.proofs.table.walk.carry_out_due.Goals as goal
 
-pub tell_all-requires : goal.tell_all-requires
-tell_all-requires g c =
+pub tell_all-requires-clause-change : goal.tell_all-requires-clause-change
+tell_all-requires-clause-change g c =
     (due_goes_on (g.R.Rows.buses c.args.rows.now) c.args.moment c.ranges.moment.fits (g.R.Rows.state c.loop-change.rows) c.loop-change.at c.loop-change.invariant.ahead c.loop-change.invariant.whole
     c.in-Some.change (g.R.Rows.state c.due_next.new.rows) c.loop-change.connections.slots (sym c.in-Some.is ∙ c.due_next.ensures.change) c.due_next.ensures.rows).told
 
@@ -23,6 +24,7 @@ loop-change-init g c = record {
   whole = c.requires.whole;
   ahead = all_ahead (due (g.R.Rows.state c.args.rows.now) c.args.moment);
   rows = refl;
+  panels = c.requires.panels;
   slots = refl;
   capacity = refl;
 }
@@ -38,6 +40,7 @@ loop-change-preserved g c =
           (due_ahead (g.R.Rows.buses c.args.rows.now) c.args.moment c.ranges.moment.fits (g.R.Rows.state c.loop-change.rows) c.loop-change.at c.loop-change.invariant.ahead c.loop-change.invariant.whole
           c.in-Some.change (g.R.Rows.state c.due_next.new.rows) (sym c.in-Some.is ∙ c.due_next.ensures.change) c.due_next.ensures.rows);
       rows = s.rows ∙ c.loop-change.invariant.rows;
+      panels = rw (c.tell_all.ensures.slots, panels_told) c.loop-change.invariant.panels;
       slots = ap (λ places. told_each (map change_in (due (g.R.Rows.state c.due_next.new.rows) c.args.moment)) places) c.tell_all.ensures.slots ∙ s.slots ∙ c.loop-change.invariant.slots;
       capacity = c.tell_all.ensures.capacity ∙ c.loop-change.invariant.capacity;
     }

@@ -5,10 +5,11 @@ use Rattle.srcp_rules.proofs.FreedStepLaws.{freed_later}
 use Rattle.srcp_rules.proofs.ToldLaws.{freed_told}
 use Rattle.srcp_core.specs.Machine.{told_each}
 use Rattle.srcp_core.proofs.Invariants.ChangesOneByOne.{change_in, goes_on, stops}
+use Rattle.srcp_core.proofs.Invariants.PanelsStay.{panels_told}
 use Rattle.srcp_core.proofs.table.walk.free_all.Goals as goal
 
-pub tell_all-requires : goal.tell_all-requires
-tell_all-requires g c =
+pub tell_all-requires-clause-change : goal.tell_all-requires-clause-change
+tell_all-requires-clause-change g c =
     (goes_on (g.R.Rows.buses c.args.rows.now) (λ state. freed state c.args.session c.args.moment) (λ state whole. freed_later (g.R.Rows.buses c.args.rows.now) state whole c.args.moment c.args.session) (λ state whole. freed_told (g.R.Rows.buses c.args.rows.now) state whole c.args.moment c.ranges.moment.fits c.args.session)
     (g.R.Rows.state c.loop-change.rows) c.loop-change.invariant.whole c.in-Some.change (g.R.Rows.state c.free_next.new.rows) c.loop-change.connections.slots
     (sym c.in-Some.is ∙ c.free_next.ensures.change) (c.free_next.ensures.rows)).told
@@ -28,6 +29,7 @@ loop-change-preserved g c =
       layout = c.free_next.ensures.layout ∙ c.loop-change.invariant.layout;
       whole = s.whole;
       rows = s.rows ∙ c.loop-change.invariant.rows;
+      panels = rw (c.tell_all.ensures.slots, panels_told) c.loop-change.invariant.panels;
       slots = ap (λ places. told_each (map change_in (freed (g.R.Rows.state c.free_next.new.rows) c.args.session c.args.moment)) places) c.tell_all.ensures.slots ∙ s.slots ∙ c.loop-change.invariant.slots;
       capacity = c.tell_all.ensures.capacity ∙ c.loop-change.invariant.capacity;
     }

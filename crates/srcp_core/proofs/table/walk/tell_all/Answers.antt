@@ -5,6 +5,7 @@ use Rattle.srcp_info.specs.declared.change.Change.{Change}
 use Rattle.srcp_core.specs.Held.{Place}
 use Rattle.srcp_core.specs.Machine.{told_place, told_upto}
 use Rattle.srcp_core.proofs.Invariants.EveryPlaceIsTold.{told_step_some, told_step_none}
+use Rattle.srcp_core.proofs.Invariants.PanelsStay.{told_to_none}
 use Rattle.srcp_core.proofs.table.walk.tell_all.Goals as goal
 use Rattle.srcp_core.proofs.table.walk.tell_all.Goals.{in-Some, in_default}
 
@@ -31,7 +32,5 @@ returns-clause-slots c =
     let e : c.loop-key.key ≡ c.end_of_keys-end.result = omega (arith, c.loop-key.auto.key-end, c.loop-key-test.false) in
     c.loop-key.invariant.slots ∙ ap (λ (key : ℕ). told_upto c.args.change.now key c.args.connections.now.slots) e ∙ c.end_of_keys-end.ensures c.args.change.now
 
-pub returns-then-first-end-clause-slots : goal.returns-then-first-end-clause-slots
-returns-then-first-end-clause-slots c =
-    sym (c.first_panel-first.ensures.before c.args.change.now)
-    ∙ ap (λ (key : ℕ). told_upto c.args.change.now key c.args.connections.now.slots) c.if-first-end.true ∙ c.end_of_keys-end.ensures c.args.change.now
+pub returns-then-not-panels-clause-slots : goal.returns-then-not-panels-clause-slots
+returns-then-not-panels-clause-slots c = sym (told_to_none c.args.change.now _ (sym c.requires.panels ∙ c.if-not-panels.true))

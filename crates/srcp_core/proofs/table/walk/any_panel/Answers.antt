@@ -2,9 +2,9 @@ use Rattle.std.proofs.Common.{◌≡◌, ℕ, ◌+◌, List, [], ◌∷◌, refl
 use Rattle.std.specs.Prelude.{Option, Some, None, ◌||◌}
 use Rattle.std.specs.List.{list_any}
 use Rattle.slab.specs.Slab.{entries_from}
-use Rattle.srcp_core.specs.Held.{Held, Place}
+use Rattle.srcp_core.specs.Held.{Place}
 use Rattle.srcp_core.specs.Machine.{has_panel, is_panel}
-use Rattle.srcp_core.proofs.table.Core.has_panels.Goals as goal
+use Rattle.srcp_core.proofs.table.walk.any_panel.Goals as goal
 
 -- a place has a panel if an entry has one
 panel_among : (first : ℕ) (places : List (Option Place))
@@ -14,9 +14,6 @@ panel_among first (None ∷ places) = panel_among (first + 1) places
 panel_among first (Some place ∷ places) = ap (λ rest. is_panel place.panel || rest) (panel_among (first + 1) places)
 
 pub loop-connection-init : goal.loop-connection-init
-loop-connection-init g c =
-    let left = c.into_iter-connection-iterator.ensures.into_iter_gives ∙ c.iter-connection-items.ensures.rest in (
-      tt,
-      tt,
-      rw left (panel_among 0 c.self.inside.connections.slots ∙ ap (λ (h : Held). list_any has_panel h.places) c.self.view_is),
-    )
+loop-connection-init c =
+    let left = c.into_iter-connection-iterator.ensures.into_iter_gives ∙ c.iter-connection-items.ensures.rest in
+    (tt, tt, rw left (panel_among 0 c.args.connections.now.slots))
