@@ -1,12 +1,13 @@
-ghost use Rattle.std.specs.Prelude.{◌≡◌, ◌<◌, [], ◌∷◌, ◌++◌, true, map, Some, IfOk, IfSome, OnOk};
+ghost use Rattle.std.specs.Prelude.{◌≡◌, ◌<◌, [], ◌∷◌, ◌++◌, true, map, Some, IfOk, IfSome, OnOk, option_copied};
 ghost use Rattle.std.specs.List.{AllByRecursion};
 ghost use Rattle.std.specs.Map.{keys_of};
+ghost use Rattle.std.specs.BTreeMap.{get};
 ghost use Rattle.srcp_info.specs.declared.key.Key.{Key};
 ghost use Rattle.srcp_info.specs.Key.{has_reached};
 ghost use Rattle.srcp_rules.specs.Layout.{server};
 ghost use Rattle.srcp_rules.specs.Sought.{sought_after};
 ghost use Rattle.srcp_rules.specs.State.{opening, row_after};
-ghost use Rattle.srcp_rules.specs.Nested.{AreRowsOfBus, AreSorted, bus_rows, entry_at, listed};
+ghost use Rattle.srcp_rules.specs.Nested.{AreRowsOfBus, AreSorted, bus_rows, listed};
 
 mod bus_rows;
 mod device_rows;
@@ -54,10 +55,7 @@ impl Rows for Nested {
     }
 
     fn row(&self, key: &Key) -> Option<&Row> {
-        match self.by_number.get(&key.bus) {
-            Some(rows) => rows.row(key),
-            None => None,
-        }
+        value_at(&self.by_number, key.bus)?.row(key)
     }
 
     fn row_after(&self, cursor: Cursor) -> Option<&Row> {
@@ -113,7 +111,7 @@ impl Nested {
         let Cursor::After(last) = cursor else {
             return None;
         };
-        let rows = rows_of(&self.by_number, last.bus)?;
+        let rows = value_at(&self.by_number, last.bus)?;
         rows.row_after_in_group(last.bus, last.group, cursor)
     }
 
@@ -163,13 +161,13 @@ fn add_bus(buses: &mut BTreeMap<u8, BusRows>, number: u8, rows: BusRows) -> Resu
     }
 }
 
-/// Finds the rows of a bus. A range compares keys in fewer steps than a look-up.
+/// Finds the value at a key. A range compares keys in fewer steps than a look-up.
 #[inline(always)]
-fn rows_of(buses: &BTreeMap<u8, BusRows>, bus: u8) -> Option<&BusRows>
-    ensures { IfSome result (λ rows. Some rows.now ≡ entry_at bus buses.now.entries) }
+fn value_at<K: Ord + Copy, V>(entries: &BTreeMap<K, V>, key: K) -> Option<&V>
+    ensures { option_copied result ≡ get K.cmp entries.now key }
 {
-    let (number, rows) = buses.range(bus..).next()?;
-    if *number == bus { Some(rows) } else { None }
+    let (found, value) = entries.range(key..).next()?;
+    key.cmp(found).is_eq().then_some(value)
 }
 
 /// A bus below which the cursor has reached all keys.

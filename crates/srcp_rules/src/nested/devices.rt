@@ -9,6 +9,7 @@ ghost use Rattle.srcp_rules.specs.contracts.nested.device_rows.DeviceRows.{the_r
 ghost use Rattle.srcp_rules.specs.Nested.{AreDevices, AreOfDevice, device_rows};
 
 use crate::nested::device_rows::DeviceRows;
+use crate::nested::value_at;
 use crate::obeyed::Memory;
 use srcp_info::{Cursor, Device, Group, Key, Row};
 use std::alloc::Global;
@@ -36,10 +37,7 @@ impl<const N: usize> Devices<N> {
         requires fits { FitsInMemory (device_row N.row) }
         ensures { option_copied result ≡ row_at key.now (device_rows self.now.by_address.entries) }
     {
-        match self.by_address.get(&key.address) {
-            Some(device) => device.row(key),
-            None => None,
-        }
+        value_at(&self.by_address, key.address)?.row(key)
     }
 
     /// Finds the row with the least key.
