@@ -185,6 +185,7 @@ impl Connection {
     }
 
     /// Reads a piece on from `start`: the offset after its next line, and what that asks for.
+    #[inline(always)]
     pub(crate) fn hear(
         &mut self,
         piece: &[u8],

@@ -30,6 +30,7 @@ struct Outcome {
 
 impl<'a, R: Rows> Core<'a, R> {
     /// Answers what a line asks for.
+    #[inline(always)]
     pub(super) fn answer(&mut self, conn: usize, asked: Asked) -> LineRecord
         requires asked { IsAsked conn asked self.old }
         requires room { length (unsent_at conn self.old) + longest_answer asked ≤ MOST_UNSENT }
@@ -124,6 +125,7 @@ impl<'a, R: Rows> Core<'a, R> {
     }
 
     /// Answers a line of a command session.
+    #[inline(always)]
     fn command(&mut self, conn: usize, session: u32, command: Result<Command, Code>) -> LineRecord
         requires session { IsSessionAt session conn self.old }
         requires row { is_there (session_device session) self.old.rows ≡ true }
@@ -143,6 +145,7 @@ impl<'a, R: Rows> Core<'a, R> {
     }
 
     /// Answers a command.
+    #[inline(always)]
     fn obey(&mut self, conn: usize, session: u32, command: &Command) -> LineRecord
         requires session { IsSessionAt session conn self.old }
         requires row { is_there (session_device session) self.old.rows ≡ true }

@@ -60,7 +60,9 @@ impl<'a, R: Rows> Core<'a, R> {
         }
     }
 
-    /// Reads the piece on from `start` and answers its next line. Returns the offset after that line, and what came of it.
+    /// Reads the piece on from `start` and answers its next line. Returns the offset after that line, and what came of it. It is
+    /// inlined with all that it calls, so that the record of a line is not made where no run is recorded.
+    #[inline(always)]
     pub(crate) fn answer_line(
         &mut self,
         conn: usize,
@@ -77,6 +79,7 @@ impl<'a, R: Rows> Core<'a, R> {
     }
 
     /// Reads the piece on from `start`. Returns the offset after its next line, and what that line asks for.
+    #[inline(always)]
     fn hear(&mut self, conn: usize, piece: &[u8], start: usize) -> Option<(usize, Asked)>
         requires { start ≤ length piece.now }
         ensures heard { (result, self.new) ≡ heard_at conn piece.now start self.old }
