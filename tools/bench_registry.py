@@ -12,6 +12,8 @@ import subprocess
 import sys
 import tempfile
 
+from bench_mirror import measured
+
 LOCOMOTIVES, ACCESSORIES = 10_239, 2_044
 CONFIG = b'[[bus]]\nnumber = 1\ngroups = ["GL", "GA"]\ngl_max = 10239\nga_max = 2044\n'
 ROWS = {b"GL": 2, b"GA": 3}
@@ -61,23 +63,26 @@ def falling(count):
 
 
 def replayed(program, room, events):
-    """The least seconds of processor that a script takes in five runs, the most KiB that it holds, and what is printed of it."""
-    taken = [replayed_once(program, room, events) for _ in range(5)]
+    """The least seconds of processor that a script takes in five runs, and what is printed of it."""
+    with open(os.path.join(room, "script"), "wb") as file:
+        file.write(b"\n".join(events) + b"\n")
+    taken = [replayed_once(program, room) for _ in range(5)]
     return min(taken)
 
 
-def replayed_once(program, room, events):
+def replayed_once(program, room):
     script, record = os.path.join(room, "script"), os.path.join(room, "record")
-    with open(script, "wb") as file:
-        file.write(b"\n".join(events) + b"\n")
     with open(script, "rb") as given, open(record, "wb") as taken:
-        words = [program, "replay", "--config", os.path.join(room, "layout.toml")]
-        running = subprocess.Popen(words, stdin=given, stdout=taken)
+        running = subprocess.Popen(replay_words(program, room), stdin=given, stdout=taken)
         _, status, usage = os.wait4(running.pid, 0)
     if status != 0:
         sys.exit(f"the replay ended with status {status}")
     with open(record, "rb") as file:
-        return usage.ru_utime + usage.ru_stime, usage.ru_maxrss, file.read()
+        return usage.ru_utime + usage.ru_stime, file.read()
+
+
+def replay_words(program, room):
+    return [program, "replay", "--config", os.path.join(room, "layout.toml")]
 
 
 def main():
@@ -86,16 +91,17 @@ def main():
         with open(os.path.join(room, "layout.toml"), "wb") as file:
             file.write(CONFIG)
         for count in (1_000, 10_000, LOCOMOTIVES + ACCESSORIES):
-            driving, _, record = replayed(program, room, list(driven(count)))
+            driving, record = replayed(program, room, list(driven(count)))
             accepted = len(re.findall(rb"^\d+\.\d{3} 200 OK\n", record, re.M))
-            whole, peak, record = replayed(program, room, list(driven(count)) + list(listed(count)))
+            whole, record = replayed(program, room, list(driven(count)) + list(listed(count)))
+            _, peak = measured(replay_words(program, room), os.path.join(room, "script"))
             told = record.partition(b"\nconnection 2 ")[2].partition(b"\nrows ")[0]
             lines = len(re.findall(rb"^\d+\.\d{3} 10[01] INFO 1 ", told, re.M))
             wanted = sum(ROWS[group] + 1 for group, _ in devices(count))
             if accepted != 3 * count or lines != wanted:
                 sys.exit(f"{count} devices: {accepted} commands accepted of {3 * count}, {lines} rows listed of {wanted}")
-            moments, _, _ = replayed(program, room, list(driven(count)) + list(falling(count)))
-            ending, _, _ = replayed(program, room, list(driven(count)) + [b"shut 1"])
+            moments, _ = replayed(program, room, list(driven(count)) + list(falling(count)))
+            ending, _ = replayed(program, room, list(driven(count)) + [b"shut 1"])
             print(f"{count:,} devices: {3 * count:,} commands in {driving:.2f} s, {driving / count / 3 * 1e6:.1f} us each; "
                   f"{lines:,} rows listed in {max(whole - driving, 0):.2f} s; {peak} KiB at most; "
                   f"a port back in {max(moments - driving, 0) / MOMENTS * 1e3:.2f} ms; "
