@@ -1,14 +1,15 @@
 -- What is printed, one line after another.
-use Rattle.std.proofs.Common.{◌≡◌, ℕ, suc, ◌+◌, ◌-◌, ◌<◌, false, eqb, List, [], ◌∷◌, ◌++◌, length, get_or, drop, refl, sym, ap, ◌∙◌, arith, inl, inr, append_assoc}
-use Rattle.std.specs.Prelude.{not}
-use Rattle.std.specs.List.{list_any, flat_map, enumerate_from}
-use Rattle.std.proofs.lemmas.List.{at_drop_more}
+use Rattle.std.proofs.Common.{◌≡◌, ℕ, suc, ◌+◌, ◌-◌, ◌<◌, false, eqb, List, [], ◌∷◌, ◌++◌, length, get_or, refl, sym, ◌∙◌, arith, inl, inr, length-append}
+use Rattle.std.specs.Prelude.{◌≤◌, ◌^◌, decimal, not}
+use Rattle.std.specs.List.{list_any}
 use Rattle.std.proofs.lemmas.Bool.{cases_Bool, or_parts}
+use Rattle.std.proofs.lemmas.Fmt.{length-decimal-le}
 use Rattle.std.proofs.Math.Dec.{eqb-suc-zero}
 use Rattle.srcp_text.specs.Marks.{rest, is_lf}
 use Rattle.srcp_text.specs.Words.{is_empty}
-use Rattle.srcp_core.specs.declared.record.ConnRecord.{ConnRecord}
-use Rattle.srcp_script.specs.Output.{connection_lines}
+use Rattle.srcp_core.specs.declared.record.Finish.{Finish}
+use Rattle.srcp_core.specs.declared.record.Finish.TheVariants as finish
+use Rattle.srcp_script.specs.Output.{finish_word}
 
 -- where no LF is in the bytes, the last is none
 no_lf_last : (byte : ℕ) (bytes : List ℕ) → list_any is_lf (byte ∷ bytes) ≡ false → is_lf (get_or (byte ∷ bytes) (length bytes) 0) ≡ false
@@ -35,10 +36,16 @@ rest-cut (byte ∷ bytes) some = rw (rest-last byte bytes, sub_one_length byte b
     sub_one_length : (byte : ℕ) (bytes : List ℕ) → length (byte ∷ bytes) - 1 ≡ length bytes
     sub_one_length byte bytes = omega arith
 
--- the lines of the next connection, and of those behind it
-pub connections_next : (connections : List ConnRecord) (index : ℕ) (connection : ConnRecord) → index < length connections → connection ≡ get_or connections index connection → flat_map connection_lines (enumerate_from (index + 1) (drop index connections)) ≡ connection_lines (index + 1, connection) ++ flat_map connection_lines (enumerate_from (index + 1 + 1) (drop (index + 1) connections))
-connections_next connections index connection within is = at_drop_more (λ rest. flat_map connection_lines (enumerate_from (index + 1) rest)) connections index connection within ∙ rw (← is) refl
+-- a number of 64 bits has at most 20 bytes, and the word of a connection at most 7
+pub number_most : (n : ℕ) → n < 2 ^ 64 → length (decimal n) ≤ 20
+number_most n small = length-decimal-le 20 n (omega arith) (omega arith) small
 
--- what is printed goes from what is still to come to what stands there
-pub printed_on : {whole tail now : List ℕ} (text lines behind : List ℕ) → whole ≡ text ++ tail → tail ≡ lines ++ behind → now ≡ text ++ lines → whole ≡ now ++ behind
-printed_on text lines behind so_far next gained = so_far ∙ ap (λ end. text ++ end) next ∙ sym (append_assoc text lines behind) ∙ ap (λ front. front ++ behind) (sym gained)
+pub finish_most : (finish : Finish) → length (finish_word finish) ≤ 7
+finish_most finish.Live = omega arith
+finish_most finish.Closing = omega arith
+finish_most finish.Overrun = omega arith
+finish_most finish.Shut = omega arith
+
+-- what stands behind some bytes makes them longer by its length
+pub length_behind : (before text after : List ℕ) (most : ℕ) → after ≡ before ++ text → length text ≤ most → length after ≤ length before + most
+length_behind before text after most is short = rw (is, length-append before text) (omega (arith, short))

@@ -52,10 +52,10 @@ refusal_line refusal = spaced (codes "refused" ∷ decimal refusal.event ∷ fau
 abbrev pub rows_line : List Row → List ℕ
 rows_line rows = spaced (codes "rows" ∷ decimal (length rows) ∷ [])
 
+-- what follows the connections of a run: the refused events, and the rows
+abbrev pub printed_end : Record → List ℕ
+printed_end run = flat_map refusal_line run.refused ++ rows_line run.rows ++ listing (shown_rows run.rows)
+
 -- what is printed of a run: each connection, the refused events, and the rows
 abbrev pub printed : Record → List ℕ
-printed run =
-    flat_map connection_lines (enumerate_from 1 run.connections)
-    ++ flat_map refusal_line run.refused
-    ++ rows_line run.rows
-    ++ listing (shown_rows run.rows)
+printed run = flat_map connection_lines (enumerate_from 1 run.connections) ++ printed_end run

@@ -8,6 +8,7 @@ ghost use Rattle.srcp_script.specs.Script.{parts_behind};
 use memchr::memchr;
 
 /// Cuts a text at the first such byte: what stands before it, and what stands behind it, where there is one.
+#[inline(always)]
 pub fn cut_at(byte: u8, text: &[u8]) -> (&[u8], Option<&[u8]>)
     ensures parts { slice_split (λ b. b == byte) text.now
         ≡ result.0.now ∷ parts_behind byte (option_copied result.1) }
@@ -22,8 +23,14 @@ pub fn cut_at(byte: u8, text: &[u8]) -> (&[u8], Option<&[u8]>)
     }
 }
 
+/// Returns where such a byte first stands. A space is looked for byte by byte, since the words of a script are short.
+#[inline(always)]
 fn find_byte(byte: u8, text: &[u8]) -> Option<usize>
     ensures { result ≡ position (λ b. b == byte) text.now }
 {
-    memchr(byte, text)
+    if byte == b' ' {
+        text.iter().position(|at| *at == byte)
+    } else {
+        memchr(byte, text)
+    }
 }

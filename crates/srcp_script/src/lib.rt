@@ -1,6 +1,7 @@
 //! Scripts, and what is printed of their run: it reads a script into the events of a run (`read_script`), tells its first
-//! fault (`ScriptFault`), and prints the record of a run (`print_record`) and the row of a registry (`print_shown`).
-//! `cut_at` cuts a text at a byte, as its lines and their words are cut.
+//! fault (`ScriptFault`), and prints the record of a run and the row of a registry (`print_shown`). Of a record it prints
+//! the line of each connection (`connection_line`), what ends the last line that it was sent (`line_end`), and what
+//! follows the connections (`print_end`). `cut_at` cuts a text at a byte, as its lines and their words are cut.
 //!
 //! It runs no event: `srcp_core` does that. It reads and writes no device, and knows no configuration.
 #![tactic(auto)]
@@ -11,5 +12,5 @@ mod print;
 mod script;
 
 pub use cut::cut_at;
-pub use print::{print_record, print_shown};
+pub use print::{connection_line, line_end, print_end, print_shown};
 pub use script::{Cause, ScriptFault, read_script};

@@ -1,7 +1,7 @@
 //! What a run gave, printed.
 
-ghost use Rattle.std.specs.Prelude.{◌≡◌, ◌++◌, OnOk, IfOk, not, string_bytes};
-ghost use Rattle.std.specs.List.{flat_map, enumerate_from, AllByRecursion};
+ghost use Rattle.std.specs.Prelude.{◌≡◌, ◌+◌, ◌≤◌, [], ◌∷◌, ◌++◌, OnOk, IfOk, decimal, length, not, string_bytes};
+ghost use Rattle.std.specs.List.{flat_map, AllByRecursion};
 ghost use Rattle.srcp_text.specs.Marks.{rest};
 ghost use Rattle.srcp_text.specs.Words.{is_empty};
 ghost use Rattle.srcp_info.specs.Client.{listing};
@@ -9,72 +9,45 @@ ghost use Rattle.srcp_info.specs.Line.{line};
 ghost use Rattle.srcp_info.specs.WellFormed.{IsWellFormedShown};
 ghost use Rattle.srcp_info.specs.declared.change.Change.TheVariants as change;
 ghost use Rattle.srcp_rules.specs.State.{shown_rows};
-ghost use Rattle.srcp_script.specs.Output.{finish_word, fault_word, ended, connection_line, connection_lines, refusal_line, rows_line, printed};
+ghost use Rattle.srcp_script.specs.Output.{finish_word, fault_word, ended, connection_line, refusal_line, rows_line, printed_end};
 
 use srcp_core::{ConnRecord, CoreFault, Finish, Record, Refusal};
 use srcp_info::{InfoLine, Row, Shown, write_shown};
+use srcp_text::{LineBuf, put_bytes, put_number};
 use std::alloc::{AllocError, Global};
 use std::string::String;
 use std::vec::Vec;
 
-/// Prints a run: each connection in the order in which they were opened, with its number
-/// from 1 on, how many bytes it was sent, how it ended, and those bytes; the refused events; and the
-/// rows in key order.
-pub fn print_record(alloc: Global, run: &Record) -> Result<Vec<u8>, AllocError>
-    requires { AllByRecursion (λ row. IsWellFormedShown row.shown) run.now.rows }
-    ensures { IfOk result (λ text. text.items ≡ printed run.now) }
+/// Returns the line of a connection: its number, how many bytes it was sent, and how it stands. Takes no memory.
+#[tactic(auto, using(crate::proofs::Prints::finish_most))]
+pub fn connection_line(number: usize, conn: &ConnRecord) -> LineBuf
+    ensures { result.items ≡ connection_line number conn.now }
 {
-    let mut text = Vec::new(alloc);
-    print_connections(alloc, run.connections.as_slice(), &mut text)?;
-    print_refusals(alloc, run.refused.as_slice(), &mut text)?;
-    print_rows(alloc, run.rows.as_slice(), &mut text)?;
-    Ok(text)
+    let mut line = LineBuf::new();
+    put_bytes(b"connection ".as_slice(), &mut line);
+    put_count(number, &mut line);
+    put_count(conn.sent.as_slice().len(), &mut line);
+    put_bytes(finish_word(conn.finish).as_bytes(), &mut line);
+    line.push(b'\n');
+    line
 }
 
-fn print_connections(
-    alloc: Global,
-    connections: &[ConnRecord],
-    text: &mut Vec<u8>,
-) -> Result<(), AllocError>
-    ensures { OnOk result (text.new.items
-        ≡ text.old.items ++ flat_map connection_lines (enumerate_from 1 connections.now)) }
+/// Appends a number of at most 20 bytes and a space.
+#[tactic(auto, using(crate::proofs::Prints::number_most))]
+fn put_count(number: usize, line: &mut LineBuf)
+    requires { length line.old.items + 21 ≤ 256 }
+    ensures items { line.new.items ≡ line.old.items ++ decimal number ++ 32 ∷ [] }
+    ensures most { length line.new.items ≤ length line.old.items + 21 }
 {
-    for (index, conn) in connections.iter().enumerate() {
-        print_connection(alloc, index + 1, conn, text)?;
-    }
-    Ok(())
+    put_number(number as u64, line);
+    line.push(b' ');
 }
 
-fn print_connection(
-    alloc: Global,
-    number: usize,
-    conn: &ConnRecord,
-    text: &mut Vec<u8>,
-) -> Result<(), AllocError>
-    ensures { OnOk result (text.new.items ≡ text.old.items ++ connection_lines (number, conn.now)) }
+/// Returns what ends the last line of these bytes: an LF if it has none, else nothing.
+pub fn line_end(bytes: &[u8]) -> &'static [u8]
+    ensures { bytes.now ++ result.now ≡ ended bytes.now }
 {
-    let line = connection_line(alloc, number, conn)?;
-    text.extend_from_slice(line.as_bytes())?;
-    print_sent(conn.sent.as_slice(), text)
-}
-
-fn connection_line(alloc: Global, number: usize, conn: &ConnRecord) -> Result<String, AllocError>
-    ensures { IfOk result (λ line. string_bytes line ≡ connection_line number conn.now) }
-{
-    let count = conn.sent.as_slice().len();
-    let word = finish_word(conn.finish);
-    format!(in alloc; "connection {number} {count} {word}\n")
-}
-
-/// The bytes, and one LF more where the last line has none.
-fn print_sent(sent: &[u8], text: &mut Vec<u8>) -> Result<(), AllocError>
-    ensures { OnOk result (text.new.items ≡ text.old.items ++ ended sent.now) }
-{
-    text.extend_from_slice(sent)?;
-    if is_cut(sent) {
-        text.push(b'\n')?;
-    }
-    Ok(())
+    if is_cut(bytes) { b"\n" } else { b"" }
 }
 
 /// The bytes do not end in an LF, though there are some.
@@ -93,6 +66,17 @@ fn finish_word(finish: Finish) -> &'static str
         Finish::Overrun => "overrun",
         Finish::Shut => "shut",
     }
+}
+
+/// Prints what follows the connections of a run: the refused events, and the rows in key order.
+pub fn print_end(alloc: Global, run: &Record) -> Result<Vec<u8>, AllocError>
+    requires { AllByRecursion (λ row. IsWellFormedShown row.shown) run.now.rows }
+    ensures { IfOk result (λ text. text.items ≡ printed_end run.now) }
+{
+    let mut text = Vec::new(alloc);
+    print_refusals(alloc, run.refused.as_slice(), &mut text)?;
+    print_rows(alloc, run.rows.as_slice(), &mut text)?;
+    Ok(text)
 }
 
 fn print_refusals(alloc: Global, refusals: &[Refusal], text: &mut Vec<u8>) -> Result<(), AllocError>

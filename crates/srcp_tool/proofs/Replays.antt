@@ -1,9 +1,7 @@
 -- A run of a script's events.
-use Rattle.std.proofs.Common.{◌≡◌, ◌∙◌, ℕ, ◌+◌, List, [], ◌∷◌, ◌++◌, map, Result, Ok, Err, refl, ap, sym}
+use Rattle.std.proofs.Common.{◌≡◌, ◌∙◌, ℕ, ◌+◌, List, [], ◌∷◌, ◌++◌, map, Ok, refl, ap, sym}
 use Rattle.std.specs.List.{enumerate_from}
-use Rattle.srcp_info.specs.Client.{listing}
-use Rattle.srcp_rules.specs.State.{shown_rows}
-use Rattle.std.specs.Prelude.{IfOk, flat_map}
+use Rattle.std.specs.Prelude.{flat_map}
 use Rattle.srcp_rules.specs.declared.layout.Bus.{Bus}
 use Rattle.srcp_core.specs.Connection.{recorded}
 use Rattle.srcp_core.specs.Course.{World, course, history, state}
@@ -13,7 +11,7 @@ use Rattle.srcp_core.specs.declared.event.Event.{Event}
 use Rattle.srcp_core.specs.declared.record.ConnRecord.{ConnRecord}
 use Rattle.srcp_core.specs.declared.record.Record.{Record}
 use Rattle.srcp_core.proofs.Agreement.MemoryAnswers.{gives_as_if}
-use Rattle.srcp_script.specs.Output.{connection_lines, printed, refusal_line, rows_line}
+use Rattle.srcp_script.specs.Output.{connection_lines, printed, printed_end}
 use Rattle.srcp_tool.specs.Output.{replayed, run_of}
 
 -- where no growth was refused it gives what it gives where memory gives all
@@ -33,13 +31,11 @@ lines_same number (one ∷ tolds) = ap (λ text. connection_lines (number, one) 
 
 -- a record prints the same without its history
 printed_same : (run : Record) → printed (outline run) ≡ printed run
-printed_same run = ap (λ text. text ++ flat_map refusal_line run.refused ++ rows_line run.rows ++ listing (shown_rows run.rows)) (lines_same 1 run.connections)
+printed_same run = ap (λ text. text ++ printed_end run) (lines_same 1 run.connections)
 
 -- what is printed of the run is what the script prints
-pub replays : {A E : Type 0} (buses : List Bus) (events : List Event) (told : Record) (input : List ℕ) (result : Result A E) (items : A → List ℕ) → IsPromisedOutline buses events told
-    → ((buses : List Bus) → replayed buses input ≡ Ok (printed (run_of buses events))) → IfOk result (λ text. (told.denied ≡ 0) × (items text ≡ printed told))
-    → IfOk result (λ text. replayed buses input ≡ Ok (items text))
-replays buses events told input (Ok text) items p reads is =
-    let none : p.whole.denied ≡ 0 = sym (ap (λ (run : Record). run.denied) p.is) ∙ is.0 in
-    reads buses ∙ ap (λ run. Ok (printed run)) (sym (run_is buses events p.whole p.promised none)) ∙ ap Ok (sym (is.1 ∙ ap printed p.is ∙ printed_same p.whole))
-replays buses events told input (Err fault) items p reads is = tt
+pub replays : (buses : List Bus) (events : List Event) (told : Record) (input : List ℕ) → IsPromisedOutline buses events told → told.denied ≡ 0
+    → ((buses : List Bus) → replayed buses input ≡ Ok (printed (run_of buses events))) → replayed buses input ≡ Ok (printed told)
+replays buses events told input p granted reads =
+    let none : p.whole.denied ≡ 0 = sym (ap (λ (run : Record). run.denied) p.is) ∙ granted in
+    reads buses ∙ ap (λ run. Ok (printed run)) (sym (run_is buses events p.whole p.promised none)) ∙ ap Ok (sym (ap printed p.is ∙ printed_same p.whole))

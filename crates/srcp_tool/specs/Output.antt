@@ -134,6 +134,11 @@ pub record AppendsFront (old new : Option (List ℕ)) (text : List ℕ) : Type 0
   pub within : count ≤ length text
   pub appends : Appends old new (take count text)
 
+-- a text is written whole, or a front of it where the writing fails
+abbrev pub WritesText : (text : List ℕ) → Result Unit ToolFault → (old new : Option (List ℕ)) → Type 0
+WritesText text (Ok done) old new = Appends old new text
+WritesText text (Err fault) old new = (fault ≡ Output) × AppendsFront old new text
+
 -- the text that is to be printed is written whole, or a front of it where the writing fails;
 -- nothing is written where the input is refused or can't be read, or memory is refused
 abbrev pub Writes : (Prints : List ℕ → Type 0) (Refuses : ToolFault → Type 0) → Result Unit ToolFault

@@ -1,10 +1,12 @@
 //! The standard output.
 
-ghost use Rattle.std.specs.Prelude.{◌≡◌, OnOk, IfErr};
-ghost use Rattle.std.specs.Io.KnownBytes.{Appends};
-ghost use Rattle.srcp_tool.specs.Output.{AppendsFront};
+ghost use Rattle.std.specs.List.{flat_map, enumerate_from};
+ghost use Rattle.srcp_script.specs.Output.{connection_lines};
+ghost use Rattle.srcp_tool.specs.Output.{WritesText};
 
 use crate::fault::ToolFault;
+use srcp_core::ConnRecord;
+use srcp_script::{connection_line, line_end};
 use std::io::Write;
 
 /// Writes all of a text.
@@ -12,9 +14,7 @@ use std::io::Write;
 /// # Errors
 /// `Output` if a write fails or takes nothing; a prefix of the text is written then.
 pub(crate) fn write_whole<W: Write>(writer: &mut W, text: &[u8]) -> Result<(), ToolFault>
-    ensures ok { OnOk result (Appends (W.contents writer.old) (W.contents writer.new) text.now) }
-    ensures err { IfErr result (λ fault. (fault ≡ ToolFault.Output)
-        × AppendsFront (W.contents writer.old) (W.contents writer.new) text.now) }
+    ensures { WritesText text.now result (W.contents writer.old) (W.contents writer.new) }
 {
     let mut done = 0;
     while done < text.len() {
@@ -24,4 +24,37 @@ pub(crate) fn write_whole<W: Write>(writer: &mut W, text: &[u8]) -> Result<(), T
         }
     }
     Ok(())
+}
+
+/// Writes what is printed of each connection, from number 1 on. Takes no memory.
+///
+/// # Errors
+/// `Output` if a write fails or takes nothing; a prefix of the text is written then.
+pub(crate) fn write_connections<W: Write>(
+    writer: &mut W,
+    connections: &[ConnRecord],
+) -> Result<(), ToolFault>
+    ensures { WritesText (flat_map connection_lines (enumerate_from 1 connections.now))
+        result (W.contents writer.old) (W.contents writer.new) }
+{
+    for (index, conn) in connections.iter().enumerate() {
+        write_connection(writer, index + 1, conn)?;
+    }
+    Ok(())
+}
+
+/// Writes the line of a connection, and what it was sent.
+fn write_connection<W: Write>(
+    writer: &mut W,
+    number: usize,
+    conn: &ConnRecord,
+) -> Result<(), ToolFault>
+    ensures { WritesText (connection_lines (number, conn.now)) result (W.contents writer.old) (W.contents writer.new) }
+{
+    let line = connection_line(number, conn);
+    let sent = conn.sent.as_slice();
+    let end = line_end(sent);
+    write_whole(writer, &line)?;
+    write_whole(writer, sent)?;
+    write_whole(writer, end)
 }

@@ -9,10 +9,10 @@ ghost use Rattle.srcp_tool.specs.Output.{RefusesFor, Writes, run_of, replayed};
 
 use crate::fault::ToolFault;
 use crate::input::{INPUT_LIMIT, read_input};
-use crate::output::write_whole;
+use crate::output::{write_connections, write_whole};
 use srcp_core::{Event, Record, run_in_outline};
 use srcp_rules::{Layout, Rows};
-use srcp_script::{print_record, read_script};
+use srcp_script::{print_end, read_script};
 use std::alloc::Global;
 use std::io::{Read, Write};
 use std::vec::Vec;
@@ -32,9 +32,12 @@ pub fn replay_text<K: Rows>(
     ensures text { IfOk result (λ text. replayed layout.now input.now ≡ Ok text.items) }
     ensures stops { IfErr result (RefusesFor (λ fault. replayed layout.now input.now ≡ Err fault)) }
 {
-    let events = events_of(alloc, input)?;
-    let told = run_in_outline::<K>(alloc, layout, &events)?;
-    print_run(alloc, &told)
+    let told = run_script::<K>(alloc, layout, input)?;
+    let mut text = Vec::new(alloc);
+    match write_record(alloc, &told, &mut text) {
+        Ok(()) => Ok(text),
+        Err(_) => Err(ToolFault::Memory),
+    }
 }
 
 /// Reads a script to the end of the input, and writes what it prints (`replay_text`).
@@ -55,8 +58,26 @@ pub fn replay<K: Rows, R: Read, W: Write>(
         result (W.contents writer.old) (W.contents writer.new) }
 {
     let input = read_input(alloc, reader)?;
-    let text = replay_text::<K>(alloc, layout, &input)?;
-    write_whole(writer, text.as_slice())
+    let told = run_script::<K>(alloc, layout, &input)?;
+    write_record(alloc, &told, writer)
+}
+
+/// The outline of a script's run.
+///
+/// # Errors
+/// `TooLarge` where there is more than 16,777,216 bytes, `Script` for the script's first fault, `Memory` where a growth
+/// was refused, in the run too.
+fn run_script<K: Rows>(alloc: Global, layout: &Layout, input: &[u8]) -> Result<Record, ToolFault>
+    ensures well_formed { IfOk result (λ run. AllByRecursion (λ row. IsWellFormedShown row.shown) run.rows) }
+    ensures text { IfOk result (λ run. replayed layout.now input.now ≡ Ok (printed run)) }
+    ensures stops { IfErr result (RefusesFor (λ fault. replayed layout.now input.now ≡ Err fault)) }
+{
+    let events = events_of(alloc, input)?;
+    let told = run_in_outline::<K>(alloc, layout, &events)?;
+    if told.denied > 0 {
+        return Err(ToolFault::Memory);
+    }
+    Ok(told)
 }
 
 /// The events of a script.
@@ -77,18 +98,17 @@ fn events_of(alloc: Global, input: &[u8]) -> Result<Vec<Event>, ToolFault>
     Ok(events)
 }
 
-/// What is printed of a run.
+/// Writes what is printed of a run. What each connection was sent is written from where it is kept.
 ///
 /// # Errors
-/// `Memory` where a growth was refused, in the run too.
-fn print_run(alloc: Global, run: &Record) -> Result<Vec<u8>, ToolFault>
-    requires { run.now.denied ≡ 0 → AllByRecursion (λ row. IsWellFormedShown row.shown) run.now.rows }
-    ensures text { IfOk result (λ text. (run.now.denied ≡ 0) × (text.items ≡ printed run.now)) }
-    ensures memory { IfErr result (λ fault. fault ≡ ToolFault.Memory) }
+/// `Memory` where a growth was refused: nothing is written then. `Output` where a write fails or takes nothing: a front
+/// is written.
+fn write_record<W: Write>(alloc: Global, run: &Record, writer: &mut W) -> Result<(), ToolFault>
+    requires { AllByRecursion (λ row. IsWellFormedShown row.shown) run.now.rows }
+    ensures { Writes (λ text. text ≡ printed run.now) (λ fault. ⊥)
+        result (W.contents writer.old) (W.contents writer.new) }
 {
-    if run.denied > 0 {
-        return Err(ToolFault::Memory);
-    }
-    let text = print_record(alloc, run)?;
-    Ok(text)
+    let end = print_end(alloc, run)?;
+    write_connections(writer, run.connections.as_slice())?;
+    write_whole(writer, end.as_slice())
 }

@@ -1,5 +1,5 @@
 use Rattle.srcp_text.proofs.ScanLaws.{first_place}
 use Rattle.srcp_script.proofs.cut.find_byte.Goals as goal
 
-pub returns : goal.returns
-returns c = first_place c.args.byte c.args.text.now c.memchr.result c.memchr.ensures
+pub returns-else-byte-eq32 : goal.returns-else-byte-eq32
+returns-else-byte-eq32 c = first_place c.args.byte c.args.text.now c.memchr.result c.memchr.ensures

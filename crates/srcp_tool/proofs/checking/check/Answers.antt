@@ -10,4 +10,4 @@ pub returns : goal.returns
 returns g c =
     let prints : check_output c.args.bytes.now ≡ Ok c.as_slice.result.now = rw c.as_slice.ensures.value c.in_ok-text.ensures.text in
     writes_text (λ text. check_output c.args.bytes.now ≡ Ok text) (λ fault. check_output c.args.bytes.now ≡ Err fault)
-    c.as_slice.result.now c.write_whole.result _ _ prints c.write_whole.ensures.ok c.write_whole.ensures.err
+    c.as_slice.result.now c.write_whole.result _ _ prints c.write_whole.ensures

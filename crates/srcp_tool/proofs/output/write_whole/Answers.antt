@@ -18,9 +18,3 @@ loop-done-preserved g c =
       within = omega (arith, c.in-Ok.ensures.bound, length-drop done text);
       written = subst (λ (b : List ℕ). Appends before now b) (sym (take-add done c.in-Ok.count text)) both;
     }
-
-pub returns-in-Ok-eq0-clause-ok : goal.returns-in-Ok-eq0-clause-ok
-returns-in-Ok-eq0-clause-ok g c = tt
-
-pub returns-in-Ok-eq0-2-clause-ok : goal.returns-in-Ok-eq0-2-clause-ok
-returns-in-Ok-eq0-2-clause-ok g c = tt

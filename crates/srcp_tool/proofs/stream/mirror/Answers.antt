@@ -9,4 +9,4 @@ returns g c =
     let input = g.R.Read.remaining c.args.reader.now in
     let prints : IfSome input (λ bytes. Mirrors bytes c.as_slice.result.now) = rw c.as_slice.ensures.value (search rules) in
     writes_text (λ text. IfSome input (λ bytes. Mirrors bytes text)) (λ fault. IfSome input (λ bytes. RefusesInput bytes fault))
-    c.as_slice.result.now c.write_whole.result _ _ prints c.write_whole.ensures.ok c.write_whole.ensures.err
+    c.as_slice.result.now c.write_whole.result _ _ prints c.write_whole.ensures

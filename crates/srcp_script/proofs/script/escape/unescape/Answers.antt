@@ -1,4 +1,4 @@
-use Rattle.std.proofs.Common.{rules, ◌≡◌, ◌∙◌, ◌++◌, ◌∷◌, [], ap, sym, List, ℕ, Option, Some}
+use Rattle.std.proofs.Common.{rules, ◌≡◌, ◌∙◌, ◌++◌, ◌∷◌, [], ap, sym}
 use Rattle.std.specs.Option.{option_copied}
 use Rattle.srcp_script.specs.Script.{unescaped, after, parts_behind}
 use Rattle.srcp_script.proofs.Escapes.{behind, behind_after, unescaped_escape}
