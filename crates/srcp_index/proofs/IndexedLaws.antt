@@ -4,17 +4,18 @@ use Rattle.std.specs.List.{AllByRecursion, range_with_len}
 use Rattle.std.specs.Ordering.{is_eq}
 use Rattle.std.specs.declared.cmp.Ordering.TheVariants.{Less}
 use Rattle.std.proofs.Common.{refl, sym, ap, subst, ◌∙◌, arith, inl, inr, true≢false, lit<}
-use Rattle.std.proofs.Math.Bool.{and-false, and-true}
+use Rattle.std.proofs.Math.Bool.{and-false}
 use Rattle.std.proofs.lemmas.Bool.{cases_Bool, ltb-true, ltb-false, lt-ltb, false_from_ne_true}
 use Rattle.std.proofs.lemmas.List.Sums.{sum_by-cons}
 use Rattle.srcp_info.specs.declared.key.Key.{Key}
 use Rattle.srcp_info.specs.declared.key.Device.{Device}
 use Rattle.srcp_info.specs.declared.key.Group.{Group}
+use Rattle.srcp_info.specs.declared.key.Group.TheVariants as group
 use Rattle.srcp_info.specs.declared.value.Value.{Value}
 use Rattle.srcp_info.specs.declared.value.Value.TheVariants as value
 use Rattle.srcp_info.specs.declared.change.Row.{Row}
 use Rattle.srcp_info.specs.Key.{key_cmp, owns}
-use Rattle.srcp_info.specs.WellFormed.{IsMoment, IsValueAt, can_go}
+use Rattle.srcp_info.specs.WellFormed.{IsMoment, IsValueAt, can_go, is_lock}
 use Rattle.srcp_info.proofs.ClientLaws.{all_append, all_filter, all_put, filter_every, rising_put, rising_filter}
 use Rattle.srcp_info.proofs.KeyLaws.{owns-device_of, device_from_owns}
 use Rattle.srcp_rules.specs.declared.layout.Bus.{Bus}
@@ -30,7 +31,7 @@ use Rattle.srcp_rules.proofs.OpeningLaws.{opening_whole}
 use Rattle.srcp_index.specs.declared.indexes.Indexes.{Indexes}
 use Rattle.srcp_index.specs.Pairs.{Held, before}
 use Rattle.srcp_index.specs.Ranked.{ranked}
-use Rattle.srcp_index.specs.Indexed.{IsIndexed, HasPairs, HasRoom, IsRankedRow, due_of, goer, goers, may_go, pairs_of, put_ranked, take_ranked, with_pair, without_pair, with_row, with_rows, without_row}
+use Rattle.srcp_index.specs.Indexed.{IsIndexed, HasPairs, HasRoom, IsRankedRow, due_of, goer, goers, may_go, pairs_of, port_count, put_ranked, take_ranked, with_pair, without_pair, with_row, with_rows, without_row}
 use Rattle.srcp_index.proofs.Pairs.{before_weak, before_tie}
 use Rattle.srcp_index.proofs.Ranked.{length-put, length-ranked, ranked-ranked}
 use Rattle.srcp_index.proofs.RowSums.{but_at, sum-put_row, sum-there}
@@ -99,15 +100,24 @@ module _ where
   held_goes g port (value.GaInit letter) v s = absurd (true≢false (sym s))
   held_goes g port (value.Fb on) v s = absurd (true≢false (sym s))
 
-  small_port : (g : Group) (port : ℕ) (shows : Value) → IsValueAt g port shows → port < 9
-  small_port g port (value.Lock seconds session) v = let e = v.1 in omega arith
-  small_port g port (value.GaPort on) v = let e = v.1.1 in omega arith
-  small_port g port (value.Session mode) v = let e = v.1 in omega arith
-  small_port g port (value.Power on text) v = let e = v.1 in omega arith
-  small_port g port (value.GlInit letter version steps functions) v = let e = v.1 in omega arith
-  small_port g port (value.GlState mode speed vmax functions) v = let e = v.1 in omega arith
-  small_port g port (value.GaInit letter) v = let e = v.1 in omega arith
-  small_port g port (value.Fb on) v = let e = v.1 in omega arith
+  one_port : (g : Group) → IsTrue (is_lock g) → port_count g ≡ 1
+  one_port group.LockGl l = refl
+  one_port group.LockGa l = refl
+  one_port group.Session l = absurd (true≢false (sym l))
+  one_port group.Power l = absurd (true≢false (sym l))
+  one_port group.Gl l = absurd (true≢false (sym l))
+  one_port group.Ga l = absurd (true≢false (sym l))
+  one_port group.Fb l = absurd (true≢false (sym l))
+
+  port_within : (g : Group) (port : ℕ) (shows : Value) → IsValueAt g port shows → port < port_count g
+  port_within g port (value.Lock seconds session) v = let e = v.1 in rw (one_port g v.0) (omega arith)
+  port_within g port (value.GaPort on) v = let e = v.1.1 in rw v.0 (omega arith)
+  port_within g port (value.Session mode) v = let e = v.1 in rw v.0 (omega arith)
+  port_within g port (value.Power on text) v = let e = v.1 in rw v.0 (omega arith)
+  port_within g port (value.GlInit letter version steps functions) v = let e = v.1 in rw v.0 (omega arith)
+  port_within g port (value.GlState mode speed vmax functions) v = let e = v.1 in rw v.0 (omega arith)
+  port_within g port (value.GaInit letter) v = let e = v.1 in rw v.0 (omega arith)
+  port_within g port (value.Fb on) v = let e = v.1 in rw v.0 (omega arith)
 
 pub ranked_row : (buses : List Bus) (row : Row) → IsRowOf buses row → IsRankedRow row
 ranked_row buses row of =
@@ -116,7 +126,7 @@ ranked_row buses row of =
     record {
       due = due_goes key.group key.port row.shown.value row.due fits of.due;
       held = held_goes key.group key.port row.shown.value fits;
-      port = small_port key.group key.port row.shown.value fits;
+      port = port_within key.group key.port row.shown.value fits;
     }
 
 due_all : (state : State) → AllByRecursion IsRankedRow state → AllByRecursion (λ row. IsSome (due_of row) → IsTrue (may_go row)) state
@@ -462,11 +472,22 @@ module _ (device : Device) where
         each rows,
       )
 
-  pub but_below-all : (state : State) → AllByRecursion IsRankedRow state → but_below device 9 state ≡ without device state
+  -- a key of the device has a port that its group may have
+  own_below : (k : Key) → k.port < port_count k.group
+      → not (owns device k && nat_lt k.port (port_count device.group)) ≡ not (owns device k)
+  own_below k within = by (owns device k) refl
+    where
+      by : (b : Bool) → owns device k ≡ b → not (b && nat_lt k.port (port_count device.group)) ≡ not b
+      by false e = refl
+      by true e =
+          let same = ap (λ (d : Device). port_count d.group) (device_from_owns device k e) in
+          ap not (lt-ltb k.port (port_count device.group) (subst (λ n. k.port < n) same within))
+
+  pub but_below-all : (state : State) → AllByRecursion IsRankedRow state
+      → but_below device (port_count device.group) state ≡ without device state
   but_below-all state h =
-      filter_alike (λ row. not (owns device row.shown.key && nat_lt row.shown.key.port 9)) (λ row. not (owns device row.shown.key)) state
-      (each-weaken {P = IsRankedRow} (λ row r. ap not (ap (λ b. owns device row.shown.key && b) (lt-ltb row.shown.key.port 9 r.port)
-      ∙ and-true (owns device row.shown.key))) state h)
+      filter_alike (λ row. not (owns device row.shown.key && nat_lt row.shown.key.port (port_count device.group)))
+      (λ row. not (owns device row.shown.key)) state (each-weaken {P = IsRankedRow} (λ row r. own_below row.shown.key r.port) state h)
 
 -- a row of the device that is taken out
 module _ (state : State) (both : Indexes) (count : ℕ) (h : IsIndexed state both count) (row : Row)
@@ -530,7 +551,7 @@ module _ (device : Device) (port : ℕ) (state : State) where
           (ap (λ k. but_at k (but_below device port state)) same_key_there ∙ sym (but_below-next device port state))
           (dropped_one (but_below device port state) both count h row left_there row_goes)
 
-pub dropped_all : (device : Device) (port : ℕ) (state : State) (both : Indexes) (count : ℕ) → AllByRecursion IsRankedRow state → port ≡ 9
-    → IsIndexed (but_below device port state) both count → IsIndexed (without device state) both count
+pub dropped_all : (device : Device) (port : ℕ) (state : State) (both : Indexes) (count : ℕ) → AllByRecursion IsRankedRow state
+    → port ≡ port_count device.group → IsIndexed (but_below device port state) both count → IsIndexed (without device state) both count
 dropped_all device port state both count rows last h = subst (λ left. IsIndexed left both count)
     (ap (λ p. but_below device p state) last ∙ but_below-all device state rows) h

@@ -2,6 +2,8 @@
 use Rattle.std.specs.Prelude.{◌≡◌, ℕ, ◌<◌, ◌≤◌, Bool, IsTrue, IsSome, List, [], ◌∷◌, fold, flat_map, length, Option, if◌then◌else◌}
 use Rattle.std.specs.List.{AllByRecursion, sum_by}
 use Rattle.std.specs.Option.{option_map_or}
+use Rattle.srcp_info.specs.declared.key.Group.{Group}
+use Rattle.srcp_info.specs.declared.key.Group.TheVariants as group
 use Rattle.srcp_info.specs.declared.key.Key.{Key}
 use Rattle.srcp_info.specs.declared.change.Row.{Row}
 use Rattle.srcp_info.specs.WellFormed.{can_go}
@@ -79,11 +81,21 @@ goer row = if may_go row then 1 else 0
 abbrev pub goers : State → ℕ
 goers state = sum_by goer state
 
--- no row has a rank but of a device that comes and goes, and no device has more than nine rows
+-- how many ports the rows of a device of the group may have, from 0 on
+abbrev pub port_count : Group → ℕ
+port_count group.Session = 1
+port_count group.Power = 1
+port_count group.Gl = 2
+port_count group.Ga = 9
+port_count group.Fb = 1
+port_count group.LockGl = 1
+port_count group.LockGa = 1
+
+-- no row has a rank but of a device that comes and goes, and its port is one that its group may have
 pub record IsRankedRow (row : Row) : Type 0 where
   pub due : IsSome (due_of row) → IsTrue (may_go row)
   pub held : IsSome (holder_of row) → IsTrue (may_go row)
-  pub port : row.shown.key.port < 9
+  pub port : row.shown.key.port < port_count row.shown.key.group
 
 -- the index has the pairs of the rows, and room for so many
 pub record HasPairs (rank : Row → Option ℕ) (state : State) (index : Held) (count : ℕ) : Type 0 where

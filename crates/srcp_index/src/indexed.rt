@@ -2,16 +2,13 @@
 ghost use Rattle.std.specs.Prelude.{◌≡◌, ◌+◌, ◌<◌, ◌≤◌, length};
 ghost use Rattle.std.specs.List.{AllByRecursion};
 ghost use Rattle.srcp_index.specs.Earliest.{IsEarliestDue};
-ghost use Rattle.srcp_index.specs.Indexed.{IsIndexed};
+ghost use Rattle.srcp_index.specs.Indexed.{IsIndexed, port_count};
 
 use crate::indexes::Indexes;
-use srcp_info::{Cursor, Device, Key, Row};
+use srcp_info::{Cursor, Device, Group, Key, Row};
 use srcp_rules::{Layout, Memory, Rows};
 use std::alloc::Global;
 use std::marker::Model;
-
-/// The greatest port of a row.
-const LAST_PORT: u8 = 8;
 
 /// The rows of a keeper with their indexes. Contracts see the keeper alone.
 #[derive(Drop)]
@@ -97,7 +94,7 @@ impl<R: Rows> Rows for Indexed<R> {
     }
 
     fn drop_device(&mut self, device: Device) {
-        for port in 0..=LAST_PORT {
+        for port in 0..port_count(device.group) {
             let key = Key {
                 bus: device.bus,
                 group: device.group,
@@ -110,5 +107,16 @@ impl<R: Rows> Rows for Indexed<R> {
             }
         }
         self.rows.drop_device(device);
+    }
+}
+
+/// Returns how many ports the rows of such a device may have, from 0 on.
+fn port_count(group: Group) -> u8
+    ensures { result ≡ port_count group }
+{
+    match group {
+        Group::Ga => 9,
+        Group::Gl => 2,
+        _ => 1,
     }
 }
