@@ -1,5 +1,5 @@
 -- A text that is written, whole or in part.
-use Rattle.std.proofs.Common.{◌≡◌, ℕ, ◌+◌, ◌<◌, ◌≤◌, List, ◌++◌, refl, get_or, drop, length, take, Option, Result, Ok, Err, arith, subst, sym, ap, ◌∙◌, [], append_assoc, append-nil, length-append}
+use Rattle.std.proofs.Common.{◌≡◌, ℕ, ◌+◌, ◌<◌, ◌≤◌, List, ◌++◌, refl, get_or, drop, length, take, Option, Result, Ok, Err, arith, subst, sym, ap, ◌∙◌, append_assoc, length-append}
 use Rattle.std.proofs.lemmas.List.{at_drop_more, take-append-le}
 use Rattle.std.specs.Result.{IsErrAnd}
 use Rattle.std.specs.List.{flat_map, enumerate_from}
@@ -86,10 +86,6 @@ fails_next whole left text behind fault old mid new before next w =
     let on : WritesText (before.front ++ left) (Err fault) old new =
     written_behind before.front left (Err fault) old mid new before.appends (rw next (front_of_more text behind fault mid new w)) in
     rw before.parts on
-
--- nothing is left
-pub whole_written : (whole : List ℕ) (old new : Option (List ℕ)) → HasWritten whole [] old new → Appends old new whole
-whole_written whole old new w = rw (w.parts, append-nil w.front) w.appends
 
 -- the lines of the next connection, and of those behind it
 pub connections_next : (connections : List ConnRecord) (index : ℕ) (connection : ConnRecord) → index < length connections
