@@ -118,16 +118,10 @@ abbrev pub kept : (in_full : Bool) → Recording → Recording
 kept true r = r
 kept false r = recording_outline r
 
--- what a recorder has: whether it keeps recordings in full, and what it keeps of one
-pub record Kept : Type 0 where
-  pub in_full : Bool
-  pub told : Recording
-
 -- whichever recording it is that was kept, one is kept now that is its next
-pub record Keeps (IsNext : Recording → Recording → Type 0) (old new : Kept) : Type 0 where
-  pub in_full : new.in_full ≡ old.in_full
-  pub each : (r : Recording) → old.told ≡ kept old.in_full r → (later : Recording) × (new.told ≡ kept old.in_full later) × IsNext r later
+pub record Keeps (in_full : Bool) (IsNext : Recording → Recording → Type 0) (old new : Recording) : Type 0 where
+  pub each : (r : Recording) → old ≡ kept in_full r → (later : Recording) × (new ≡ kept in_full later) × IsNext r later
 
 -- the recording that is kept becomes the changed one
-abbrev pub Becomes : (change : Recording → Recording) → Kept → Kept → Type 0
-Becomes change old new = Keeps (λ r later. later ≡ change r) old new
+abbrev pub Becomes : (in_full : Bool) (change : Recording → Recording) (old new : Recording) → Type 0
+Becomes in_full change old new = Keeps in_full (λ r later. later ≡ change r) old new

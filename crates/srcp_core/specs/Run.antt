@@ -7,7 +7,7 @@ use Rattle.srcp_core.specs.Course.{World, start, counted, fault, accepted, cours
 use Rattle.srcp_core.specs.Held.{Held}
 use Rattle.srcp_core.specs.Machine.{let_out, item_at, unsent_at, changed_at, without_sent}
 use Rattle.srcp_core.specs.Promised.{outline}
-use Rattle.srcp_core.specs.Recording.{Recording, key_of, without_key, record_of, gave, took, Kept, Keeps}
+use Rattle.srcp_core.specs.Recording.{Recording, key_of, without_key, record_of, gave, took, Keeps}
 use Rattle.srcp_core.specs.Laws.{HasMoment, IsRecordOf}
 use Rattle.srcp_core.specs.Stands.{StandsFor}
 use Rattle.srcp_core.specs.declared.record.Record.{Record}
@@ -69,12 +69,12 @@ pub record FollowsAs (number : ℕ) (event : PlainEvent) (r : Recording) (held :
   pub counted : later.denied ≡ denied_by held.denied grants
   pub asked : CountsAsked r held later (under grants event)
 
--- the same of a recorder, of whichever recording it keeps
-abbrev pub Happens : PlainEvent → Option CoreFault → Kept → Held → Kept → Held → Type 0
-Happens event refusal old held new later = Keeps (λ r later_r. HappensAs event refusal r held later_r later) old new
+-- the same of what a recorder keeps, of whichever recording that is
+abbrev pub Happens : (in_full : Bool) → PlainEvent → Option CoreFault → Recording → Held → Recording → Held → Type 0
+Happens in_full event refusal old held new later = Keeps in_full (λ r later_r. HappensAs event refusal r held later_r later) old new
 
-abbrev pub Follows : ℕ → PlainEvent → Kept → Held → Kept → Held → Type 0
-Follows number event old held new later = Keeps (λ r later_r. FollowsAs number event r held later_r later) old new
+abbrev pub Follows : (in_full : Bool) → ℕ → PlainEvent → Recording → Held → Recording → Held → Type 0
+Follows in_full number event old held new later = Keeps in_full (λ r later_r. FollowsAs number event r held later_r later) old new
 
 -- a call leads from the course of any events to that with its event
 abbrev pub LeadsTo : Event → Held → Held → Type 0

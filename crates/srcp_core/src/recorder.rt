@@ -14,47 +14,78 @@ use srcp_feed::Next;
 use srcp_info::Mode;
 use srcp_rules::{Memory, Rows};
 use std::alloc::Global;
-use std::marker::Model;
+use std::marker::{Model, PhantomData};
+
+/// How much of a run is kept.
+pub(crate) trait Detail {
+    ghost use Rattle.std.specs.Prelude.{Bool};
+
+    ghost IN_FULL: { Bool };
+
+    /// Whether steps and items are kept, and of each connection all else that its record has.
+    const IN_FULL: bool;
+}
+
+/// All that a record has.
+pub(crate) struct Full;
+
+impl Detail for Full {
+    ghost use Rattle.std.specs.Prelude.{true};
+
+    ghost IN_FULL = { true };
+
+    const IN_FULL: bool = true;
+}
+
+/// The outline of a record.
+pub(crate) struct Outline;
+
+impl Detail for Outline {
+    ghost use Rattle.std.specs.Prelude.{false};
+
+    ghost IN_FULL = { false };
+
+    const IN_FULL: bool = false;
+}
 
 /// What a run has told so far. A connection is named by its number, from 1 on.
 #[derive(Drop)]
-pub(crate) struct Recorder {
+pub(crate) struct Recorder<D: Detail> {
     alloc: Global,
-    // Whether steps and items are kept, and of each connection all else that its record has.
-    in_full: bool,
     // The key of each connection, while it is open.
     keys: Vec<Option<usize>>,
     steps: Vec<Step>,
     connections: Vec<ConnRecord>,
     refused: Vec<Refusal>,
+    detail: PhantomData<D>,
 }
 
-impl Model for Recorder {
-    ghost use Rattle.srcp_core.specs.Recording.{Kept};
+impl<D: Detail> Model for Recorder<D> {
+    ghost use Rattle.srcp_core.specs.Recording.{Recording};
 
-    ghost Value = { Kept };
+    ghost Value = { Recording };
 
-    ghost view = { λ r. record { in_full = r.in_full; told = record { keys = r.keys.items; steps = r.steps.items; connections = r.connections.items; refused = r.refused.items } } };
+    ghost view = { λ r. record { keys = r.keys.items; steps = r.steps.items; connections = r.connections.items; refused = r.refused.items } };
 }
 
-impl Recorder {
-    /// Nothing yet. What comes is kept in full, or its outline alone.
-    pub(crate) fn new(alloc: Global, in_full: bool) -> Recorder
-        ensures { result ≡ record { in_full = in_full; told = nothing_recorded } }
+impl<D: Detail> Recorder<D> {
+    /// Nothing yet.
+    pub(crate) fn new(alloc: Global) -> Recorder<D>
+        ensures { result ≡ nothing_recorded }
     {
         Recorder {
             alloc,
-            in_full,
             keys: Vec::new(alloc),
             steps: Vec::new(alloc),
             connections: Vec::new(alloc),
             refused: Vec::new(alloc),
+            detail: PhantomData,
         }
     }
 
     /// The key of a connection, while it is open.
     pub(crate) fn key(&self, conn: usize) -> Option<usize>
-        ensures { result ≡ key_of conn self.now.told.keys }
+        ensures { result ≡ key_of conn self.now.keys }
     {
         let index = conn.checked_sub(1)?;
         *self.keys.get(index)?
@@ -62,7 +93,7 @@ impl Recorder {
 
     /// A connection was opened under a key.
     pub(crate) fn opened(&mut self, key: usize) -> Result<(), Memory>
-        ensures { OnOk result (Becomes (opened key) self.old self.new) }
+        ensures { OnOk result (Becomes D.IN_FULL (opened key) self.old self.new) }
     {
         self.keys.push(Some(key))?;
         self.connections.push(ConnRecord {
@@ -78,7 +109,7 @@ impl Recorder {
 
     /// A connection was shut.
     pub(crate) fn shut(&mut self, conn: usize)
-        ensures { Becomes (shut conn) self.old self.new }
+        ensures { Becomes D.IN_FULL (shut conn) self.old self.new }
     {
         free(&mut self.keys, conn);
         finish(&mut self.connections, conn, Finish::Shut);
@@ -86,16 +117,16 @@ impl Recorder {
 
     /// The event of that number was refused.
     pub(crate) fn refused(&mut self, event: usize, fault: CoreFault) -> Result<(), Memory>
-        ensures { OnOk result (Becomes (with_refusal event fault) self.old self.new) }
+        ensures { OnOk result (Becomes D.IN_FULL (with_refusal event fault) self.old self.new) }
     {
         Ok(self.refused.push(Refusal { event, fault })?)
     }
 
     /// The registry took a step.
     pub(crate) fn step(&mut self, step: &Step) -> Result<(), Memory>
-        ensures { OnOk result (Becomes (stepped (step.now ∷ [])) self.old self.new) }
+        ensures { OnOk result (Becomes D.IN_FULL (stepped (step.now ∷ [])) self.old self.new) }
     {
-        if !self.in_full {
+        if !D::IN_FULL {
             return Ok(());
         }
         Ok(self.steps.extend_from_slice(&[*step])?)
@@ -103,7 +134,7 @@ impl Recorder {
 
     /// A line of a connection was answered.
     pub(crate) fn answered(&mut self, conn: usize, line: &LineRecord) -> Result<(), Memory>
-        ensures { OnOk result (Becomes (noted conn (steps_in line.now)) self.old self.new) }
+        ensures { OnOk result (Becomes D.IN_FULL (noted conn (steps_in line.now)) self.old self.new) }
     {
         if let Some(step) = &line.step {
             self.note(conn, step)?;
@@ -116,7 +147,7 @@ impl Recorder {
 
     /// The registry took a step at a line of a connection.
     fn note(&mut self, conn: usize, step: &Step) -> Result<(), Memory>
-        ensures { OnOk result (Becomes (noted conn (step.now ∷ [])) self.old self.new) }
+        ensures { OnOk result (Becomes D.IN_FULL (noted conn (step.now ∷ [])) self.old self.new) }
     {
         self.step(step)?;
         self.began(conn, step);
@@ -125,9 +156,9 @@ impl Recorder {
 
     /// A session began, where the step was that.
     fn began(&mut self, conn: usize, step: &Step)
-        ensures { Becomes (began conn step.now) self.old self.new }
+        ensures { Becomes D.IN_FULL (began conn step.now) self.old self.new }
     {
-        if !self.in_full {
+        if !D::IN_FULL {
             return;
         }
         if let Step::Began { session, mode, .. } = step {
@@ -138,9 +169,9 @@ impl Recorder {
 
     /// An information session was given this, if anything. That nothing is left is no line.
     pub(crate) fn gave(&mut self, conn: usize, item: Option<Next>) -> Result<(), Memory>
-        ensures { OnOk result (Becomes (gave conn item) self.old self.new) }
+        ensures { OnOk result (Becomes D.IN_FULL (gave conn item) self.old self.new) }
     {
-        if !self.in_full {
+        if !D::IN_FULL {
             return Ok(());
         }
         match item {
@@ -151,7 +182,7 @@ impl Recorder {
 
     /// These bytes were taken of a connection.
     pub(crate) fn took(&mut self, conn: usize, bytes: &[u8]) -> Result<(), Memory>
-        ensures { OnOk result (Becomes (took conn bytes.now) self.old self.new) }
+        ensures { OnOk result (Becomes D.IN_FULL (took conn bytes.now) self.old self.new) }
     {
         take(&mut self.connections, conn, bytes)
     }
@@ -159,9 +190,9 @@ impl Recorder {
     /// The record of the run, by how the core stands at the end.
     pub(crate) fn record<R: Rows>(mut self, core: &Core<'_, R>) -> Result<Record, Memory>
         ensures well_formed { IfOk result (λ run. AllByRecursion (λ row. IsWellFormedShown row.shown) run.rows) }
-        ensures steps { IfOk result (λ run. run.steps ≡ self.told.steps) }
-        ensures refused { IfOk result (λ run. run.refused ≡ self.told.refused) }
-        ensures connections { IfOk result (λ run. run.connections ≡ finished core.now self.told.keys self.told.connections) }
+        ensures steps { IfOk result (λ run. run.steps ≡ self.steps) }
+        ensures refused { IfOk result (λ run. run.refused ≡ self.refused) }
+        ensures connections { IfOk result (λ run. run.connections ≡ finished core.now self.keys self.connections) }
         ensures rows { IfOk result (λ run. run.rows ≡ core.now.rows) }
         ensures denied { IfOk result (λ run. run.denied ≡ core.now.denied) }
     {

@@ -10,7 +10,7 @@ ghost use Rattle.srcp_core.specs.Run.{Happens, Follows, count_at, taken_at, taki
 
 use crate::event::Event;
 use crate::record::{CoreFault, Record, Step};
-use crate::recorder::Recorder;
+use crate::recorder::{Detail, Full, Outline, Recorder};
 use crate::table::Core;
 use srcp_rules::{Layout, Memory, Rows};
 use std::alloc::Global;
@@ -48,7 +48,7 @@ pub fn run<R: Rows>(alloc: Global, layout: &Layout, events: &[Event]) -> Result<
     ensures well_formed { IfOk result (λ run. AllByRecursion (λ row. IsWellFormedShown row.shown) run.rows) }
     ensures promised { IfOk result (λ run. IsPromised layout.now events.now run) }
 {
-    carry_out::<R>(alloc, layout, events, true)
+    carry_out::<R, Full>(alloc, layout, events)
 }
 
 /// Carries out the events as `run` does, and returns the outline of its record: no steps, and of each connection only what it
@@ -66,25 +66,24 @@ pub fn run_in_outline<R: Rows>(
     ensures well_formed { IfOk result (λ run. AllByRecursion (λ row. IsWellFormedShown row.shown) run.rows) }
     ensures promised { IfOk result (λ run. IsPromisedOutline layout.now events.now run) }
 {
-    carry_out::<R>(alloc, layout, events, false)
+    carry_out::<R, Outline>(alloc, layout, events)
 }
 
-/// Carries out all events. The record is kept in full, or its outline alone.
-fn carry_out<R: Rows>(
+/// Carries out all events. The record is kept in that detail.
+fn carry_out<R: Rows, D: Detail>(
     alloc: Global,
     layout: &Layout,
     events: &[Event],
-    in_full: bool,
 ) -> Result<Record, RunFault>
     ensures well_formed { IfOk result (λ run. AllByRecursion (λ row. IsWellFormedShown row.shown) run.rows) }
-    ensures record { IfOk result (λ run. RunsTold in_full layout.now events.now run) }
+    ensures record { IfOk result (λ run. RunsTold D.IN_FULL layout.now events.now run) }
     ensures moments { IfOk result (λ _. PlainMoments events.now) }
     ensures laid_out { IfOk result (λ _. IsLayout layout.now) }
 {
     // Called for its contract, which says the layout's limits.
     let _ = layout.buses();
     let mut core = Core::<R>::new(alloc, layout, 0, 0)?;
-    let mut recorder = Recorder::new(alloc, in_full);
+    let mut recorder = Recorder::<D>::new(alloc);
     for index in 0..events.len() {
         follow(&mut core, &mut recorder, index + 1, &events[index])?;
     }
@@ -92,13 +91,13 @@ fn carry_out<R: Rows>(
 }
 
 /// Carries out the event of that number, and notes where it is refused.
-fn follow<R: Rows>(
+fn follow<R: Rows, D: Detail>(
     core: &mut Core<'_, R>,
-    recorder: &mut Recorder,
+    recorder: &mut Recorder<D>,
     number: usize,
     event: &Event,
 ) -> Result<(), Memory>
-    ensures course { OnOk result (Follows number event.now recorder.old core.old recorder.new core.new) }
+    ensures course { OnOk result (Follows D.IN_FULL number event.now recorder.old core.old recorder.new core.new) }
     ensures moment { HasPlainMoment event.now }
 {
     if let Some(fault) = happen(core, recorder, event)? {
@@ -108,12 +107,12 @@ fn follow<R: Rows>(
 }
 
 /// Carries out an event, and answers why it is refused, if it is.
-fn happen<R: Rows>(
+fn happen<R: Rows, D: Detail>(
     core: &mut Core<'_, R>,
-    recorder: &mut Recorder,
+    recorder: &mut Recorder<D>,
     event: &Event,
 ) -> Result<Option<CoreFault>, Memory>
-    ensures course { IfOk result (λ refusal. Happens event.now refusal recorder.old core.old recorder.new core.new) }
+    ensures course { IfOk result (λ refusal. Happens D.IN_FULL event.now refusal recorder.old core.old recorder.new core.new) }
     ensures moment { HasPlainMoment event.now }
 {
     match event {
@@ -126,11 +125,11 @@ fn happen<R: Rows>(
 }
 
 /// Opens a connection, and notes its key. Answers why it is refused, if it is, as each of these does.
-fn open<R: Rows>(
+fn open<R: Rows, D: Detail>(
     core: &mut Core<'_, R>,
-    recorder: &mut Recorder,
+    recorder: &mut Recorder<D>,
 ) -> Result<Option<CoreFault>, Memory>
-    ensures { IfOk result (λ refusal. Happens Event.Open refusal recorder.old core.old recorder.new core.new) }
+    ensures { IfOk result (λ refusal. Happens D.IN_FULL Event.Open refusal recorder.old core.old recorder.new core.new) }
 {
     match core.connect() {
         Ok(key) => {
@@ -142,13 +141,13 @@ fn open<R: Rows>(
 }
 
 /// Takes a piece line by line, and notes the steps of each.
-fn bytes<R: Rows>(
+fn bytes<R: Rows, D: Detail>(
     core: &mut Core<'_, R>,
-    recorder: &mut Recorder,
+    recorder: &mut Recorder<D>,
     conn: usize,
     piece: &[u8],
 ) -> Result<Option<CoreFault>, Memory>
-    ensures { IfOk result (λ refusal. Happens (Event.Bytes conn piece.now) refusal recorder.old core.old recorder.new core.new) }
+    ensures { IfOk result (λ refusal. Happens D.IN_FULL (Event.Bytes conn piece.now) refusal recorder.old core.old recorder.new core.new) }
 {
     let Some(key) = recorder.key(conn) else {
         return Ok(Some(CoreFault::NoSuch));
@@ -165,13 +164,13 @@ fn bytes<R: Rows>(
 }
 
 /// Takes bytes of a connection until it took so many, or nothing is owed to it.
-fn room<R: Rows>(
+fn room<R: Rows, D: Detail>(
     core: &mut Core<'_, R>,
-    recorder: &mut Recorder,
+    recorder: &mut Recorder<D>,
     conn: usize,
     bytes: usize,
 ) -> Result<Option<CoreFault>, Memory>
-    ensures { IfOk result (λ refusal. Happens (Event.Room conn bytes) refusal recorder.old core.old recorder.new core.new) }
+    ensures { IfOk result (λ refusal. Happens D.IN_FULL (Event.Room conn bytes) refusal recorder.old core.old recorder.new core.new) }
 {
     let Some(key) = recorder.key(conn) else {
         return Ok(Some(CoreFault::NoSuch));
@@ -188,16 +187,16 @@ fn room<R: Rows>(
 
 /// Takes bytes of a connection, at most so many, after the next line is put in where nothing is unsent. Answers how
 /// many they are.
-fn take<R: Rows>(
+fn take<R: Rows, D: Detail>(
     core: &mut Core<'_, R>,
-    recorder: &mut Recorder,
+    recorder: &mut Recorder<D>,
     conn: usize,
     key: usize,
     most: usize,
 ) -> Result<usize, Memory>
     ensures most { IfOk result (λ count. count ≤ most) }
     ensures count { IfOk result (λ count. count ≡ count_at key most core.old) }
-    ensures recorder { OnOk result (Becomes (taking conn key most core.old) recorder.old recorder.new) }
+    ensures recorder { OnOk result (Becomes D.IN_FULL (taking conn key most core.old) recorder.old recorder.new) }
     ensures core { OnOk result (core.new ≡ taken_at key most core.old) }
     ensures denied { core.new.denied ≡ core.old.denied }
 {
@@ -218,12 +217,12 @@ fn take<R: Rows>(
 }
 
 /// Takes a moment, and notes it as a step.
-fn advance<R: Rows>(
+fn advance<R: Rows, D: Detail>(
     core: &mut Core<'_, R>,
-    recorder: &mut Recorder,
+    recorder: &mut Recorder<D>,
     moment: u64,
 ) -> Result<Option<CoreFault>, Memory>
-    ensures course { IfOk result (λ refusal. Happens (Event.At moment) refusal recorder.old core.old recorder.new core.new) }
+    ensures course { IfOk result (λ refusal. Happens D.IN_FULL (Event.At moment) refusal recorder.old core.old recorder.new core.new) }
     ensures fits { IsMoment moment }
 {
     core.advance(moment);
@@ -232,12 +231,12 @@ fn advance<R: Rows>(
 }
 
 /// Hangs up a connection, and notes the end of its session, where that goes on.
-fn shut<R: Rows>(
+fn shut<R: Rows, D: Detail>(
     core: &mut Core<'_, R>,
-    recorder: &mut Recorder,
+    recorder: &mut Recorder<D>,
     conn: usize,
 ) -> Result<Option<CoreFault>, Memory>
-    ensures { IfOk result (λ refusal. Happens (Event.Shut conn) refusal recorder.old core.old recorder.new core.new) }
+    ensures { IfOk result (λ refusal. Happens D.IN_FULL (Event.Shut conn) refusal recorder.old core.old recorder.new core.new) }
 {
     let Some(key) = recorder.key(conn) else {
         return Ok(Some(CoreFault::NoSuch));

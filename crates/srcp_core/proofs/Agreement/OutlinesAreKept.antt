@@ -9,7 +9,7 @@ use Rattle.srcp_rules.specs.declared.layout.Bus.{Bus}
 use Rattle.srcp_rules.specs.Layout.{IsLayout}
 use Rattle.srcp_core.specs.Held.{Held}
 use Rattle.srcp_core.specs.Promised.{connection_outline, IsPromised, IsPromisedOutline}
-use Rattle.srcp_core.specs.Recording.{Recording, Kept, Keeps, Becomes, recording_outline, kept, changed_in, changed_record, shut, began, gave, took, finished, finished_by, nothing_recorded}
+use Rattle.srcp_core.specs.Recording.{Recording, Keeps, Becomes, recording_outline, kept, changed_in, changed_record, shut, began, gave, took, finished, finished_by, nothing_recorded}
 use Rattle.srcp_core.specs.Run.{RunsTold, PlainMoments, told_in}
 use Rattle.srcp_core.specs.declared.event.Event.{Event as PlainEvent}
 use Rattle.srcp_core.specs.declared.record.ConnRecord.{ConnRecord}
@@ -22,59 +22,50 @@ use Rattle.srcp_core.proofs.Agreement.RunPromises.{promised}
 -- ---- what a recorder keeps
 
 -- the keys are kept in any case
-pub kept_keys : (in_full : Bool) (r : Recording) → (kept in_full r).keys ≡ r.keys
-kept_keys true r = refl
-kept_keys false r = refl
-
-pub keys_kept : (old : Kept) (r : Recording) → old.told ≡ kept old.in_full r → old.told.keys ≡ r.keys
-keys_kept old r e = ap (λ (x : Recording). x.keys) e ∙ kept_keys old.in_full r
+keys_kept : (in_full : Bool) (old r : Recording) → old ≡ kept in_full r → old.keys ≡ r.keys
+keys_kept true old r e = ap (λ (x : Recording). x.keys) e
+keys_kept false old r e = ap (λ (x : Recording). x.keys) e
 
 -- what the change makes of what is kept is kept of what it makes of all
-pub becomes : (change : Recording → Recording) (old new : Kept)
+pub becomes : {in_full : Bool} (change : Recording → Recording) (old new : Recording)
     → ((in_full : Bool) (r : Recording) → change (kept in_full r) ≡ kept in_full (change r))
-    → new.in_full ≡ old.in_full → new.told ≡ change old.told → Becomes change old new
-becomes change old new law same is = record { in_full = same; each = λ r e. (change r, is ∙ ap change e ∙ law old.in_full r, refl) }
+    → new ≡ change old → Becomes in_full change old new
+becomes {in_full = in_full} change old new law is = record { each = λ r e. (change r, is ∙ ap change e ∙ law in_full r, refl) }
 
 -- nothing is kept of the change
-pub stays : (change : Recording → Recording) (old new : Kept) → old.in_full ≡ false
-    → ((r : Recording) → recording_outline (change r) ≡ recording_outline r) → new ≡ old → Becomes change old new
-stays change old new off law is = record {
-  in_full = ap (λ (x : Kept). x.in_full) is;
-  each = λ r e.
-      let same : kept old.in_full r ≡ kept old.in_full (change r) = subst (λ h. kept h r ≡ kept h (change r)) (sym off) (sym (law r)) in
-      (change r, ap (λ (x : Kept). x.told) is ∙ e ∙ same, refl);
+pub stays : {in_full : Bool} (change : Recording → Recording) (old : Recording) → in_full ≡ false
+    → ((r : Recording) → recording_outline (change r) ≡ recording_outline r) → Becomes in_full change old old
+stays change old off law = record {
+  each = λ r e. (change r, e ∙ subst (λ h. kept h r ≡ kept h (change r)) (sym off) (sym (law r)), refl);
 }
 
--- one thing follows, and then another
-pub keeps_then : {P Q R : Recording → Recording → Type 0} (a b c : Kept)
-    → ((r s t : Recording) → a.told ≡ kept a.in_full r → P r s → Q s t → R r t) → Keeps P a b → Keeps Q b c → Keeps R a c
-keeps_then a b c both p q = record {
-  in_full = q.in_full ∙ p.in_full;
-  each = λ r e.
-      let first = p.each r e in
-      let second = q.each first.0 (subst (λ h. b.told ≡ kept h first.0) (sym p.in_full) first.1) in
-      (second.0, subst (λ h. c.told ≡ kept h second.0) p.in_full second.1, both r first.0 second.0 e first.2 second.2);
-}
+module _ {in_full : Bool} {P : Recording → Recording → Type 0} where
+  -- one thing follows, and then another
+  pub keeps_then : {Q R : Recording → Recording → Type 0} (a b c : Recording)
+      → ((r s t : Recording) → a.keys ≡ r.keys → P r s → Q s t → R r t) → Keeps in_full P a b → Keeps in_full Q b c
+      → Keeps in_full R a c
+  keeps_then a b c both p q = record {
+    each = λ r e.
+        let first = p.each r e in
+        let second = q.each first.0 first.1 in
+        (second.0, second.1, both r first.0 second.0 (keys_kept in_full a r e) first.2 second.2);
+  }
 
--- what follows follows in another way
-pub keeps_as : {P Q : Recording → Recording → Type 0} (old new : Kept) → ((r later : Recording) → P r later → Q r later)
-    → Keeps P old new → Keeps Q old new
-keeps_as old new law p = record { in_full = p.in_full; each = λ r e. let one = p.each r e in (one.0, one.1, law r one.0 one.2) }
+  -- what follows follows in another way
+  pub keeps_as : {Q : Recording → Recording → Type 0} (old new : Recording) → ((r later : Recording) → P r later → Q r later)
+      → Keeps in_full P old new → Keeps in_full Q old new
+  keeps_as old new law p = record { each = λ r e. let one = p.each r e in (one.0, one.1, law r one.0 one.2) }
 
--- what follows of the changed recording follows
-pub keeps_changed : {P : Recording → Recording → Type 0} (change : Recording → Recording) (old new : Kept)
-    → ((r : Recording) → old.told ≡ kept old.in_full r → P r (change r)) → Becomes change old new → Keeps P old new
-keeps_changed change old new law b = record {
-  in_full = b.in_full;
-  each = λ r e.
-      let one = b.each r e in
-      (change r, one.1 ∙ ap (kept old.in_full) one.2, law r e);
-}
+  -- what follows of the changed recording follows
+  pub keeps_changed : (change : Recording → Recording) (old new : Recording)
+      → ((r : Recording) → old.keys ≡ r.keys → P r (change r)) → Becomes in_full change old new → Keeps in_full P old new
+  keeps_changed change old new law b = record {
+    each = λ r e. let one = b.each r e in (change r, one.1 ∙ ap (kept in_full) one.2, law r (keys_kept in_full old r e));
+  }
 
--- what holds of a recording to which nothing happens
-pub keeps_same : {P : Recording → Recording → Type 0} (old : Kept) → ((r : Recording) → old.told ≡ kept old.in_full r → P r r)
-    → Keeps P old old
-keeps_same old law = record { in_full = refl; each = λ r e. (r, e, law r e) }
+  -- what holds of a recording to which nothing happens
+  pub keeps_same : (old : Recording) → ((r : Recording) → old.keys ≡ r.keys → P r r) → Keeps in_full P old old
+  keeps_same old law = record { each = λ r e. (r, e, law r (keys_kept in_full old r e)) }
 
 -- ---- each change
 

@@ -1,21 +1,20 @@
 use Rattle.std.proofs.Common.{ap, sym, ◌∙◌, subst}
 use Rattle.srcp_core.specs.Machine.{steps_in}
 use Rattle.srcp_core.specs.Recording.{Recording, key_of}
-use Rattle.srcp_core.proofs.Agreement.OutlinesAreKept.{keeps_as, keeps_same, keeps_then, keys_kept}
+use Rattle.srcp_core.proofs.Agreement.OutlinesAreKept.{keeps_as, keeps_same, keeps_then}
 use Rattle.srcp_core.proofs.Agreement.RunsAnEvent.{no_bytes_happens}
 use Rattle.srcp_core.proofs.Agreement.RunsBytes.{bytes_refused, bytes_room, reads_first, reads_more, bytes_happens, ReadsOn}
 use Rattle.srcp_core.proofs.runner.bytes.Goals as goal
 
 pub returns-in_default : goal.returns-in_default
 returns-in_default g c =
-    keeps_same c.args.recorder.now (λ r e. no_bytes_happens c.args.conn c.args.piece.now r c.args.core.now (ap (key_of c.args.conn) (sym
-    (keys_kept c.args.recorder.now r e)) ∙ sym c.key.ensures ∙ c.in_default.is))
+    keeps_same c.args.recorder.now (λ r e. no_bytes_happens c.args.conn c.args.piece.now r c.args.core.now (ap (key_of c.args.conn) (sym e) ∙ sym c.key.ensures ∙ c.in_default.is))
 
 pub returns-in-Some-bytes_fault : goal.returns-in-Some-bytes_fault
 returns-in-Some-bytes_fault g c =
     keeps_same c.args.recorder.now
     (λ r e. bytes_refused c.args.conn c.in-Some.key c.args.piece.now r c.args.core.now c.in-Some-bytes_fault.fault (ap (key_of
-    c.args.conn) (sym (keys_kept c.args.recorder.now r e)) ∙ sym c.key.ensures ∙ c.in-Some.is)
+    c.args.conn) (sym e) ∙ sym c.key.ensures ∙ c.in-Some.is)
     (sym c.bytes_fault.ensures ∙ c.in-Some-bytes_fault.is))
 
 pub loop-stop-init : goal.loop-stop-init
@@ -26,8 +25,7 @@ loop-stop-init g c =
       few = room.0;
       room = room.1;
       reads = keeps_same c.args.recorder.now
-          (λ r e. reads_first c.args.conn c.in-Some.key c.args.piece.now r c.args.core.now (ap (key_of c.args.conn) (sym (keys_kept
-          c.args.recorder.now r e)) ∙ sym c.key.ensures ∙ c.in-Some.is) free);
+          (λ r e. reads_first c.args.conn c.in-Some.key c.args.piece.now r c.args.core.now (ap (key_of c.args.conn) (sym e) ∙ sym c.key.ensures ∙ c.in-Some.is) free);
     }
 
 pub loop-stop-preserved : goal.loop-stop-preserved

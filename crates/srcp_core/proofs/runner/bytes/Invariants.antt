@@ -8,7 +8,7 @@ abbrev pub invariant-loop-stop : goal.invariant-loop-stop
 invariant-loop-stop g l = record {
   few : length l.piece ≤ 256;
   room : HasRoom l.key l.piece l.start l.core;
-  reads : Keeps (λ first_r r. ReadsOn l.conn l.key l.piece first_r l.fn.core l.start r l.core) l.fn.recorder l.recorder;
+  reads : Keeps g.D.Detail.IN_FULL (λ first_r r. ReadsOn l.conn l.key l.piece first_r l.fn.core l.start r l.core) l.fn.recorder l.recorder;
 }
 
 abbrev pub decreases-loop-stop : goal.decreases-loop-stop

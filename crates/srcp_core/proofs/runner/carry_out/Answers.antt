@@ -1,6 +1,6 @@
 use Rattle.std.proofs.Common.{◌≤◌, length, ◌∙◌, refl, sym, ap, arith}
 use Rattle.std.proofs.lemmas.Option.{slice_get_read}
-use Rattle.srcp_core.specs.Recording.{Kept, kept, nothing_recorded}
+use Rattle.srcp_core.specs.Recording.{nothing_recorded}
 use Rattle.srcp_core.specs.Under.{all_under}
 use Rattle.srcp_core.proofs.Agreement.OutlinesAreKept.{nothing_kept, record_at, record_from, record_kept}
 use Rattle.srcp_core.proofs.Agreement.RunPromises.{moments_all, moments_more}
@@ -24,8 +24,8 @@ returns-clause-record g c =
         is = record_is c.args.layout.now (all_under u.grants c.args.events.now) r held (record_at r held) c.buses.ensures.laid_out
             u.runs refl refl refl refl;
       };
-      is = record_from c.in_ok-record.field-0 c.loop-index.recorder.told held e.steps e.refused e.connections e.rows e.denied
-          ∙ ap (λ x. record_at x held) c.loop-index.invariant.runs.1 ∙ record_kept c.args.in_full r held;
+      is = record_from c.in_ok-record.field-0 c.loop-index.recorder held e.steps e.refused e.connections e.rows e.denied
+          ∙ ap (λ x. record_at x held) c.loop-index.invariant.runs.1 ∙ record_kept g.D.Detail.IN_FULL r held;
     }
 
 pub returns-clause-moments : goal.returns-clause-moments
@@ -38,11 +38,9 @@ returns-clause-laid_out g c = c.buses.ensures.laid_out
 
 pub loop-index-init : goal.loop-index-init
 loop-index-init g c = record {
-  in_full = ap (λ (x : Kept). x.in_full) c.new-recorder.ensures;
   runs = (
     nothing_recorded,
-    ap (λ (x : Kept). x.told) c.new-recorder.ensures
-        ∙ nothing_kept c.args.in_full,
+    c.new-recorder.ensures ∙ nothing_kept g.D.Detail.IN_FULL,
     runs_none c.args.layout.now c.args.events.now nothing_recorded c.in_ok-core.core refl
         c.in_ok-core.ensures,
   );
@@ -55,12 +53,11 @@ loop-index-preserved g c =
     c.loop-index-test.true c.index-events-index.is in
     let i = c.loop-index.invariant in
     let course = c.in_ok-follow.ensures.course in
-    let next = course.each i.runs.0 (i.runs.1 ∙ ap (λ h. kept h i.runs.0) (sym i.in_full)) in
+    let next = course.each i.runs.0 i.runs.1 in
     record {
-      in_full = course.in_full ∙ i.in_full;
       runs = (
         next.0,
-        next.1 ∙ ap (λ h. kept h next.0) i.in_full,
+        next.1,
         follows_more c.args.layout.now c.args.events.now c.loop-index.index c.index-events-index.result i.runs.0 next.0
             c.loop-index.core c.follow.new.core c.buses.ensures.laid_out at next.2 i.runs.2,
       );

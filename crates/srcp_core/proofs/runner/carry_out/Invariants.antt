@@ -6,7 +6,6 @@ use Rattle.srcp_core.proofs.runner.carry_out.Given as goal
 
 abbrev pub invariant-loop-index : goal.invariant-loop-index
 invariant-loop-index g l = record {
-  in_full : l.recorder.in_full ≡ l.in_full;
-  runs : (r : Recording) × (l.recorder.told ≡ kept l.in_full r) × RunsUnder l.layout (take l.index l.events) r l.core;
+  runs : (r : Recording) × (l.recorder ≡ kept g.D.Detail.IN_FULL r) × RunsUnder l.layout (take l.index l.events) r l.core;
   moments : AllByRecursion HasPlainMoment (take l.index l.events);
 }

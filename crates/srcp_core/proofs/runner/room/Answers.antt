@@ -2,21 +2,19 @@ use Rattle.std.proofs.Common.{◌≡◌, ℕ, ◌-◌, ◌⊎◌, inl, inr, refl
 use Rattle.srcp_core.specs.Run.{taking, taken_at, count_at}
 use Rattle.srcp_core.specs.declared.event.Event.TheVariants.{Room}
 use Rattle.srcp_core.specs.Recording.{key_of}
-use Rattle.srcp_core.proofs.Agreement.OutlinesAreKept.{keeps_same, keeps_then, keys_kept}
+use Rattle.srcp_core.proofs.Agreement.OutlinesAreKept.{keeps_same, keeps_then}
 use Rattle.srcp_core.proofs.Agreement.RunsAnEvent.{told_as, no_room_happens, gives_first, gives_as, room_happens}
 use Rattle.srcp_core.proofs.runner.room.Goals as goal
 use Rattle.srcp_core.proofs.runner.room.Goals.{then-left-eq0-via-then-left-eq0, then-left-eq0-via-else-left-eq0+then-count-eq0}
 
 pub returns-in_default : goal.returns-in_default
 returns-in_default g c =
-    keeps_same c.args.recorder.now (λ r e. no_room_happens c.args.conn c.args.bytes r c.args.core.now (ap (key_of c.args.conn) (sym
-    (keys_kept c.args.recorder.now r e)) ∙ sym c.key.ensures ∙ c.in_default.is))
+    keeps_same c.args.recorder.now (λ r e. no_room_happens c.args.conn c.args.bytes r c.args.core.now (ap (key_of c.args.conn) (sym e) ∙ sym c.key.ensures ∙ c.in_default.is))
 
 pub loop-count-init : goal.loop-count-init
 loop-count-init g c = record {
   gives = keeps_same c.args.recorder.now
-      (λ r e. gives_first c.args.conn c.in-Some.key c.args.bytes r c.args.core.now (ap (key_of c.args.conn) (sym (keys_kept
-      c.args.recorder.now r e)) ∙ sym c.key.ensures ∙ c.in-Some.is));
+      (λ r e. gives_first c.args.conn c.in-Some.key c.args.bytes r c.args.core.now (ap (key_of c.args.conn) (sym e) ∙ sym c.key.ensures ∙ c.in-Some.is));
   denied = refl;
 }
 

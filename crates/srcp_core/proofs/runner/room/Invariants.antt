@@ -5,7 +5,7 @@ use Rattle.srcp_core.proofs.runner.room.Given as goal
 
 abbrev pub invariant-loop-count : goal.invariant-loop-count
 invariant-loop-count g l = record {
-  gives : Keeps (λ first_r r. GivesOn l.conn l.key l.bytes first_r l.fn.core l.left r l.core) l.fn.recorder l.recorder;
+  gives : Keeps g.D.Detail.IN_FULL (λ first_r r. GivesOn l.conn l.key l.bytes first_r l.fn.core l.left r l.core) l.fn.recorder l.recorder;
   denied : l.core.denied ≡ l.fn.core.denied;
 }
 

@@ -1,6 +1,6 @@
 use Rattle.std.proofs.Common.{Result, Ok, Err, ap, ◌∙◌}
 use Rattle.std.specs.Prelude.{OnOk}
-use Rattle.srcp_core.specs.Recording.{Kept, took}
+use Rattle.srcp_core.specs.Recording.{took}
 use Rattle.srcp_core.proofs.Agreement.OutlinesAreKept.{becomes, took_kept}
 use Rattle.srcp_core.proofs.recorder.Recorder.took.Goals as goal
 
@@ -9,11 +9,10 @@ on_ok (Ok done) f h = f h
 on_ok (Err fault) f h = tt
 
 pub returns : goal.returns
-returns c =
+returns g c =
     let r = c.self.inside in
     on_ok c.take.result
-    (λ e. becomes (took c.args.conn c.args.bytes.now) c.args.self.now _ (took_kept c.args.conn c.args.bytes.now) (ap (λ (x : Kept).
-    x.in_full) c.self.view_is)
+    (λ e. becomes (took c.args.conn c.args.bytes.now) c.args.self.now _ (took_kept c.args.conn c.args.bytes.now)
     (ap (λ tolds. record { keys = r.keys.items; steps = r.steps.items; connections = tolds; refused = r.refused.items }) e
-    ∙ ap (λ (x : Kept). took c.args.conn c.args.bytes.now x.told) c.self.view_is))
+    ∙ ap (took c.args.conn c.args.bytes.now) c.self.view_is))
     c.take.ensures
