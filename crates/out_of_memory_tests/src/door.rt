@@ -18,6 +18,8 @@ struct TwoPeers {
 impl Door for TwoPeers {
     ghost faults = { λ _. 0 };
 
+    fn expect(&mut self, _due: Option<u64>, _slack: Option<usize>) {}
+
     fn now(&mut self) -> Result<u64, DoorFault> {
         Ok(0)
     }

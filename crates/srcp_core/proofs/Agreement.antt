@@ -20,3 +20,4 @@ pub mod PiecesFollowTheCourse
 pub mod AnswersAgree
 pub mod NothingIsLent
 pub mod CallLaws
+pub mod SlackAgrees

@@ -22,3 +22,5 @@ pub mod SentLinesAreOneList
 pub mod NothingAfterTheEnd
 pub mod RoomsAddUp
 pub mod OverrunAt256
+pub mod EventsKeep
+pub mod WaitsGrow

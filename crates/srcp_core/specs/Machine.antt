@@ -1,5 +1,5 @@
 -- The model of the code: what each call makes of what is held.
-use Rattle.std.specs.Prelude.{⊤, ◌≡◌, ◌≢◌, ℕ, zero, suc, ◌+◌, ◌*◌, ◌<◌, ◌≤◌, min, max, Bool, true, false, not, ◌&&◌, ◌||◌, ◌==◌, if◌then◌else◌, List, [], ◌∷◌, ◌++◌, map, drop, length, fold, nat_lt, slice_set, Option, Some, None, Result, Ok, Err}
+use Rattle.std.specs.Prelude.{⊤, ◌≡◌, ◌≢◌, ℕ, zero, suc, ◌+◌, ◌-◌, ◌*◌, ◌<◌, ◌≤◌, min, max, Bool, true, false, not, ◌&&◌, ◌||◌, ◌==◌, if◌then◌else◌, List, [], ◌∷◌, ◌++◌, map, drop, length, fold, nat_lt, slice_set, Option, Some, None, Result, Ok, Err}
 use Rattle.std.specs.Option.{option_map, option_to_list}
 use Rattle.srcp_info.specs.Line.{reply_line}
 use Rattle.srcp_info.specs.WellFormed.{IsWellFormed}
@@ -78,6 +78,17 @@ abbrev pub has_overrun : Panel → Bool
 has_overrun Absent = false
 has_overrun (Listening feed) = false
 has_overrun Overran = true
+
+-- how many more changes may come upon it, while it goes on
+abbrev pub slack_in : Panel → Option ℕ
+slack_in Absent = None
+slack_in (Listening feed) = Some (256 - length feed.queue)
+slack_in Overran = None
+
+-- and upon the connection of a place
+abbrev pub slack_at : Option Place → Option ℕ
+slack_at None = None
+slack_at (Some p) = slack_in p.panel
 
 -- the feed that gives to it
 abbrev pub feed_in : Panel → Option Feed

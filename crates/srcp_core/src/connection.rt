@@ -7,12 +7,12 @@ ghost use Rattle.srcp_info.specs.WellFormed.{IsWellFormed, IsWellFormedReply, Is
 ghost use Rattle.srcp_feed.specs.Feed.{next_of, after_next};
 ghost use Rattle.srcp_text.specs.Marks.{Line, TooLong};
 ghost use Rattle.srcp_core.specs.Connection.{is_nil, line_of};
-ghost use Rattle.srcp_core.specs.Machine.{queue_of, fresh_place, with_unsent, without_sent, entered_place, panel_for, feed_in, has_overrun, is_panel, told_place, filled, item_from, IsTellable, asked_of, heard, live_session_of, longest};
+ghost use Rattle.srcp_core.specs.Machine.{queue_of, fresh_place, with_unsent, without_sent, entered_place, panel_for, feed_in, has_overrun, is_panel, told_place, filled, item_from, IsTellable, asked_of, heard, live_session_of, longest, slack_in};
 
 use crate::handshake::{Greeting, greet};
 use crate::limits::MOST_UNSENT;
 use crate::line::Asked;
-use srcp_feed::{ChangeLine, InfoFeed, Next, Told};
+use srcp_feed::{ChangeLine, InfoFeed, MOST_WAITING, Next, Told};
 use srcp_info::{
     Code, InfoLine, LONGEST_LINE, Mode, Reply, write_change, write_reply, write_shown,
 };
@@ -248,6 +248,16 @@ impl Connection {
         ensures { result ≡ is_panel self.now.panel }
     {
         !matches!(self.panel, Panel::Absent)
+    }
+
+    /// How many more changes may come upon its information session, if it has one that did not overrun.
+    pub(crate) fn slack(&self) -> Option<usize>
+        ensures { result ≡ slack_in self.now.panel }
+    {
+        match &self.panel {
+            Panel::Listening(feed) => Some(MOST_WAITING - feed.waiting()),
+            Panel::Absent | Panel::Overran => None,
+        }
     }
 
     /// Chooses the mode of its session to come.

@@ -5,8 +5,8 @@ use Rattle.std.specs.List.{cons_option}
 use Rattle.std.proofs.lemmas.Bool.Decides.{nat_tests}
 use Rattle.srcp_core.specs.Under.{Event}
 use Rattle.srcp_rules.specs.declared.layout.Bus.{Bus}
-use Rattle.srcp_serve.specs.Given.{Guest, Call, NowCall, AcceptCall, ReadCall, WriteCall, CloseCall}
-use Rattle.srcp_serve.specs.Serving.{Question, Moments, Newcomers, Closes, Seat, Stand, question, newcomer_of, with_moment, is_let_in, turns_away}
+use Rattle.srcp_serve.specs.Given.{Guest, Call, ExpectCall, NowCall, AcceptCall, ReadCall, WriteCall, CloseCall}
+use Rattle.srcp_serve.specs.Serving.{Question, Expects, Moments, expects, Newcomers, Closes, Seat, Stand, question, newcomer_of, with_moment, is_let_in, turns_away}
 use Rattle.srcp_serve.proofs.Partings.{IsNoneOf, IsOfNone, AreOfPeers, asks_of}
 use Rattle.srcp_serve.proofs.Comings.{IsEven, even_moment}
 
@@ -15,7 +15,16 @@ pub even_timed : (buses : List Bus) (before : ℕ → List ℕ) (stand : Stand) 
 even_timed buses before stand [] h = (h, refl)
 even_timed buses before stand (moment ∷ moments) h = even_timed buses before (with_moment buses stand moment) moments (even_moment buses before stand moment h)
 
+no_newcomer_first : (due slack : Option ℕ) (call : Call) → question call ≡ Expects due slack → newcomer_of call ≡ None
+no_newcomer_first due slack (ExpectCall d s) e = refl
+no_newcomer_first due slack (NowCall answer) e = refl
+no_newcomer_first due slack (AcceptCall answer granted) e = cc
+no_newcomer_first due slack (ReadCall peer answer buffer grants) e = refl
+no_newcomer_first due slack (WriteCall peer bytes answer) e = refl
+no_newcomer_first due slack (CloseCall peer answer) e = refl
+
 no_newcomer : (call : Call) → question call ≡ Moments → newcomer_of call ≡ None
+no_newcomer (ExpectCall due slack) e = refl
 no_newcomer (NowCall answer) e = refl
 no_newcomer (AcceptCall answer granted) e = cc
 no_newcomer (ReadCall peer answer buffer grants) e = refl
@@ -24,6 +33,7 @@ no_newcomer (CloseCall peer answer) e = refl
 
 pub no_newcomers : (calls : List Call) → AreOfPeers (map question calls) → filter_map newcomer_of calls ≡ []
 no_newcomers [] h = refl
+no_newcomers (ExpectCall due slack ∷ calls) h = cc
 no_newcomers (NowCall answer ∷ calls) h = cc
 no_newcomers (AcceptCall answer granted ∷ calls) h = let no = h.0 in cc
 no_newcomers (ReadCall peer answer buffer grants ∷ calls) h = no_newcomers calls h.1
@@ -31,23 +41,27 @@ no_newcomers (WriteCall peer bytes answer ∷ calls) h = no_newcomers calls h.1
 no_newcomers (CloseCall peer answer ∷ calls) h = no_newcomers calls h.1
 
 -- a turn has at most one newcomer
-pub one_newcomer : (calls : List Call) (questions : List Question) → map question calls ≡ Moments ∷ Newcomers ∷ questions → AreOfPeers questions → (filter_map newcomer_of calls ≡ []) ⊎ ((peer : Guest) × (filter_map newcomer_of calls ≡ peer ∷ []))
-one_newcomer [] questions e h = cc
-one_newcomer (now ∷ []) questions e h = cc
-one_newcomer (now ∷ call ∷ calls) questions e h =
-    let first : question now ≡ Moments = cc in
+pub one_newcomer : (due slack : Option ℕ) (calls : List Call) (questions : List Question) → map question calls ≡ Expects due slack ∷ Moments ∷ Newcomers ∷ questions → AreOfPeers questions → (filter_map newcomer_of calls ≡ []) ⊎ ((peer : Guest) × (filter_map newcomer_of calls ≡ peer ∷ []))
+one_newcomer due slack [] questions e h = cc
+one_newcomer due slack (first ∷ []) questions e h = cc
+one_newcomer due slack (first ∷ now ∷ []) questions e h = cc
+one_newcomer due slack (first ∷ now ∷ call ∷ calls) questions e h =
+    let begin : question first ≡ Expects due slack = cc in
+    let second : question now ≡ Moments = cc in
     let rest : map question calls ≡ questions = cc in
     let none : filter_map newcomer_of calls ≡ [] = no_newcomers calls (subst AreOfPeers (sym rest) h) in
-    by (newcomer_of call) (ap (λ o. cons_option o (cons_option (newcomer_of call) (filter_map newcomer_of calls))) (no_newcomer now first) ∙ ap (cons_option (newcomer_of call)) none)
+    by (newcomer_of call)
+    (ap (λ o. cons_option o (cons_option (newcomer_of now) (cons_option (newcomer_of call) (filter_map newcomer_of calls)))) (no_newcomer_first due slack first begin)
+    ∙ ap (λ o. cons_option o (cons_option (newcomer_of call) (filter_map newcomer_of calls))) (no_newcomer now second) ∙ ap (cons_option (newcomer_of call)) none)
   where
-    by : (o : Option Guest) → filter_map newcomer_of (now ∷ call ∷ calls) ≡ cons_option o [] → (filter_map newcomer_of (now ∷ call ∷ calls) ≡ []) ⊎ ((peer : Guest) × (filter_map newcomer_of (now ∷ call ∷ calls) ≡ peer ∷ []))
+    by : (o : Option Guest) → filter_map newcomer_of (first ∷ now ∷ call ∷ calls) ≡ cons_option o [] → (filter_map newcomer_of (first ∷ now ∷ call ∷ calls) ≡ []) ⊎ ((peer : Guest) × (filter_map newcomer_of (first ∷ now ∷ call ∷ calls) ≡ peer ∷ []))
     by None e = inl e
     by (Some peer) e = inr (peer, e)
 
 -- who is turned away has no place
-pub away_of_none : (buses : List Bus) (events : List Event) (peer : Guest) (all : List Seat) → IsNoneOf peer.peer all → IsOfNone buses (Moments ∷ Newcomers ∷ (turns_away buses events peer ++ [])) all
-away_of_none buses events peer [] h = tt
-away_of_none buses events peer (seat ∷ all) h = (by (is_let_in buses events peer.granted), away_of_none buses events peer all h.1)
+pub away_of_none : (due slack : Option ℕ) (buses : List Bus) (events : List Event) (peer : Guest) (all : List Seat) → IsNoneOf peer.peer all → IsOfNone buses (Expects due slack ∷ Moments ∷ Newcomers ∷ (turns_away buses events peer ++ [])) all
+away_of_none due slack buses events peer [] h = tt
+away_of_none due slack buses events peer (seat ∷ all) h = (by (is_let_in buses events peer.granted), away_of_none due slack buses events peer all h.1)
   where
     other : (peer.peer == seat.peer) ≡ false
     other = let e = h.0 in grind (arith, nat_tests)

@@ -6,7 +6,7 @@ use Rattle.std.proofs.lemmas.Bool.Decides.{nat_tests}
 use Rattle.srcp_core.specs.Under.{Event}
 use Rattle.srcp_rules.specs.declared.layout.Bus.{Bus}
 use Rattle.srcp_core.specs.Course.{course}
-use Rattle.srcp_serve.specs.Given.{Call, NowCall, AcceptCall, ReadCall, WriteCall, CloseCall}
+use Rattle.srcp_serve.specs.Given.{Call, ExpectCall, NowCall, AcceptCall, ReadCall, WriteCall, CloseCall}
 use Rattle.srcp_serve.specs.Serving.{Seat, IsFair, is_about, visit, visit_events, taken, taken_in}
 use Rattle.srcp_serve.specs.declared.door.DoorFault.{DoorFault}
 use Rattle.srcp_serve.proofs.Sendings.{IsSending}
@@ -40,6 +40,7 @@ none_of peer who bytes (Err failed) e = refl
 -- what is taken of a peer, its own calls say
 pub taken_visit : (peer : ℕ) (calls : List Call) → taken peer (filter (is_about peer) calls) ≡ taken peer calls
 taken_visit peer [] = refl
+taken_visit peer (ExpectCall due slack ∷ calls) = taken_visit peer calls
 taken_visit peer (NowCall answer ∷ calls) = taken_visit peer calls
 taken_visit peer (AcceptCall answer granted ∷ calls) = taken_visit peer calls
 taken_visit peer (ReadCall who answer buffer grants ∷ calls) = by (who == peer) ∙ taken_visit peer calls

@@ -15,8 +15,8 @@ use Rattle.srcp_core.specs.Under.{Open, denied_by}
 use Rattle.srcp_core.proofs.CourseLaws.SentLinesAreOneList.{all_front}
 use Rattle.srcp_serve.specs.Calls.{Call as DoorCall, Tells, Adds, PeersDiffer, peer_of}
 use Rattle.srcp_serve.specs.Calls as door
-use Rattle.srcp_serve.specs.Given.{Guest, Call, NowCall, AcceptCall, ReadCall, WriteCall, CloseCall, answers_of, told_call}
-use Rattle.srcp_serve.specs.Serving.{Seat, Stand, Moments, Newcomers, IsFair, IsServed, question, is_now, moment_of, newcomer_of, seats, visits_ask, visit_events, kept, is_let_in, let_in, welcomed, with_moment, timed, begun, visited, turned, turn_asks, turns_away, stand_after}
+use Rattle.srcp_serve.specs.Given.{Guest, Call, ExpectCall, NowCall, AcceptCall, ReadCall, WriteCall, CloseCall, answers_of, told_call}
+use Rattle.srcp_serve.specs.Serving.{Seat, Stand, Expects, Moments, expects, Newcomers, IsFair, IsServed, question, is_expect, moment_of, newcomer_of, seats, visits_ask, visit_events, kept, is_let_in, let_in, welcomed, with_moment, timed, begun, visited, turned, turn_asks, turns_away, stand_after}
 use Rattle.srcp_serve.specs.Places.{IsHosting, IsServing, IsLeftOut, IsNotOf, IsOneOf, IsTurnGiven, one_if, LetsIn, MakesTurn, SeatsPeer, SeatsDiffer, ServesCourse, ServesSoFar, Sit, TakesMoment, Visit, VisitsPlaces, AreOwn, asked_by, calls_of, left_by, made_by, seat_of, visits_of}
 use Rattle.srcp_serve.specs.Turns.{AsksNewcomer, AsksPeers, AsksTurn, AsksTurns, IsTurn, is_of_peer}
 use Rattle.srcp_serve.specs.Visits.{AddsGiven}
@@ -33,6 +33,7 @@ use Rattle.srcp_serve.proofs.VisitLaws.{AreApart, visits_asked, visits_make}
 
 no_newcomers : (calls : List Call) → list_all is_of_peer (map told_call calls) ≡ true → filter_map newcomer_of calls ≡ []
 no_newcomers [] h = refl
+no_newcomers (ExpectCall due slack ∷ calls) h = cc
 no_newcomers (NowCall answer ∷ calls) h = cc
 no_newcomers (AcceptCall answer granted ∷ calls) h = cc
 no_newcomers (ReadCall peer answer buffer grants ∷ calls) h = no_newcomers calls h
@@ -41,14 +42,16 @@ no_newcomers (CloseCall peer answer ∷ calls) h = no_newcomers calls h
 
 no_moments : (calls : List Call) → list_all is_of_peer (map told_call calls) ≡ true → filter_map moment_of calls ≡ []
 no_moments [] h = refl
+no_moments (ExpectCall due slack ∷ calls) h = cc
 no_moments (NowCall answer ∷ calls) h = cc
 no_moments (AcceptCall answer granted ∷ calls) h = cc
 no_moments (ReadCall peer answer buffer grants ∷ calls) h = no_moments calls h
 no_moments (WriteCall peer bytes answer ∷ calls) h = no_moments calls h
 no_moments (CloseCall peer answer ∷ calls) h = no_moments calls h
 
-not_now : (calls : List Call) → list_all is_of_peer (map told_call calls) ≡ true → list_all (λ call. not (is_now call)) calls ≡ true
+not_now : (calls : List Call) → list_all is_of_peer (map told_call calls) ≡ true → list_all (λ call. not (is_expect call)) calls ≡ true
 not_now [] h = refl
+not_now (ExpectCall due slack ∷ calls) h = cc
 not_now (NowCall answer ∷ calls) h = cc
 not_now (AcceptCall answer granted ∷ calls) h = cc
 not_now (ReadCall peer answer buffer grants ∷ calls) h = not_now calls h
@@ -192,7 +195,7 @@ lets_peer peer opens old new told_old told_mid told_new owns owns_new h asks sit
 
 -- ---- the calls of a turn
 
-module _ (buses : List Bus) (stand : Stand) (now : Result ℕ DoorFault) (answer : Result (Option ℕ) DoorFault) (granted : Bool) (early : List Call) (round : List (Option Visit)) where
+module _ (buses : List Bus) (stand : Stand) (due slack : Option ℕ) (now : Result ℕ DoorFault) (answer : Result (Option ℕ) DoorFault) (granted : Bool) (early : List Call) (round : List (Option Visit)) where
   abbrev visits : List Visit
   visits = visits_of round
 
@@ -200,7 +203,7 @@ module _ (buses : List Bus) (stand : Stand) (now : Result ℕ DoorFault) (answer
   tail = early ++ calls_of visits
 
   abbrev calls : List Call
-  calls = NowCall now ∷ AcceptCall answer granted ∷ tail
+  calls = ExpectCall due slack ∷ NowCall now ∷ AcceptCall answer granted ∷ tail
 
   abbrev news : List Guest
   news = filter_map newcomer_of (AcceptCall answer granted ∷ [])
@@ -225,13 +228,13 @@ module _ (buses : List Bus) (stand : Stand) (now : Result ℕ DoorFault) (answer
     begun_is = ap (λ s. fold (welcomed buses) s (filter_map newcomer_of calls)) timed_is ∙ ap (fold (welcomed buses) first) news_are
 
     module _ (own : AreOwn visits) (places : map seat_of round ≡ second.places) (differ : SeatsDiffer second.places) (others : AllByRecursion (IsLeftOut early) second.places) where
-      apart : AreApart (NowCall now ∷ AcceptCall answer granted ∷ early) visits
-      apart = visits_apart (NowCall now ∷ AcceptCall answer granted ∷ early) round own (subst (λ (ps : List (Option Seat)). SeatsDiffer ps) (sym places) differ) (left_out (map seat_of round) (subst (λ (ps : List (Option Seat)). AllByRecursion (IsLeftOut early) ps) (sym places) others))
+      apart : AreApart (ExpectCall due slack ∷ NowCall now ∷ AcceptCall answer granted ∷ early) visits
+      apart = visits_apart (ExpectCall due slack ∷ NowCall now ∷ AcceptCall answer granted ∷ early) round own (subst (λ (ps : List (Option Seat)). SeatsDiffer ps) (sym places) differ) (left_out (map seat_of round) (subst (λ (ps : List (Option Seat)). AllByRecursion (IsLeftOut early) ps) (sym places) others))
         where
-          left_out : (ps : List (Option Seat)) → AllByRecursion (IsLeftOut early) ps → AllByRecursion (IsLeftOut (NowCall now ∷ AcceptCall answer granted ∷ early)) ps
+          left_out : (ps : List (Option Seat)) → AllByRecursion (IsLeftOut early) ps → AllByRecursion (IsLeftOut (ExpectCall due slack ∷ NowCall now ∷ AcceptCall answer granted ∷ early)) ps
           left_out [] h = tt
           left_out (None ∷ ps) h = (tt, left_out ps h.1)
-          left_out (Some seat ∷ ps) h = ((refl, (refl, h.0)), left_out ps h.1)
+          left_out (Some seat ∷ ps) h = ((refl, (refl, (refl, h.0))), left_out ps h.1)
 
       seats_are : seats second.places ≡ map (λ v. v.0) visits
       seats_are = ap seats (sym places) ∙ round_seats round
@@ -240,23 +243,23 @@ module _ (buses : List Bus) (stand : Stand) (now : Result ℕ DoorFault) (answer
       turned_is =
           ap (λ s. visited buses s calls) begun_is
           ∙ ap (λ ss. record second { events = second.events ++ flat_map (visit_events calls) ss; places = map (kept calls) second.places }) seats_are
-          ∙ ap (λ more. record second { events = second.events ++ more; places = map (kept calls) second.places }) (visits_make (NowCall now ∷ AcceptCall answer granted ∷ early) visits apart calls refl)
+          ∙ ap (λ more. record second { events = second.events ++ more; places = map (kept calls) second.places }) (visits_make (ExpectCall due slack ∷ NowCall now ∷ AcceptCall answer granted ∷ early) visits apart calls refl)
           ∙ ap (λ ps. record second { events = second.events ++ made_by visits; places = map (kept calls) ps }) (sym places)
-          ∙ ap (λ ps. record second { events = second.events ++ made_by visits; places = ps }) (kept_by (NowCall now ∷ AcceptCall answer granted ∷ early) round apart calls refl ∙ sym (append-nil (map left_by round)))
+          ∙ ap (λ ps. record second { events = second.events ++ made_by visits; places = ps }) (kept_by (ExpectCall due slack ∷ NowCall now ∷ AcceptCall answer granted ∷ early) round apart calls refl ∙ sym (append-nil (map left_by round)))
 
-      pub turn_asked : map question early ≡ flat_map (turns_away buses first.events) news → map question (calls_of visits) ≡ asked_by buses second.events visits → map question calls ≡ turn_asks buses stand calls
-      turn_asked away asked =
+      pub turn_asked : Expects due slack ≡ expects buses stand.events → map question early ≡ flat_map (turns_away buses first.events) news → map question (calls_of visits) ≡ asked_by buses second.events visits → map question calls ≡ turn_asks buses stand calls
+      turn_asked first_asked away asked =
           let asks_second : visits_ask buses second.events calls (seats second.places) ≡ asked_by buses second.events visits =
-          ap (visits_ask buses second.events calls) seats_are ∙ visits_asked buses (NowCall now ∷ AcceptCall answer granted ∷ early) visits apart calls refl second.events in
-          let asks : turn_asks buses stand calls ≡ Moments ∷ Newcomers ∷ (flat_map (turns_away buses first.events) news ++ asked_by buses second.events visits) =
-          ap (λ s. Moments ∷ Newcomers ∷ (flat_map (turns_away buses s.events) (filter_map newcomer_of calls) ++ visits_ask buses (begun buses stand calls).events calls (seats (begun buses stand calls).places))) timed_is
-          ∙ ap (λ ps. Moments ∷ Newcomers ∷ (flat_map (turns_away buses first.events) ps ++ visits_ask buses (begun buses stand calls).events calls (seats (begun buses stand calls).places))) news_are
-          ∙ ap (λ s. Moments ∷ Newcomers ∷ (flat_map (turns_away buses first.events) news ++ visits_ask buses s.events calls (seats s.places))) begun_is
-          ∙ ap (λ qs. Moments ∷ Newcomers ∷ (flat_map (turns_away buses first.events) news ++ qs)) asks_second in
-          ap (λ qs. Moments ∷ Newcomers ∷ qs) (map-append question early (calls_of visits) ∙ ap (λ qs. qs ++ map question (calls_of visits)) away ∙ ap (λ qs. flat_map (turns_away buses first.events) news ++ qs) asked) ∙ sym asks
+          ap (visits_ask buses second.events calls) seats_are ∙ visits_asked buses (ExpectCall due slack ∷ NowCall now ∷ AcceptCall answer granted ∷ early) visits apart calls refl second.events in
+          let asks : turn_asks buses stand calls ≡ expects buses stand.events ∷ Moments ∷ Newcomers ∷ (flat_map (turns_away buses first.events) news ++ asked_by buses second.events visits) =
+          ap (λ s. expects buses stand.events ∷ Moments ∷ Newcomers ∷ (flat_map (turns_away buses s.events) (filter_map newcomer_of calls) ++ visits_ask buses (begun buses stand calls).events calls (seats (begun buses stand calls).places))) timed_is
+          ∙ ap (λ ps. expects buses stand.events ∷ Moments ∷ Newcomers ∷ (flat_map (turns_away buses first.events) ps ++ visits_ask buses (begun buses stand calls).events calls (seats (begun buses stand calls).places))) news_are
+          ∙ ap (λ s. expects buses stand.events ∷ Moments ∷ Newcomers ∷ (flat_map (turns_away buses first.events) news ++ visits_ask buses s.events calls (seats s.places))) begun_is
+          ∙ ap (λ qs. expects buses stand.events ∷ Moments ∷ Newcomers ∷ (flat_map (turns_away buses first.events) news ++ qs)) asks_second in
+          ap (λ qs. Expects due slack ∷ Moments ∷ Newcomers ∷ qs) (map-append question early (calls_of visits) ∙ ap (λ qs. qs ++ map question (calls_of visits)) away ∙ ap (λ qs. flat_map (turns_away buses first.events) news ++ qs) asked) ∙ ap (λ q. q ∷ Moments ∷ Newcomers ∷ (flat_map (turns_away buses first.events) news ++ asked_by buses second.events visits)) first_asked ∙ sym asks
 
-tail_of : (told : List DoorCall) (now : Result ℕ DoorFault) (answer : Result (Option ℕ) DoorFault) (rest : List DoorCall) → IsTurn told → told ≡ door.NowCall now ∷ door.AcceptCall answer ∷ rest → list_all is_of_peer rest ≡ true
-tail_of told now answer rest t e = ap (list_all is_of_peer) (sym (ap (drop 2) (sym t.is ∙ e))) ∙ t.peers
+tail_of : (told : List DoorCall) (due slack : Option ℕ) (now : Result ℕ DoorFault) (answer : Result (Option ℕ) DoorFault) (rest : List DoorCall) → IsTurn told → told ≡ door.ExpectCall due slack ∷ door.NowCall now ∷ door.AcceptCall answer ∷ rest → list_all is_of_peer rest ≡ true
+tail_of told due slack now answer rest t e = ap (list_all is_of_peer) (sym (ap (drop 3) (sym t.is ∙ e))) ∙ t.peers
 
 pub makes_turn : (opens : Bool) (old mid between new : Held) (told_old told_mid told_between told_new : Option (List DoorCall)) (owns_old owns owns_new : List (Option Own))
     → TakesMoment old told_old mid told_mid → mid.denied ≡ old.denied → AsksNewcomer told_mid told_between → LetsIn mid told_mid owns_old between told_between owns opens
@@ -270,8 +273,8 @@ makes_turn opens old mid between new told_old told_mid told_between told_new own
     let first_stand : Stand = timed buses stand (NowCall t.answer ∷ []) in
     let hosted = hosting_timed buses t.answer stand keys old mid owns_old hosting t.stands in
     let in_calls : List DoorCall = door.AcceptCall one.answer ∷ one.rest in
-    let front : List DoorCall = door.NowCall t.answer ∷ in_calls in
-    let adds_in : Adds told_old w.before front = adds_then told_old told_mid v.before w.before (door.NowCall t.answer ∷ []) in_calls v.was t.adds v in
+    let front : List DoorCall = door.ExpectCall t.due t.slack ∷ door.NowCall t.answer ∷ in_calls in
+    let adds_in : Adds told_old w.before front = adds_then told_old told_mid v.before w.before (door.ExpectCall t.due t.slack ∷ door.NowCall t.answer ∷ []) in_calls v.was t.adds v in
     let whole : calls ≡ front ++ later.calls = same_calls told_old told calls (front ++ later.calls) adds (adds_then told_old told_between w.before told front later.calls w.was adds_in w) in
     let differ_in : PeersDiffer peers in_calls = peers_front peers front later.calls (subst (λ (c : List DoorCall). PeersDiffer peers c) whole differ) in
     let known_first : AllByRecursion (IsOneOf peers) first_stand.places = known_timed buses t.answer peers stand known in
@@ -280,16 +283,16 @@ makes_turn opens old mid between new told_old told_mid told_between told_new own
     let second_stand : Stand = fold (welcomed buses) first_stand news_then in
     let x = visits buses second_stand b.keys told b.hosting is in
     let seen : List Call = calls_of (visits_of x.round) in
-    let begins : List Call = NowCall t.answer ∷ AcceptCall b.answer b.granted ∷ b.early in
-    let all : List Call = NowCall t.answer ∷ AcceptCall b.answer b.granted ∷ (b.early ++ seen) in
-    let adds_begun : AddsGiven told_old w.before begins = given_then told_old told_mid v.before w.before (NowCall t.answer ∷ []) (AcceptCall b.answer b.granted ∷ b.early) v.was t.adds b.adds in
+    let begins : List Call = ExpectCall t.due t.slack ∷ NowCall t.answer ∷ AcceptCall b.answer b.granted ∷ b.early in
+    let all : List Call = ExpectCall t.due t.slack ∷ NowCall t.answer ∷ AcceptCall b.answer b.granted ∷ (b.early ++ seen) in
+    let adds_begun : AddsGiven told_old w.before begins = given_then told_old told_mid v.before w.before (ExpectCall t.due t.slack ∷ NowCall t.answer ∷ []) (AcceptCall b.answer b.granted ∷ b.early) v.was t.adds b.adds in
     let adds_all : AddsGiven told_old told all = given_then told_old told_between w.before told begins seen w.was adds_begun x.adds in
     let turned_then = asks_turn told is in
     let same : turned_then.calls ≡ map told_call all = same_calls told_old told turned_then.calls (map told_call all) turned_then.adds adds_all in
-    let of_peers : list_all is_of_peer (map told_call (b.early ++ seen)) ≡ true = tail_of turned_then.calls t.answer b.answer (map told_call (b.early ++ seen)) turned_then.turn same in
-    let ends : turned buses stand all ≡ third buses stand t.answer b.answer b.granted b.early x.round = turned_is buses stand t.answer b.answer b.granted b.early x.round of_peers x.own x.seats_are b.hosting.differ b.others in
+    let of_peers : list_all is_of_peer (map told_call (b.early ++ seen)) ≡ true = tail_of turned_then.calls t.due t.slack t.answer b.answer (map told_call (b.early ++ seen)) turned_then.turn same in
+    let ends : turned buses stand all ≡ third buses stand t.due t.slack t.answer b.answer b.granted b.early x.round = turned_is buses stand t.due t.slack t.answer b.answer b.granted b.early x.round of_peers x.own x.seats_are b.hosting.differ b.others in
     let came : filter_map peer_of (map told_call all) ≡ filter_map peer_of (door.AcceptCall b.answer ∷ []) =
-    peers_told all ∙ ap (λ guests. map (λ guest. guest.peer) guests) (news_are buses stand t.answer b.answer b.granted b.early x.round of_peers) ∙ sym (peers_told (AcceptCall b.answer b.granted ∷ [])) in
+    peers_told all ∙ ap (λ guests. map (λ guest. guest.peer) guests) (news_are buses stand t.due t.slack t.answer b.answer b.granted b.early x.round of_peers) ∙ sym (peers_told (AcceptCall b.answer b.granted ∷ [])) in
     let peers_then : List ℕ = peers ++ filter_map peer_of (map told_call all) in
     let known_second : AllByRecursion (IsOneOf peers_then) second_stand.places =
     subst (λ (ps : List ℕ). AllByRecursion (IsOneOf (peers ++ ps)) second_stand.places) (sym came) (known_news buses b.answer b.granted peers first_stand known_first) in
@@ -301,8 +304,8 @@ makes_turn opens old mid between new told_old told_mid told_between told_new own
       keys = x.keys;
       adds = adds_all;
       counted = refusals_then old between new begins seen (b.counted ∙ ap (λ k. denied_by k (answers_of begins)) same_count) x.counted;
-      turn = record { now = t.answer; newcomer = b.answer; granted = b.granted; rest = b.early ++ seen; is = refl; peers = of_peers };
-      asked = turn_asked buses stand t.answer b.answer b.granted b.early x.round of_peers x.own x.seats_are b.hosting.differ b.others b.asked x.asked;
+      turn = record { due = t.due; slack = t.slack; now = t.answer; newcomer = b.answer; granted = b.granted; rest = b.early ++ seen; is = refl; peers = of_peers };
+      asked = turn_asked buses stand t.due t.slack t.answer b.answer b.granted b.early x.round of_peers x.own x.seats_are b.hosting.differ b.others t.asked b.asked x.asked;
       known = subst (λ (s : Stand). AllByRecursion (IsOneOf peers_then) s.places) (sym ends) known_last;
       hosting = subst (λ (s : Stand). IsHosting buses s x.keys new owns_new) (sym ends) x.hosting;
       opened = ap (λ (s : Stand). length s.guests) ends ∙ b.opened ∙ ap (λ n. n + one_if opens) (guests_timed buses t.answer stand);
@@ -340,10 +343,10 @@ serves_first old told_old buses before calls layout stands was is differ =
 served_then : (buses : List Bus) (count : ℕ) (told later : List Call) → IsServed buses count told → IsTurnGiven later → map question later ≡ turn_asks buses (stand_after buses told) later
     → IsServed buses (count + 1) (told ++ later) × (stand_after buses (told ++ later) ≡ turned buses (stand_after buses told) later)
 served_then buses count told later so t asked =
-    let rest : List Call = AcceptCall t.newcomer t.granted ∷ t.rest in
-    let asked_now : map question (NowCall t.now ∷ rest) ≡ turn_asks buses (stand_after buses told) (NowCall t.now ∷ rest) = subst (λ (c : List Call). map question c ≡ turn_asks buses (stand_after buses told) c) t.is asked in
+    let rest : List Call = NowCall t.now ∷ AcceptCall t.newcomer t.granted ∷ t.rest in
+    let asked_now : map question (ExpectCall t.due t.slack ∷ rest) ≡ turn_asks buses (stand_after buses told) (ExpectCall t.due t.slack ∷ rest) = subst (λ (c : List Call). map question c ≡ turn_asks buses (stand_after buses told) c) t.is asked in
     subst (λ (c : List Call). IsServed buses (count + 1) (told ++ c) × (stand_after buses (told ++ c) ≡ turned buses (stand_after buses told) c)) (sym t.is)
-    (served-more buses count told t.now rest so (not_now t.rest t.peers) asked_now)
+    (served-more buses count told t.due t.slack rest so (not_now t.rest t.peers) asked_now)
 
 pub serves_on : (count opened : ℕ) (opens : Bool) (old mid new : Held) (told_old told_mid told_new : Option (List DoorCall)) (owns owns_new : List (Option Own)) → ServesSoFar count opened old told_old mid told_mid owns → AsksTurns count told_old told_mid → AsksTurn told_mid told_new
     → MakesTurn mid told_mid owns new told_new owns_new opens → ServesSoFar (count + 1) (opened + one_if opens) old told_old new told_new owns_new

@@ -26,3 +26,4 @@ pub mod Turning
 pub mod Hosting
 mod FreePlaces
 pub mod HostedTurns
+pub mod Paces

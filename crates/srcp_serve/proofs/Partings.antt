@@ -8,12 +8,13 @@ use Rattle.std.proofs.lemmas.List.Sums.{take_while-cons}
 use Rattle.srcp_core.specs.Under.{Event, Bytes}
 use Rattle.srcp_info.proofs.ClientLaws.{all_append}
 use Rattle.srcp_rules.specs.declared.layout.Bus.{Bus}
-use Rattle.srcp_serve.specs.Given.{Guest, Call, NowCall, AcceptCall, ReadCall, WriteCall, CloseCall}
-use Rattle.srcp_serve.specs.Serving.{Question, Moments, Newcomers, Reads, Writes, Closes, Seat, Stand, question, is_about, is_now, visit, newcomer_of, piece_of, count_of, loses, loses_reading, turns, exchange, is_let_in, is_ready, is_closing, handed, reads_of, writes_of, closes_of, visit_asks, visits_ask, visit_events, turns_away, turn_asks, turns_ask, turned, timed, begun, seats}
+use Rattle.srcp_serve.specs.Given.{Guest, Call, ExpectCall, NowCall, AcceptCall, ReadCall, WriteCall, CloseCall}
+use Rattle.srcp_serve.specs.Serving.{Question, Expects, Moments, expects, Newcomers, Reads, Writes, Closes, Seat, Stand, question, is_about, is_expect, visit, newcomer_of, piece_of, count_of, loses, loses_reading, turns, exchange, is_let_in, is_ready, is_closing, handed, reads_of, writes_of, closes_of, visit_asks, visits_ask, visit_events, turns_away, turn_asks, turns_ask, turned, timed, begun, seats}
 
 -- ---- questions by whom they are about
 
 abbrev pub asks_of : ℕ → Question → Bool
+asks_of peer (Expects due slack) = false
 asks_of peer Moments = false
 asks_of peer Newcomers = false
 asks_of peer (Reads who most) = who == peer
@@ -22,6 +23,7 @@ asks_of peer (Closes who) = who == peer
 
 -- about some peer
 abbrev pub asks_peer : Question → Bool
+asks_peer (Expects due slack) = false
 asks_peer Moments = false
 asks_peer Newcomers = false
 asks_peer (Reads who most) = true
@@ -37,6 +39,7 @@ AreOfPeers questions = AllByRecursion (λ q. asks_peer q ≡ true) questions
 -- a call is about whom its question is about
 pub about_question : (peer : ℕ) (calls : List Call) → map question (filter (is_about peer) calls) ≡ filter (asks_of peer) (map question calls)
 about_question peer [] = refl
+about_question peer (ExpectCall due slack ∷ calls) = about_question peer calls
 about_question peer (NowCall answer ∷ calls) = about_question peer calls
 about_question peer (AcceptCall answer granted ∷ calls) = about_question peer calls
 about_question peer (ReadCall who answer buffer grants ∷ calls) = kept_or (who == peer) (ReadCall who answer buffer grants) (filter (is_about peer) calls) ∙ ap (λ qs. cond (who == peer) (Reads who (length buffer) ∷ qs) qs) (about_question peer calls)
@@ -60,6 +63,7 @@ own_questions peer [] h = refl
 own_questions peer (q ∷ questions) h = rw h.0 (ap (λ more. q ∷ more) (own_questions peer questions h.1))
 
 other_question : (p q : ℕ) (asked : Question) → (p == q) ≡ false → asks_of p asked ≡ true → asks_of q asked ≡ false
+other_question p q (Expects due slack) e h = refl
 other_question p q Moments e h = refl
 other_question p q Newcomers e h = refl
 other_question p q (Reads who most) e h = grind (arith, nat_tests)
@@ -71,6 +75,7 @@ other_questions p q [] e h = refl
 other_questions p q (asked ∷ questions) e h = rw (other_question p q asked e h.0) (other_questions p q questions e h.1)
 
 peer_question : (peer : ℕ) (q : Question) → asks_of peer q ≡ true → asks_peer q ≡ true
+peer_question peer (Expects due slack) h = h
 peer_question peer Moments h = h
 peer_question peer Newcomers h = h
 peer_question peer (Reads who most) h = refl
@@ -172,10 +177,11 @@ module _ (buses : List Bus) where
 
   -- the calls before the next moment
   abbrev pub in_turn : List Call → List Call
-  in_turn calls = take_while (λ next. not (is_now next)) calls
+  in_turn calls = take_while (λ next. not (is_expect next)) calls
 
   abbrev asks_moment : Question → Bool
-  asks_moment Moments = true
+  asks_moment (Expects due slack) = true
+  asks_moment Moments = false
   asks_moment Newcomers = false
   asks_moment (Reads who most) = false
   asks_moment (Writes who bytes) = false
@@ -185,7 +191,8 @@ module _ (buses : List Bus) where
   NoMoments questions = AllByRecursion (λ q. asks_moment q ≡ false) questions
 
   no_moment : (q : Question) → asks_peer q ≡ true → asks_moment q ≡ false
-  no_moment Moments h = cc
+  no_moment (Expects due slack) h = cc
+  no_moment Moments h = refl
   no_moment Newcomers h = refl
   no_moment (Reads who most) h = refl
   no_moment (Writes who bytes) h = refl
@@ -204,15 +211,16 @@ module _ (buses : List Bus) where
 
   -- what a turn asks after the moment
   abbrev rest_asks : Stand → List Call → List Question
-  rest_asks stand calls = Newcomers ∷ (flat_map (turns_away buses (timed buses stand calls).events) (filter_map newcomer_of calls) ++ visits_ask buses (begun buses stand calls).events calls (seats (begun buses stand calls).places))
+  rest_asks stand calls = Moments ∷ Newcomers ∷ (flat_map (turns_away buses (timed buses stand calls).events) (filter_map newcomer_of calls) ++ visits_ask buses (begun buses stand calls).events calls (seats (begun buses stand calls).places))
 
   rest_moments : (stand : Stand) (calls : List Call) → NoMoments (rest_asks stand calls)
   rest_moments stand calls =
       let away : List Question = flat_map (turns_away buses (timed buses stand calls).events) (filter_map newcomer_of calls) in
       let visits : List Question = visits_ask buses (begun buses stand calls).events calls (seats (begun buses stand calls).places) in
-      (refl, no_moments (away ++ visits) (all_append (λ q. asks_peer q ≡ true) away visits (away_peers (timed buses stand calls).events (filter_map newcomer_of calls)) (visits_peers (begun buses stand calls).events calls (seats (begun buses stand calls).places))))
+      (refl, (refl, no_moments (away ++ visits) (all_append (λ q. asks_peer q ≡ true) away visits (away_peers (timed buses stand calls).events (filter_map newcomer_of calls)) (visits_peers (begun buses stand calls).events calls (seats (begun buses stand calls).places)))))
 
-  is_moment : (call : Call) → is_now call ≡ asks_moment (question call)
+  is_moment : (call : Call) → is_expect call ≡ asks_moment (question call)
+  is_moment (ExpectCall due slack) = refl
   is_moment (NowCall answer) = refl
   is_moment (AcceptCall answer granted) = refl
   is_moment (ReadCall peer answer buffer grants) = refl
@@ -222,7 +230,7 @@ module _ (buses : List Bus) where
   not_first : (stand : Stand) (call : Call) (questions : List Question) (all : List (List Call)) → asks_moment (question call) ≡ false → question call ∷ questions ≡ turns_ask buses stand all → ⊥
   not_first stand call questions [] h e = cc
   not_first stand call questions (calls ∷ all) h e =
-      let same : question call ≡ Moments = cc in
+      let same : question call ≡ expects buses stand.events = cc in
       let t : asks_moment (question call) ≡ true = ap asks_moment same in
       cc
 
@@ -230,15 +238,15 @@ module _ (buses : List Bus) where
   pub turns_parted : (stand : Stand) (told : List Call) (first : List Question) → NoMoments first → map question told ≡ first ++ turns_ask buses stand (turns told) → (map question (in_turn told) ≡ first) × AreTurnsAsked stand (turns told)
   turns_parted stand [] [] h e = (refl, tt)
   turns_parted stand [] (q ∷ first) h e = cc
-  turns_parted stand (call ∷ told) first h e = by (λ other. turns_parted other told) (is_now call) refl first h e
+  turns_parted stand (call ∷ told) first h e = by (λ other. turns_parted other told) (is_expect call) refl first h e
     where
-      other : (b : Bool) → is_now call ≡ b → in_turn (call ∷ told) ≡ cond (not b) (call ∷ in_turn told) []
-      other b t = take_while-cons (λ next. not (is_now next)) call told ∙ ap (λ c. cond (not c) (call ∷ in_turn told) []) t
+      other : (b : Bool) → is_expect call ≡ b → in_turn (call ∷ told) ≡ cond (not b) (call ∷ in_turn told) []
+      other b t = take_while-cons (λ next. not (is_expect next)) call told ∙ ap (λ c. cond (not c) (call ∷ in_turn told) []) t
 
-      turns_are : (b : Bool) → is_now call ≡ b → turns (call ∷ told) ≡ (if b then (call ∷ in_turn told) ∷ turns told else turns told)
+      turns_are : (b : Bool) → is_expect call ≡ b → turns (call ∷ told) ≡ (if b then (call ∷ in_turn told) ∷ turns told else turns told)
       turns_are b t = ap (λ c. if c then (call ∷ in_turn told) ∷ turns told else turns told) t
 
-      by : ((now : Stand) (asked : List Question) → NoMoments asked → map question told ≡ asked ++ turns_ask buses now (turns told) → (map question (in_turn told) ≡ asked) × AreTurnsAsked now (turns told)) → (b : Bool) → is_now call ≡ b → (first : List Question) → NoMoments first → map question (call ∷ told) ≡ first ++ turns_ask buses stand (turns (call ∷ told)) → (map question (in_turn (call ∷ told)) ≡ first) × AreTurnsAsked stand (turns (call ∷ told))
+      by : ((now : Stand) (asked : List Question) → NoMoments asked → map question told ≡ asked ++ turns_ask buses now (turns told) → (map question (in_turn told) ≡ asked) × AreTurnsAsked now (turns told)) → (b : Bool) → is_expect call ≡ b → (first : List Question) → NoMoments first → map question (call ∷ told) ≡ first ++ turns_ask buses stand (turns (call ∷ told)) → (map question (in_turn (call ∷ told)) ≡ first) × AreTurnsAsked stand (turns (call ∷ told))
       by ih true t (q ∷ first) h e =
           let same : question call ≡ q = cc in
           let yes : asks_moment (question call) ≡ true = sym (is_moment call) ∙ t in
@@ -247,10 +255,10 @@ module _ (buses : List Bus) where
       by ih true t [] h e =
           let calls : List Call = call ∷ in_turn told in
           let whole : question call ∷ map question told ≡ turn_asks buses stand calls ++ turns_ask buses (turned buses stand calls) (turns told) = e ∙ ap (turns_ask buses stand) (turns_are true t) in
-          let head : question call ≡ Moments = cc in
+          let head : question call ≡ expects buses stand.events = cc in
           let tail : map question told ≡ rest_asks stand calls ++ turns_ask buses (turned buses stand calls) (turns told) = cc in
           let more = ih (turned buses stand calls) (rest_asks stand calls) (rest_moments stand calls) tail in
-          (ap (map question) (other true t), subst (λ (ts : List (List Call)). AreTurnsAsked stand ts) (sym (turns_are true t)) (ap (λ q. q ∷ map question (in_turn told)) head ∙ ap (λ qs. Moments ∷ qs) more.0, more.1))
+          (ap (map question) (other true t), subst (λ (ts : List (List Call)). AreTurnsAsked stand ts) (sym (turns_are true t)) (ap (λ q. q ∷ map question (in_turn told)) head ∙ ap (λ qs. expects buses stand.events ∷ qs) more.0, more.1))
       by ih false t [] h e =
           let no : asks_moment (question call) ≡ false = sym (is_moment call) ∙ t in
           absurd (not_first stand call (map question told) (turns told) no (e ∙ ap (turns_ask buses stand) (turns_are false t)))

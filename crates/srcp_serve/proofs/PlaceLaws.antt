@@ -6,7 +6,7 @@ use Rattle.std.specs.List.{list_any, count_by, slice_index_or, slice_set, prefix
 use Rattle.std.specs.Prelude.{not, is_some, is_none, position, nat_lt}
 use Rattle.srcp_core.specs.Recording.{key_of, without_key}
 use Rattle.srcp_core.proofs.Agreement.NumbersAndKeys.{key_push, key_within, without_other}
-use Rattle.srcp_serve.specs.Given.{Call, NowCall, AcceptCall, ReadCall, WriteCall, CloseCall}
+use Rattle.srcp_serve.specs.Given.{Call, ExpectCall, NowCall, AcceptCall, ReadCall, WriteCall, CloseCall}
 use Rattle.srcp_serve.specs.Serving.{Seat, seated, seats, kept, visit, is_about, is_close}
 use Rattle.srcp_serve.specs.Places.{Visit, calls_of, visits_of, seat_of, left_by, AreOwn, SitsAt, Sit, IsApartFrom, SeatsDiffer, IsNotOf, IsOneOf, IsOther, IsLeftOut}
 use Rattle.srcp_serve.specs.Visits.{AreAbout}
@@ -228,6 +228,7 @@ other_append peer [] ys h k = k
 other_append peer (x ∷ xs) ys h k = (h.0, other_append peer xs ys h.1 k)
 
 about_other : (p q : ℕ) (call : Call) → (p == q) ≡ false → is_about p call ≡ true → is_about q call ≡ false
+about_other p q (ExpectCall due slack) e h = cc
 about_other p q (NowCall answer) e h = cc
 about_other p q (AcceptCall answer granted) e h = cc
 about_other p q (ReadCall who answer buffer grants) e h = grind (arith, nat_tests)

@@ -5,7 +5,7 @@ use Rattle.srcp_rules.specs.declared.layout.Bus.{Bus}
 use Rattle.srcp_core.specs.Connection.{sent}
 use Rattle.srcp_core.specs.Course.{course, welcome}
 use Rattle.srcp_core.specs.Under.{Open, Bytes, Room, At, Shut, giving}
-use Rattle.srcp_serve.specs.Given.{Call, NowCall, AcceptCall, ReadCall, WriteCall, CloseCall}
+use Rattle.srcp_serve.specs.Given.{Call, ExpectCall, NowCall, AcceptCall, ReadCall, WriteCall, CloseCall}
 use Rattle.srcp_serve.specs.Serving.{IsServed, SendsWhatIsTaken, events_of}
 use Rattle.srcp_serve.specs.declared.door.DoorFault.TheVariants as fault
 use Rattle.srcp_serve.specs.declared.door.Got.TheVariants as got
@@ -22,12 +22,12 @@ abbrev go_line : List ℕ
 go_line = codes "0.000 200 OK GO 1\n"
 
 abbrev nobody : List Call
-nobody = NowCall (Ok 0) ∷ AcceptCall (Ok None) true ∷ []
+nobody = ExpectCall None None ∷ NowCall (Ok 0) ∷ AcceptCall (Ok None) true ∷ []
 
 -- one peer that sends GO in the second turn, and ends in the third
 abbrev one_peer : List Call
 one_peer =
-    (NowCall (Ok 0) ∷ AcceptCall (Ok (Some 1)) true ∷ WriteCall 1 welcome (Ok 45) ∷ [])
+    (ExpectCall None None ∷ NowCall (Ok 0) ∷ AcceptCall (Ok (Some 1)) true ∷ WriteCall 1 welcome (Ok 45) ∷ [])
     ++ nobody ++ (ReadCall 1 (Ok (got.Bytes 3)) (buffer (codes "GO\n")) [] ∷ WriteCall 1 go_line (Ok 18) ∷ [])
     ++ nobody ++ (ReadCall 1 (Ok got.Ended) (buffer (codes "GO\n")) [] ∷ CloseCall 1 (Ok tt) ∷ [])
 
@@ -50,7 +50,7 @@ one_peer_takes = refl
 -- the same where the second write fails
 abbrev failing : List Call
 failing =
-    (NowCall (Ok 0) ∷ AcceptCall (Ok (Some 1)) true ∷ WriteCall 1 welcome (Ok 45) ∷ [])
+    (ExpectCall None None ∷ NowCall (Ok 0) ∷ AcceptCall (Ok (Some 1)) true ∷ WriteCall 1 welcome (Ok 45) ∷ [])
     ++ nobody ++ (ReadCall 1 (Ok (got.Bytes 3)) (buffer (codes "GO\n")) [] ∷ WriteCall 1 go_line (Err fault.Write) ∷ CloseCall 1 (Ok tt) ∷ [])
     ++ nobody
 
@@ -68,7 +68,7 @@ failing_is_sent = refl
 -- ---- a peer that gives GO when it is first read
 
 abbrev asked_in : List Call → List Call
-asked_in calls = NowCall (Ok 0) ∷ AcceptCall (Ok (Some 1)) true ∷ calls
+asked_in calls = ExpectCall None None ∷ NowCall (Ok 0) ∷ AcceptCall (Ok (Some 1)) true ∷ calls
 
 abbrev greeting : Call
 greeting = WriteCall 1 welcome (Ok 45)
@@ -78,7 +78,7 @@ going = ReadCall 1 (Ok (got.Bytes 3)) (buffer (codes "GO\n")) [] ∷ WriteCall 1
 
 -- the first try to let it in fails
 abbrev late : List Call
-late = NowCall (Ok 0) ∷ AcceptCall (Err fault.Accept) true ∷ (asked_in (greeting ∷ []) ++ nobody ++ going)
+late = ExpectCall None None ∷ NowCall (Ok 0) ∷ AcceptCall (Err fault.Accept) true ∷ (asked_in (greeting ∷ []) ++ nobody ++ going)
 
 late_is_served : IsServed buses 3 late
 unfolding digits
@@ -109,8 +109,8 @@ unclosed_is_served = record { turns_are = refl; asked = refl }
 -- the second moment is not told, and the first one counts
 abbrev timeless : List Call
 timeless =
-    (NowCall (Ok 1000) ∷ AcceptCall (Ok (Some 1)) true ∷ greeting ∷ [])
-    ++ NowCall (Err fault.Now) ∷ AcceptCall (Ok None) true ∷ ReadCall 1 (Ok (got.Bytes 3)) (buffer (codes "GO\n")) [] ∷ WriteCall 1 (codes "1.000 200 OK GO 1\n") (Ok 18) ∷ []
+    (ExpectCall None None ∷ NowCall (Ok 1000) ∷ AcceptCall (Ok (Some 1)) true ∷ greeting ∷ [])
+    ++ ExpectCall None None ∷ NowCall (Err fault.Now) ∷ AcceptCall (Ok None) true ∷ ReadCall 1 (Ok (got.Bytes 3)) (buffer (codes "GO\n")) [] ∷ WriteCall 1 (codes "1.000 200 OK GO 1\n") (Ok 18) ∷ []
 
 timeless_is_served : IsServed buses 2 timeless
 unfolding digits
@@ -132,14 +132,17 @@ abbrev read_of : ℕ → List ℕ → Call
 read_of peer bytes = ReadCall peer (Ok (got.Bytes (length bytes))) (padded bytes) []
 
 -- a panel is told, in its own visit, what the other peer sets; the welcome line is taken in two parts
+abbrev nobody_beside : ℕ → List Call
+nobody_beside slack = ExpectCall None (Some slack) ∷ NowCall (Ok 0) ∷ AcceptCall (Ok None) true ∷ []
+
 abbrev two_peers : List Call
 two_peers =
     asked_in (greeting ∷ [])
-    ++ NowCall (Ok 0) ∷ AcceptCall (Ok (Some 2)) true ∷ read_of 1 (codes "SET CONNECTIONMODE SRCP INFO\nGO\n") ∷ wrote 1 (codes "0.000 202 OK CONNECTIONMODE\n0.000 200 OK GO 1\n")
+    ++ ExpectCall None None ∷ NowCall (Ok 0) ∷ AcceptCall (Ok (Some 2)) true ∷ read_of 1 (codes "SET CONNECTIONMODE SRCP INFO\nGO\n") ∷ wrote 1 (codes "0.000 202 OK CONNECTIONMODE\n0.000 200 OK GO 1\n")
     ∷ wrote 1 (codes "0.000 101 INFO 0 SESSION 1 INFO\n") ∷ wrote 1 (codes "0.000 100 INFO 1 POWER OFF\n") ∷ WriteCall 2 welcome (Ok 5)
-    ∷ (nobody ++ quiet 1 ∷ wrote 2 (drop 5 welcome) ∷ [])
-    ++ nobody ++ quiet 1 ∷ read_of 2 (codes "GO\nSET 1 POWER ON\n") ∷ wrote 2 (codes "0.000 200 OK GO 2\n0.000 200 OK\n")
-    ∷ (nobody ++ quiet 1 ∷ wrote 1 (codes "0.000 101 INFO 0 SESSION 2 COMMAND\n") ∷ wrote 1 (codes "0.000 100 INFO 1 POWER ON\n") ∷ quiet 2 ∷ [])
+    ∷ (nobody_beside 256 ++ quiet 1 ∷ wrote 2 (drop 5 welcome) ∷ [])
+    ++ nobody_beside 256 ++ quiet 1 ∷ read_of 2 (codes "GO\nSET 1 POWER ON\n") ∷ wrote 2 (codes "0.000 200 OK GO 2\n0.000 200 OK\n")
+    ∷ (nobody_beside 254 ++ quiet 1 ∷ wrote 1 (codes "0.000 101 INFO 0 SESSION 2 COMMAND\n") ∷ wrote 1 (codes "0.000 100 INFO 1 POWER ON\n") ∷ quiet 2 ∷ [])
 
 two_peers_are_served : IsServed buses 5 two_peers
 unfolding digits
@@ -154,8 +157,8 @@ two_peers_take = refl
 -- to a newcomer, which is turned away, and to the GO of the next one
 abbrev refused : List Call
 refused =
-    (NowCall (Ok 0) ∷ AcceptCall (Ok (Some 1)) false ∷ CloseCall 1 (Ok tt) ∷ [])
-    ++ (NowCall (Ok 0) ∷ AcceptCall (Ok (Some 2)) true ∷ WriteCall 2 welcome (Ok 45) ∷ [])
+    (ExpectCall None None ∷ NowCall (Ok 0) ∷ AcceptCall (Ok (Some 1)) false ∷ CloseCall 1 (Ok tt) ∷ [])
+    ++ (ExpectCall None None ∷ NowCall (Ok 0) ∷ AcceptCall (Ok (Some 2)) true ∷ WriteCall 2 welcome (Ok 45) ∷ [])
     ++ nobody ++ (ReadCall 2 (Ok (got.Bytes 3)) (buffer (codes "GO\n")) (false ∷ []) ∷ wrote 2 (codes "0.000 500 ERROR out of resources\n") ∷ [])
 
 refused_is_served : IsServed buses 3 refused
@@ -191,7 +194,7 @@ eager_is_not h = cc
 
 -- one that keeps a newcomer to which memory was refused
 abbrev keeping : List Call
-keeping = NowCall (Ok 0) ∷ AcceptCall (Ok (Some 1)) false ∷ []
+keeping = ExpectCall None None ∷ NowCall (Ok 0) ∷ AcceptCall (Ok (Some 1)) false ∷ []
 
 keeping_is_not : IsServed buses 1 keeping → ⊥
 keeping_is_not h = cc

@@ -10,14 +10,15 @@ use Rattle.std.proofs.lemmas.List.Sums.{fold-append}
 use Rattle.srcp_rules.specs.declared.layout.Bus.{Bus}
 use Rattle.srcp_core.specs.Under.{Piece, Event, Bytes, Room, Shut}
 use Rattle.srcp_core.specs.Course.{World, start, happens, course}
-use Rattle.srcp_serve.specs.Given.{Call, NowCall, AcceptCall, ReadCall, WriteCall, CloseCall}
-use Rattle.srcp_serve.specs.Serving.{Question, Moments, Newcomers, Reads, Writes, Closes, Seat, question, IsFair, taken, taken_in, piece_of, count_of, is_close, loses, loses_reading, lent_none_last, exchange, is_ready, is_closing, lent, handed, unless_nil, reads_of, writes_of, closes_of, visit_asks}
+use Rattle.srcp_serve.specs.Given.{Call, ExpectCall, NowCall, AcceptCall, ReadCall, WriteCall, CloseCall}
+use Rattle.srcp_serve.specs.Serving.{Question, Expects, Moments, expects, Newcomers, Reads, Writes, Closes, Seat, question, IsFair, taken, taken_in, piece_of, count_of, is_close, loses, loses_reading, lent_none_last, exchange, is_ready, is_closing, lent, handed, unless_nil, reads_of, writes_of, closes_of, visit_asks}
 use Rattle.srcp_serve.proofs.Sendings.{IsSending, sending_bytes, sending_shut}
 use Rattle.srcp_serve.proofs.SentLaws.{put, put_none, put_put, sending_room}
 
 -- ---- calls by their questions
 
 abbrev pub asks_write : Question → Bool
+asks_write (Expects due slack) = false
 asks_write Moments = false
 asks_write Newcomers = false
 asks_write (Reads peer most) = false
@@ -30,6 +31,7 @@ no_writes questions = list_all (λ q. not (asks_write q)) questions
 -- calls that are no writes take nothing
 pub none_taken : (peer : ℕ) (calls : List Call) → no_writes (map question calls) ≡ true → (filter_map count_of calls ≡ []) × (taken peer calls ≡ [])
 none_taken peer [] h = (refl, refl)
+none_taken peer (ExpectCall due slack ∷ calls) h = none_taken peer calls h
 none_taken peer (NowCall answer ∷ calls) h = none_taken peer calls h
 none_taken peer (AcceptCall answer granted ∷ calls) h = none_taken peer calls h
 none_taken peer (ReadCall who answer buffer grants ∷ calls) h = none_taken peer calls h
@@ -118,6 +120,7 @@ module _ (buses : List Bus) (peer conn : ℕ) where
   pub sending_writes : (calls : List Call) → AllByRecursion IsFair calls → WritesSend calls
   sending_writes [] fair most events texts e a =
       subst (λ (ts : List (List ℕ)). Sends ts (events ++ [])) (sym (put_none conn texts)) (subst (λ (all : List Event). Sends texts all) (sym (append-nil events)) a)
+  sending_writes (ExpectCall due slack ∷ calls) fair most events texts e a = absurd (no_write peer (Expects due slack) (map question calls) _ refl e)
   sending_writes (NowCall answer ∷ calls) fair most events texts e a = absurd (no_write peer Moments (map question calls) _ refl e)
   sending_writes (AcceptCall answer granted ∷ calls) fair most events texts e a = absurd (no_write peer Newcomers (map question calls) _ refl e)
   sending_writes (ReadCall who answer buffer grants ∷ calls) fair most events texts e a = absurd (no_write peer (Reads who (length buffer)) (map question calls) _ refl e)

@@ -5,7 +5,7 @@ use Rattle.std.proofs.lemmas.List.Folds.{list_all-append}
 use Rattle.srcp_info.proofs.ClientLaws.{all_append}
 use Rattle.std.specs.List.{list_all, AllByRecursion}
 use Rattle.std.specs.Prelude.{◌&&◌, flat_map}
-use Rattle.srcp_serve.specs.Calls.{Call, Tells, NowCall, AcceptCall, ReadCall, WriteCall, CloseCall, IsFair, is_now, turns}
+use Rattle.srcp_serve.specs.Calls.{Call, Tells, ExpectCall, NowCall, AcceptCall, ReadCall, WriteCall, CloseCall, IsFair, is_expect, turns}
 use Rattle.srcp_serve.specs.Turns.{AreTurns, AsksMoment, AsksNewcomer, AsksPeers, AsksTurn, AsksTurns, IsTurn, is_of_peer}
 use Rattle.srcp_serve.specs.Visits.{Closes}
 use Rattle.srcp_serve.specs.declared.door.DoorFault.{DoorFault}
@@ -30,8 +30,11 @@ asks_then a b c first second told is =
     let x = first y.adds.before y.adds.was in
     record { calls = x.calls ++ y.calls; adds = adds_then a b y.adds.before told x.calls y.calls y.adds.was x.adds y.adds; peers = both_of_peers x.calls y.calls x.peers y.peers; fair = all_append IsFair x.calls y.calls x.fair y.fair }
 
-pub asks_moment : (answer : Result ℕ DoorFault) (old new : Option (List Call)) → Tells old (NowCall answer) new → AsksMoment old new
-asks_moment answer old new h told is = record { answer = answer; adds = adds_one (NowCall answer) old new told h is }
+pub asks_moment : (due slack : Option ℕ) (answer : Result ℕ DoorFault) (old mid new : Option (List Call)) → Tells old (ExpectCall due slack) mid → Tells mid (NowCall answer) new → AsksMoment old new
+asks_moment due slack answer old mid new first h told is =
+    let y = adds_one (NowCall answer) mid new told h is in
+    let x = adds_one (ExpectCall due slack) old mid y.before first y.was in
+    record { due = due; slack = slack; answer = answer; adds = adds_then old mid y.before told (ExpectCall due slack ∷ []) (NowCall answer ∷ []) y.was x y }
 
 pub asks_newcomer : (answer : Result (Option ℕ) DoorFault) (old mid new : Option (List Call)) → Tells old (AcceptCall answer) mid → AsksPeers mid new → AsksNewcomer old new
 asks_newcomer answer old mid new h later told is =
@@ -44,9 +47,9 @@ turn_begins old mid new first second told is =
     let y = second told is in
     let x = first y.adds.before y.adds.was in
     record {
-      calls = NowCall x.answer ∷ AcceptCall y.answer ∷ y.rest;
-      adds = adds_then old mid y.adds.before told (NowCall x.answer ∷ []) (AcceptCall y.answer ∷ y.rest) y.adds.was x.adds y.adds;
-      turn = record { now = x.answer; newcomer = y.answer; rest = y.rest; is = refl; peers = y.peers; fair = y.fair };
+      calls = ExpectCall x.due x.slack ∷ NowCall x.answer ∷ AcceptCall y.answer ∷ y.rest;
+      adds = adds_then old mid y.adds.before told (ExpectCall x.due x.slack ∷ NowCall x.answer ∷ []) (AcceptCall y.answer ∷ y.rest) y.adds.was x.adds y.adds;
+      turn = record { due = x.due; slack = x.slack; now = x.answer; newcomer = y.answer; rest = y.rest; is = refl; peers = y.peers; fair = y.fair };
     }
 
 pub turn_goes_on : (old mid new : Option (List Call)) → AsksTurn old mid → AsksPeers mid new → AsksTurn old new
@@ -57,13 +60,14 @@ turn_goes_on old mid new first second told is =
     record {
       calls = x.calls ++ y.calls;
       adds = adds_then old mid y.adds.before told x.calls y.calls y.adds.was x.adds y.adds;
-      turn = record { now = t.now; newcomer = t.newcomer; rest = t.rest ++ y.calls; is = ap (λ calls. calls ++ y.calls) t.is; peers = both_of_peers t.rest y.calls t.peers y.peers; fair = all_append IsFair t.rest y.calls t.fair y.fair };
+      turn = record { due = t.due; slack = t.slack; now = t.now; newcomer = t.newcomer; rest = t.rest ++ y.calls; is = ap (λ calls. calls ++ y.calls) t.is; peers = both_of_peers t.rest y.calls t.peers y.peers; fair = all_append IsFair t.rest y.calls t.fair y.fair };
     }
 
 -- ---- turn after turn
 
-pub not_now : (calls : List Call) → list_all is_of_peer calls ≡ true → list_all (λ call. not (is_now call)) calls ≡ true
+pub not_now : (calls : List Call) → list_all is_of_peer calls ≡ true → list_all (λ call. not (is_expect call)) calls ≡ true
 not_now [] h = refl
+not_now (ExpectCall due slack ∷ calls) h = cc
 not_now (NowCall answer ∷ calls) h = cc
 not_now (AcceptCall answer ∷ calls) h = cc
 not_now (ReadCall peer answer buffer ∷ calls) h = not_now calls h
@@ -76,17 +80,17 @@ all_turns (x ∷ xs) ys h k = (h.0, all_turns xs ys h.1 k)
 
 one_more_turn : (count : ℕ) (told calls : List Call) → AreTurns count told → IsTurn calls → AreTurns (count + 1) (told ++ calls)
 one_more_turn count told calls so t =
-    let rest : List Call = AcceptCall t.newcomer ∷ t.rest in
-    let whole : List Call = NowCall t.now ∷ rest in
-    let alone = one_part is_now rest (not_now t.rest t.peers) in
+    let rest : List Call = NowCall t.now ∷ AcceptCall t.newcomer ∷ t.rest in
+    let whole : List Call = ExpectCall t.due t.slack ∷ rest in
+    let alone = one_part is_expect rest (not_now t.rest t.peers) in
     let last : turns whole ≡ whole ∷ [] = rw (alone.0, alone.1) refl in
-    let all : turns (told ++ whole) ≡ turns told ++ whole ∷ [] = parts-append is_now told (NowCall t.now) rest refl ∙ ap (λ more. turns told ++ more) last in
-    let is_turn : IsTurn whole = record { now = t.now; newcomer = t.newcomer; rest = t.rest; is = refl; peers = t.peers; fair = t.fair } in
+    let all : turns (told ++ whole) ≡ turns told ++ whole ∷ [] = parts-append is_expect told (ExpectCall t.due t.slack) rest refl ∙ ap (λ more. turns told ++ more) last in
+    let is_turn : IsTurn whole = record { due = t.due; slack = t.slack; now = t.now; newcomer = t.newcomer; rest = t.rest; is = refl; peers = t.peers; fair = t.fair } in
     let done : AreTurns (count + 1) (told ++ whole) = record {
       many = ap length all ∙ length-append (turns told) (whole ∷ []) ∙ ap (λ k. k + 1) so.many;
       each = subst (λ (ts : List (List Call)). AllByRecursion IsTurn ts) (sym all) (all_turns (turns told) (whole ∷ []) so.each (is_turn, tt));
       all = ap (flat_map (λ calls. calls)) all ∙ flat_map-append (λ calls. calls) (turns told) (whole ∷ []) ∙ ap (λ front. front ++ (whole ++ [])) so.all ∙ ap (λ more. told ++ more) (append-nil whole);
-      fair = all_append IsFair told whole so.fair (tt, (tt, t.fair));
+      fair = all_append IsFair told whole so.fair (tt, (tt, (tt, t.fair)));
     } in
     subst (λ (c : List Call). AreTurns (count + 1) (told ++ c)) (sym t.is) done
 

@@ -11,8 +11,8 @@ use Rattle.srcp_rules.specs.declared.layout.Bus.{Bus}
 use Rattle.srcp_core.specs.Connection.{sent}
 use Rattle.srcp_core.specs.Course.{course}
 use Rattle.srcp_serve.specs.Calls.{peer_of}
-use Rattle.srcp_serve.specs.Given.{Guest, Call, NowCall, AcceptCall, ReadCall, WriteCall, CloseCall, told_call}
-use Rattle.srcp_serve.specs.Serving.{Question, Moments, Newcomers, Closes, Stand, IsFair, question, is_now, moment_of, newcomer_of, taken, taken_in, seats, empty_stand, is_let_in, let_in, welcomed, timed, begun, turned, turns, turns_away, turn_asks, stand_after, SentIsTaken}
+use Rattle.srcp_serve.specs.Given.{Guest, Call, ExpectCall, NowCall, AcceptCall, ReadCall, WriteCall, CloseCall, told_call}
+use Rattle.srcp_serve.specs.Serving.{Question, Expects, Moments, expects, Newcomers, Closes, Stand, IsFair, question, is_expect, moment_of, newcomer_of, taken, taken_in, seats, empty_stand, is_let_in, let_in, welcomed, timed, begun, turned, turns, turns_away, turn_asks, stand_after, SentIsTaken}
 use Rattle.srcp_serve.proofs.Takings.{all_parts, no_writes}
 use Rattle.srcp_serve.proofs.Partings.{AreTurnsAsked, IsNoneOf, in_turn, turns_parted}
 use Rattle.srcp_serve.proofs.Comings.{IsEven, IsNew, even_welcomed, new_push, new_unseated}
@@ -103,7 +103,7 @@ module _ (buses : List Bus) (before : ℕ → List ℕ) (stand : Stand) (calls :
   fresh_turned : map question calls ≡ turn_asks buses stand calls → IsFresh (λ peer. before peer ++ taken peer calls) (turned buses stand calls).guests
   fresh_turned asked peer none =
       let after : Stand = begun buses stand calls in
-      let first : List Question = Moments ∷ Newcomers ∷ flat_map (turns_away buses now.events) peers in
+      let first : List Question = expects buses stand.events ∷ Moments ∷ Newcomers ∷ flat_map (turns_away buses now.events) peers in
       let none_now : IsNew peer now.guests = was_new buses peer peers now none in
       let none_before : IsNew peer stand.guests = subst (λ (guests : List ℕ). IsNew peer guests) same_guests none_now in
       let fresh_now : IsFresh before now.guests = λ other h. fresh other (subst (λ (guests : List ℕ). IsNew other guests) same_guests h) in
@@ -116,6 +116,7 @@ module _ (buses : List Bus) (before : ℕ → List ℕ) (stand : Stand) (calls :
 -- as the door tells it
 pub peers_told : (calls : List Call) → filter_map peer_of (map told_call calls) ≡ map (λ guest. guest.peer) (filter_map newcomer_of calls)
 peers_told [] = refl
+peers_told (ExpectCall due slack ∷ calls) = peers_told calls
 peers_told (NowCall answer ∷ calls) = peers_told calls
 peers_told (AcceptCall (Ok None) granted ∷ calls) = peers_told calls
 peers_told (AcceptCall (Ok (Some peer)) granted ∷ calls) = ap (λ peers. peer ∷ peers) (peers_told calls)
@@ -159,7 +160,7 @@ module _ (buses : List Bus) where
   -- the calls before the first moment, and then the turns, are all the calls
   turns_joined : (told : List Call) → in_turn buses told ++ joined (turns told) ≡ told
   turns_joined [] = refl
-  turns_joined (call ∷ told) = ap (λ cs. cs ++ joined (turns (call ∷ told))) (take_while-cons (λ next. not (is_now next)) call told) ∙ by (turns_joined told) (is_now call)
+  turns_joined (call ∷ told) = ap (λ cs. cs ++ joined (turns (call ∷ told))) (take_while-cons (λ next. not (is_expect next)) call told) ∙ by (turns_joined told) (is_expect call)
     where
       by : in_turn buses told ++ joined (turns told) ≡ told → (b : Bool) → cond (not b) (call ∷ in_turn buses told) [] ++ joined (if b then (call ∷ in_turn buses told) ∷ turns told else turns told) ≡ call ∷ told
       by ih true = ap (λ cs. call ∷ cs) ih

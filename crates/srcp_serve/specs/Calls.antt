@@ -7,6 +7,7 @@ use Rattle.srcp_serve.specs.declared.door.Got.TheVariants as got
 
 -- a call of a door with its answer, and the bytes that were handed over or that the buffer holds after it
 pub data Call : Type 0 where
+  ExpectCall : (due slack : Option ℕ) → Call
   NowCall : (answer : Result ℕ DoorFault) → Call
   AcceptCall : (answer : Result (Option ℕ) DoorFault) → Call
   ReadCall : (peer : ℕ) (answer : Result Got DoorFault) (buffer : List ℕ) → Call
@@ -34,19 +35,19 @@ IsFair (ReadCall peer (Ok (got.Bytes count)) buffer) = (0 < count) × (count ≤
 IsFair (WriteCall peer bytes (Ok count)) = count ≤ length bytes
 IsFair other = ⊤
 
--- the moment was asked for
-abbrev pub is_now : Call → Bool
-is_now (NowCall answer) = true
-is_now other = false
+-- the door was told when something falls due next, and how many more changes may come upon each information session
+abbrev pub is_expect : Call → Bool
+is_expect (ExpectCall due slack) = true
+is_expect other = false
 
 -- the parts of a list, each from where one begins on
 abbrev pub parts : {X : Type 0} → (X → Bool) → List X → List (List X)
 parts begins [] = []
 parts begins (x ∷ xs) = if begins x then (x ∷ take_while (λ next. not (begins next)) xs) ∷ parts begins xs else parts begins xs
 
--- the calls of each turn, which begins where the moment is asked for
+-- the calls of each turn, which begins where the door is told what to expect
 abbrev pub turns : List Call → List (List Call)
-turns calls = parts is_now calls
+turns calls = parts is_expect calls
 
 -- the peer that came in
 abbrev pub peer_of : Call → Option ℕ

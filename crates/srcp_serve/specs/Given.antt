@@ -11,6 +11,7 @@ use Rattle.srcp_serve.specs.declared.door.Got.{Got}
 -- a call of a door with its answer: where a peer came in, whether memory was given to its connection; where bytes were
 -- read, what memory answered to each line that ends in them
 pub data Call : Type 0 where
+  ExpectCall : (due slack : Option ℕ) → Call
   NowCall : (answer : Result ℕ DoorFault) → Call
   AcceptCall : (answer : Result (Option ℕ) DoorFault) (granted : Bool) → Call
   ReadCall : (peer : ℕ) (answer : Result Got DoorFault) (buffer : List ℕ) (grants : List Bool) → Call
@@ -19,6 +20,7 @@ pub data Call : Type 0 where
 
 -- the call as the door tells it
 abbrev pub told_call : Call → DoorCall
+told_call (ExpectCall due slack) = door.ExpectCall due slack
 told_call (NowCall answer) = door.NowCall answer
 told_call (AcceptCall answer granted) = door.AcceptCall answer
 told_call (ReadCall peer answer buffer grants) = door.ReadCall peer answer buffer

@@ -6,3 +6,4 @@ pub mod Serving
 pub mod Tally
 pub mod Turns
 pub mod Visits
+pub mod Sparing

@@ -9,8 +9,8 @@ use Rattle.srcp_core.specs.Recording.{key_of}
 use Rattle.srcp_core.specs.Stands.{StandsFor}
 use Rattle.srcp_core.specs.Under.{Event}
 use Rattle.srcp_serve.specs.Calls.{Call as DoorCall, Adds, PeersDiffer, peer_of}
-use Rattle.srcp_serve.specs.Given.{Guest, Call, NowCall, AcceptCall, CountsRefusals, told_call}
-use Rattle.srcp_serve.specs.Serving.{Seat, Stand, Question, IsServed, question, newcomer_of, is_about, is_close, visit_events, visit_asks, timed, turned, turn_asks, turns_away, welcomed, stand_after, events_of, SendsWhatIsTaken}
+use Rattle.srcp_serve.specs.Given.{Guest, Call, ExpectCall, NowCall, AcceptCall, CountsRefusals, told_call}
+use Rattle.srcp_serve.specs.Serving.{Seat, Stand, Question, Expects, expects, IsServed, question, newcomer_of, is_about, is_close, visit_events, visit_asks, timed, turned, turn_asks, turns_away, welcomed, stand_after, events_of, SendsWhatIsTaken}
 use Rattle.srcp_serve.specs.Turns.{is_of_peer}
 use Rattle.srcp_serve.specs.Visits.{AddsGiven, AreAbout}
 use Rattle.srcp_serve.specs.declared.door.DoorFault.{DoorFault}
@@ -125,18 +125,23 @@ one_if b = if b then 1 else 0
 
 -- the calls of a turn: for the moment, for one newcomer, and then about peers
 pub record IsTurnGiven (calls : List Call) : Type 0 where
+  pub due : Option ℕ
+  pub slack : Option ℕ
   pub now : Result ℕ DoorFault
   pub newcomer : Result (Option ℕ) DoorFault
   pub granted : Bool
   pub rest : List Call
-  pub is : calls ≡ NowCall now ∷ AcceptCall newcomer granted ∷ rest
+  pub is : calls ≡ ExpectCall due slack ∷ NowCall now ∷ AcceptCall newcomer granted ∷ rest
   pub peers : list_all is_of_peer (map told_call rest) ≡ true
 
 module _ (buses : List Bus) (stand : Stand) (old : Option (List DoorCall)) (told : List DoorCall) (held : Held) where
   -- the moment was asked for, and taken where it was told
   pub record IsTimed (keys : List (Option ℕ)) : Type 0 where
+    pub due : Option ℕ
+    pub slack : Option ℕ
     pub answer : Result ℕ DoorFault
-    pub adds : AddsGiven old told (NowCall answer ∷ [])
+    pub adds : AddsGiven old told (ExpectCall due slack ∷ NowCall answer ∷ [])
+    pub asked : Expects due slack ≡ expects buses stand.events
     pub stands : StandsFor buses keys held (course buses (timed buses stand (NowCall answer ∷ [])).events)
 
   module _ (owns : List (Option Own)) (core_old : Held) where

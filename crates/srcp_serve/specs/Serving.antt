@@ -9,8 +9,9 @@ use Rattle.srcp_core.specs.Agrees.{closes, lent as lent_in}
 use Rattle.srcp_core.specs.Connection.{sent}
 use Rattle.srcp_core.specs.Course.{course, fault}
 use Rattle.srcp_core.specs.Under.{Event, Piece, Open, Bytes, Room, At, Shut, giving}
+use Rattle.srcp_core.specs.Waits.{due_next, slack}
 use Rattle.srcp_serve.specs.Calls as door
-use Rattle.srcp_serve.specs.Given.{Guest, Call, told_call, NowCall, AcceptCall, ReadCall, WriteCall, CloseCall}
+use Rattle.srcp_serve.specs.Given.{Guest, Call, told_call, ExpectCall, NowCall, AcceptCall, ReadCall, WriteCall, CloseCall}
 use Rattle.srcp_serve.specs.declared.door.Got.TheVariants as got
 
 -- ---- calls and their answers
@@ -36,10 +37,10 @@ count_of (WriteCall peer bytes (Ok count)) = Some count
 count_of (WriteCall peer bytes (Err failed)) = Some 0
 count_of other = None
 
--- the moment was asked for
-abbrev pub is_now : Call → Bool
-is_now (NowCall answer) = true
-is_now other = false
+-- the door was told what to expect
+abbrev pub is_expect : Call → Bool
+is_expect (ExpectCall due slack) = true
+is_expect other = false
 
 -- a peer was written to
 abbrev pub is_write : Call → Bool
@@ -73,6 +74,7 @@ falls_short other = false
 
 -- the call is about that peer
 abbrev pub is_about : ℕ → Call → Bool
+is_about peer (ExpectCall due slack) = false
 is_about peer (NowCall answer) = false
 is_about peer (AcceptCall answer granted) = false
 is_about peer (ReadCall who answer buffer grants) = who == peer
@@ -81,6 +83,7 @@ is_about peer (CloseCall who answer) = who == peer
 
 -- what a door is asked
 pub data Question : Type 0 where
+  Expects : (due slack : Option ℕ) → Question
   Moments : Question
   Newcomers : Question
   Reads : (peer : ℕ) (most : ℕ) → Question
@@ -89,6 +92,7 @@ pub data Question : Type 0 where
 
 -- a call without its answer
 abbrev pub question : Call → Question
+question (ExpectCall due slack) = Expects due slack
 question (NowCall answer) = Moments
 question (AcceptCall answer granted) = Newcomers
 question (ReadCall peer answer buffer grants) = Reads peer (length buffer)
@@ -165,9 +169,9 @@ visit_events calls seat = exchange seat.conn (visit calls seat)
 
 -- ---- turns
 
--- the calls of each turn, which begins where the moment is asked for
+-- the calls of each turn, which begins where the door is told what to expect
 abbrev pub turns : List Call → List (List Call)
-turns calls = door.parts is_now calls
+turns calls = door.parts is_expect calls
 
 -- these bytes and then the rest, or nothing where there are none
 abbrev pub unless_nil : List ℕ → List (List ℕ) → List (List ℕ)
@@ -272,9 +276,14 @@ module _ (buses : List Bus) where
   abbrev pub turns_away : List Event → Guest → List Question
   turns_away events guest = if is_let_in events guest.granted then [] else Closes guest.peer ∷ []
 
+  -- what the door is told: the moment at which something falls due next, and how many more changes may come upon each
+  -- information session
+  abbrev pub expects : List Event → Question
+  expects events = Expects (due_next buses (course buses events)) (slack buses (course buses events))
+
   -- the whole turn
   abbrev pub turn_asks : Stand → List Call → List Question
-  turn_asks stand calls = Moments ∷ Newcomers
+  turn_asks stand calls = expects stand.events ∷ Moments ∷ Newcomers
       ∷ (flat_map (turns_away (timed stand calls).events) (filter_map newcomer_of calls)
       ++ visits_ask (begun stand calls).events calls (seats (begun stand calls).places))
 

@@ -2,11 +2,12 @@
 -- peers are asked.
 use Rattle.std.specs.Prelude.{◌≡◌, ℕ, Bool, true, false, List, [], ◌∷◌, length, flat_map, Option, Some, Result}
 use Rattle.std.specs.List.{list_all, AllByRecursion}
-use Rattle.srcp_serve.specs.Calls.{Call, NowCall, AcceptCall, ReadCall, WriteCall, CloseCall, Adds, IsFair, turns}
+use Rattle.srcp_serve.specs.Calls.{Call, ExpectCall, NowCall, AcceptCall, ReadCall, WriteCall, CloseCall, Adds, IsFair, turns}
 use Rattle.srcp_serve.specs.declared.door.DoorFault.{DoorFault}
 
 -- the call is about a peer
 abbrev pub is_of_peer : Call → Bool
+is_of_peer (ExpectCall due slack) = false
 is_of_peer (NowCall answer) = false
 is_of_peer (AcceptCall answer) = false
 is_of_peer (ReadCall peer answer buffer) = true
@@ -26,8 +27,10 @@ AsksPeers old new = (told : List Call) → new ≡ Some told → AsksOfPeers old
 
 -- the moment was asked for
 pub record AsksNow (old : Option (List Call)) (told : List Call) : Type 0 where
+  pub due : Option ℕ
+  pub slack : Option ℕ
   pub answer : Result ℕ DoorFault
-  pub adds : Adds old told (NowCall answer ∷ [])
+  pub adds : Adds old told (ExpectCall due slack ∷ NowCall answer ∷ [])
 
 -- the moment is asked for, where the door tells its calls
 abbrev pub AsksMoment : (old new : Option (List Call)) → Type 0
@@ -47,10 +50,12 @@ AsksNewcomer old new = (told : List Call) → new ≡ Some told → AsksOneIn ol
 
 -- the calls of a turn, each answered within what was asked
 pub record IsTurn (calls : List Call) : Type 0 where
+  pub due : Option ℕ
+  pub slack : Option ℕ
   pub now : Result ℕ DoorFault
   pub newcomer : Result (Option ℕ) DoorFault
   pub rest : List Call
-  pub is : calls ≡ NowCall now ∷ AcceptCall newcomer ∷ rest
+  pub is : calls ≡ ExpectCall due slack ∷ NowCall now ∷ AcceptCall newcomer ∷ rest
   pub peers : list_all is_of_peer rest ≡ true
   pub fair : AllByRecursion IsFair rest
 

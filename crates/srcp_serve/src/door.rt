@@ -1,5 +1,5 @@
 ghost use Rattle.std.specs.Prelude.{◌≡◌, ℕ, ◌<◌, ◌≤◌, List, Option, None, length, OnOk, OnErr, IfOk, IfErr};
-ghost use Rattle.srcp_serve.specs.Calls.{Call, Tells, one_more, NowCall, AcceptCall, ReadCall, WriteCall, CloseCall};
+ghost use Rattle.srcp_serve.specs.Calls.{Call, Tells, one_more, ExpectCall, NowCall, AcceptCall, ReadCall, WriteCall, CloseCall};
 
 /// Which call of a door failed.
 #[derive(Clone, Copy, Debug, PartialEq, Eq)]
@@ -46,13 +46,12 @@ pub trait Door {
     /// The calls so far with their answers, where the door tells them.
     ghost told: { Self → Option (List Call) } = { λ _. None };
 
-    /// Takes what may come without a word from any peer: the moment at which something falls due next, if anything does, and
-    /// whether a panel is there, for which a change may wait. `serve` says it before it asks for a moment, so a door that waits in
-    /// `now` knows how long it may. A door that does not wait needs none of it.
-    fn expect(&mut self, _due: Option<u64>, _panels: bool)
+    /// Takes what may come without a word from any peer: the moment at which something falls due next, if anything does, and how
+    /// many more changes may come upon each information session, if there is one. `serve` says it before it asks for a moment, so
+    /// a door that waits in `now` knows how long it may, and how much it may hand out.
+    fn expect(&mut self, due: Option<u64>, slack: Option<usize>)
         ensures faults { faults self.new ≡ faults self.old }
-        ensures told { told self.new ≡ told self.old }
-    {}
+        ensures told { Tells (told self.old) (ExpectCall due slack) (told self.new) };
 
     /// The present moment, in milliseconds since 1970.
     ///

@@ -5,6 +5,7 @@ ghost use Rattle.std.specs.Prelude.{List};
 ghost use Rattle.srcp_rules.specs.declared.layout.Bus.{Bus};
 ghost use Rattle.srcp_serve.specs.Given.{GivesUnlessCounted};
 ghost use Rattle.srcp_serve.specs.Serving.{SentIsTaken};
+ghost use Rattle.srcp_serve.specs.Sparing.{PacedServingSparesAll, PacedTurnsSpare};
 
 /// What the door took of each peer is to the byte what the course of its answers says was sent to the
 /// peer's connection: wherever the calls are those of so many turns, no peer came in twice, and no
@@ -16,4 +17,11 @@ pub fn sent_is_taken()
 /// Memory gave in all calls whose refusals the core counted exactly, where it counts none.
 pub fn gives_unless_counted()
     ensures { GivesUnlessCounted }
+{}
+
+/// A turn that brings no more changes than the slack that the door was told, or 256 where there was no panel, makes no panel
+/// overrun (`each`); so none ever overran where each turn is so (`all`).
+pub fn paced_turns()
+    ensures each { (buses : List Bus) → PacedTurnsSpare buses }
+    ensures all { (buses : List Bus) → PacedServingSparesAll buses }
 {}

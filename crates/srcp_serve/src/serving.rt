@@ -120,7 +120,7 @@ fn take_moment<R: Rows, D: Door>(core: &mut Core<'_, R>, door: &mut D, tally: &m
     ensures denied { core.new.denied ≡ core.old.denied }
     ensures course { TakesMoment core.old (D.told door.old) core.new (D.told door.new) }
 {
-    door.expect(core.earliest_due(), core.has_panels());
+    door.expect(core.earliest_due(), core.slack());
     match door.now() {
         Ok(moment) => core.advance(moment),
         Err(_) => tally.fault(),

@@ -50,8 +50,8 @@ pub struct SocketDoor<C: Clock + Drop> {
     late: bool,
     // The moment at which something falls due next, if anything does.
     due: Option<u64>,
-    // Whether a panel is there.
-    panels: bool,
+    // How many more changes may come upon each information session, if there is one.
+    slack: Option<usize>,
     tally: Tally,
 }
 
@@ -78,7 +78,7 @@ impl<C: Clock + Drop> SocketDoor<C> {
                 elapsed: 0,
                 late: false,
                 due: None,
-                panels: false,
+                slack: None,
                 tally: Tally::new(),
             }),
             Err(error) => Err(fault_of(&error)),
@@ -145,7 +145,7 @@ impl<C: Clock + Drop> Drop for SocketDoor<C> {
             elapsed: _,
             late: _,
             due: _,
-            panels: _,
+            slack: _,
             tally: _,
         } = self;
     }
@@ -154,16 +154,16 @@ impl<C: Clock + Drop> Drop for SocketDoor<C> {
 impl<C: Clock + Drop> Door for SocketDoor<C> {
     ghost faults = { λ d. d.tally.faults };
 
-    fn expect(&mut self, due: Option<u64>, panels: bool) {
+    fn expect(&mut self, due: Option<u64>, slack: Option<usize>) {
         self.due = due;
-        self.panels = panels;
+        self.slack = slack;
     }
 
     /// Begins a turn. Returns milliseconds since 1970, which never go back. Where no turn began for long, they catch up in steps
     /// of 10 from the moment on at which something falls due.
     fn now(&mut self) -> Result<u64, DoorFault> {
         let calm = self.calm();
-        let begun = self.sockets.begin_turn(self.elapsed, calm, self.panels);
+        let begun = self.sockets.begin_turn(self.elapsed, calm, self.slack.is_some());
         if begun.is_err() {
             self.clock.sleep(Duration::from_millis(REST));
         }

@@ -103,7 +103,7 @@ fn time_goes_forward_in_steps_where_something_falls_due(rt: HostRuntime) -> Resu
     ] {
         clock.wall.set(wall);
         clock.elapsed.set(elapsed);
-        door.expect(due, false);
+        door.expect(due, None);
         assert_eq!(rt; door.now(), Ok(moment));
     }
     Ok(())

@@ -238,18 +238,23 @@ impl<'a> ScriptDoor<'a> {
 
 impl Door for ScriptDoor<'_> {
     ghost use Rattle.std.specs.Prelude.{map, option_map};
-    ghost use Rattle.srcp_serve.specs.Calls.{Call, NowCall, AcceptCall, ReadCall, WriteCall, CloseCall};
+    ghost use Rattle.srcp_serve.specs.Calls.{Call, ExpectCall, NowCall, AcceptCall, ReadCall, WriteCall, CloseCall};
     ghost use Rattle.srcp_serve_tests.specs.declared.told_turns.Asked.TheVariants as asked;
 
     ghost faults = { λ d. d.faults };
 
     ghost told = { λ d. option_map (λ calls. map (λ call. elim call as (λ _. Call) [
+      | asked.Expect due slack ↦ ExpectCall due slack
       | asked.Now answer ↦ NowCall answer
       | asked.Accept answer ↦ AcceptCall answer
       | asked.Read peer answer buffer ↦ ReadCall peer answer buffer.items
       | asked.Write peer bytes answer ↦ WriteCall peer bytes.items answer
       | asked.Close peer answer ↦ CloseCall peer answer
     ]) calls.items) d.told };
+
+    fn expect(&mut self, due: Option<u64>, slack: Option<usize>) {
+        self.tell(Asked::Expect { due, slack });
+    }
 
     fn now(&mut self) -> Result<u64, DoorFault> {
         let answer = self.moment();

@@ -11,6 +11,10 @@ const MOST_WRITES: usize = 300;
 /// A call of the door, with its answer.
 #[derive(Drop)]
 pub(crate) enum Asked {
+    Expect {
+        due: Option<u64>,
+        slack: Option<usize>,
+    },
     Now(Result<u64, DoorFault>),
     Accept(Result<Option<u32>, DoorFault>),
     /// The buffer as it is afterwards.
@@ -35,7 +39,7 @@ impl Asked {
     /// Whether the call is about that peer.
     fn is_about(&self, who: u32) -> bool {
         match self {
-            Asked::Now(_) | Asked::Accept(_) => false,
+            Asked::Expect { .. } | Asked::Now(_) | Asked::Accept(_) => false,
             Asked::Read { peer, .. } | Asked::Write { peer, .. } | Asked::Close { peer, .. } => {
                 *peer == who
             }
@@ -84,11 +88,11 @@ pub(crate) fn events_of(alloc: Global, calls: &[Asked]) -> Result<Vec<Event>, Al
     let mut events = Vec::new(alloc);
     let mut places = Vec::new(alloc);
     let mut opened = 0usize;
-    for turn in calls.chunk_by(|_, next| !matches!(next, Asked::Now(_))) {
-        if let Some(Asked::Now(Ok(moment))) = turn.first() {
+    for turn in calls.chunk_by(|_, next| !matches!(next, Asked::Expect { .. })) {
+        if let Some(Asked::Now(Ok(moment))) = turn.get(1) {
             events.push(Event::At(*moment))?;
         }
-        if let Some(Asked::Accept(Ok(Some(peer)))) = turn.get(1) {
+        if let Some(Asked::Accept(Ok(Some(peer)))) = turn.get(2) {
             events.push(Event::Open)?;
             if !turns_away(turn, *peer) {
                 opened = opened.saturating_add(1);

@@ -7,6 +7,7 @@ use Rattle.srcp_core.specs.declared.record.CoreFault.{CoreFault}
 use Rattle.srcp_core.specs.declared.record.CoreFault.TheVariants.{Full, Memory as MemoryFault}
 use Rattle.srcp_core.proofs.Agreement.AnswersAgree.{there_agrees, accepts_agrees, refuses_agrees, names_newest, counts_open, bytes_agree, takes_agrees}
 use Rattle.srcp_core.proofs.Agreement.AnswersAgree.{closes_agrees, lends_agrees, shuts_agrees}
+use Rattle.srcp_core.proofs.Agreement.SlackAgrees.{slack_agrees, due_agrees}
 use Rattle.srcp_core.proofs.Agreement.MemoryAnswers.{counts}
 use Rattle.srcp_core.proofs.Agreement.CallsFollowTheCourse.{first_stands, at_leads, open_leads, not_open_leads, out_leads, shut_leads}
 use Rattle.srcp_core.proofs.Agreement.CallsFollowTheCourse.{sent_leads, sent_none, lent_leads}
@@ -42,6 +43,8 @@ calls_agree = record {
   lends = lends_agrees;
   lends_none = none_agrees;
   shuts = shuts_agrees;
+  slack = slack_agrees;
+  due = due_agrees;
 }
 
 not_opened_counts : (cause : CoreFault) (old new : Held) → IsNotAdmitted cause old new → new.denied ≡ 0 → old.denied ≡ 0

@@ -63,7 +63,7 @@ found_full most p n changes f =
     count : (k b a : ℕ) → k ≡ b + suc a → n + b ≡ most → most < n + k
     count k b a e f = omega arith
 
-overran_open : (history : History) (conn : Connection) → conn.shut ≡ None → overran conn history ≡ nat_lt 256 (length (untold_by conn.go_step conn.items conn.done history))
+pub overran_open : (history : History) (conn : Connection) → conn.shut ≡ None → overran conn history ≡ nat_lt 256 (length (untold_by conn.go_step conn.items conn.done history))
 overran_open history conn shut = ap (λ s. nat_lt 256 (length (drop (length (tolds conn.items)) (concerning_by conn.go_step (cursor_by conn.done conn.items) (heard s history))))) shut
 
 pub meets_overruns : (buses : List Bus) → IsLayout buses → (events : List Event) (number : ℕ) (conn : Connection)

@@ -1,12 +1,13 @@
 -- Whether a connection has an information session, and what keeps that as it is.
-use Rattle.std.proofs.Common.{◌≡◌, ℕ, zero, suc, false, List, [], ◌∷◌, refl, ap, sym, ◌∙◌, true≢false}
+use Rattle.std.proofs.Common.{◌≡◌, ℕ, zero, suc, false, List, [], ◌∷◌, map, refl, ap, sym, ◌∙◌, true≢false}
 use Rattle.std.specs.List.{list_any}
 use Rattle.std.specs.Prelude.{◌||◌, Option, Some, None, slice_set}
 use Rattle.std.proofs.lemmas.Bool.{or_parts}
 use Rattle.slab.specs.Slab.{Slab, get, Updates}
 use Rattle.srcp_info.specs.declared.change.Change.{Change}
 use Rattle.srcp_core.specs.Held.{Place, place_at}
-use Rattle.srcp_core.specs.Machine.{fresh_place, has_panel, is_panel, feed_in, told_feed, told_place, told_all, told_each}
+use Rattle.srcp_core.specs.Machine.{fresh_place, has_panel, is_panel, feed_in, slack_in, slack_at, told_feed, told_place, told_all, told_each}
+use Rattle.srcp_core.specs.Waits.{least, lesser}
 use Rattle.srcp_core.specs.declared.connection.Panel.{Panel}
 use Rattle.srcp_core.specs.declared.connection.Panel.TheVariants.{Absent, Listening, Overran}
 use Rattle.srcp_core.proofs.Invariants.PlacesCover.{told_mild, Here, Away, where_is}
@@ -23,6 +24,19 @@ told_to_none change (None ∷ places) none = ap (λ rest. None ∷ rest) (told_t
 told_to_none change (Some place ∷ places) none =
     let (here, rest) = or_parts (is_panel place.panel) (list_any has_panel places) none in
     λ i. Some (untold change place place.panel refl here i) ∷ told_to_none change places rest i
+
+slack_none : (panel : Panel) → is_panel panel ≡ false → slack_in panel ≡ None
+slack_none Absent none = refl
+slack_none (Listening feed) none = absurd (true≢false none)
+slack_none Overran none = absurd (true≢false none)
+
+-- and there is no slack
+pub no_slack : (places : List (Option Place)) → list_any has_panel places ≡ false → least (map slack_at places) ≡ None
+no_slack [] none = refl
+no_slack (None ∷ places) none = no_slack places none
+no_slack (Some place ∷ places) none =
+    let (here, rest) = or_parts (is_panel place.panel) (list_any has_panel places) none in
+    ap (λ one. lesser one (least (map slack_at places))) (slack_none place.panel here) ∙ no_slack places rest
 
 -- a change that is told keeps whether one has one
 pub panels_told : (change : Change) (places : List (Option Place)) → list_any has_panel (told_all change places) ≡ list_any has_panel places

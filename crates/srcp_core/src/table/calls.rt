@@ -1,12 +1,12 @@
 //! Moments, and the end of a connection.
-ghost use Rattle.std.specs.Prelude.{◌≡◌, None, IsSome, MatchResult};
-ghost use Rattle.std.specs.List.{list_any};
+ghost use Rattle.std.specs.Prelude.{◌≡◌, map, None, IsSome, MatchResult};
 ghost use Rattle.srcp_index.specs.Earliest.{IsEarliestDue};
 ghost use Rattle.srcp_core.specs.Held.{at};
-ghost use Rattle.srcp_core.specs.Machine.{advanced, has_panel, hung_up};
+ghost use Rattle.srcp_core.specs.Machine.{advanced, hung_up, slack_at};
+ghost use Rattle.srcp_core.specs.Waits.{least};
 
 use super::Core;
-use super::walk::{any_panel, carry_out_due, free_all};
+use super::walk::{any_panel, carry_out_due, free_all, least_slack};
 use crate::record::CoreFault;
 use srcp_rules::Rows;
 
@@ -26,19 +26,22 @@ impl<'a, R: Rows> Core<'a, R> {
     }
 
     /// Returns the moment at which the first of the rows falls due, in milliseconds; none if no row has a due moment. Until then
-    /// `advance` changes no row, if nothing else is called meanwhile.
+    /// `advance` changes no row, if nothing else is called meanwhile. Its law is `due` of `laws::calls_follow`.
     pub fn earliest_due(&self) -> Option<u64>
         ensures { IsEarliestDue result self.now.rows }
     {
         self.rows.earliest_due()
     }
 
-    /// Returns whether a connection has an information session. While none has, nothing is left to send of a connection once
-    /// `outgoing` lent none, if nothing comes of it meanwhile.
-    pub fn has_panels(&self) -> bool
-        ensures { result ≡ list_any has_panel self.now.places }
+    /// Returns how many more changes may come upon each information session that did not overrun: the least over all of them;
+    /// none if there is no such session. Its law is `slack` of `laws::calls_follow`.
+    pub fn slack(&self) -> Option<usize>
+        ensures { result ≡ least (map slack_at self.now.places) }
     {
-        self.panels
+        if !self.panels {
+            return None;
+        }
+        least_slack(&self.connections)
     }
 
     /// Takes a connection out. Its session then ends, if it has one that did not end: its locks are taken out in key order,

@@ -5,7 +5,8 @@ ghost use Rattle.srcp_info.specs.declared.change.Change.{Change};
 ghost use Rattle.srcp_info.specs.WellFormed.{IsWellFormed};
 ghost use Rattle.srcp_rules.specs.Due.{due, freed};
 ghost use Rattle.srcp_rules.specs.State.{IsWhole, updated_all};
-ghost use Rattle.srcp_core.specs.Machine.{has_panel, told_all, told_each, told_upto};
+ghost use Rattle.srcp_core.specs.Machine.{has_panel, slack_at, told_all, told_each, told_upto};
+ghost use Rattle.srcp_core.specs.Waits.{least, lesser};
 
 use crate::connection::Connection;
 use slab::Slab;
@@ -23,6 +24,28 @@ pub(crate) fn any_panel(connections: &Slab<Connection>) -> bool
         }
     }
     false
+}
+
+/// Returns how many more changes may come upon each information session that did not overrun, the least over all.
+pub(crate) fn least_slack(connections: &Slab<Connection>) -> Option<usize>
+    ensures { result ≡ least (map slack_at connections.now.slots) }
+{
+    let mut least = None;
+    for (_, connection) in connections.iter() {
+        least = lesser(least, connection.slack());
+    }
+    least
+}
+
+/// Returns the lesser number, or the only one.
+fn lesser(one: Option<usize>, other: Option<usize>) -> Option<usize>
+    ensures { result ≡ lesser one other }
+{
+    match (one, other) {
+        (Some(a), Some(b)) => Some(a.min(b)),
+        (Some(a), None) => Some(a),
+        (None, b) => b,
+    }
 }
 
 /// Tells every connection the change. Where none has an information session, it walks over no places.

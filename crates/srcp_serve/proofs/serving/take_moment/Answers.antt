@@ -11,17 +11,17 @@ returns-in-Err-clause-faults g c =
     (rw c.expect.ensures.faults c.requires) (ap (λ (t : Tally). t.faults) c.fault.ensures) c.in-Err.ensures.err)
 
 pub returns-in-Ok-clause-told : goal.returns-in-Ok-clause-told
-returns-in-Ok-clause-told g c = rw (sym c.expect.ensures.told) (asks_moment _ _ _ c.now.ensures.told)
+returns-in-Ok-clause-told g c = asks_moment _ _ _ _ _ _ c.expect.ensures.told c.now.ensures.told
 
 pub returns-in-Err-clause-told : goal.returns-in-Err-clause-told
-returns-in-Err-clause-told g c = rw (sym c.expect.ensures.told) (asks_moment _ _ _ c.now.ensures.told)
+returns-in-Err-clause-told g c = asks_moment _ _ _ _ _ _ c.expect.ensures.told c.now.ensures.told
 
 pub returns-in-Ok-clause-course : goal.returns-in-Ok-clause-course
 returns-in-Ok-clause-course g c =
-    rw (sym c.expect.ensures.told) (takes_moment c.in-Ok.moment c.args.core.now c.advance.new.self (g.D.Door.told c.expect.new.self)
-    (g.D.Door.told c.now.new.self) c.in-Ok.ensures.told c.advance.ensures)
+    takes_moment c.earliest_due.result c.slack.result c.args.core.now c.earliest_due.ensures c.slack.ensures (g.D.Door.told c.args.door.now) (g.D.Door.told c.expect.new.self)
+    (g.D.Door.told c.now.new.self) c.expect.ensures.told c.in-Ok.moment c.advance.new.self c.in-Ok.ensures.told c.advance.ensures
 
 pub returns-in-Err-clause-course : goal.returns-in-Err-clause-course
 returns-in-Err-clause-course g c =
-    rw (sym c.expect.ensures.told) (keeps_moment c.in-Err.field-0 c.args.core.now (g.D.Door.told c.expect.new.self)
-    (g.D.Door.told c.now.new.self) c.in-Err.ensures.told)
+    keeps_moment c.earliest_due.result c.slack.result c.args.core.now c.earliest_due.ensures c.slack.ensures (g.D.Door.told c.args.door.now) (g.D.Door.told c.expect.new.self)
+    (g.D.Door.told c.now.new.self) c.expect.ensures.told c.in-Err.field-0 c.in-Err.ensures.told
