@@ -79,11 +79,11 @@ has_overrun Absent = false
 has_overrun (Listening feed) = false
 has_overrun Overran = true
 
--- how many more changes may come upon it, while it goes on
+-- how many more changes may come before it overruns; 256 where it did, since none wait then
 abbrev pub slack_in : Panel → Option ℕ
 slack_in Absent = None
 slack_in (Listening feed) = Some (256 - length feed.queue)
-slack_in Overran = None
+slack_in Overran = Some 256
 
 -- and upon the connection of a place
 abbrev pub slack_at : Option Place → Option ℕ

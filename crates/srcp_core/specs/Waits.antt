@@ -1,5 +1,5 @@
 -- To be believed: how many changes wait for information sessions, and what that says of overruns.
-use Rattle.std.specs.Prelude.{◌≡◌, ℕ, ◌+◌, ◌-◌, ◌≤◌, min, ◌&&◌, not, if◌then◌else◌, Bool, true, false, List, [], ◌∷◌, ◌++◌, map, drop, length, flat_map, Option, Some, None}
+use Rattle.std.specs.Prelude.{◌≡◌, ℕ, ◌+◌, ◌-◌, ◌≤◌, min, ◌&&◌, if◌then◌else◌, Bool, true, false, List, [], ◌∷◌, ◌++◌, map, drop, length, flat_map, Option, Some, None}
 use Rattle.srcp_rules.specs.declared.layout.Bus.{Bus}
 use Rattle.srcp_core.specs.Connection.{Connection, History, waiting, is_open, overran}
 use Rattle.srcp_core.specs.Course.{World, course, history, numbered, state}
@@ -16,10 +16,12 @@ abbrev pub least : List (Option ℕ) → Option ℕ
 least [] = None
 least (one ∷ others) = lesser one (least others)
 
--- how many more changes may come upon an information session that is open and did not overrun
+-- how many more changes may come before an information session overruns; 256 after it did, since it can not overrun again
 abbrev pub slack_of : History → Connection → Option ℕ
 slack_of history conn =
-    if is_open conn && (conn.info && not (overran conn history)) then Some (256 - length (waiting conn history)) else None
+    if is_open conn && conn.info
+    then Some (if overran conn history then 256 else 256 - length (waiting conn history))
+    else None
 
 -- the number, or 256
 abbrev pub option_or_256 : Option ℕ → ℕ
@@ -27,7 +29,7 @@ option_or_256 None = 256
 option_or_256 (Some n) = n
 
 module _ (buses : List Bus) where
-  -- how many more may come upon each: the least over all of these sessions
+  -- how many may come before one of them overruns: the least over all of these sessions
   abbrev pub slack : World → Option ℕ
   slack w = least (map (slack_of (history buses w)) w.connections)
 

@@ -250,13 +250,14 @@ impl Connection {
         !matches!(self.panel, Panel::Absent)
     }
 
-    /// How many more changes may come upon its information session, if it has one that did not overrun.
+    /// How many more changes may come before its information session overruns, if it has one; 256 after an overrun.
     pub(crate) fn slack(&self) -> Option<usize>
         ensures { result ≡ slack_in self.now.panel }
     {
         match &self.panel {
+            Panel::Absent => None,
             Panel::Listening(feed) => Some(MOST_WAITING - feed.waiting()),
-            Panel::Absent | Panel::Overran => None,
+            Panel::Overran => Some(MOST_WAITING),
         }
     }
 

@@ -102,16 +102,16 @@ slack_conns h [] k = refl
 slack_conns h (conn ∷ conns) zero = refl
 slack_conns h (conn ∷ conns) (suc k) = slack_conns h conns k
 
-panel_slack : (info : Bool) (cursor : Cursor) (queue : List Change) → slack_in (panel_at info cursor queue) ≡ (if info && not (nat_lt 256 (length queue)) then Some (256 - length queue) else None)
+panel_slack : (info : Bool) (cursor : Cursor) (queue : List Change) → slack_in (panel_at info cursor queue) ≡ (if info then Some (if nat_lt 256 (length queue) then 256 else 256 - length queue) else None)
 panel_slack false cursor queue = refl
 panel_slack true cursor queue =
-    elim (nat_lt 256 (length queue)) as (λ t. slack_in (if t then Overran else Listening (record { cursor = cursor; queue = queue })) ≡ (if not t then Some (256 - length queue) else None)) [ true ↦ refl | false ↦ refl ]
+    elim (nat_lt 256 (length queue)) as (λ t. slack_in (if t then Overran else Listening (record { cursor = cursor; queue = queue })) ≡ Some (if t then 256 else 256 - length queue)) [ true ↦ refl | false ↦ refl ]
 
 -- what is held of an open connection has its slack
 slack_place : (reader : Reading) (h : History) (conn : Connection) → is_open conn ≡ true → slack_in (place_of reader h conn).panel ≡ slack_of h conn
 slack_place reader h conn up =
     panel_slack conn.info (cursor_at conn (length h)) (untold conn h)
-    ∙ sym (ap (λ t. if t && (conn.info && not (overran conn h)) then Some (256 - length (if t then untold conn h else [])) else None) up)
+    ∙ sym (ap (λ t. if t && conn.info then Some (if overran conn h then 256 else 256 - length (if t then untold conn h else [])) else None) up)
 
 pub slack_agrees : (held : Held) → OfCourse held (λ buses events. least (map slack_at held.places) ≡ slack buses (course buses events))
 slack_agrees held buses events keys layout s = least_same (map slack_at held.places) (map (slack_of h) w.connections) to from
@@ -149,7 +149,7 @@ slack_agrees held buses events keys layout s = least_same (map slack_at held.pla
             go true up =
                 let a = s.opens (suc i.0) conn e up in
                 (a.key, slack_places held.places a.key ∙ ap slack_at a.place ∙ slack_place a.reader h conn up ∙ is)
-            go false up = let bad : None ≡ Some n = sym (ap (λ t. if t && (conn.info && not (overran conn h)) then Some (256 - length (waiting conn h)) else None) up) ∙ is in cc
+            go false up = let bad : None ≡ Some n = sym (ap (λ t. if t && conn.info then Some (if overran conn h then 256 else 256 - length (waiting conn h)) else None) up) ∙ is in cc
 
 -- ---- what falls due
 

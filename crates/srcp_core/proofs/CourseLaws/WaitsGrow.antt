@@ -99,7 +99,7 @@ untold_took : (history : History) (go : ℕ) (items more : List Item) (done late
     → length (untold_by go (items ++ more) later history) ≤ length (untold_by go items done history)
 untold_took history go items more done later now same =
     let con : concerning_by go (cursor_by later (items ++ more)) history ≡ concerning_by go (cursor_by done items) history =
-        concerning_same go (cursor_by later (items ++ more)) (cursor_by done items) 0 history (λ k low high. before k high) in
+    concerning_same go (cursor_by later (items ++ more)) (cursor_by done items) 0 history (λ k low high. before k high) in
     let tol : tolds (items ++ more) ≡ tolds items ++ tolds more = filter_map-append (λ (item : Item). told_change item.what) items more in
     let len : length (tolds (items ++ more)) ≡ length (tolds items) + length (tolds more) = ap length tol ∙ length-append (tolds items) (tolds more) in
     let low : length (tolds items) ≤ length (tolds (items ++ more)) = omega arith in
@@ -135,9 +135,9 @@ within_room buses most w bytes conn s =
       few = λ info shut.
           let f = s.few info shut in
           let t = untold_took (history buses w) conn.go_step conn.items (items_of (length (history buses w)) (fitting bytes (unsent conn) nexts)) conn.done
-              (if conn.info && exhausts bytes (unsent conn) nexts then option_or conn.done (Some (length (history buses w))) else conn.done)
-              (items_now (length (history buses w)) (fitting bytes (unsent conn) nexts))
-              (λ k h. done_now (length (history buses w)) conn.done (conn.info && exhausts bytes (unsent conn) nexts) k h) in
+          (if conn.info && exhausts bytes (unsent conn) nexts then option_or conn.done (Some (length (history buses w))) else conn.done)
+          (items_now (length (history buses w)) (fitting bytes (unsent conn) nexts))
+          (λ k h. done_now (length (history buses w)) conn.done (conn.info && exhausts bytes (unsent conn) nexts) k h) in
           omega arith;
     }
 
@@ -297,11 +297,12 @@ waits_grow buses events more number conn later p e info =
 -- ---- slack
 
 slack_256 : (h : History) (conn : Connection) (n : ℕ) → slack_of h conn ≡ Some n → n ≤ 256
-slack_256 h conn n e = by (is_open conn && (conn.info && not (overran conn h))) e
+slack_256 h conn n e = by (is_open conn && conn.info) (overran conn h) e
   where
-    by : (t : Bool) → (if t then Some (256 - length (waiting conn h)) else None) ≡ Some n → n ≤ 256
-    by true e = let same : 256 - length (waiting conn h) ≡ n = cc in omega arith
-    by false e = cc
+    by : (t over : Bool) → (if t then Some (if over then 256 else 256 - length (waiting conn h)) else None) ≡ Some n → n ≤ 256
+    by true true e = let same : 256 ≡ n = cc in omega arith
+    by true false e = let same : 256 - length (waiting conn h) ≡ n = cc in omega arith
+    by false over e = cc
 
 some_slack_256 : (h : History) (o : Option Connection) (n : ℕ) → slack_by h o ≡ Some n → n ≤ 256
 some_slack_256 h None n e = cc
@@ -341,8 +342,8 @@ few_close_none buses events more enough number later o = by (numbered number w.c
     waits zero conn e info shut fine = cc
     waits (suc k) conn e info shut fine =
         let up : is_open conn ≡ true = ap (λ (s : Option ℕ). is_none s) shut in
-        let is : slack_of h conn ≡ Some (256 - length (waiting conn h)) = ap (λ t. if t && (conn.info && not (overran conn h)) then Some (256 - length (waiting conn h)) else None) up
-            ∙ ap (λ t. if t && not (overran conn h) then Some (256 - length (waiting conn h)) else None) info ∙ ap (λ t. if not t then Some (256 - length (waiting conn h)) else None) fine in
+        let is : slack_of h conn ≡ Some (256 - length (waiting conn h)) = ap (λ t. if t && conn.info then Some (if overran conn h then 256 else 256 - length (waiting conn h)) else None) up
+        ∙ ap (λ t. if t then Some (if overran conn h then 256 else 256 - length (waiting conn h)) else None) info ∙ ap (λ t. Some (if t then 256 else 256 - length (waiting conn h))) fine in
         let low : r ≤ 256 - length (waiting conn h) = room_most (least slacks) (256 - length (waiting conn h)) (least_least slacks k (256 - length (waiting conn h)) (slack_conns h w.connections k ∙ ap (slack_by h) e ∙ is)) in
         let few : length (waiting conn h) ≤ 256 = ltb-false 256 (length (waiting conn h)) (ap (λ (cs : List Change). nat_lt 256 (length cs)) (waiting_is conn h shut) ∙ sym (overran_open h conn shut) ∙ fine) in
         omega arith

@@ -33,8 +33,9 @@ impl<'a, R: Rows> Core<'a, R> {
         self.rows.earliest_due()
     }
 
-    /// Returns how many more changes may come upon each information session that did not overrun: the least over all of them;
-    /// none if there is no such session. Its law is `slack` of `laws::calls_follow`.
+    /// Returns how many more changes may come before an information session overruns: 256 less the changes that wait, the
+    /// least over all of these sessions; none if there is no such session. No change waits for a session that overran, so it
+    /// counts 256 until it is hung up. Its law is `slack` of `laws::calls_follow`.
     pub fn slack(&self) -> Option<usize>
         ensures { result ≡ least (map slack_at self.now.places) }
     {

@@ -26,7 +26,7 @@ pub(crate) fn any_panel(connections: &Slab<Connection>) -> bool
     false
 }
 
-/// Returns how many more changes may come upon each information session that did not overrun, the least over all.
+/// Returns how many more changes may come before an information session overruns, the least over all.
 pub(crate) fn least_slack(connections: &Slab<Connection>) -> Option<usize>
     ensures { result ≡ least (map slack_at connections.now.slots) }
 {
