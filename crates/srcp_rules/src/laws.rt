@@ -5,6 +5,7 @@ ghost use Rattle.srcp_rules.specs.Laws.{OpeningsAreWhole, UpdatesKeepRising, Com
 ghost use Rattle.srcp_rules.specs.Laws.{CommandsAddNoRow, MomentsAddNoRow, EndsAddNoRow, BeginningsAddNoRow, CommandsChangeLittle};
 ghost use Rattle.srcp_rules.specs.Laws.{CommandsCanBeTold, MomentsCanBeTold, EndsCanBeTold, BeginningsCanBeTold};
 ghost use Rattle.srcp_rules.specs.Laws.{RefusalsChangeNothing, ChecksAnswerAsSets, LocksHold, CommandsKeepSessions, MomentsKeepSessions, EndsFreeAll};
+ghost use Rattle.srcp_rules.specs.Weight.{LinesWeighEnough, WeightsAreSmall, GoesWeighOne};
 ghost use Rattle.srcp_rules.specs.Laws.{MomentsCarryOut, PortsAreSet, LocksAreSet, PortsFallBack, LocksRunOut, MomentsEnd};
 
 /// The registry of a layout begins whole.
@@ -60,6 +61,13 @@ pub fn beginnings_add_no_row()
 /// A command makes at most 11 changes.
 pub fn commands_change_little()
     ensures { CommandsChangeLittle }
+{}
+
+/// A line brings at most its weight, which is at most 11, and 1 of a line whose first word is GO.
+pub fn lines_weigh_enough()
+    ensures enough { LinesWeighEnough }
+    ensures small { WeightsAreSmall }
+    ensures goes { GoesWeighOne }
 {}
 
 /// The changes of a command can be written as lines, and its reply too.

@@ -21,3 +21,5 @@ mod refusals;
 mod served;
 #[cfg(test)]
 mod told;
+#[cfg(test)]
+mod weights;

@@ -1,0 +1,389 @@
+-- A line brings at most its weight.
+use Rattle.std.specs.Prelude.{codes, ◌≡◌, ℕ, ◌+◌, ◌≤◌, Bool, true, false, cond, ◌&&◌, ◌||◌, ◌==◌, nat_le, nat_lt, length, find, List, []}
+use Rattle.std.specs.Prelude.{◌∷◌, Option, Some, None, Result, Ok, Err, IfOk}
+use Rattle.std.proofs.Common.{refl, sym, ap, subst, ◌∙◌, arith}
+use Rattle.std.proofs.lemmas.Bool.{false_from_ne_true}
+use Rattle.std.proofs.lemmas.List.{length-map}
+use Rattle.std.proofs.lemmas.Slice.Eq.{bytes_eq-Decides}
+use Rattle.std.specs.Char.{to_ascii_lowercase}
+use Rattle.std.specs.Cmp.{second_so}
+use Rattle.std.specs.Option.{ok_or, option_map, option_and_then, unwrap_or}
+use Rattle.std.specs.Str.{bytes_eq, str_to_ascii_lowercase}
+use Rattle.srcp_info.specs.declared.key.Key.{Key}
+use Rattle.srcp_info.specs.declared.value.Value.TheVariants as value
+use Rattle.srcp_info.specs.declared.change.Reply.TheVariants.{Accepted}
+use Rattle.srcp_info.specs.Key.{first_key}
+use Rattle.srcp_info.specs.declared.change.Code.{Code}
+use Rattle.srcp_info.specs.declared.change.Code.TheVariants.{C410, C412, C415, C418, C421, C422}
+use Rattle.srcp_text.specs.Words.{number_of, is_keyword, words_of}
+use Rattle.srcp_rules.specs.declared.layout.Bus.{Bus}
+use Rattle.srcp_rules.specs.declared.command.Operation.{Operation}
+use Rattle.srcp_rules.specs.declared.command.Operation.TheVariants.{Get, Set, Check, Init, Term, Wait, Verify, Reset}
+use Rattle.srcp_rules.specs.declared.command.Named.{Named}
+use Rattle.srcp_rules.specs.declared.command.Named.TheVariants.{Session, Power, Gl, Ga, Fb, Lock}
+use Rattle.srcp_rules.specs.declared.command.Lockable.{Lockable}
+use Rattle.srcp_rules.specs.declared.command.Lockable.TheVariants as lockable
+use Rattle.srcp_rules.specs.declared.command.Command.{Command}
+use Rattle.srcp_rules.specs.declared.command.Command.TheVariants.{GetSession, TermSession, GetPower, SetPower, CheckPower, GetGl, SetGl}
+use Rattle.srcp_rules.specs.declared.command.Command.TheVariants.{CheckGl, GetGa, SetGa, CheckGa, GetFb, SetFb, CheckFb, GetLock, SetLock}
+use Rattle.srcp_rules.specs.declared.command.Command.TheVariants.{CheckLock}
+use Rattle.srcp_rules.specs.Layout.{bus_at, has_group, address_max}
+use Rattle.srcp_rules.specs.State.{State, Update, row_at, key_at, session_device, power_device, fb_device, device_in, lock_on, functions_of}
+use Rattle.srcp_rules.specs.Command.{IsCommandOf, kept_v}
+use Rattle.srcp_rules.specs.Grammar.{◌>>=◌, number_in, bit_of, bits_of, switch_of, text_of, time_of, lockable_on, groups, named_in, alone}
+use Rattle.srcp_rules.specs.Grammar.{addressed, get_session, term_session, set_power, set_gl, ga_port, get_ga, set_ga, set_fb, named_lock}
+use Rattle.srcp_rules.specs.Grammar.{set_lock, asked, directed, commanded}
+use Rattle.srcp_rules.specs.Effect.{effect, refused, done, checked, shown_at, unless_refused, refusals, gl_refusals, put_at, port_end}
+use Rattle.srcp_rules.specs.Effect.{lock_end, functions_after, set_gl as driven, set_ga as switched, set_lock as locked}
+use Rattle.srcp_rules.specs.Weight.{names_session, weight_of, weight, LinesWeighEnough, WeightsAreSmall, GoesWeighOne}
+use Rattle.srcp_rules.proofs.GrammarLaws.{read_any, then_ok, reads_fits}
+use Rattle.srcp_rules.proofs.CountLaws.{effect_few}
+use Rattle.srcp_rules.proofs.EffectLaws.{accepted_updates, checked_updates, showing_updates}
+
+-- ---- what a line makes, whatever its values
+
+abbrev bus_named : List Bus → List ℕ → Result Bus Code
+bus_named buses word = ok_or (option_and_then (bus_at buses) (number_of 250 word)) C412
+
+abbrev on_group : Operation → List (List ℕ) → Bus → Named → Result Command Code
+on_group operation words bus g = cond (has_group bus g) (asked operation g bus words) (Err C422)
+
+module _ (P : Command → Type 0) where
+  abbrev All : Result Command Code → Type 0
+  All r = IfOk r P
+
+  alone_all : (command : Command) (words : List (List ℕ)) → P command → All (alone command words)
+  alone_all command [] h = h
+  alone_all command (w ∷ ws) h = tt
+
+  addressed_all : (most : ℕ) (make : ℕ → Command) (words : List (List ℕ)) → ((a : ℕ) → P (make a)) → All (addressed most make words)
+  addressed_all most make [] h = tt
+  addressed_all most make (a ∷ []) h = read_any P (number_in 1 most a) (λ n. Ok (make n)) h
+  addressed_all most make (a ∷ b ∷ ws) h = tt
+
+  get_session_all : (words : List (List ℕ)) → ((n : ℕ) → P (GetSession n)) → All (get_session words)
+  get_session_all [] h = tt
+  get_session_all (s ∷ []) h = read_any P (number_in 0 4294967295 s) (λ n. Ok (GetSession n)) h
+  get_session_all (s ∷ t ∷ ws) h = tt
+
+  term_session_all : (words : List (List ℕ)) → ((id : Option ℕ) → P (TermSession id)) → All (term_session words)
+  term_session_all [] h = h None
+  term_session_all (s ∷ []) h = read_any P (number_in 0 4294967295 s) (λ n. Ok (TermSession (Some n))) (λ n. h (Some n))
+  term_session_all (s ∷ t ∷ ws) h = tt
+
+  set_power_all : (make : Bool → List ℕ → Command) (words : List (List ℕ))
+      → ((on : Bool) (t : List ℕ) → P (make on t)) → All (set_power make words)
+  set_power_all make [] h = tt
+  set_power_all make (w ∷ ws) h =
+      read_any P (switch_of w) (λ on. text_of ws >>= (λ t. Ok (make on t))) (λ on. read_any P (text_of ws) (λ t. Ok (make on t)) (h on))
+
+  set_gl_all : (bus : Bus) (make : ℕ → ℕ → ℕ → ℕ → List Bool → Command) (words : List (List ℕ))
+      → ((a mode v vmax : ℕ) (fs : List Bool) → P (make a mode v vmax fs)) → All (set_gl bus make words)
+  set_gl_all bus make [] h = tt
+  set_gl_all bus make (a ∷ []) h = tt
+  set_gl_all bus make (a ∷ m ∷ []) h = tt
+  set_gl_all bus make (a ∷ m ∷ v ∷ []) h = tt
+  set_gl_all bus make (a ∷ m ∷ v ∷ x ∷ fs) h =
+      if_all (nat_lt 29 (length fs)) (number_in 1 bus.gl_max a >>= (λ address. number_in 0 2 m >>= (λ mode. with_mode address mode)))
+      (read_any P (number_in 1 bus.gl_max a) (λ address. number_in 0 2 m >>= (λ mode. with_mode address mode)) (λ address.
+      read_any P (number_in 0 2 m) (with_mode address) (λ mode.
+      read_any P (number_in 0 65535 v) (with_speed address mode) (λ speed.
+      read_any P (number_in 0 65535 x) (with_top address mode speed) (λ top.
+      read_any P (cond (nat_le speed top || top == 0) (Ok top) (Err C412)) (with_fitting address mode speed) (λ fitting.
+      read_any P (bits_of fs) (λ functions. Ok (make address mode speed fitting functions)) (h address mode speed fitting)))))))
+    where
+      if_all : (b : Bool) (r : Result Command Code) → All r → All (cond b (Err C418) r)
+      if_all true r h = tt
+      if_all false r h = h
+
+      with_fitting : (address mode speed fitting : ℕ) → Result Command Code
+      with_fitting address mode speed fitting = bits_of fs >>= (λ functions. Ok (make address mode speed fitting functions))
+
+      with_top : (address mode speed top : ℕ) → Result Command Code
+      with_top address mode speed top = cond (nat_le speed top || top == 0) (Ok top) (Err C412) >>= with_fitting address mode speed
+
+      with_speed : (address mode speed : ℕ) → Result Command Code
+      with_speed address mode speed = number_in 0 65535 x >>= with_top address mode speed
+
+      with_mode : (address mode : ℕ) → Result Command Code
+      with_mode address mode = number_in 0 65535 v >>= with_speed address mode
+
+  get_ga_all : (bus : Bus) (words : List (List ℕ)) → ((a p : ℕ) → P (GetGa bus.number a p)) → All (get_ga bus words)
+  get_ga_all bus [] h = tt
+  get_ga_all bus (a ∷ []) h = tt
+  get_ga_all bus (a ∷ p ∷ []) h =
+      read_any P (number_in 1 bus.ga_max a) (λ address. ga_port bus p >>= (λ port. Ok (GetGa bus.number address port)))
+      (λ address. read_any P (ga_port bus p) (λ port. Ok (GetGa bus.number address port)) (h address))
+  get_ga_all bus (a ∷ p ∷ w ∷ ws) h = tt
+
+  set_ga_all : (bus : Bus) (make : ℕ → ℕ → Bool → Option ℕ → Command) (words : List (List ℕ))
+      → ((a p : ℕ) (on : Bool) (t : Option ℕ) → P (make a p on t)) → All (set_ga bus make words)
+  set_ga_all bus make [] h = tt
+  set_ga_all bus make (a ∷ []) h = tt
+  set_ga_all bus make (a ∷ p ∷ []) h = tt
+  set_ga_all bus make (a ∷ p ∷ v ∷ []) h = tt
+  set_ga_all bus make (a ∷ p ∷ v ∷ t ∷ []) h =
+      read_any P (number_in 1 bus.ga_max a) (λ address. ga_port bus p >>= with_port address) (λ address.
+      read_any P (ga_port bus p) (with_port address) (λ port.
+      read_any P (bit_of v) (with_value address port) (λ on.
+      read_any P (time_of t) (λ milliseconds. Ok (make address port on milliseconds)) (h address port on))))
+    where
+      with_value : (address port : ℕ) (on : Bool) → Result Command Code
+      with_value address port on = time_of t >>= (λ milliseconds. Ok (make address port on milliseconds))
+
+      with_port : (address port : ℕ) → Result Command Code
+      with_port address port = bit_of v >>= with_value address port
+  set_ga_all bus make (a ∷ p ∷ v ∷ t ∷ w ∷ ws) h = tt
+
+  set_fb_all : (bus : Bus) (make : ℕ → Bool → Command) (words : List (List ℕ))
+      → ((p : ℕ) (on : Bool) → P (make p on)) → All (set_fb bus make words)
+  set_fb_all bus make [] h = tt
+  set_fb_all bus make (p ∷ []) h = tt
+  set_fb_all bus make (p ∷ v ∷ []) h =
+      read_any P (number_in 1 bus.fb_ports p) (λ port. bit_of v >>= (λ on. Ok (make port on)))
+      (λ port. read_any P (bit_of v) (λ on. Ok (make port on)) (h port))
+  set_fb_all bus make (p ∷ v ∷ w ∷ ws) h = tt
+
+  get_lock_all : (bus : Bus) (make : Lockable → ℕ → Command) (words : List (List ℕ))
+      → ((g : Lockable) (a : ℕ) → P (make g a)) → All (named_lock bus make words)
+  get_lock_all bus make [] h = tt
+  get_lock_all bus make (g ∷ []) h = tt
+  get_lock_all bus make (g ∷ a ∷ []) h =
+      read_any P (lockable_on bus g) (λ group. number_in 1 (address_max bus group) a >>= (λ address. Ok (make group address)))
+      (λ group. read_any P (number_in 1 (address_max bus group) a) (λ address. Ok (make group address)) (h group))
+  get_lock_all bus make (g ∷ a ∷ w ∷ ws) h = tt
+
+  set_lock_all : (bus : Bus) (make : Lockable → ℕ → ℕ → Command) (words : List (List ℕ))
+      → ((g : Lockable) (a s : ℕ) → P (make g a s)) → All (set_lock bus make words)
+  set_lock_all bus make [] h = tt
+  set_lock_all bus make (g ∷ []) h = tt
+  set_lock_all bus make (g ∷ a ∷ []) h = tt
+  set_lock_all bus make (g ∷ a ∷ s ∷ []) h =
+      read_any P (lockable_on bus g) (λ group. number_in 1 (address_max bus group) a >>= with_address group) (λ group.
+      read_any P (number_in 1 (address_max bus group) a) (with_address group) (λ address.
+      read_any P (number_in 0 86400 s) (λ seconds. Ok (make group address seconds)) (h group address)))
+    where
+      with_address : (group : Lockable) (address : ℕ) → Result Command Code
+      with_address group address = number_in 0 86400 s >>= (λ seconds. Ok (make group address seconds))
+  set_lock_all bus make (g ∷ a ∷ s ∷ w ∷ ws) h = tt
+
+  -- the words after the operation
+  directed_all : (buses : List Bus) (operation : Operation) (words : List (List ℕ))
+      → ((g : Named) (bus : Bus) (ws : List (List ℕ)) → All (asked operation g bus ws)) → All (directed buses operation words)
+  directed_all buses operation [] h = tt
+  directed_all buses operation (n ∷ []) h = tt
+  directed_all buses operation (n ∷ w ∷ ws) h =
+      read_any P (bus_named buses n) (λ bus. ok_or (named_in groups w) C421 >>= on_group operation ws bus) (λ bus.
+      read_any P (ok_or (named_in groups w) C421) (on_group operation ws bus) (λ g.
+      then_ok P (has_group bus g) C422 (asked operation g bus ws) (λ on. h g bus ws)))
+
+-- ---- how many changes the commands of an operation make
+
+module _ (state : State) (session moment : ℕ) where
+  -- at most so many
+  abbrev AtMost : ℕ → List Update → Type 0
+  AtMost n updates = length updates ≤ n
+
+  abbrev Brings : ℕ → Command → Type 0
+  Brings n command = AtMost n (effect state session moment command).updates
+
+  none : (n : ℕ) → AtMost n []
+  none n = omega arith
+
+  shown : (key : Key) → AtMost 0 (shown_at key state).updates
+  shown key = showing_updates (AtMost 0) (none 0) (row_at key state)
+
+  gets_none : (g : Named) (bus : Bus) (words : List (List ℕ)) → IfOk (asked Get g bus words) (Brings 0)
+  gets_none Session bus words = get_session_all (Brings 0) words (λ n. shown (first_key (session_device n)))
+  gets_none Power bus words = alone_all (Brings 0) (GetPower bus.number) words (shown (first_key (power_device bus.number)))
+  gets_none Gl bus words = addressed_all (Brings 0) bus.gl_max (GetGl bus.number) words
+      (λ a. shown (key_at (device_in lockable.Gl bus.number a) 1))
+  gets_none Ga bus words = get_ga_all (Brings 0) bus words (λ a p. shown (key_at (device_in lockable.Ga bus.number a) (1 + p)))
+  gets_none Fb bus words = addressed_all (Brings 0) bus.fb_ports (GetFb bus.number) words (λ p. shown (first_key (fb_device bus.number p)))
+  gets_none Lock bus words = get_lock_all (Brings 0) bus (GetLock bus.number) words (λ g a. shown (first_key (lock_on g bus.number a)))
+
+  tried : (r : Result (List Update) Code) → AtMost 0 (checked r).updates
+  tried r = checked_updates (AtMost 0) (none 0) r
+
+  checks_none : (g : Named) (bus : Bus) (words : List (List ℕ)) → IfOk (asked Check g bus words) (Brings 0)
+  checks_none Session bus words = tt
+  checks_none Power bus words = set_power_all (Brings 0) (CheckPower bus.number) words (λ on t. none 0)
+  checks_none Gl bus words = set_gl_all (Brings 0) bus (CheckGl bus.number) words
+      (λ a mode v vmax fs. tried (driven state session moment bus.number a mode v vmax fs))
+  checks_none Ga bus words = set_ga_all (Brings 0) bus (CheckGa bus.number) words
+      (λ a p on t. tried (switched state session moment bus.number a p on t))
+  checks_none Fb bus words = set_fb_all (Brings 0) bus (CheckFb bus.number) words (λ p on. none 0)
+  checks_none Lock bus words = set_lock_all (Brings 0) bus (CheckLock bus.number) words
+      (λ g a s. tried (locked state session moment g bus.number a s))
+
+  one : (refused : List (Bool × Code)) (update : Update) → AtMost 1 (done (unless_refused refused (update ∷ []))).updates
+  one refused update = accepted_updates (AtMost 1) (none 1) refused (update ∷ []) (λ applies. omega arith)
+
+  sets_one : (g : Named) (bus : Bus) (words : List (List ℕ)) → IfOk (asked Set g bus words) (Brings 1)
+  sets_one Session bus words = tt
+  sets_one Power bus words = set_power_all (Brings 1) (SetPower bus.number) words (λ on t. omega arith)
+  sets_one Gl bus words =
+      set_gl_all (Brings 1) bus (SetGl bus.number) words (λ a mode v vmax fs.
+      let set = value.GlState mode (kept_v mode v) vmax (functions_after fs (functions_of bus.number a state)) in
+      one (gl_refusals state session bus.number a fs) (put_at moment (key_at (device_in lockable.Gl bus.number a) 1) set None))
+  sets_one Ga bus words =
+      set_ga_all (Brings 1) bus (SetGa bus.number) words (λ a p on t.
+      one (refusals state session lockable.Ga bus.number a)
+      (put_at moment (key_at (device_in lockable.Ga bus.number a) (1 + p)) (value.GaPort on) (port_end moment on t)))
+  sets_one Fb bus words = set_fb_all (Brings 1) bus (SetFb bus.number) words (λ p on. omega arith)
+  sets_one Lock bus words =
+      set_lock_all (Brings 1) bus (SetLock bus.number) words (λ g a s.
+      one (refusals state session g bus.number a)
+      (put_at moment (first_key (lock_on g bus.number a)) (value.Lock s session) (lock_end moment s)))
+
+  -- a session's command shows its row, or ends it
+  ended : (id : Option ℕ) → Brings 0 (TermSession id)
+  ended None = none 0
+  ended (Some id) = by_id (id == session)
+    where
+      by_id : (b : Bool) → AtMost 0 (cond b (record { reply = Accepted; updates = []; ends = true }) (refused C415)).updates
+      by_id true = none 0
+      by_id false = none 0
+
+  of_session : (operation : Operation) (bus : Bus) (words : List (List ℕ)) → IfOk (asked operation Session bus words) (Brings 0)
+  of_session Get bus words = gets_none Session bus words
+  of_session Term bus words = term_session_all (Brings 0) words ended
+  of_session operation bus words = tt
+
+  module _ (buses : List Bus) where
+    -- the third word is SESSION
+    session_named : (operation : Operation) (words : List (List ℕ)) → names_session words ≡ true
+        → IfOk (directed buses operation words) (Brings 0)
+    session_named operation [] h = tt
+    session_named operation (n ∷ []) h = tt
+    session_named operation (n ∷ w ∷ ws) h =
+        read_any (Brings 0) (bus_named buses n) (λ bus. ok_or (named_in groups w) C421 >>= on_group operation ws bus) (λ bus.
+        subst (λ b. IfOk (ok_or (group_by b) C421 >>= on_group operation ws bus) (Brings 0))
+        (sym (second_so (bytes_eq n (codes "0")) (is_keyword (codes "SESSION") w) h))
+        (then_ok (Brings 0) (has_group bus Session) C422 (asked operation Session bus ws) (λ on. of_session operation bus ws)))
+      where
+        others : List (List ℕ × Named)
+        others = (codes "POWER", Power) ∷ (codes "GL", Gl) ∷ (codes "GA", Ga) ∷ (codes "FB", Fb) ∷ (codes "LOCK", Lock) ∷ []
+
+        group_by : Bool → Option Named
+        group_by b =
+            option_map {T = List ℕ × Named} (λ e. e.1) (cond b (Some (codes "SESSION", Session)) (find (λ e. is_keyword e.0 w) others))
+
+-- ---- keywords
+
+-- a word is as long as the keyword that it is
+keyword_length : (keyword word : List ℕ) → is_keyword keyword word ≡ true → length keyword ≡ length word
+keyword_length keyword word e =
+    let same = (bytes_eq-Decides (str_to_ascii_lowercase keyword) (str_to_ascii_lowercase word)).0 e in
+    sym (length-map keyword to_ascii_lowercase) ∙ ap length same ∙ length-map word to_ascii_lowercase
+
+-- no word is two keywords of different lengths
+other_length : (keyword other word : List ℕ) → is_keyword keyword word ≡ true
+    → (length other ≡ length keyword → ⊥) → is_keyword other word ≡ false
+other_length keyword other word e apart =
+    false_from_ne_true (is_keyword other word) (λ f. apart (keyword_length other word f ∙ sym (keyword_length keyword word e)))
+
+-- the operations after GET, SET and CHECK
+abbrev rarer : List (List ℕ × Operation)
+rarer = (codes "INIT", Init) ∷ (codes "TERM", Term) ∷ (codes "WAIT", Wait) ∷ (codes "VERIFY", Verify) ∷ (codes "RESET", Reset) ∷ []
+
+-- GO is none of them
+go_is_none : (word : List ℕ) → is_keyword (codes "GO") word ≡ true → find (λ e. is_keyword e.0 word) rarer ≡ None
+go_is_none word h =
+    let i = other_length (codes "GO") (codes "INIT") word h (λ e. omega (arith, e)) in
+    let t = other_length (codes "GO") (codes "TERM") word h (λ e. omega (arith, e)) in
+    let w = other_length (codes "GO") (codes "WAIT") word h (λ e. omega (arith, e)) in
+    let v = other_length (codes "GO") (codes "VERIFY") word h (λ e. omega (arith, e)) in
+    let r = other_length (codes "GO") (codes "RESET") word h (λ e. omega (arith, e)) in
+    rw (i, t, w, v, r) refl
+
+-- ---- the whole line
+
+-- the weight, by which keywords the first word is
+abbrev weight_by : (ends get put check go : Bool) → ℕ
+weight_by ends get put check go =
+    cond ends 0 (unwrap_or (option_map {T = List ℕ × ℕ} (λ e. e.1)
+    (cond get (Some (codes "GET", 0)) (cond put (Some (codes "SET", 1)) (cond check (Some (codes "CHECK", 0))
+    (cond go (Some (codes "GO", 1)) None))))) 11)
+
+module _ (state : State) (session moment : ℕ) (buses : List Bus) where
+  -- a command of the layout brings at most so many
+  abbrev Weighs : ℕ → Command → Type 0
+  Weighs n command = IsCommandOf buses command → Brings state session moment n command
+
+  in_layout : (n : ℕ) (r : Result Command Code) → IfOk r (Brings state session moment n) → IfOk r (Weighs n)
+  in_layout n (Ok c) h = λ fits. h
+  in_layout n (Err code) h = tt
+
+  any_ok : (r : Result Command Code) → ((c : Command) → Weighs 11 c) → IfOk r (Weighs 11)
+  any_ok (Ok c) h = h c
+  any_ok (Err code) h = tt
+
+  -- the operation by the first word, and the weight of the line
+  abbrev operation_by : (get put check : Bool) → Option (List ℕ × Operation) → Result Operation Code
+  operation_by get put check found =
+      ok_or (option_map {T = List ℕ × Operation} (λ e. e.1)
+      (cond get (Some (codes "GET", Get)) (cond put (Some (codes "SET", Set)) (cond check (Some (codes "CHECK", Check)) found)))) C410
+
+  word_weighs : (words : List (List ℕ)) (ends get put check go : Bool) (found : Option (List ℕ × Operation))
+      → (ends ≡ true → names_session words ≡ true) → (go ≡ true → found ≡ None)
+      → IfOk (operation_by get put check found >>= (λ operation. directed buses operation words)) (Weighs (weight_by ends get put check go))
+  word_weighs words true get put check go found h absent =
+      read_any (Weighs 0) (operation_by get put check found) (λ operation. directed buses operation words)
+      (λ operation. in_layout 0 (directed buses operation words) (session_named state session moment buses operation words (h refl)))
+  word_weighs words false true put check go found h absent =
+      in_layout 0 (directed buses Get words) (directed_all (Brings state session moment 0) buses Get words (gets_none state session moment))
+  word_weighs words false false true check go found h absent =
+      in_layout 1 (directed buses Set words) (directed_all (Brings state session moment 1) buses Set words (sets_one state session moment))
+  word_weighs words false false false true go found h absent =
+      in_layout 0 (directed buses Check words)
+      (directed_all (Brings state session moment 0) buses Check words (checks_none state session moment))
+  word_weighs words false false false false true found h absent =
+      subst (λ f. IfOk (operation_by false false false f >>= (λ operation. directed buses operation words)) (Weighs 1))
+      (sym (absent refl)) tt
+  word_weighs words false false false false false found h absent =
+      any_ok (operation_by false false false found >>= (λ operation. directed buses operation words))
+      (λ c fits. effect_few buses state session moment c fits)
+
+  words_weigh : (words : List (List ℕ)) → IfOk (commanded buses words) (Weighs (weight_of words))
+  words_weigh [] = tt
+  words_weigh (word ∷ words) =
+      word_weighs words (is_keyword (codes "TERM") word && names_session words) (is_keyword (codes "GET") word)
+      (is_keyword (codes "SET") word) (is_keyword (codes "CHECK") word) (is_keyword (codes "GO") word)
+      (find (λ e. is_keyword e.0 word) rarer) (second_so (is_keyword (codes "TERM") word) (names_session words)) (go_is_none word)
+
+-- a line that is a command brings at most its weight
+pub line_weighs : LinesWeighEnough
+line_weighs buses state session moment line command layout e =
+    let fits = subst (λ r. IfOk r (IsCommandOf buses)) e (reads_fits buses layout line) in
+    subst (λ r. IfOk r (Weighs state session moment buses (weight line))) e (words_weigh state session moment buses (words_of line)) fits
+
+-- ---- the weights themselves
+
+small_by : (ends get put check go : Bool) → weight_by ends get put check go ≤ 11
+small_by true get put check go = omega arith
+small_by false true put check go = omega arith
+small_by false false true check go = omega arith
+small_by false false false true go = omega arith
+small_by false false false false true = omega arith
+small_by false false false false false = omega arith
+
+small_words : (words : List (List ℕ)) → weight_of words ≤ 11
+small_words [] = omega arith
+small_words (word ∷ words) =
+    small_by (is_keyword (codes "TERM") word && names_session words) (is_keyword (codes "GET") word) (is_keyword (codes "SET") word)
+    (is_keyword (codes "CHECK") word) (is_keyword (codes "GO") word)
+
+pub weights_small : WeightsAreSmall
+weights_small line = small_words (words_of line)
+
+go_words : (word : List ℕ) (words : List (List ℕ)) → is_keyword (codes "GO") word ≡ true → weight_of (word ∷ words) ≡ 1
+go_words word words h =
+    let t = other_length (codes "GO") (codes "TERM") word h (λ e. omega (arith, e)) in
+    let g = other_length (codes "GO") (codes "GET") word h (λ e. omega (arith, e)) in
+    let s = other_length (codes "GO") (codes "SET") word h (λ e. omega (arith, e)) in
+    let c = other_length (codes "GO") (codes "CHECK") word h (λ e. omega (arith, e)) in
+    rw (t, g, s, c, h) refl
+
+pub go_weighs_one : GoesWeighOne
+go_weighs_one line word words e h = ap weight_of e ∙ go_words word words h
