@@ -21,3 +21,4 @@ pub mod AnswersAgree
 pub mod NothingIsLent
 pub mod CallLaws
 pub mod SlackAgrees
+pub mod OneLineIsLent

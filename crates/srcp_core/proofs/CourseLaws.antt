@@ -24,3 +24,5 @@ pub mod RoomsAddUp
 pub mod OverrunAt256
 pub mod EventsKeep
 pub mod WaitsGrow
+pub mod LinesBringTheirWeight
+pub mod OneLineIsUnsent

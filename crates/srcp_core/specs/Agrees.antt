@@ -55,6 +55,10 @@ module _ (buses : List Bus) where
       overran conn (history buses w)
       || (nat_le (length conn.out) conn.taken && (not conn.info || is_settled conn (history buses w) (rows buses w)))
 
+  -- all replies of the open connection of that number are taken
+  abbrev pub replies_taken : World → ℕ → Bool
+  replies_taken w n = option_map_or (λ conn. nat_le (length conn.out) conn.taken) (open_connection w n) true
+
   -- nothing is lent of the open connection of that number
   abbrev pub lends_none : World → ℕ → Bool
   lends_none w n = option_map_or (lends_none_of w) (open_connection w n) true

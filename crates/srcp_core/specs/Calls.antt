@@ -1,11 +1,13 @@
 -- The model of the code: what a core's calls make of the course that it stands for, by the equations that they promise and no more.
 use Rattle.std.specs.Prelude.{◌≡◌, ℕ, ◌<◌, ◌≤◌, true, false, List, [], ◌∷◌, ◌++◌, map, length, Option, Some, None, is_none, IsSome}
+use Rattle.srcp_info.specs.declared.limits.TheConstants.{LONGEST_LINE}
 use Rattle.srcp_rules.specs.declared.layout.Bus.{Bus}
-use Rattle.srcp_core.specs.Agrees.{OfCourse, OfConnection, NamesNewest, CountsOpen, TakesPieces}
+use Rattle.srcp_core.specs.Agrees.{OfCourse, OfConnection, NamesNewest, CountsOpen, TakesPieces, replies_taken}
 use Rattle.srcp_core.specs.Agrees.{closes as closes_in, lent as lent_in, lends_none as lends_none_in}
 use Rattle.srcp_core.specs.Connection.{is_nil, is_last}
 use Rattle.srcp_core.specs.Course.{course, fault}
 use Rattle.srcp_core.specs.Held.{Held, at}
+use Rattle.srcp_core.specs.Laws.{AllMoments}
 use Rattle.srcp_core.specs.Machine.{IsAdmitted, IsNotAdmitted, IsReceived, opening_held, bytes_fault, advanced, hung_up}
 use Rattle.srcp_core.specs.Machine.{let_out, unsent_at, changed_at, without_sent, finish_at, slack_at}
 use Rattle.srcp_index.specs.Earliest.{IsEarliestDue}
@@ -58,6 +60,11 @@ pub record CallsAgree : Type 0 where
   pub lends_none : (key : ℕ) (held : Held)
       → OfConnection key held
       (λ buses events n. is_nil (unsent_at key (let_out key held)) ≡ lends_none_in buses (course buses events) n)
+  -- once all replies are taken, one line at most
+  pub lends_line : (key : ℕ) (held : Held)
+      → OfConnection key held
+      (λ buses events n. AllMoments events → replies_taken buses (course buses events) n ≡ true
+      → length (unsent_at key (let_out key held)) ≤ LONGEST_LINE)
   pub shuts : (key : ℕ) (held : Held) → OfConnection key held (λ buses events n. fault buses (course buses events) (Shut n) ≡ None)
   -- how many more changes may come upon each information session, and when something falls due next
   pub slack : (held : Held) → OfCourse held (λ buses events. least (map slack_at held.places) ≡ slack_in_course buses (course buses events))

@@ -1,9 +1,16 @@
 -- To be believed: how many changes wait for information sessions, and what that says of overruns.
-use Rattle.std.specs.Prelude.{◌≡◌, ℕ, ◌+◌, ◌-◌, ◌≤◌, min, ◌&&◌, if◌then◌else◌, Bool, true, false, List, [], ◌∷◌, ◌++◌, map, drop, length, flat_map, Option, Some, None}
+use Rattle.std.specs.Prelude.{◌≡◌, ℕ, ◌+◌, ◌-◌, ◌≤◌, min, ◌&&◌, if◌then◌else◌, true, false, List, [], ◌∷◌, ◌++◌, map, drop, length, flat_map, Option, Some, None}
+use Rattle.std.specs.List.{sum_by}
+use Rattle.std.specs.Option.{option_map_or}
+use Rattle.srcp_rules.specs.Due.{due, freed}
+use Rattle.srcp_rules.specs.Layout.{IsLayout}
+use Rattle.srcp_rules.specs.State.{State}
+use Rattle.srcp_rules.specs.Weight.{weight}
 use Rattle.srcp_rules.specs.declared.layout.Bus.{Bus}
+use Rattle.srcp_text.specs.Marks.{Mark, Line, TooLong}
 use Rattle.srcp_core.specs.Connection.{Connection, History, waiting, is_open, overran}
-use Rattle.srcp_core.specs.Course.{World, course, history, numbered, state}
-use Rattle.srcp_core.specs.Under.{Event}
+use Rattle.srcp_core.specs.Course.{World, course, happens, history, new_marks, numbered, open_connection, state, stepped}
+use Rattle.srcp_core.specs.Under.{Event, Bytes, Step, Obeyed, Began, Moment, Ended}
 
 -- the lesser number, or the only one
 abbrev pub lesser : Option ℕ → Option ℕ → Option ℕ
@@ -16,7 +23,7 @@ abbrev pub least : List (Option ℕ) → Option ℕ
 least [] = None
 least (one ∷ others) = lesser one (least others)
 
--- how many more changes may come before an information session overruns; 256 after it did, since it can not overrun again
+-- how many more changes may come before an information session overruns; 256 after it did, since it can not do so again
 abbrev pub slack_of : History → Connection → Option ℕ
 slack_of history conn =
     if is_open conn && conn.info
@@ -28,6 +35,23 @@ abbrev pub option_or_256 : Option ℕ → ℕ
 option_or_256 None = 256
 option_or_256 (Some n) = n
 
+-- how many changes a line can bring; one that is too long brings none
+abbrev pub weight_of_mark : Mark → ℕ
+weight_of_mark TooLong = 0
+weight_of_mark (Line text) = weight text
+
+-- how many changes the step brings if it is a moment or the end of a session
+abbrev pub due_or_freed : State → Step → ℕ
+due_or_freed state (Obeyed session moment order) = 0
+due_or_freed state (Began session moment mode) = 0
+due_or_freed state (Moment moment) = length (due state moment)
+due_or_freed state (Ended session moment) = length (freed state session moment)
+
+-- and how many those of these steps bring, from a registry on
+abbrev pub due_and_freed : State → List Step → ℕ
+due_and_freed state [] = 0
+due_and_freed state (step ∷ steps) = due_or_freed state step + due_and_freed (stepped state step) steps
+
 module _ (buses : List Bus) where
   -- how many may come before one of them overruns: the least over all of these sessions
   abbrev pub slack : World → Option ℕ
@@ -37,7 +61,7 @@ module _ (buses : List Bus) where
   abbrev pub due_next : World → Option ℕ
   due_next w = least (map (λ row. row.due) (state buses w))
 
-  -- how many changes the steps after the first so many brought
+  -- how many changes the steps brought, but for that number of first ones
   abbrev pub changes_since : (steps : ℕ) → World → ℕ
   changes_since steps w = length (flat_map (λ changes. changes) (drop steps (history buses w)))
 
@@ -65,12 +89,46 @@ module _ (buses : List Bus) where
       → numbered number (course buses (events ++ more)).connections ≡ Some later → later.info ≡ true
       → length (waiting later (history buses (course buses (events ++ more)))) ≤ length (waiting conn (history buses (course buses events))) + brought events more
 
-  -- how many changes may come: the least over all panels, and 256 where there is none, since one may begin
+  -- how many changes may come: the least over all panels, and 256 if there is none, since one may begin
   abbrev pub room : World → ℕ
   room w = option_or_256 (slack w)
 
-  -- where the later events bring no more than that, only those overran afterwards that overran before
+  -- only those sessions overran after the later events that overran before them
+  abbrev pub NoneOverruns : (events more : List Event) → Type 0
+  NoneOverruns events more = (number : ℕ) (later : Connection) → IsOverrun (course buses (events ++ more)) number later
+      → (conn : Connection) × IsOverrun (course buses events) number conn
+
+  -- so it is if the later events bring no more changes than that
   abbrev pub FewChangesCloseNone : Type 0
   FewChangesCloseNone = (events more : List Event) → brought events more ≤ room (course buses events)
-      → (number : ℕ) (later : Connection) → IsOverrun (course buses (events ++ more)) number later
-      → (conn : Connection) × IsOverrun (course buses events) number conn
+      → NoneOverruns events more
+
+  -- ---- what of these changes lines bring, and what moments and ends of sessions bring
+
+  -- the lines that the event completes on its connection
+  abbrev pub completed : World → Event → List Mark
+  completed w (Bytes n piece) = option_map_or (λ conn. new_marks buses conn.fed piece.bytes) (open_connection w n) []
+  completed w other = []
+
+  -- how much the lines weigh that the events complete in turn
+  abbrev pub weighs : World → List Event → ℕ
+  weighs w [] = 0
+  weighs w (event ∷ events) = sum_by weight_of_mark (completed w event) + weighs (happens buses w event) events
+
+  -- how many changes moments and ends brought between the worlds
+  abbrev pub brought_besides : (earlier later : World) → ℕ
+  brought_besides earlier later = due_and_freed (state buses earlier) (drop (length earlier.steps) later.steps)
+
+  -- how many changes the later events may have brought, by what their lines weigh
+  abbrev pub may_bring : (events more : List Event) → ℕ
+  may_bring events more =
+      weighs (course buses events) more + brought_besides (course buses events) (course buses (events ++ more))
+
+  -- they brought no more than that
+  abbrev pub LinesBringTheirWeight : Type 0
+  LinesBringTheirWeight = IsLayout buses → (events more : List Event) → brought events more ≤ may_bring events more
+
+  -- if that is within the room, only those sessions overran afterwards that overran before
+  abbrev pub LightLinesCloseNone : Type 0
+  LightLinesCloseNone = IsLayout buses → (events more : List Event) → may_bring events more ≤ room (course buses events)
+      → NoneOverruns events more

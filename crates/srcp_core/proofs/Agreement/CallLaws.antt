@@ -12,6 +12,7 @@ use Rattle.srcp_core.proofs.Agreement.MemoryAnswers.{counts}
 use Rattle.srcp_core.proofs.Agreement.CallsFollowTheCourse.{first_stands, at_leads, open_leads, not_open_leads, out_leads, shut_leads}
 use Rattle.srcp_core.proofs.Agreement.CallsFollowTheCourse.{sent_leads, sent_none, lent_leads}
 use Rattle.srcp_core.proofs.Agreement.NothingIsLent.{none_agrees}
+use Rattle.srcp_core.proofs.Agreement.OneLineIsLent.{line_agrees}
 use Rattle.srcp_core.proofs.Agreement.PiecesFollowTheCourse.{accepted_leads, refused_leads, received_denied}
 use Rattle.srcp_core.proofs.Agreement.RunsAnEvent.{shut_count}
 
@@ -42,6 +43,7 @@ calls_agree = record {
   closes = closes_agrees;
   lends = lends_agrees;
   lends_none = none_agrees;
+  lends_line = line_agrees;
   shuts = shuts_agrees;
   slack = slack_agrees;
   due = due_agrees;

@@ -100,7 +100,7 @@ module _ (buses : List Bus) (layout : IsLayout buses) (events : List Event) (n :
   abbrev w : World
   w = course buses events
 
-  abbrev room : Connection → Connection
+  abbrev pub room : Connection → Connection
   room = given_room 0 (history buses w) (rows buses w)
 
   stays_open : is_open (room conn) ≡ true
@@ -110,16 +110,22 @@ module _ (buses : List Bus) (layout : IsLayout buses) (events : List Event) (n :
       by true = refl
       by false = refl
 
-  opened : open_connection w n ≡ Some conn
+  pub opened : open_connection w n ≡ Some conn
   opened = ap if_open there ∙ ap (λ t. if t then Some conn else None) up
 
-  lent_is : lent buses (course buses (events ++ Room n 0 ∷ [])) n ≡ lent_of buses w (room conn)
+  -- after a room for no bytes
+  next_is : course buses (events ++ Room n 0 ∷ []) ≡ accepted buses (Room n 0) (counted w)
+  next_is =
+      fold-append (happens buses) start events (Room n 0 ∷ [])
+      ∙ ap (λ o. or_refused buses (absent_fault buses o) (Room n 0) (counted w)) opened
+
+  pub found : numbered n (course buses (events ++ Room n 0 ∷ [])).connections ≡ Some (room conn)
+  found = ap (λ (v : World). numbered n v.connections) next_is ∙ numbered_with n room w.connections ∙ ap (option_map room) there
+
+  pub lent_is : lent buses (course buses (events ++ Room n 0 ∷ [])) n ≡ lent_of buses w (room conn)
   lent_is =
-      let next : course buses (events ++ Room n 0 ∷ []) ≡ happens buses w (Room n 0) = fold-append (happens buses) start events (Room n 0 ∷ []) in
-      let world : happens buses w (Room n 0) ≡ accepted buses (Room n 0) (counted w) = ap (λ o. or_refused buses (absent_fault buses o) (Room n 0) (counted w)) opened in
-      let found : numbered n (accepted buses (Room n 0) (counted w)).connections ≡ Some (room conn) = numbered_with n room w.connections ∙ ap (option_map room) there in
-      ap (λ (v : World). lent buses v n) (next ∙ world)
-      ∙ ap (λ o. option_map_or (lent_of buses w) (if_open o) []) found
+      ap (λ (v : World). lent buses v n) next_is
+      ∙ ap (λ o. option_map_or (lent_of buses w) (if_open o) []) (numbered_with n room w.connections ∙ ap (option_map room) there)
       ∙ ap (λ t. option_map_or (lent_of buses w) (if t then Some (room conn) else None) []) stays_open
 
   nothing : is_nil (lent_of buses w (room conn)) ≡ lends_none_of buses w conn

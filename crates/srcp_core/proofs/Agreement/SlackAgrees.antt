@@ -1,24 +1,21 @@
 -- How many more changes may come upon the information sessions, and when something falls due next: what is held says what
 -- the course says.
-use Rattle.std.proofs.Common.{◌≡◌, ℕ, zero, suc, ◌+◌, ◌-◌, ◌<◌, ◌≤◌, min, Bool, true, false, not, List, [], ◌∷◌, map, length, refl, ap, sym, ◌∙◌, subst, arith}
+use Rattle.std.proofs.Common.{◌≡◌, ℕ, zero, suc, ◌-◌, ◌<◌, ◌≤◌, min, Bool, true, false, List, [], ◌∷◌, map, length, refl, ap, sym, ◌∙◌, subst, arith}
 use Rattle.std.proofs.lemmas.Bool.Decides.{nat_tests}
 use Rattle.std.specs.List.{AllByRecursion}
-use Rattle.std.specs.Prelude.{◌&&◌, Option, Some, None, Any, IfSome, nat_lt, slice_get, slice_index_or, if◌then◌else◌, is_none}
+use Rattle.std.specs.Prelude.{◌&&◌, Option, Some, None, IfSome, nat_lt, slice_index_or, if◌then◌else◌}
 use Rattle.srcp_info.specs.declared.change.Change.{Change}
 use Rattle.srcp_info.specs.declared.change.Cursor.{Cursor}
 use Rattle.srcp_info.specs.declared.change.Row.{Row}
 use Rattle.srcp_index.specs.Earliest.{IsEarliestDue}
-use Rattle.srcp_rules.specs.declared.layout.Bus.{Bus}
-use Rattle.srcp_rules.specs.Layout.{IsLayout}
 use Rattle.srcp_rules.specs.State.{State}
-use Rattle.srcp_core.specs.Under.{Event}
 use Rattle.srcp_core.specs.Agrees.{OfCourse}
 use Rattle.srcp_core.specs.Connection.{Connection, History, cursor_at, is_open, overran, untold, waiting}
 use Rattle.srcp_core.specs.Course.{World, course, history, numbered}
 use Rattle.srcp_core.specs.Held.{Place, Held, place_at}
 use Rattle.srcp_core.specs.Machine.{slack_at, slack_in}
-use Rattle.srcp_core.specs.declared.connection.Panel.TheVariants.{Absent, Listening, Overran}
-use Rattle.srcp_core.specs.Stands.{StandsFor, panel_at, place_of}
+use Rattle.srcp_core.specs.declared.connection.Panel.TheVariants.{Listening, Overran}
+use Rattle.srcp_core.specs.Stands.{panel_at, place_of}
 use Rattle.srcp_core.specs.Waits.{least, lesser, slack_of, slack, due_next}
 use Rattle.srcp_text.specs.Reading.{Reading}
 use Rattle.srcp_core.proofs.Agreement.StandsAfterAChange.{found_at}

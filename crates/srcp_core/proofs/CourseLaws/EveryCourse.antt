@@ -9,6 +9,7 @@ use Rattle.srcp_core.specs.Laws.{AllMoments, HasMoment, IsHeldRightly, IsSentNoM
 use Rattle.srcp_core.specs.Under.{Event}
 use Rattle.srcp_core.proofs.CourseLaws.RoomsAddUp.{rooms_add_up, rooms_are_one, sends_all_replies, takes_within}
 use Rattle.srcp_core.proofs.CourseLaws.NothingAfterTheEnd.{sends_no_more}
+use Rattle.srcp_core.proofs.CourseLaws.OneLineIsUnsent.{leaves_one_line}
 use Rattle.srcp_core.proofs.CourseLaws.ListedInOrder.{lists_still, lists_rising, lists_held}
 use Rattle.srcp_core.proofs.CourseLaws.ListedExactlyOnce.{lists_each_once, lists_none_twice}
 use Rattle.srcp_core.proofs.CourseLaws.OverrunAt256.{meets_overruns}
@@ -52,6 +53,7 @@ module _ (buses : List Bus) (events : List Event) (number : ℕ) (conn : Connect
     all_replies = λ first bytes early whole began plain up few.
         sends_all_replies buses layout first number bytes early conn began plain up (there_by _ whole) few;
     within = takes_within buses layout events number conn there;
+    one_line = leaves_one_line buses events number conn there;
     settles = λ first bytes early whole session up still.
         settles_after_owed buses layout first number bytes early conn session up still (there_by _ whole);
     rooms = rooms_add_up buses layout events number conn there;

@@ -177,11 +177,17 @@ all_heard (Some n) history a = all_take n history a
     all_take (suc n) [] a = tt
     all_take (suc n) (changes ∷ history) a = (a.0, all_take n history a.1)
 
+-- each line that an information session was given tells a change that can be told
+pub given_told : (buses : List Bus) → IsLayout buses → (events : List Event) (number : ℕ) (conn : Connection)
+    → IsSession buses events number conn → AllMoments events → AllByRecursion IsWellFormed (tells conn.items)
+given_told buses layout events number conn s moments =
+    let told = told_law (shown_rows (opening buses 0)) (opening_told buses layout) in
+    (stands buses layout GivenTold told events number conn s).fits.1
+    (all_heard conn.shut (history buses (course buses events)) (keeps_whole buses layout events moments).changes)
+
 pub always_sends_lines : (buses : List Bus) → IsLayout buses → (events : List Event) (number : ℕ) (conn : Connection)
     → IsSession buses events number conn → AllMoments events → SendsLines buses conn
 always_sends_lines buses layout events number conn s moments =
-    let w = course buses events in
-    let law = (stands buses layout GivenTold (told_law (shown_rows (opening buses 0)) (opening_told buses layout)) events number conn s).fits.1 in
-    let f = lines_front (conn.taken - length conn.out) (tells conn.items) (law (all_heard conn.shut (history buses w) (keeps_whole buses layout events moments).changes)) in
+    let f = lines_front (conn.taken - length conn.out) (tells conn.items) (given_told buses layout events number conn s moments) in
     let bytes : told_bytes conn ≡ take (conn.taken - length conn.out) (flat_map line (tells conn.items)) = drop_taken conn.taken conn.out (text conn.items) ∙ ap (take (conn.taken - length conn.out)) (text_tells conn.items) in
     record { front = f.front; later = f.later; begun = f.begun; whole = f.whole; holds = subst (λ b. HoldsLines b f.front f.begun) (sym bytes) f.holds }

@@ -74,7 +74,7 @@ holds_passed buses layout events number conn s is_up =
 
 -- ---- settled
 
-nil_is : {X : Type 0} (xs : List X) → is_nil xs ≡ true → xs ≡ []
+pub nil_is : {X : Type 0} (xs : List X) → is_nil xs ≡ true → xs ≡ []
 nil_is [] e = refl
 nil_is (x ∷ xs) e = cc
 

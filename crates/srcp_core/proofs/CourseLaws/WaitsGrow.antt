@@ -1,14 +1,16 @@
 -- No more changes wait for an information session than waited before and were brought since.
-use Rattle.std.proofs.Common.{◌≡◌, ℕ, zero, suc, ◌+◌, ◌-◌, ◌<◌, ◌≤◌, Bool, true, false, List, [], ◌∷◌, ◌++◌, map, take, length, drop, refl, ap, sym, ◌∙◌, subst, arith, append-nil, length-append, length-drop, eqb-true}
+use Rattle.std.proofs.Common.{◌≡◌, ℕ, zero, suc, ◌+◌, ◌-◌, ◌<◌, ◌≤◌, Bool, true, false, List, [], ◌∷◌, ◌++◌, map, length, drop, refl, ap, sym, ◌∙◌, subst, arith, append-nil, length-append, length-drop}
 use Rattle.std.proofs.lemmas.List.{length_push, drop-append-le}
 use Rattle.std.proofs.lemmas.List.Concat.{flat_map-append}
 use Rattle.std.proofs.lemmas.List.Elements.{filter_map-append}
 use Rattle.std.proofs.lemmas.List.Sums.{fold-append}
-use Rattle.std.proofs.lemmas.Bool.{lt-leb, le-ltb, ltb-false, eqb-false}
-use Rattle.std.specs.List.{filter, filter_map, fold, flat_map, enumerate_from, AllByRecursion}
+use Rattle.std.proofs.lemmas.Bool.{lt-leb, le-ltb, ltb-false}
+use Rattle.std.specs.List.{filter, fold, flat_map, AllByRecursion}
 use Rattle.std.specs.Option.{option_or}
-use Rattle.std.specs.Prelude.{nat_le, nat_lt, ◌==◌, ◌&&◌, Option, Some, None, not, option_map, if◌then◌else◌, is_none, slice_index_or}
+use Rattle.std.specs.Prelude.{nat_le, nat_lt, ◌&&◌, Option, Some, None, if◌then◌else◌, is_none}
 use Rattle.srcp_info.specs.declared.change.Change.{Change}
+use Rattle.srcp_info.specs.Line.{reply_line}
+use Rattle.srcp_info.specs.declared.change.Reply.{Reply}
 use Rattle.srcp_rules.specs.declared.layout.Bus.{Bus}
 use Rattle.srcp_rules.specs.State.{opening}
 use Rattle.srcp_feed.specs.Cursor.{concerns}
@@ -16,19 +18,18 @@ use Rattle.srcp_info.specs.declared.change.Cursor.TheVariants.{Done}
 use Rattle.srcp_feed.specs.declared.next.Next.{Next}
 use Rattle.srcp_core.specs.Under.{Event, Step}
 use Rattle.srcp_core.specs.Connection.{Connection, History, heard, fitting, exhausts, items_of, is_done_by, is_open, given_room, overran, owed, took, told_change, unsent, waiting}
-use Rattle.srcp_core.specs.Course.{World, fresh, start, numbered, at_connection, with_numbered, did, state_after, updates_of, history_from, entered, history, rows, happens, course, is_info}
-use Rattle.srcp_core.specs.Waits.{brought, changes_since, IsPanel, IsOverrun, WaitsGrowByChanges, FewChangesCloseNone, room, slack, slack_of, least, option_or_256}
+use Rattle.srcp_core.specs.Course.{World, fresh, start, numbered, at_connection, did, state_after, updates_of, history_from, history, rows, happens, course, is_info}
+use Rattle.srcp_core.specs.Course.{entered, is_info, replied}
+use Rattle.srcp_core.specs.Waits.{brought, changes_since, IsOverrun, WaitsGrowByChanges, FewChangesCloseNone, room, slack_of, least, option_or_256}
 use Rattle.srcp_core.specs.declared.record.Item.{Item}
-use Rattle.srcp_core.proofs.CourseLaws.Histories.{part, concerning_by, concerning_push, concerning_none, concerning_same, cursor_by, cursor_before, last_of}
+use Rattle.srcp_core.proofs.CourseLaws.Histories.{concerning_by, concerning_push, concerning_none, concerning_same, cursor_by, cursor_before, last_of}
 use Rattle.srcp_core.proofs.CourseLaws.ClientHoldsPassedRows.{untold_by, tolds}
 use Rattle.srcp_core.proofs.CourseLaws.ShownRegistry.{history_push, length_history}
 use Rattle.srcp_core.proofs.Agreement.SlackAgrees.{AtMost, IsIn, least_least, least_in, slack_by, slack_conns}
 use Rattle.srcp_core.proofs.CourseLaws.SessionsOfACourse.{open_shut}
-use Rattle.srcp_core.proofs.CourseLaws.NothingAfterTheEnd.{numbered_other}
-use Rattle.srcp_core.proofs.Agreement.NumbersAndKeys.{numbered_with}
 use Rattle.std.proofs.Math.Nat.{le_refl}
 use Rattle.srcp_core.proofs.CourseLaws.OverrunAt256.{overran_open}
-use Rattle.srcp_core.proofs.CourseLaws.EventsKeep.{IsKept, IsSameSession, kept_all}
+use Rattle.srcp_core.proofs.CourseLaws.EventsKeep.{IsKept, IsSameSession, kept_all, numbered_after, numbered_more}
 
 filter_few : (p : Change → Bool) (changes : List Change) → length (filter p changes) ≤ length changes
 filter_few p [] = omega arith
@@ -153,29 +154,6 @@ since_push steps history changes h =
     ∙ ap length (flat_map-append (λ (changes : List Change). changes) (drop steps history) (changes ∷ []) ∙ ap (λ cs. flat_map (λ (changes : List Change). changes) (drop steps history) ++ cs) (append-nil changes))
     ∙ length-append (flat_map (λ (changes : List Change). changes) (drop steps history)) changes
 
--- the connection of a number after a change of one
-numbered_at : (P : Connection → Type 0) (n k : ℕ) (change : Connection → Connection) (conns : List Connection) (conn : Connection) → numbered k (with_numbered n change conns) ≡ Some conn
-    → ((other : Connection) → numbered k conns ≡ Some other → P other) → ((other : Connection) → P other → P (change other)) → P conn
-numbered_at P n k change conns conn e f g = by (n == k) refl
-  where
-    changed : (o : Option Connection) → numbered k conns ≡ o → option_map change o ≡ Some conn → P conn
-    changed None t is = cc
-    changed (Some other) t is = let same : change other ≡ conn = cc in subst P same (g other (f other t))
-
-    by : (t : Bool) → (n == k) ≡ t → P conn
-    by true t =
-        let same : n ≡ k = eqb-true n k t in
-        changed (numbered k conns) refl (sym (numbered_with k change conns) ∙ ap (λ m. numbered k (with_numbered m change conns)) (sym same) ∙ e)
-    by false t = f conn (sym (numbered_other k n change conns (eqb-false n k t)) ∙ e)
-
--- after one more
-numbered_more : (P : Connection → Type 0) (k : ℕ) (conns : List Connection) (x conn : Connection) → numbered k (conns ++ x ∷ []) ≡ Some conn → ((other : Connection) → numbered k conns ≡ Some other → P other) → P x → P conn
-numbered_more P zero conns x conn e f p = cc
-numbered_more P (suc zero) [] x conn e f p = let same : x ≡ conn = cc in subst P same p
-numbered_more P (suc (suc k)) [] x conn e f p = cc
-numbered_more P (suc zero) (c ∷ conns) x conn e f p = f conn e
-numbered_more P (suc (suc k)) (c ∷ conns) x conn e f p = numbered_more P (suc k) conns x conn e f p
-
 module _ (buses : List Bus) (Of : ℕ → Type 0) (steps most : ℕ) where
   -- of each of these sessions, after so many steps
   abbrev WaitsBy : History → List Connection → Type 0
@@ -201,7 +179,7 @@ module _ (buses : List Bus) (Of : ℕ → Type 0) (steps most : ℕ) where
   waits_at : (n : ℕ) (change : Connection → Connection) (w : World)
       → ((conn : Connection) → Within (most + since steps (history buses w)) (history buses w) conn → Within (most + since steps (history buses w)) (history buses w) (change conn))
       → Waits w → Waits (at_connection n change w)
-  waits_at n change w f a = (a.0, λ number conn of e. numbered_at (Within (most + since steps (history buses w)) (history buses w)) n number change w.connections conn e (λ other there. a.1 number other of there) f)
+  waits_at n change w f a = (a.0, λ number conn of e. numbered_after (Within (most + since steps (history buses w)) (history buses w)) n number change w.connections conn e (λ other there. a.1 number other of there) (λ other here s. f other s))
 
   waits_kept : IsKept buses Waits
   waits_kept = record {
@@ -209,12 +187,27 @@ module _ (buses : List Bus) (Of : ℕ → Type 0) (steps most : ℕ) where
     other = λ w v s c a. subst (λ (xs : List Step). WaitsBy (history_from (opening buses 0) xs) v.connections) (sym s)
         (subst (λ (cs : List Connection). WaitsBy (history_from (opening buses 0) w.steps) cs) (sym c) a);
     opens = λ w a. (a.0, λ number conn of e. numbered_more (Within (most + since steps (history buses w)) (history buses w)) number w.connections fresh conn e (λ other there. a.1 number other of there) (fresh_within (most + since steps (history buses w)) (history buses w)));
-    bytes = λ n change w f a. waits_at n change w (λ conn s. within_same (most + since steps (history buses w)) (history buses w) conn (change conn) (f conn) s) a;
-    enters = λ n id w a. waits_at n _ w (λ conn s. within_entered (most + since steps (history buses w)) (history buses w) (length w.steps) (record conn { session = id; info = is_info conn.mode; go_step = length w.steps }) (sym (length_history (opening buses 0) w.steps)) refl) a;
+    same = λ n change w f a. waits_at n change w
+        (λ conn s. within_same (most + since steps (history buses w)) (history buses w) conn (change conn) (f conn).session s) a;
+    answers = λ n reply w plain a. answers n reply w a;
+    enters = λ n id reply w plain a. answers n reply (entered buses n id w) (waits_at n _ w (λ conn s. begins w id conn) a);
     shuts = λ n w a. waits_at n _ w (λ conn s. record { began = s.began; few = λ info shut. cc }) a;
     room = λ n bytes w a. waits_at n _ w (λ conn s. within_room buses (most + since steps (history buses w)) w bytes conn s) a;
   }
     where
+      answers : (n : ℕ) (reply : Reply) (w : World) → Waits w → Waits (replied n reply w)
+      answers n reply w a = waits_at n _ w
+          (λ conn s. within_same (most + since steps (history buses w)) (history buses w) conn
+          (record conn { out = conn.out ++ reply_line w.moment reply })
+          (record { info = refl; go_step = refl; items = refl; done = refl; shut = refl }) s) a
+
+      begins : (w : World) (id : ℕ) (conn : Connection)
+          → Within (most + since steps (history buses w)) (history buses w)
+          (record conn { session = id; info = is_info conn.mode; go_step = length w.steps })
+      begins w id conn = within_entered (most + since steps (history buses w)) (history buses w) (length w.steps)
+          (record conn { session = id; info = is_info conn.mode; go_step = length w.steps })
+          (sym (length_history (opening buses 0) w.steps)) refl
+
       fresh_within : (most : ℕ) (h : History) → Within most h fresh
       fresh_within most h = record { began = omega arith; few = λ info shut. cc }
 

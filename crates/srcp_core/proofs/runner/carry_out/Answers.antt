@@ -1,4 +1,4 @@
-use Rattle.std.proofs.Common.{◌≤◌, length, ◌∙◌, refl, sym, ap, arith}
+use Rattle.std.proofs.Common.{◌≤◌, length, ◌∙◌, refl, ap, arith}
 use Rattle.std.proofs.lemmas.Option.{slice_get_read}
 use Rattle.srcp_core.specs.Recording.{nothing_recorded}
 use Rattle.srcp_core.specs.Under.{all_under}

@@ -1,10 +1,8 @@
-use Rattle.std.proofs.Common.{◌≡◌, sym, ◌∙◌, subst, true≢false, false, List, [], ◌∷◌, map, refl}
-use Rattle.std.specs.List.{list_any}
-use Rattle.std.specs.Prelude.{Option, Some, None}
-use Rattle.srcp_core.specs.Held.{Place, Held}
-use Rattle.srcp_core.specs.Machine.{has_panel, slack_at}
+use Rattle.std.proofs.Common.{◌≡◌, sym, ◌∙◌, subst, map}
+use Rattle.std.specs.Prelude.{None}
+use Rattle.srcp_core.specs.Held.{Held}
+use Rattle.srcp_core.specs.Machine.{slack_at}
 use Rattle.srcp_core.specs.Waits.{least}
-use Rattle.srcp_core.specs.declared.connection.Panel.TheVariants.{Absent, Listening, Overran}
 use Rattle.srcp_core.proofs.Invariants.PanelsStay.{no_slack}
 use Rattle.srcp_core.proofs.table.Core.slack.Goals as goal
 

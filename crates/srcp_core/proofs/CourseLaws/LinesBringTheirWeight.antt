@@ -1,0 +1,350 @@
+-- What later events bring is at most what their lines weigh, beside what moments and the ends of sessions bring.
+use Rattle.std.proofs.Common.{◌≡◌, ℕ, ◌+◌, ◌≤◌, Bool, true, false, List, [], ◌∷◌, ◌++◌, map, length, drop, refl, ap, sym, ◌∙◌}
+use Rattle.std.proofs.Common.{subst, arith, append-nil, append_assoc, length-append}
+use Rattle.std.proofs.Math.Seq.{drop-append_seam}
+use Rattle.std.proofs.lemmas.List.{length-map}
+use Rattle.std.specs.Option.{option_map_or}
+use Rattle.std.proofs.lemmas.List.Sums.{fold-append, sum_by-cons}
+use Rattle.std.specs.List.{fold, sum_by, flat_map}
+use Rattle.std.specs.Prelude.{nat_lt, codes, ◌==◌, ◌||◌, ◌&&◌, Option, Some, None, if◌then◌else◌, Result, Ok, Err, max}
+use Rattle.srcp_info.specs.declared.change.Change.{Change}
+use Rattle.srcp_info.specs.declared.change.Code.{Code}
+use Rattle.srcp_info.specs.declared.change.Code.TheVariants.{C400, C401, C410, C418, C500}
+use Rattle.srcp_info.specs.declared.change.Reply.TheVariants.{Go, Refused}
+use Rattle.srcp_info.specs.declared.value.Mode.{Mode}
+use Rattle.srcp_info.specs.declared.value.Mode.TheVariants.{Command as CommandMode, Info}
+use Rattle.srcp_rules.specs.declared.command.Command.{Command}
+use Rattle.srcp_rules.specs.declared.layout.Bus.{Bus}
+use Rattle.srcp_rules.specs.Effect.{Effect}
+use Rattle.srcp_rules.specs.Grammar.{reads}
+use Rattle.srcp_rules.specs.State.{State, Update, opening}
+use Rattle.srcp_text.specs.Marks.{Mark, Line, TooLong}
+use Rattle.srcp_core.specs.Connection.{Connection}
+use Rattle.srcp_core.specs.Course.{World, start, at_connection, open_connection, did, replied, counted, state, history}
+use Rattle.srcp_core.specs.Course.{history_from, state_after, stepped, updates_of, entered, goes, greeted, ended, obeyed, commanded}
+use Rattle.srcp_core.specs.Course.{command_of, ordered, answered_as, answered, order_of, fault, new_marks, fed_to, shut_as}
+use Rattle.srcp_core.specs.Course.{accepted, or_refused, happens, course}
+use Rattle.srcp_core.specs.Handshake.{Greeting, Speaks, Chooses, Goes, Refuses, greets as greets_of, greets_mode, greets_protocol, greets_words}
+use Rattle.srcp_core.specs.Handshake.{is_version}
+use Rattle.srcp_text.specs.Words.{words_of, is_keyword}
+use Rattle.srcp_rules.specs.Layout.{IsLayout}
+use Rattle.srcp_core.specs.Under.{Event, Open, Bytes, Room, At, Shut, Piece, Step, Obeyed, Began, Moment, Ended, Heard, Order, effect}
+use Rattle.srcp_core.specs.Under.{greets, greeting_under, lines_under}
+use Rattle.srcp_core.specs.Waits.{brought, brought_besides, completed, due_and_freed, may_bring, room, weighs, weight_of_mark}
+use Rattle.srcp_core.specs.Waits.{IsOverrun}
+use Rattle.srcp_rules.specs.Weight.{weight}
+use Rattle.srcp_rules.proofs.WeightLaws.{line_weighs, go_weighs_one}
+use Rattle.srcp_core.specs.declared.record.CoreFault.{CoreFault}
+use Rattle.srcp_core.proofs.Agreement.MemoryAnswers.{effect_law}
+use Rattle.srcp_core.proofs.CourseLaws.ShownRegistry.{length_history}
+use Rattle.srcp_core.proofs.CourseLaws.WaitsGrow.{few_close_none}
+
+-- how many changes the steps bring, from a registry on
+abbrev changes : State → List Step → ℕ
+changes s [] = 0
+changes s (step ∷ steps) = length (updates_of s step) + changes (stepped s step) steps
+
+changes-append : (s : State) (xs ys : List Step) → changes s (xs ++ ys) ≡ changes s xs + changes (state_after s xs) ys
+changes-append s [] ys = let e : 0 + changes s ys ≡ changes s ys = omega arith in sym e
+changes-append s (x ∷ xs) ys = let ih = changes-append (stepped s x) xs ys in omega arith
+
+due_and_freed-append : (s : State) (xs ys : List Step)
+    → due_and_freed s (xs ++ ys) ≡ due_and_freed s xs + due_and_freed (state_after s xs) ys
+due_and_freed-append s [] ys = let e : 0 + due_and_freed s ys ≡ due_and_freed s ys = omega arith in sym e
+due_and_freed-append s (x ∷ xs) ys = let ih = due_and_freed-append (stepped s x) xs ys in omega arith
+
+-- they are those of the history
+in_history : (s : State) (steps : List Step)
+    → length (flat_map (λ (changes : List Change). changes) (history_from s steps)) ≡ changes s steps
+in_history s [] = refl
+in_history s (step ∷ steps) =
+    let ih = in_history (stepped s step) steps in
+    let both = length-append (map (λ update. update.change) (updates_of s step))
+    (flat_map (λ (changes : List Change). changes) (history_from (stepped s step) steps)) in
+    let these = length-map (updates_of s step) (λ (update : Update). update.change) in
+    omega arith
+
+history-append : (s : State) (xs ys : List Step) → history_from s (xs ++ ys) ≡ history_from s xs ++ history_from (state_after s xs) ys
+history-append s [] ys = refl
+history-append s (x ∷ xs) ys = ap (λ h. map (λ update. update.change) (updates_of s x) ∷ h) (history-append (stepped s x) xs ys)
+
+-- ---- GO
+
+-- what a line before the session brings
+abbrev brings : Greeting → ℕ
+brings Speaks = 0
+brings (Chooses mode) = 0
+brings Goes = 1
+brings (Refuses code) = 0
+
+protocol_brings : (words : List (List ℕ)) → brings (greets_protocol words) ≡ 0
+protocol_brings [] = refl
+protocol_brings (name ∷ []) = refl
+protocol_brings (name ∷ version ∷ []) =
+    elim (is_keyword (codes "SRCP") name && is_version version) as (λ t. brings (if t then Speaks else Refuses C400) ≡ 0) [
+      | true ↦ refl
+      | false ↦ refl
+    ]
+protocol_brings (name ∷ version ∷ more ∷ words) = refl
+
+mode_brings : (words : List (List ℕ)) → brings (greets_mode words) ≡ 0
+mode_brings [] = refl
+mode_brings (name ∷ []) = refl
+mode_brings (name ∷ mode ∷ []) = by (is_keyword (codes "SRCP") name) (is_keyword (codes "COMMAND") mode) (is_keyword (codes "INFO") mode)
+  where
+    by : (s c i : Bool)
+        → brings (if s then (if c then Chooses CommandMode else (if i then Chooses Info else Refuses C401)) else Refuses C401) ≡ 0
+    by true true i = refl
+    by true false true = refl
+    by true false false = refl
+    by false c i = refl
+mode_brings (name ∷ mode ∷ more ∷ words) = refl
+
+-- ---- worlds
+
+module _ (buses : List Bus) where
+  -- a world that comes of another by more steps, whose changes are at most so many beside those that no line weighs for
+  record ComesOf (most : ℕ) (w later : World) : Type 0 where
+    steps : List Step
+    longer : later.steps ≡ w.steps ++ steps
+    few : changes (state buses w) steps ≤ most + due_and_freed (state buses w) steps
+
+  same : (w later : World) → later.steps ≡ w.steps → ComesOf 0 w later
+  same w later e = record { steps = []; longer = e ∙ sym (append-nil w.steps); few = omega arith }
+
+  more : (a b : ℕ) (w v later : World) → ComesOf a w v → ComesOf b v later → ComesOf (a + b) w later
+  more a b w v later f g = record {
+    steps = f.steps ++ g.steps;
+    longer = g.longer ∙ ap (λ xs. xs ++ g.steps) f.longer ∙ append_assoc w.steps f.steps g.steps;
+    few =
+        let few = f.few in
+        let further = g_few in
+        let all = changes-append (state buses w) f.steps g.steps in
+        let besides = due_and_freed-append (state buses w) f.steps g.steps in
+        omega arith;
+  }
+    where
+      after : state buses v ≡ state_after (state buses w) f.steps
+      after = ap (λ xs. state_after (opening buses 0) xs) f.longer ∙ fold-append stepped (opening buses 0) w.steps f.steps
+
+      g_few : changes (state_after (state buses w) f.steps) g.steps ≤ b + due_and_freed (state_after (state buses w) f.steps) g.steps
+      g_few = subst (λ s. changes s g.steps ≤ b + due_and_freed s g.steps) after g.few
+
+  within : (a b : ℕ) (w later : World) → a ≤ b → ComesOf a w later → ComesOf b w later
+  within a b w later h f = record { steps = f.steps; longer = f.longer; few = let few = f.few in omega arith }
+
+  -- where nothing happens to the registry, it is within any number
+  idle : (most : ℕ) (w later : World) → later.steps ≡ w.steps → ComesOf most w later
+  idle most w later e = within 0 most w later (omega arith) (same w later e)
+
+  -- ---- lines
+
+  comes_goes : (n : ℕ) (mode : Mode) (w : World) → ComesOf 1 w (goes buses n mode w)
+  comes_goes n mode w =
+      elim (nat_lt w.last_id 4294967295) as (λ t. ComesOf 1 w (if t then replied n (Go id) begun else replied n (Refused C500) w)) [
+        | true ↦ record { steps = Began id w.moment mode ∷ []; longer = refl; few = omega arith }
+        | false ↦ record { steps = []; longer = sym (append-nil w.steps); few = omega arith }
+      ]
+    where
+      id : ℕ
+      id = w.last_id + 1
+
+      begun : World
+      begun = entered buses n id (did (Began id w.moment mode) (record w { last_id = id }))
+
+  comes_greeted : (n : ℕ) (mode : Mode) (greeting : Greeting) (w : World) → ComesOf (brings greeting) w (greeted buses n mode greeting w)
+  comes_greeted n mode Speaks w = same w (greeted buses n mode Speaks w) refl
+  comes_greeted n mode (Chooses chosen) w = same w (greeted buses n mode (Chooses chosen) w) refl
+  comes_greeted n mode Goes w = comes_goes n mode w
+  comes_greeted n mode (Refuses code) w = same w (greeted buses n mode (Refuses code) w) refl
+
+  comes_obeyed : (n session : ℕ) (order : Order) (result : Effect) (w : World)
+      → ComesOf (length (effect (state buses w) session w.moment order).updates) w (obeyed buses n session order result w)
+  comes_obeyed n session order result w =
+      elim result.ends as (λ t. ComesOf (length (updates_of (state buses w) step)) w (if t then ended buses n session answer else answer)) [
+        | true ↦ record { steps = step ∷ last ∷ []; longer = append_assoc w.steps (step ∷ []) (last ∷ []); few = omega arith }
+        | false ↦ record { steps = step ∷ []; longer = refl; few = omega arith }
+      ]
+    where
+      step : Step
+      step = Obeyed session w.moment order
+
+      last : Step
+      last = Ended session w.moment
+
+      answer : World
+      answer = replied n result.reply (did step w)
+
+  module _ (layout : IsLayout buses) where
+    comes_commanded : (n session : ℕ) (granted : Bool) (mark : Mark) (w : World)
+        → ComesOf (weight_of_mark mark) w (commanded buses n session (ordered buses granted (command_of buses mark)) w)
+    comes_commanded n session granted TooLong w = same w (replied n (Refused C418) w) refl
+    comes_commanded n session granted (Line text) w = by (reads buses text) refl
+      where
+        by : (r : Result Command Code) → reads buses text ≡ r
+            → ComesOf (weight text) w (commanded buses n session (ordered buses granted r) w)
+        by (Err code) e = idle (weight text) w (replied n (Refused code) w) refl
+        by (Ok command) e =
+            let order : Order = record { command = command; granted = granted } in
+            let result : Effect = effect (state buses w) session w.moment order in
+            within (length result.updates) (weight text) w (obeyed buses n session order result w)
+            (effect_law (λ e. length e.updates ≤ weight text) (state buses w) session w.moment order
+            (line_weighs buses (state buses w) session w.moment text command layout e) (omega arith))
+            (comes_obeyed n session order result w)
+
+    words_bring : (text : List ℕ) (words : List (List ℕ)) → words_of text ≡ words → brings (greets_words words) ≤ weight text
+    words_bring text [] e = omega arith
+    words_bring text (word ∷ []) e = by (is_keyword (codes "GO") word) refl
+      where
+        by : (t : Bool) → is_keyword (codes "GO") word ≡ t → brings (if t then Goes else Refuses C410) ≤ weight text
+        by true t = let one = go_weighs_one text word [] e t in omega arith
+        by false t = omega arith
+    words_bring text (word ∷ what ∷ words) e =
+        by (is_keyword (codes "SET") word) (is_keyword (codes "PROTOCOL") what) (is_keyword (codes "CONNECTIONMODE") what)
+      where
+        by : (s p m : Bool)
+            → brings (if s then (if p then greets_protocol words else (if m then greets_mode words else Refuses C410)) else Refuses C410)
+            ≤ weight text
+        by true true m = let none = protocol_brings words in omega arith
+        by true false true = let none = mode_brings words in omega arith
+        by true false false = omega arith
+        by false p m = omega arith
+
+    brings_enough : (granted : Bool) (mark : Mark) → brings (greeting_under granted (greets_of mark)) ≤ weight_of_mark mark
+    brings_enough granted mark = by granted (greets_of mark) (heard mark)
+      where
+        heard : (mark : Mark) → brings (greets_of mark) ≤ weight_of_mark mark
+        heard TooLong = omega arith
+        heard (Line text) = words_bring text (words_of text) refl
+
+        by : (granted : Bool) (greeting : Greeting) → brings greeting ≤ weight_of_mark mark
+            → brings (greeting_under granted greeting) ≤ weight_of_mark mark
+        by true greeting h = h
+        by false Goes h = omega arith
+        by false Speaks h = h
+        by false (Chooses mode) h = h
+        by false (Refuses code) h = h
+
+    comes_answered : (n : ℕ) (conn : Option Connection) (line : Heard) (w : World)
+        → ComesOf (weight_of_mark line.mark) w (answered_as buses n conn line w)
+    comes_answered n None line w = idle (weight_of_mark line.mark) w w refl
+    comes_answered n (Some conn) line w =
+        elim (conn.info || conn.ended) as
+        (λ t. ComesOf (weight_of_mark line.mark) w (if t then w else (if conn.session == 0 then greets_it else obeys))) [
+          | true ↦ idle (weight_of_mark line.mark) w w refl
+          | false ↦ elim (conn.session == 0) as (λ t. ComesOf (weight_of_mark line.mark) w (if t then greets_it else obeys)) [
+            | true ↦ within (brings (greets line)) (weight_of_mark line.mark) w greets_it (brings_enough line.granted line.mark)
+                (comes_greeted n conn.mode (greets line) w)
+            | false ↦ comes_commanded n conn.session line.granted line.mark w
+          ]
+        ]
+      where
+        greets_it : World
+        greets_it = greeted buses n conn.mode (greets line) w
+
+        obeys : World
+        obeys = commanded buses n conn.session (order_of buses line) w
+
+    comes_line : (n : ℕ) (granted : Bool) (grants : List Bool) (mark : Mark) (marks : List Mark) (w : World)
+        → ((w : World) → ComesOf (sum_by weight_of_mark marks) w (fold (answered buses n) w (lines_under grants marks)))
+        → ComesOf (sum_by weight_of_mark (mark ∷ marks)) w
+        (fold (answered buses n) w (record { mark = mark; granted = granted } ∷ lines_under grants marks))
+    comes_line n granted grants mark marks w rest =
+        let line : Heard = record { mark = mark; granted = granted } in
+        let next : World = answered buses n w line in
+        let later : World = fold (answered buses n) next (lines_under grants marks) in
+        subst (λ k. ComesOf k w later) (sym (sum_by-cons weight_of_mark mark marks))
+        (more (weight_of_mark mark) (sum_by weight_of_mark marks) w next later (comes_answered n (open_connection w n) line w) (rest next))
+
+    comes_lines : (n : ℕ) (grants : List Bool) (marks : List Mark) (w : World)
+        → ComesOf (sum_by weight_of_mark marks) w (fold (answered buses n) w (lines_under grants marks))
+    comes_lines n grants [] w = same w w refl
+    comes_lines n [] (mark ∷ marks) w = comes_line n true [] mark marks w (comes_lines n [] marks)
+    comes_lines n (granted ∷ grants) (mark ∷ marks) w = comes_line n granted grants mark marks w (comes_lines n grants marks)
+
+    -- ---- events
+
+    comes_fed : (n : ℕ) (piece : Piece) (o : Option Connection) (w : World)
+        → ComesOf (sum_by weight_of_mark (option_map_or (λ conn. new_marks buses conn.fed piece.bytes) o [])) w (fed_to buses n piece o w)
+    comes_fed n piece None w = same w w refl
+    comes_fed n piece (Some conn) w =
+        let f = comes_lines n piece.grants (new_marks buses conn.fed piece.bytes) fed in
+        record { steps = f.steps; longer = f.longer; few = f.few }
+      where
+        fed : World
+        fed = at_connection n (λ c. record c { fed = c.fed ++ piece.bytes }) w
+
+    comes_shut : (n : ℕ) (o : Option Connection) (w : World) → ComesOf 0 w (shut_as buses n o w)
+    comes_shut n None w = same w w refl
+    comes_shut n (Some conn) w =
+        elim ((conn.session == 0) || conn.ended) as (λ t. ComesOf 0 w (if t then shut else did (Ended conn.session w.moment) shut)) [
+          | true ↦ same w shut refl
+          | false ↦ record { steps = Ended conn.session w.moment ∷ []; longer = refl; few = omega arith }
+        ]
+      where
+        shut : World
+        shut = at_connection n (λ c. record c { shut = Some (length w.steps) }) w
+
+    comes_accepted : (event : Event) (w : World) → ComesOf (sum_by weight_of_mark (completed buses w event)) w (accepted buses event w)
+    comes_accepted (Open granted) w = same w (accepted buses (Open granted) w) refl
+    comes_accepted (Bytes n piece) w = comes_fed n piece (open_connection w n) w
+    comes_accepted (Room n bytes) w = same w (accepted buses (Room n bytes) w) refl
+    comes_accepted (At moment) w = record { steps = Moment (max w.moment moment) ∷ []; longer = refl; few = omega arith }
+    comes_accepted (Shut n) w = comes_shut n (open_connection w n) w
+
+    comes_happens : (w : World) (event : Event) → ComesOf (sum_by weight_of_mark (completed buses w event)) w (happens buses w event)
+    comes_happens w event = by (fault buses (counted w) event)
+      where
+        by : (o : Option CoreFault) → ComesOf (sum_by weight_of_mark (completed buses w event)) w (or_refused buses o event (counted w))
+        by None = let c = comes_accepted event (counted w) in record { steps = c.steps; longer = c.longer; few = c.few }
+        by (Some cause) = idle (sum_by weight_of_mark (completed buses w event)) w (or_refused buses (Some cause) event (counted w)) refl
+
+    comes_all : (events : List Event) (w : World) → ComesOf (weighs buses w events) w (fold (happens buses) w events)
+    comes_all [] w = same w w refl
+    comes_all (event ∷ events) w =
+        let next : World = happens buses w event in
+        more (sum_by weight_of_mark (completed buses w event)) (weighs buses next events) w next (fold (happens buses) next events)
+        (comes_happens w event) (comes_all events next)
+
+    -- ---- of every course
+
+    pub lines_bring : (events more : List Event) → brought buses events more ≤ may_bring buses events more
+    lines_bring events more =
+        subst (λ n. n ≤ may_bring buses events more) (sym is)
+        (subst (λ n. changes (state buses w) c.steps ≤ weighs buses w more + n) (sym rest) c.few)
+      where
+        w : World
+        w = course buses events
+
+        later : World
+        later = course buses (events ++ more)
+
+        c : ComesOf (weighs buses w more) w (fold (happens buses) w more)
+        c = comes_all more w
+
+        longer : later.steps ≡ w.steps ++ c.steps
+        longer = ap (λ (v : World). v.steps) (fold-append (happens buses) start events more) ∙ c.longer
+
+        -- the later steps, and their history
+        new : drop (length w.steps) later.steps ≡ c.steps
+        new = ap (drop (length w.steps)) longer ∙ drop-append_seam w.steps c.steps
+
+        rest : brought_besides buses w later ≡ due_and_freed (state buses w) c.steps
+        rest = ap (due_and_freed (state buses w)) new
+
+        told : drop (length w.steps) (history buses later) ≡ history_from (state buses w) c.steps
+        told = ap (λ xs. drop (length w.steps) (history_from (opening buses 0) xs)) longer
+            ∙ ap (drop (length w.steps)) (history-append (opening buses 0) w.steps c.steps)
+            ∙ ap (λ n. drop n (history buses w ++ history_from (state buses w) c.steps)) (sym (length_history (opening buses 0) w.steps))
+            ∙ drop-append_seam (history buses w) (history_from (state buses w) c.steps)
+
+        is : brought buses events more ≡ changes (state buses w) c.steps
+        is = ap (λ h. length (flat_map (λ (changes : List Change). changes) h)) told ∙ in_history (state buses w) c.steps
+
+    pub light_lines : (events more : List Event) → may_bring buses events more ≤ room buses (course buses events)
+        → (number : ℕ) (later : Connection) → IsOverrun buses (course buses (events ++ more)) number later
+        → (conn : Connection) × IsOverrun buses (course buses events) number conn
+    light_lines events more few number later over =
+        let bring = lines_bring events more in
+        let low : brought buses events more ≤ room buses (course buses events) = omega arith in
+        few_close_none buses events more low number later over
