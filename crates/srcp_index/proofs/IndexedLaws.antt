@@ -174,8 +174,8 @@ module _ where
   no_pairs rank [] h = refl
   no_pairs rank (row ∷ state) h = rw h.0 (no_pairs rank state h.1)
 
-  no_goers : (state : State) → AllByRecursion (λ row. may_go row ≡ false) state → goers state ≤ 0
-  no_goers [] h = omega arith
+  no_goers : (state : State) → AllByRecursion (λ row. may_go row ≡ false) state → goers state ≡ 0
+  no_goers [] h = refl
   no_goers (row ∷ state) h =
       let a = sum_by-cons goer row state in
       let b = counted_none (may_go row) h.0 in
@@ -283,11 +283,11 @@ module _ (buses : List Bus) (state : State) (both : Indexes) (count : ℕ) (h : 
 
 -- ---- more room
 
-pub roomier : (state : State) (both other : Indexes) (count total : ℕ) → IsIndexed state both count → other.moments.pairs
+pub roomier : (state : State) (both other : Indexes) (count : ℕ) → IsIndexed state both count → other.moments.pairs
     ≡ both.moments.pairs → other.moments.since ≡ both.moments.since
-    → other.sessions.pairs ≡ both.sessions.pairs → other.sessions.since ≡ both.sessions.since → total ≤ other.moments.room
-    → total ≤ other.sessions.room → goers state ≤ total → IsIndexed state other total
-roomier state both other count total h pairs since held held_since room held_room goes =
+    → other.sessions.pairs ≡ both.sessions.pairs → other.sessions.since ≡ both.sessions.since → count ≤ other.moments.room
+    → count ≤ other.sessions.room → IsIndexed state other count
+roomier state both other count h pairs since held held_since room held_room =
     record {
       rising = h.rising;
       due = record { pairs = pairs ∙ h.due.pairs ∙ ap (λ m. ranked (before m) (pairs_of due_of state)) (sym since); room = room };
@@ -297,7 +297,7 @@ roomier state both other count total h pairs since held held_since room held_roo
         room = held_room;
       };
       since = held_since ∙ h.since;
-      counted = goes;
+      counted = h.counted;
       rows = h.rows;
     }
 
@@ -329,10 +329,6 @@ module _ where
   no_row None e = refl
   no_row (Some row) e = absurd (true≢false e)
 
-  at_most_one : (b : Bool) → cond {A = ℕ} b 1 0 ≤ 1
-  at_most_one true = omega arith
-  at_most_one false = omega arith
-
   abbrev pub IsFresh : State → Row → Type 0
   IsFresh state row = row_at row.shown.key state ≡ None
 
@@ -346,46 +342,54 @@ module _ where
     still_fresh row state rows above.1 fresh.1,
   )
 
+-- the index has room for more rows
+with_more : (rank : Row → Option ℕ) (state : State) (index : Held) (count more : ℕ) → more ≤ index.room
+    → HasPairs rank state index count → HasPairs rank state index more
+with_more rank state index count more room h = record { pairs = h.pairs; room = room }
+
 module _ (buses : List Bus) where
   one_added : (row : Row) (state : State) (both : Indexes) (count : ℕ) → IsFresh state row → IsRowOf buses row
-      → goers (put_row row state) ≤ count → IsIndexed state both count → IsIndexed (put_row row state) (with_row row both) count
-  one_added row state both count fresh of goes h =
+      → count + goer row ≤ both.moments.room → count + goer row ≤ both.sessions.room → IsIndexed state both count
+      → IsIndexed (put_row row state) (with_row row both) (count + goer row)
+  one_added row state both count fresh of due_room held_room h =
+      let more = count + goer row in
       let same = sym (but_at_none row.shown.key state fresh) in
       record {
         rising = rising_put row_key row state h.rising;
-        due = with_pairs due_of row state both.moments count (subst (λ rows. HasPairs due_of rows both.moments count) same h.due);
-        held = with_pairs holder_of row state both.sessions count (subst (λ rows. HasPairs holder_of rows both.sessions count) same h.held);
+        due = with_pairs due_of row state both.moments more
+            (subst (λ rows. HasPairs due_of rows both.moments more) same (with_more due_of state both.moments count more due_room h.due));
+        held = with_pairs holder_of row state both.sessions more
+            (subst (λ rows. HasPairs holder_of rows both.sessions more) same
+            (with_more holder_of state both.sessions count more held_room h.held));
         since = h.since;
-        counted = goes;
+        counted = (let a = sum-put_row goer row state in
+            let b = ap goers (but_at_none row.shown.key state fresh) in
+            let c = h.counted in
+            omega arith);
         rows = all_put row_key IsRankedRow row state (ranked_row buses row of) h.rows;
       }
 
-  goers_added : (row : Row) (state : State) → IsFresh state row → goers (put_row row state) ≤ 1 + goers state
-  goers_added row state fresh =
-      let a = sum-put_row goer row state in
-      let b = at_most_one (may_go row) in
-      let c = ap goers (but_at_none row.shown.key state fresh) in
-      omega arith
-
   all_added : (rows : List Row) (state : State) (both : Indexes) (count : ℕ) → IsRising rows → AllByRecursion (IsFresh state) rows
-      → AllByRecursion (IsRowOf buses) rows → goers state + length rows ≤ count → IsIndexed state both count
-      → IsIndexed (put_rows rows state) (with_rows rows both) count
-  all_added [] state both count rising fresh of room h = h
-  all_added (row ∷ rows) state both count rising fresh of room h =
-      let goes = goers_added row state fresh.0 in
-      let here = one_added row state both count fresh.0 of.0 (omega (arith, room)) h in
-      all_added rows (put_row row state) (with_row row both) count rising.1 (still_fresh row state rows rising.0 fresh.1) of.1
-      (omega (arith, room)) here
+      → AllByRecursion (IsRowOf buses) rows → count + goers rows ≤ both.moments.room → count + goers rows ≤ both.sessions.room
+      → IsIndexed state both count → IsIndexed (put_rows rows state) (with_rows rows both) (count + goers rows)
+  all_added [] state both count rising fresh of due_room held_room h = subst (IsIndexed state both) (omega arith) h
+  all_added (row ∷ rows) state both count rising fresh of due_room held_room h =
+      let sum = sum_by-cons goer row rows in
+      let here = one_added row state both count fresh.0 of.0 (omega (arith, sum, due_room)) (omega (arith, sum, held_room)) h in
+      let all = all_added rows (put_row row state) (with_row row both) (count + goer row) rising.1
+      (still_fresh row state rows rising.0 fresh.1) of.1 (omega (arith, sum, due_room)) (omega (arith, sum, held_room)) here in
+      let same : count + goer row + goers rows ≡ count + goers (row ∷ rows) = omega (arith, sum) in
+      subst (λ n. IsIndexed (put_rows rows (put_row row state)) (with_rows rows (with_row row both)) n) same all
 
   pub added_indexed : (state : State) (device : Device) (rows : List Row) → AreNewRowsOf buses state device rows
-      → (both : Indexes) (count : ℕ) → goers state + length rows ≤ count → IsIndexed state both count
-      → IsIndexed (put_rows rows state) (with_rows rows both) count
-  added_indexed state device rows fresh both count room h =
+      → (both : Indexes) (count : ℕ) → count + goers rows ≤ both.moments.room → count + goers rows ≤ both.sessions.room
+      → IsIndexed state both count → IsIndexed (put_rows rows state) (with_rows rows both) (count + goers rows)
+  added_indexed state device rows fresh both count due_room held_room h =
       let n = row_count buses device in
       all_added rows state both count (ports_rise device rows 0 n fresh.all.keys)
       (each-weaken {P = IsFrom device 0} (λ row from. ap (λ k. row_at k state) from.2 ∙ no_row (row_at (key_at device from.0) state)
       (fresh.free from.0)) rows (ports_from device rows 0 n fresh.all.keys))
-      fresh.all.each room h
+      fresh.all.each due_room held_room h
 
 -- ---- a device that is dropped
 

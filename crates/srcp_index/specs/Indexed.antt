@@ -102,11 +102,11 @@ pub record HasPairs (rank : Row → Option ℕ) (state : State) (index : Held) (
   pub pairs : index.pairs ≡ ranked (before index.since) (pairs_of rank state)
   pub room : count ≤ index.room
 
--- the keys rise, and both indexes have the pairs of the rows, and room for all that come and go
+-- the keys rise, both indexes have the pairs of the rows, and room for all that come and go, and these are counted
 pub record IsIndexed (state : State) (both : Indexes) (count : ℕ) : Type 0 where
   pub rising : IsRising state
   pub due : HasPairs due_of state both.moments count
   pub held : HasPairs holder_of state both.sessions count
   pub since : both.sessions.since ≡ 0
-  pub counted : goers state ≤ count
+  pub counted : goers state ≡ count
   pub rows : AllByRecursion IsRankedRow state

@@ -2,7 +2,8 @@
 ghost use Rattle.std.specs.Prelude.{◌≡◌, ◌+◌, ◌<◌, ◌≤◌, length};
 ghost use Rattle.std.specs.List.{AllByRecursion};
 ghost use Rattle.srcp_index.specs.Earliest.{IsEarliestDue};
-ghost use Rattle.srcp_index.specs.Indexed.{IsIndexed, port_count};
+ghost use Rattle.srcp_info.specs.WellFormed.{can_go};
+ghost use Rattle.srcp_index.specs.Indexed.{IsIndexed, goers, port_count};
 
 use crate::indexes::Indexes;
 use srcp_info::{Cursor, Device, Group, Key, Row};
@@ -15,7 +16,7 @@ use std::marker::Model;
 pub struct Indexed<R: Rows> {
     rows: R,
     indexes: Indexes,
-    /// How many rows the indexes have room for: all that come and go.
+    /// How many rows are of devices that come and go; the indexes have room for as many.
     count: usize,
 }
 
@@ -80,7 +81,7 @@ impl<R: Rows> Rows for Indexed<R> {
         self.indexes.reserve(total)?;
         self.rows.add(added)?;
         self.indexes.note_all(added);
-        self.count = total;
+        self.count += goers(added);
         Ok(())
     }
 
@@ -119,4 +120,20 @@ fn port_count(group: Group) -> u8
         Group::Gl => 2,
         _ => 1,
     }
+}
+
+/// Returns how many of the rows are of devices that come and go.
+fn goers(rows: &[Row]) -> usize
+    ensures { result ≡ goers rows.now }
+{
+    rows.iter()
+        .filter(|row| can_go(row.shown.key.group))
+        .count()
+}
+
+/// Whether the devices of the group come and go.
+fn can_go(group: Group) -> bool
+    ensures { result ≡ can_go group }
+{
+    !matches!(group, Group::Power | Group::Fb)
 }

@@ -1,6 +1,7 @@
-use Rattle.std.proofs.Common.{length, sym, ap, subst, arith}
+use Rattle.std.proofs.Common.{◌+◌, length, sym, ap, subst, arith}
 use Rattle.srcp_rules.specs.Rows.{AreNewRowsOf, put_rows}
-use Rattle.srcp_index.specs.Indexed.{IsIndexed}
+use Rattle.std.proofs.lemmas.List.Sums.{count_by-le-length}
+use Rattle.srcp_index.specs.Indexed.{IsIndexed, may_go, with_rows}
 use Rattle.srcp_index.proofs.IndexedLaws.{added_indexed, few_due, few_held, roomier}
 use Rattle.srcp_index.proofs.indexed.IndexedRows.add.Goals as goal
 
@@ -20,18 +21,31 @@ note_all-requires-clause-sessions g c =
     let room = c.in_ok-reserve.ensures.sessions_room in
     omega (arith, few, same, total, room)
 
+-- rows that come and go are no more than there are rows
+pub overflow_add-self : goal.overflow_add-self
+overflow_add-self g c =
+    let total = c.in-Some.ensures in
+    let some = count_by-le-length may_go c.args.added.now in
+    let goers = c.goers.ensures in
+    omega (arith, total, some, goers)
+
 pub invariant_of-self-2 : goal.invariant_of-self-2
 invariant_of-self-2 g c =
     let before = g.R.Rows.state c.self.inside.rows in
+    let count = c.self.inside.count in
     let kept = c.self.invariant in
-    let counted = kept.counted in
     let fresh = subst (λ rows. AreNewRowsOf (g.R.Rows.buses rows) (g.R.Rows.state rows) c.requires.0 c.args.added.now)
     (sym c.self.view_is) c.requires.1 in
     let total = c.in-Some.ensures in
-    let reserved = roomier before c.self.inside.indexes c.reserve.new.self c.self.inside.count c.in-Some.total kept
+    let some = count_by-le-length may_go c.args.added.now in
+    let due_room = c.in_ok-reserve.ensures.moments_room in
+    let held_room = c.in_ok-reserve.ensures.sessions_room in
+    let reserved = roomier before c.self.inside.indexes c.reserve.new.self count kept
     c.reserve.ensures.moments c.reserve.ensures.moments_since c.reserve.ensures.sessions c.reserve.ensures.sessions_since
-    c.in_ok-reserve.ensures.moments_room c.in_ok-reserve.ensures.sessions_room (omega (arith, counted, total)) in
-    subst (λ state. IsIndexed state c.note_all.new.self c.in-Some.total) (sym c.in_ok-add.ensures.ok)
-    (subst (λ both. IsIndexed (put_rows c.args.added.now before) both c.in-Some.total) (sym c.note_all.ensures)
-    (added_indexed (g.R.Rows.buses c.self.inside.rows) before c.requires.0 c.args.added.now fresh c.reserve.new.self c.in-Some.total
-    (omega (arith, counted, total)) reserved))
+    (omega (arith, total, due_room)) (omega (arith, total, held_room)) in
+    let all = added_indexed (g.R.Rows.buses c.self.inside.rows) before c.requires.0 c.args.added.now fresh c.reserve.new.self count
+    (omega (arith, total, some, due_room)) (omega (arith, total, some, held_room)) reserved in
+    subst (λ state. IsIndexed state c.note_all.new.self (count + c.goers.result)) (sym c.in_ok-add.ensures.ok)
+    (subst (λ both. IsIndexed (put_rows c.args.added.now before) both (count + c.goers.result)) (sym c.note_all.ensures)
+    (subst (λ n. IsIndexed (put_rows c.args.added.now before) (with_rows c.args.added.now c.reserve.new.self) (count + n))
+    (sym c.goers.ensures) all))
