@@ -8,39 +8,41 @@ use Rattle.srcp_script.specs.Output.{connection_lines}
 use Rattle.std.proofs.Math.Seq.{take-append-add}
 use Rattle.std.proofs.KnownBytes.{Appends-trans}
 use Rattle.std.specs.Io.KnownBytes.{Appends}
-use Rattle.srcp_tool.specs.Output.{AppendsFront, Writes, WritesText}
+use Rattle.srcp_tool.specs.Output.{AppendsPrefix, RefusesFor, Writes, WritesText}
 use Rattle.srcp_tool.specs.declared.fault.ToolFault.{ToolFault}
 use Rattle.srcp_tool.specs.declared.fault.ToolFault.TheVariants.{Config, Input, Line, Listen, Memory, Output, Script, TooLarge, Unreadable}
 
 -- what writing a text that is to be printed comes to
-pub writes_text : (Prints : List ℕ → Type 0) (Refuses : ToolFault → Type 0) (text : List ℕ) (result : Result Unit ToolFault)
-    → (old new : Option (List ℕ)) → Prints text → WritesText text result old new → Writes Prints Refuses result old new
-writes_text Prints Refuses text (Ok done) old new prints whole = (text, prints, whole)
-writes_text Prints Refuses text (Err fault) old new prints front = rw front.0 (text, prints, front.1)
+pub writes_text : (Prints : List ℕ → Type 0) (Stops : ToolFault → Type 0) (text : List ℕ) (result : Result Unit ToolFault)
+    → (old new : Option (List ℕ)) → Prints text → WritesText text result old new → Writes Prints Stops result old new
+writes_text Prints Stops text (Ok done) old new prints whole = (text, prints, whole)
+writes_text Prints Stops text (Err fault) old new prints front = rw front.0 (text, prints, front.1)
 
 -- a text that is to be printed is written, or memory is refused before
-pub writes_that : (Prints : List ℕ → Type 0) (Refuses : ToolFault → Type 0) (text : List ℕ) (result : Result Unit ToolFault)
-    → (old new : Option (List ℕ)) → Prints text → Writes (λ t. t ≡ text) (λ fault. ⊥) result old new → Writes Prints Refuses result old new
-writes_that Prints Refuses text (Ok done) old new prints w = (text, prints, subst (Appends old new) w.1 w.2)
-writes_that Prints Refuses text (Err Output) old new prints w = (text, prints, subst (AppendsFront old new) w.1 w.2)
-writes_that Prints Refuses text (Err Input) old new prints w = w
-writes_that Prints Refuses text (Err Memory) old new prints w = w
-writes_that Prints Refuses text (Err TooLarge) old new prints w = absurd w.0
-writes_that Prints Refuses text (Err (Script fault)) old new prints w = absurd w.0
-writes_that Prints Refuses text (Err (Line line)) old new prints w = absurd w.0
-writes_that Prints Refuses text (Err (Config fault)) old new prints w = absurd w.0
-writes_that Prints Refuses text (Err Unreadable) old new prints w = absurd w.0
-writes_that Prints Refuses text (Err Listen) old new prints w = absurd w.0
+pub writes_that : (Prints : List ℕ → Type 0) (Stops : ToolFault → Type 0) (text : List ℕ) (result : Result Unit ToolFault)
+    → (old new : Option (List ℕ)) → Prints text → Stops Memory → Writes (λ t. t ≡ text) (RefusesFor (λ fault. ⊥)) result old new
+    → Writes Prints Stops result old new
+writes_that Prints Stops text (Ok done) old new prints stops w = (text, prints, subst (Appends old new) w.1 w.2)
+writes_that Prints Stops text (Err Output) old new prints stops w = (text, prints, subst (AppendsPrefix old new) w.1 w.2)
+writes_that Prints Stops text (Err Memory) old new prints stops w = (stops, w.1)
+writes_that Prints Stops text (Err Input) old new prints stops w = absurd w.0
+writes_that Prints Stops text (Err TooLarge) old new prints stops w = absurd w.0
+writes_that Prints Stops text (Err (Script fault)) old new prints stops w = absurd w.0
+writes_that Prints Stops text (Err (Line line)) old new prints stops w = absurd w.0
+writes_that Prints Stops text (Err (Config fault)) old new prints stops w = absurd w.0
+writes_that Prints Stops text (Err Unreadable) old new prints stops w = absurd w.0
+writes_that Prints Stops text (Err Listen) old new prints stops w = absurd w.0
 
 -- a front of a text is a front of a longer one
 pub front_of_more : (text behind : List ℕ) (fault : ToolFault) (old new : Option (List ℕ))
     → WritesText text (Err fault) old new → WritesText (text ++ behind) (Err fault) old new
 front_of_more text behind fault old new w =
-    let within : w.1.count ≤ length text = w.1.within in (
+    let few : w.1.count < length text = w.1.within in
+    let within : w.1.count ≤ length text = omega (arith, few) in (
       w.0,
       record {
         count = w.1.count;
-        within = omega (arith, length-append text behind);
+        within = omega (arith, few, length-append text behind);
         appends = subst (Appends old new) (sym (take-append-le w.1.count text behind within)) w.1.appends;
       },
     )

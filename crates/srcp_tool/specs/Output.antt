@@ -128,23 +128,21 @@ RefusesFor Refuses Output = ⊥
 RefusesFor Refuses Memory = ⊤
 RefusesFor Refuses other = Refuses other
 
--- known bytes gain a front of the text at their end
-pub record AppendsFront (old new : Option (List ℕ)) (text : List ℕ) : Type 0 where
+-- known bytes gain a prefix of the text at their end, and not all of it
+pub record AppendsPrefix (old new : Option (List ℕ)) (text : List ℕ) : Type 0 where
   pub count : ℕ
-  pub within : count ≤ length text
+  pub within : count < length text
   pub appends : Appends old new (take count text)
 
--- a text is written whole, or a front of it where the writing fails
+-- a text is written whole, or a prefix of it if the writing fails
 abbrev pub WritesText : (text : List ℕ) → Result Unit ToolFault → (old new : Option (List ℕ)) → Type 0
 WritesText text (Ok done) old new = Appends old new text
-WritesText text (Err fault) old new = (fault ≡ Output) × AppendsFront old new text
+WritesText text (Err fault) old new = (fault ≡ Output) × AppendsPrefix old new text
 
--- the text that is to be printed is written whole, or a front of it where the writing fails;
--- nothing is written where the input is refused or can't be read, or memory is refused
-abbrev pub Writes : (Prints : List ℕ → Type 0) (Refuses : ToolFault → Type 0) → Result Unit ToolFault
+-- the text that is to be printed is written whole, or a prefix of it if the writing fails; nothing is written if it stops
+-- for another reason
+abbrev pub Writes : (Prints : List ℕ → Type 0) (Stops : ToolFault → Type 0) → Result Unit ToolFault
     → (old new : Option (List ℕ)) → Type 0
-Writes Prints Refuses (Ok done) old new = (text : List ℕ) × Prints text × Appends old new text
-Writes Prints Refuses (Err Output) old new = (text : List ℕ) × Prints text × AppendsFront old new text
-Writes Prints Refuses (Err Input) old new = new ≡ old
-Writes Prints Refuses (Err Memory) old new = new ≡ old
-Writes Prints Refuses (Err other) old new = Refuses other × (new ≡ old)
+Writes Prints Stops (Ok done) old new = (text : List ℕ) × Prints text × Appends old new text
+Writes Prints Stops (Err Output) old new = (text : List ℕ) × Prints text × AppendsPrefix old new text
+Writes Prints Stops (Err other) old new = Stops other × (new ≡ old)

@@ -27,11 +27,11 @@ pub fn check_text(alloc: Global, bytes: &[u8]) -> Result<Vec<u8>, ToolFault>
 /// Writes what the bytes of a configuration say (`check_text`).
 ///
 /// # Errors
-/// `Config` for the configuration's first fault, `Memory` where a growth was refused: nothing is
-/// written then. `Output` where a write fails or takes nothing: a front is written.
+/// `Config` for the configuration's first fault, `Memory` if memory is refused: nothing is written then. `Output` if a write
+/// fails or takes nothing: a prefix is written.
 pub fn check<W: Write>(alloc: Global, bytes: &[u8], writer: &mut W) -> Result<(), ToolFault>
     ensures { Writes (λ text. check_output bytes.now ≡ Ok text)
-        (λ fault. check_output bytes.now ≡ Err fault)
+        (RefusesFor (λ fault. check_output bytes.now ≡ Err fault))
         result (W.contents writer.old) (W.contents writer.new) }
 {
     let text = check_text(alloc, bytes)?;

@@ -5,7 +5,7 @@ ghost use Rattle.std.specs.List.{AllByRecursion};
 ghost use Rattle.srcp_info.specs.WellFormed.{IsWellFormedShown};
 ghost use Rattle.srcp_rules.specs.declared.layout.Bus.{Bus};
 ghost use Rattle.srcp_script.specs.Output.{printed};
-ghost use Rattle.srcp_tool.specs.Output.{RefusesFor, Writes, run_of, replayed};
+ghost use Rattle.srcp_tool.specs.Output.{RefusesFor, StopsFor, Writes, run_of, replayed};
 
 use crate::fault::ToolFault;
 use crate::input::{INPUT_LIMIT, read_input};
@@ -54,7 +54,7 @@ pub fn replay<K: Rows, R: Read, W: Write>(
 ) -> Result<(), ToolFault>
     ensures { let input = R.remaining reader.old in Writes
         (λ text. IfSome input (λ bytes. replayed layout.now bytes ≡ Ok text))
-        (λ fault. IfSome input (λ bytes. replayed layout.now bytes ≡ Err fault))
+        (StopsFor (λ fault. IfSome input (λ bytes. replayed layout.now bytes ≡ Err fault)))
         result (W.contents writer.old) (W.contents writer.new) }
 {
     let input = read_input(alloc, reader)?;
@@ -105,7 +105,7 @@ fn events_of(alloc: Global, input: &[u8]) -> Result<Vec<Event>, ToolFault>
 /// is written.
 fn write_record<W: Write>(alloc: Global, run: &Record, writer: &mut W) -> Result<(), ToolFault>
     requires { AllByRecursion (λ row. IsWellFormedShown row.shown) run.now.rows }
-    ensures { Writes (λ text. text ≡ printed run.now) (λ fault. ⊥)
+    ensures { Writes (λ text. text ≡ printed run.now) (RefusesFor (λ fault. ⊥))
         result (W.contents writer.old) (W.contents writer.new) }
 {
     let end = print_end(alloc, run)?;

@@ -64,7 +64,7 @@ pub fn mirror<R: Read, W: Write>(
 ) -> Result<(), ToolFault>
     ensures { let input = R.remaining reader.old in Writes
         (λ output. IfSome input (λ bytes. Mirrors bytes output))
-        (λ fault. IfSome input (λ bytes. RefusesInput bytes fault))
+        (StopsFor (λ fault. IfSome input (λ bytes. RefusesInput bytes fault)))
         result (W.contents writer.old) (W.contents writer.new) }
 {
     let mirror = read_lines(alloc, reader)?;
