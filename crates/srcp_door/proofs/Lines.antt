@@ -1,22 +1,15 @@
 -- What bytes in which no line ends leave of a line, and what is seen of bytes line by line.
 use Rattle.std.proofs.Common.{◌≡◌, ℕ, zero, suc, ◌+◌, ◌-◌, ◌<◌, ◌≤◌, ◌==◌, true, false, cond, List, [], ◌∷◌, length}
-use Rattle.std.proofs.Common.{take, drop, slice_index, slice_get, Some, fold, add-one, take-add, length-drop, refl, arith}
-use Rattle.std.proofs.Common.{subst, sym, ap, ◌∙◌, ⊎_elim}
-use Rattle.std.proofs.lemmas.Bool.{cases_Bool, cond_both}
-use Rattle.std.proofs.lemmas.Grind.{common_steps}
+use Rattle.std.proofs.Common.{take, drop, slice_index, fold, add-one, take-add, length-drop, refl, arith}
+use Rattle.std.proofs.Common.{◌++◌, append-nil, append_assoc, subst, sym, ap, ◌∙◌, ⊎_elim}
+use Rattle.std.proofs.lemmas.Bool.{cases_Bool, cases_lt}
+use Rattle.std.proofs.Math.Seq.{take-length}
 use Rattle.std.proofs.lemmas.List.{take_rest}
 use Rattle.std.proofs.lemmas.List.Sums.{sum_by-append, sum_by-cons, count_by_more_no, count_by_more_yes, fold-append, fold_more}
 use Rattle.memchr.specs.Find.{Passes, is_byte, Nowhere, NoneBefore}
-use Rattle.srcp_door.specs.Pacing.{lines, begins_light, line_after, seen_after, seen_of}
+use Rattle.srcp_door.specs.Pacing.{Seen, lines, line_weight, seen_after, seen_of, weight_of}
 use Rattle.srcp_door.specs.declared.pacing.Line.{Line}
-use Rattle.srcp_door.specs.declared.pacing.Line.TheVariants.{Ended, Light, Heavy}
-use Rattle.srcp_door.specs.declared.pacing.Seen.{Seen}
-
--- a second byte changes no line
-second : (line : Line) (x y : ℕ) → line_after (line_after line x) y ≡ line_after line x
-second Ended x y = cond_both (begins_light x) Light Heavy (λ line. line_after line y ≡ line) (λ _. refl) (λ _. refl)
-second Light x y = refl
-second Heavy x y = refl
+use Rattle.srcp_door.specs.declared.pacing.Line.TheVariants.{Ended}
 
 no_end : (x : ℕ) (xs : List ℕ) → lines (x ∷ xs) ≡ 0 → ((x == 10) ≡ false) × (lines xs ≡ 0)
 no_end x xs none =
@@ -26,20 +19,28 @@ no_end x xs none =
     (λ (no : (x == 10) ≡ false). (no, omega arith))
     (cases_Bool (x == 10))
 
--- what is seen after bytes in which no line ends goes by the first of them
-fold-part : (seen : Seen) (x : ℕ) (xs : List ℕ)
-    → lines (x ∷ xs) ≡ 0 → fold seen_after seen (x ∷ xs) ≡ record { line = line_after seen.line x; weight = seen.weight }
-fold-part seen x [] none = let parts = no_end x [] none in grind (arith, common_steps)
-fold-part seen x (y ∷ ys) none =
-    let parts = no_end x (y ∷ ys) none in
-    let later = fold-part (seen_after seen x) y ys parts.1 in
-    let same = second seen.line x y in
-    grind (arith, common_steps)
+-- bytes in which no line ends are added to the text
+pub fold_text : (seen : Seen) (bytes : List ℕ) → lines bytes ≡ 0
+    → fold seen_after seen bytes ≡ record { line = seen.line; text = seen.text ++ bytes; weight = seen.weight }
+fold_text seen [] none = ap (λ text. record { line = seen.line; text = text; weight = seen.weight }) (sym (append-nil seen.text))
+fold_text seen (x ∷ xs) none =
+    let parts = no_end x xs none in
+    let longer : Seen = record { line = seen.line; text = seen.text ++ x ∷ []; weight = seen.weight } in
+    let next : seen_after seen x ≡ longer = rw parts.0 refl in
+    ap (λ s. fold seen_after s xs) next
+    ∙ fold_text longer xs parts.1
+    ∙ ap (λ text. record { line = seen.line; text = text; weight = seen.weight }) (append_assoc seen.text (x ∷ []) xs)
 
-pub fold_first : (seen : Seen) (bytes : List ℕ) (x : ℕ) → slice_get bytes 0 ≡ Some x
-    → lines bytes ≡ 0 → fold seen_after seen bytes ≡ record { line = line_after seen.line x; weight = seen.weight }
-fold_first seen [] x first none = cc
-fold_first seen (y ∷ ys) x first none = fold-part seen y ys none ∙ (let same : y ≡ x = cc in cc)
+-- no line weighs less than nothing
+weight_grows : (seen : Seen) (bytes : List ℕ) → seen.weight ≤ (fold seen_after seen bytes).weight
+weight_grows seen [] = omega arith
+weight_grows seen (x ∷ xs) =
+    let later = weight_grows (seen_after seen x) xs in
+    let one : seen.weight ≤ (seen_after seen x).weight = ⊎_elim
+    (λ (yes : (x == 10) ≡ true). rw yes (omega arith))
+    (λ (no : (x == 10) ≡ false). rw no (omega arith))
+    (cases_Bool (x == 10)) in
+    omega (arith, one, later)
 
 -- no line ends before the first place at which there is a line end
 lines_before : (bytes : List ℕ) (n : ℕ) → n ≤ length bytes → Nowhere (Passes (is_byte 10) bytes) 0 n → lines (take n bytes) ≡ 0
@@ -72,14 +73,15 @@ pub seen_of_part : (line : Line) (bytes : List ℕ) (i j : ℕ) → i ≤ j
     → fold seen_after (seen_of line (take i bytes)) (take (j - i) (drop i bytes)) ≡ seen_of line (take j bytes)
 seen_of_part line bytes i j le =
     let parts : i + (j - i) ≡ j = omega arith in
-    let split = fold-append seen_after (record { line = line; weight = 0 }) (take i bytes) (take (j - i) (drop i bytes)) in
+    let split = fold-append seen_after (record { line = line; text = []; weight = 0 }) (take i bytes) (take (j - i) (drop i bytes)) in
     sym (rw take-add split) ∙ ap (λ n. seen_of line (take n bytes)) parts
 
--- what is seen of a front, by what is seen of the one that lacks its line end
+-- what is seen of a prefix, by what is seen of the one that lacks its line end
 pub seen_of-end : (line : Line) (bytes : List ℕ) (i : ℕ) → i < length bytes → slice_index bytes i ≡ 10
     → seen_of line (take (i + 1) bytes) ≡ seen_after (seen_of line (take i bytes)) 10
 seen_of-end line bytes i within here =
-    fold_more seen_after (record { line = line; weight = 0 }) bytes i 0 within ∙ ap (seen_after (seen_of line (take i bytes))) here
+    fold_more seen_after (record { line = line; text = []; weight = 0 }) bytes i 0 within
+    ∙ ap (seen_after (seen_of line (take i bytes))) here
 
 -- a front has the lines of a shorter one where a search finds no line end behind that
 pub lines_of_part : (bytes : List ℕ) (i j : ℕ) → i ≤ j → j ≤ length bytes
@@ -96,3 +98,59 @@ lines_of_part bytes i j le within nowhere =
 pub lines_of-end : (bytes : List ℕ) (i : ℕ) → i < length bytes → slice_index bytes i ≡ 10
     → lines (take (i + 1) bytes) ≡ lines (take i bytes) + 1
 lines_of-end bytes i within here = count_by_more_yes (λ byte. byte == 10) bytes i 0 within (ap (λ byte. byte == 10) here)
+
+-- a longer prefix has no fewer lines
+lines_upto : (bytes : List ℕ) (i j : ℕ) → i ≤ j → lines (take i bytes) ≤ lines (take j bytes)
+lines_upto bytes i j le =
+    let parts : i + (j - i) ≡ j = omega arith in
+    let sum = sum_by-append (λ (byte : ℕ). cond (byte == 10) 1 0) (take i bytes) (take (j - i) (drop i bytes)) in
+    let split : lines (take (i + (j - i)) bytes) ≡ lines (take i bytes) + lines (take (j - i) (drop i bytes)) = rw take-add sum in
+    let same = ap (λ n. lines (take n bytes)) parts in
+    omega (arith, split, same)
+
+-- nor do they weigh less
+weight_upto : (line : Line) (bytes : List ℕ) (i j : ℕ) → i ≤ j → weight_of line (take i bytes) ≤ weight_of line (take j bytes)
+weight_upto line bytes i j le =
+    let grows = weight_grows (seen_of line (take i bytes)) (take (j - i) (drop i bytes)) in
+    subst (λ (s : Seen). weight_of line (take i bytes) ≤ s.weight) (seen_of_part line bytes i j le) grows
+
+-- what is seen of whole lines, by what is seen of those before the last
+pub ends_line : (line now : Line) (bytes : List ℕ) (i j weight : ℕ) → i ≤ j → j < length bytes → slice_index bytes j ≡ 10
+    → Nowhere (Passes (is_byte 10) (rest bytes i)) 0 (j - i)
+    → record { line = now; text = []; weight = weight } ≡ seen_of line (take i bytes)
+    → record { line = Ended; text = []; weight = weight + line_weight now (take (j - i) (drop i bytes)) }
+    ≡ seen_of line (take (j + 1) bytes)
+ends_line line now bytes i j weight le within here nowhere is =
+    let text = take (j - i) (drop i bytes) in
+    let before : Seen = record { line = now; text = []; weight = weight } in
+    let begun : Seen = record { line = now; text = text; weight = weight } in
+    let upto : seen_of line (take j bytes) ≡ begun =
+    sym (seen_of_part line bytes i j le) ∙ ap (λ s. fold seen_after s text) (sym is)
+    ∙ fold_text before text (lines-part bytes i j (omega arith) nowhere) in
+    sym (seen_of-end line bytes j within here ∙ ap (λ s. seen_after s 10) upto)
+
+-- each prefix with a line more weighs as much as the one that ends at the next LF
+pub longest_at : (line : Line) (bytes : List ℕ) (i j most : ℕ) → lines (take i bytes) ≡ lines (take j bytes)
+    → most < weight_of line (take (j + 1) bytes) → (n : ℕ) → n ≤ length bytes → lines (take i bytes) < lines (take n bytes)
+    → most < weight_of line (take n bytes)
+longest_at line bytes i j most same heavy n within more = ⊎_elim
+    (λ (late : j < n). let upto = weight_upto line bytes (j + 1) n (omega (arith, late)) in omega (arith, upto, heavy))
+    (λ (early : n ≤ j). let few = lines_upto bytes n j early in absurd (omega (arith, few, same, more)))
+    (cases_lt j n)
+
+-- bytes in which no line ends weigh nothing
+pub weight_none : (line : Line) (bytes : List ℕ) → lines bytes ≡ 0 → weight_of line bytes ≡ 0
+weight_none line bytes none = ap (λ (s : Seen). s.weight) (fold_text (record { line = line; text = []; weight = 0 }) bytes none)
+
+-- a prefix has no more lines than the whole
+pub lines_within : (bytes : List ℕ) (i : ℕ) → i ≤ length bytes → lines (take i bytes) ≤ lines bytes
+lines_within bytes i within =
+    subst (λ (all : List ℕ). lines (take i bytes) ≤ lines all) (take-length bytes) (lines_upto bytes i (length bytes) within)
+
+-- it has fewer where an LF is behind it
+pub lines_behind : (bytes : List ℕ) (i j : ℕ) → j < length bytes → slice_index bytes j ≡ 10 → lines (take i bytes) ≡ lines (take j bytes)
+    → lines (take i bytes) < lines bytes
+lines_behind bytes i j within here same =
+    let one = lines_of-end bytes j within here in
+    let all = lines_within bytes (j + 1) (omega (arith, within)) in
+    omega (arith, one, all, same)

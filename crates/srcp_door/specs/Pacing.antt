@@ -1,67 +1,105 @@
 -- How much lines weigh, and what is seen of the pacing.
-use Rattle.std.specs.Prelude.{ℕ, Bool, List, ◌+◌, ◌-◌, ◌^◌, ◌==◌, ◌||◌, ◌&&◌, not, cond, min, fold, count_by}
+use Rattle.std.specs.Prelude.{◌≡◌, ◌≢◌, ℕ, ◌+◌, ◌-◌, ◌<◌, ◌≤◌, ◌^◌, ◌==◌, Bool, ◌||◌, ◌&&◌, not, cond, min, List, [], ◌∷◌, ◌++◌, length, take, fold, count_by}
+use Rattle.srcp_rules.specs.Weight.{weight}
 use Rattle.srcp_door.specs.declared.pacing.Line.{Line}
-use Rattle.srcp_door.specs.declared.pacing.Line.TheVariants.{Ended, Light, Heavy}
-use Rattle.srcp_door.specs.declared.pacing.Seen.{Seen}
+use Rattle.srcp_door.specs.declared.pacing.Line.TheVariants.{Ended, Begun}
+use Rattle.srcp_door.specs.declared.pacing.Pace.{Pace}
+use Rattle.srcp_door.specs.declared.pacing.Pace.TheVariants.{Unpaced, Paced}
 use Rattle.srcp_door.specs.declared.pacing.Share.{Share}
 use Rattle.srcp_door.specs.declared.replies.Replies.{Replies}
 
 -- how much may still be let through in this turn, whether a peer was refused its first line, and whether the end of a
 -- peer may still be told
 pub record Budget : Type 0 where
-  pub left : ℕ
+  pub pace : Pace
   pub refused : Bool
   pub end : Bool
 
--- the changes that a line makes at most, where it ends now: one that begins with S, G or C makes one
-abbrev pub line_weight : Line → ℕ
-line_weight Ended = 11
-line_weight Light = 1
-line_weight Heavy = 11
+-- how many lines end in bytes
+abbrev pub lines : List ℕ → ℕ
+lines bytes = count_by (λ byte. byte == 10) bytes
 
--- the bytes S, G and C
-abbrev pub begins_light : ℕ → Bool
-begins_light byte = (byte == 83) || (byte == 71) || (byte == 67)
+-- ---- the weight of lines
 
--- the line after one more byte that does not end it
-abbrev pub line_after : Line → ℕ → Line
-line_after Ended byte = cond (begins_light byte) Light Heavy
-line_after Light byte = Light
-line_after Heavy byte = Heavy
+-- the changes that a line brings at most: what its bytes say, or 11 if it began in an earlier piece, whose bytes are
+-- gone
+abbrev pub line_weight : Line → (text : List ℕ) → ℕ
+line_weight Ended text = weight text
+line_weight Begun text = 11
 
--- the line and the weight of those that ended, after one more byte
+-- what is seen of bytes: those of the line that has not ended, whether it began in an earlier piece, and how much the
+-- lines weigh that ended
+pub record Seen : Type 0 where
+  pub line : Line
+  pub text : List ℕ
+  pub weight : ℕ
+
+-- the same after one more byte
 abbrev pub seen_after : Seen → ℕ → Seen
 seen_after seen byte = cond (byte == 10)
-    (record { line = Ended; weight = seen.weight + line_weight seen.line })
-    (record { line = line_after seen.line byte; weight = seen.weight })
+    (record { line = Ended; text = []; weight = seen.weight + line_weight seen.line seen.text })
+    (record { line = seen.line; text = seen.text ++ byte ∷ []; weight = seen.weight })
 
--- the same after bytes that follow a line
+-- what is seen of bytes that follow a line
 abbrev pub seen_of : Line → List ℕ → Seen
-seen_of line bytes = fold seen_after (record { line = line; weight = 0 }) bytes
+seen_of line bytes = fold seen_after (record { line = line; text = []; weight = 0 }) bytes
 
 -- how much the lines weigh that end in bytes that follow a line
 abbrev pub weight_of : Line → List ℕ → ℕ
 weight_of line bytes = (seen_of line bytes).weight
 
--- a peer's share after bytes were handed out to it: it has its mark where a line ends in them
-abbrev pub share_after : Share → List ℕ → Share
-share_after share handed = record {
-  line = (seen_of share.line handed).line;
+-- the line after its bytes so far
+abbrev pub with_text : Line → (text : List ℕ) → Line
+with_text line [] = line
+with_text line (byte ∷ text) = Begun
+
+-- the line after bytes that follow it
+abbrev pub line_after : Line → List ℕ → Line
+line_after line bytes = let seen = seen_of line bytes in with_text seen.line seen.text
+
+-- ---- what is let through
+
+-- the prefix of a piece that may go if its lines may weigh so much: all of a piece in which no line ends, and else
+-- whole lines, as many as weigh no more
+pub record IsLongest (line : Line) (most : ℕ) (piece : List ℕ) (count : ℕ) : Type 0 where
+  pub within : count ≤ length piece
+  pub few : weight_of line (take count piece) ≤ most
+  pub longest : (n : ℕ) → n ≤ length piece → lines (take count piece) < lines (take n piece)
+      → most < weight_of line (take n piece)
+  pub whole : lines piece ≢ 0 → (seen_of line (take count piece)).text ≡ []
+  pub begun : lines piece ≡ 0 → count ≡ length piece
+
+-- the prefix of a peer's piece that may go in a turn; a peer that has its mark gets no line that weighs something
+abbrev pub Allows : Pace → Share → (piece : List ℕ) (count : ℕ) → Type 0
+Allows Unpaced share piece count = count ≡ length piece
+Allows (Paced left) share piece count = IsLongest share.line (cond share.mark 0 left) piece count
+
+-- how much may be let through after bytes that follow a line
+abbrev pub pace_after : Pace → Line → (handed : List ℕ) → Pace
+pace_after Unpaced line handed = Unpaced
+pace_after (Paced left) line handed = Paced (left - weight_of line handed)
+
+-- a peer's share after bytes were handed out to it: it has its mark if a line that weighs something ended in them
+abbrev pub share_after : Pace → Share → (handed : List ℕ) → Share
+share_after Unpaced share handed = record { line = line_after share.line handed; mark = share.mark }
+share_after (Paced left) share handed = record {
+  line = line_after share.line handed;
   mark = share.mark || not (weight_of share.line handed == 0);
 }
 
--- the pacing after bytes were handed out to a peer, where `more` says that some were kept back: the peer was refused its
--- first line where it has no mark then
-abbrev pub budget_after : Budget → Share → List ℕ → Bool → Budget
-budget_after budget share handed more = record {
-  left = budget.left - weight_of share.line handed;
-  refused = budget.refused || (more && not (share_after share handed).mark);
+-- the pacing after a prefix of a peer's piece was handed out to it: the peer was refused its first line if one was kept
+-- back and it has no mark
+abbrev pub budget_after : Budget → Share → (piece handed : List ℕ) → Budget
+budget_after budget share piece handed = record {
+  pace = pace_after budget.pace share.line handed;
+  refused = budget.refused || not (lines handed == lines piece) && not (share_after budget.pace share handed).mark;
   end = budget.end;
 }
 
--- how many lines end in bytes
-abbrev pub lines : List ℕ → ℕ
-lines bytes = count_by (λ byte. byte == 10) bytes
+-- less may be let through than any line can weigh
+abbrev pub IsShort : Pace → Type 0
+IsShort Unpaced = ⊥
+IsShort (Paced left) = left < 11
 
 -- what a peer is owed after it sent so many lines
 abbrev pub owed_after : Replies → ℕ → Replies

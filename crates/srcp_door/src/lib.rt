@@ -16,7 +16,7 @@ mod timekeeper;
 pub use ending::Ending;
 pub use held::{Gathered, HandedOver, Held, MOST_GATHERED};
 pub use link::Link;
-pub use pacing::{HEAVY, Line, MOST_UNPACED, MOST_WEIGHT, Pacing, Prefix, Share};
+pub use pacing::{Line, MOST_WEIGHT, Pace, Pacing, Prefix, Share};
 pub use read_ahead::{Filled, Given, Input, MOST_AHEAD, MOST_PIECE, ReadAhead};
 pub use replies::Replies;
 pub use timekeeper::Timekeeper;

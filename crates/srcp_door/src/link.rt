@@ -3,7 +3,7 @@
 ghost use Rattle.std.specs.Prelude.{◌≡◌, ◌≢◌, ◌↔◌, ◌<◌, ◌≤◌, ◌+◌, ◌-◌, ◌++◌, ◌==◌, ◌⊎◌, ◌||◌, [], true, false, not, cond, Bool, ℕ, IfOk, IfSome, IfNone, IsTrue, length, take, drop, min};
 ghost use Rattle.std.specs.Io.KnownBytes.{Keeps, append_known, prepend_known};
 ghost use Rattle.srcp_door.specs.Ahead.{Ahead, given};
-ghost use Rattle.srcp_door.specs.Pacing.{Budget, budget_after, lines, owed_after, share_after, weight_of};
+ghost use Rattle.srcp_door.specs.Pacing.{Allows, Budget, budget_after, lines, owed_after, share_after};
 ghost use Rattle.srcp_door.specs.Ends.{begun, due_end, is_told, written};
 ghost use Rattle.srcp_door.specs.declared.ending.Ending.{Ending};
 ghost use Rattle.srcp_door.specs.declared.read_ahead.Input.{Input};
@@ -11,7 +11,7 @@ ghost use Rattle.srcp_door.specs.declared.pacing.Line.{Line};
 
 use crate::ending::Ending;
 use crate::held::{Gathered, HandedOver, Held, MOST_GATHERED};
-use crate::pacing::{HEAVY, Line, Pacing, Share};
+use crate::pacing::{Line, Pacing, Share};
 use crate::read_ahead::{Filled, Given, Input, MOST_PIECE, ReadAhead};
 use crate::replies::Replies;
 use std::alloc::{AllocError, Global};
@@ -103,16 +103,24 @@ impl Link {
     pub fn read(&mut self, pacing: &mut Pacing, buffer: &mut [u8]) -> Given
         ensures bytes { self.old.ahead ≡ record { bytes = given result buffer.new ++ self.new.ahead.bytes; input = self.new.ahead.input } }
         ensures count { (n : ℕ) → result ≡ Given.Bytes n → (0 < n) × (n ≤ min (length buffer.old) MOST_PIECE) }
-        ensures few { weight_of self.old.share.line (given result buffer.new) ≤ cond self.old.share.mark 0 pacing.old.left }
-        ensures all { length (given result buffer.new) < min (min (length buffer.old) MOST_PIECE) (length self.old.ahead.bytes)
-            → (self.old.share.mark ≡ true) ⊎ (pacing.new.left < HEAVY) }
+        ensures allowed { self.old.ahead.bytes ≢ []
+            → let piece = take (min (length buffer.old) MOST_PIECE) self.old.ahead.bytes in
+            Allows pacing.old.pace self.old.share piece (length (given result buffer.new)) }
         ensures told { self.old.ahead.bytes ≡ [] → (self.new ≡ self.old)
             × (result ≡ cond pacing.old.end (due_end self.old.lost self.old.ahead.input self.old.ending) Given.Nothing)
-            × (pacing.new ≡ record { left = pacing.old.left; refused = pacing.old.refused; end = cond (is_told result) false pacing.old.end }) }
-        ensures handed { self.old.ahead.bytes ≢ [] → (is_told result ≡ not (length (given result buffer.new) == 0))
-            × (self.new ≡ record { gathered = self.old.gathered; ahead = self.new.ahead; ending = self.old.ending; share = share_after self.old.share (given result buffer.new); replies = owed_after self.old.replies (lines (given result buffer.new)); lost = self.old.lost })
-            × (pacing.new ≡ budget_after pacing.old self.old.share (given result buffer.new)
-            (not (length (given result buffer.new) == min (min (length buffer.old) MOST_PIECE) (length self.old.ahead.bytes)))) }
+            × (pacing.new ≡ record { pace = pacing.old.pace; refused = pacing.old.refused; end = cond (is_told result) false pacing.old.end }) }
+        ensures handed { self.old.ahead.bytes ≢ [] → let handed = given result buffer.new in
+            let piece = take (min (length buffer.old) MOST_PIECE) self.old.ahead.bytes in
+            (is_told result ≡ not (length handed == 0))
+            × (self.new ≡ record {
+              gathered = self.old.gathered;
+              ahead = self.new.ahead;
+              ending = self.old.ending;
+              share = share_after pacing.old.pace self.old.share handed;
+              replies = owed_after self.old.replies (lines handed);
+              lost = self.old.lost;
+            })
+            × (pacing.new ≡ budget_after pacing.old self.old.share piece handed) }
         ensures len { length buffer.new ≡ length buffer.old }
     {
         if self.ahead.is_empty() {
@@ -146,7 +154,7 @@ impl Link {
     /// Returns what is told where nothing is held of it.
     fn told_end(&self, pacing: &mut Pacing) -> Given
         ensures result { result ≡ cond pacing.old.end (due_end self.now.lost self.now.ahead.input self.now.ending) Given.Nothing }
-        ensures pacing { pacing.new ≡ record { left = pacing.old.left; refused = pacing.old.refused; end = cond (is_told result) false pacing.old.end } }
+        ensures pacing { pacing.new ≡ record { pace = pacing.old.pace; refused = pacing.old.refused; end = cond (is_told result) false pacing.old.end } }
     {
         let due = self.due_end();
         if due == Given::Nothing || !pacing.allow_end() {

@@ -1,54 +1,57 @@
 //! How many lines are let through in a turn.
 
-ghost use Rattle.std.specs.Prelude.{◌≡◌, ◌<◌, ◌≤◌, ◌+◌, ◌↔◌, ◌⊎◌, ◌==◌, true, false, not, cond, IsTrue, length, slice_index, take, fold};
-ghost use Rattle.srcp_door.specs.Pacing.{Budget, line_weight, line_after, seen_after, seen_of, weight_of, share_after, budget_after, lines};
+ghost use Rattle.std.specs.Prelude.{◌≡◌, ◌<◌, ◌≤◌, ◌+◌, ◌↔◌, ◌⊎◌, ◌==◌, false, true, not, cond, IsTrue, length, take};
+ghost use Rattle.srcp_door.specs.Pacing.{Allows, Budget, IsLongest, IsShort, budget_after, line_after, line_weight};
+ghost use Rattle.srcp_door.specs.Pacing.{lines, share_after, weight_of};
 
+use crate::replies::lines_of;
 use memchr::memchr;
+use srcp_rules::{MOST_CHANGES, weight};
 use std::marker::Model;
 
-/// How much the lines of a turn weigh at most while a panel is there. Between two visits of a panel the lines of two
-/// turns meet, so 176 of the 256 changes that may wait for it are made by them.
+/// How much the lines of a turn weigh at most while a panel is there.
 pub const MOST_WEIGHT: usize = 88;
 
-/// How much the lines of a turn weigh at most while no panel is there: more than 64 peers can be read of in a turn.
-pub const MOST_UNPACED: usize = 1_000_000;
+// The lines of two turns meet between two visits of a panel. Of the 256 changes that may wait for it, they leave 80 to
+// what moments and ends of sessions bring.
+const _: () = prove!(2 * MOST_WEIGHT + 80 <= 256);
 
-/// How many changes a line makes at most, which is its weight. One that begins like SET, GET or CHECK makes one.
-pub const HEAVY: usize = 11;
+// Each line may go in some turn.
+const _: () = prove!(MOST_CHANGES <= MOST_WEIGHT);
 
 /// What ends a line.
-const LINE_END: u8 = b'\n';
+pub(crate) const LINE_END: u8 = b'\n';
 
-/// The line of a peer that was handed out last.
+/// Whether the line of a peer that is being handed out began in an earlier piece.
 #[derive(Clone, Copy)]
 pub enum Line {
-    /// It ended, or there was none.
+    /// The line before ended, or there was none.
     Ended,
-    /// It has an S, G or C in front, and no end.
-    Light,
-    /// It has something else in front, and no end.
-    Heavy,
+    /// It began, and did not end.
+    Begun,
 }
 
 impl Line {
-    /// Returns how much the line weighs where it ends now.
-    fn weight(self) -> usize
-        ensures { result ≡ line_weight self }
+    /// Returns how much the line weighs that ends behind these bytes. If it began in an earlier piece, it weighs as much
+    /// as a line can, since nobody has all its bytes.
+    fn weight(self, text: &[u8]) -> usize
+        ensures weight { result ≡ line_weight self text.now }
+        ensures most { result ≤ MOST_CHANGES }
     {
         match self {
-            Line::Ended | Line::Heavy => HEAVY,
-            Line::Light => 1,
+            Line::Ended => weight(text),
+            Line::Begun => MOST_CHANGES,
         }
     }
 
-    /// Returns the line after one more byte that does not end it.
-    fn after(self, byte: u8) -> Line
-        ensures { result ≡ line_after self byte }
+    /// Returns the line after bytes that follow it.
+    fn after(self, bytes: &[u8]) -> Line
+        ensures { result ≡ line_after self bytes.now }
     {
-        match self {
-            Line::Ended if matches!(byte, b'S' | b'G' | b'C') => Line::Light,
-            Line::Light => Line::Light,
-            Line::Ended | Line::Heavy => Line::Heavy,
+        match bytes.last() {
+            Some(&LINE_END) => Line::Ended,
+            Some(_) => Line::Begun,
+            None => self,
         }
     }
 }
@@ -56,53 +59,19 @@ impl Line {
 /// A peer's share of the lines.
 #[derive(Clone, Copy)]
 pub struct Share {
-    /// The line that was handed out last.
+    /// The line that is being handed out.
     pub line: Line,
-    /// Whether the peer got a line since the marks were cleared.
+    /// Whether the peer got a line that weighs something since the marks were cleared.
     pub mark: bool,
 }
 
-/// What was seen of some bytes.
+/// How much the lines may still weigh that are let through in a turn.
 #[derive(Clone, Copy)]
-struct Seen {
-    line: Line,
-    weight: usize,
-}
-
-impl Seen {
-    /// Returns what is seen after bytes in which no line ends: the first of them alone says which line they are of.
-    #[tactic(auto, using(crate::proofs::Lines::fold_first))]
-    fn after(self, bytes: &[u8]) -> Seen
-        requires { lines bytes.now ≡ 0 }
-        ensures seen { result ≡ fold seen_after self bytes.now }
-        ensures weight { result.weight ≡ self.weight }
-    {
-        match bytes.first() {
-            Some(first) => Seen {
-                line: self.line.after(*first),
-                weight: self.weight,
-            },
-            None => self,
-        }
-    }
-
-    /// Returns what is seen after a line end.
-    fn after_end(self) -> Seen
-        requires { self.weight ≤ MOST_UNPACED }
-        ensures { result ≡ seen_after self LINE_END }
-    {
-        Seen {
-            line: Line::Ended,
-            weight: self.weight + self.line.weight(),
-        }
-    }
-}
-
-/// A prefix of some bytes, and what was seen of it.
-#[derive(Clone, Copy)]
-struct Front {
-    prefix: Prefix,
-    seen: Seen,
+pub enum Pace {
+    /// As much as they like: no panel is there.
+    Unpaced,
+    /// So much.
+    Paced { left: usize },
 }
 
 /// A prefix of a piece.
@@ -114,79 +83,99 @@ pub struct Prefix {
     pub lines: usize,
 }
 
+/// A prefix of a piece, and what was seen of it.
+#[derive(Clone, Copy)]
+struct Front {
+    prefix: Prefix,
+    // How much the lines weigh that end in it.
+    weight: usize,
+    // Whether a line ends in the piece behind it.
+    more: bool,
+}
+
 /// How much the lines that are let through may still weigh in this turn, whether a peer was refused its first one, and
 /// whether the end of a peer may still be told. Seen as a record of the three.
 #[derive(Drop)]
 pub struct Pacing {
-    left: usize,
+    pace: Pace,
     refused: bool,
     end: bool,
 }
 
 impl Model for Pacing {
-    ghost use Rattle.std.specs.Prelude.{◌<◌, ◌≤◌, IsTrue};
-    ghost use Rattle.srcp_door.specs.Pacing.{Budget};
-    ghost use Rattle.srcp_door.specs.declared.pacing.TheConstants.{MOST_UNPACED, HEAVY};
+    ghost use Rattle.std.specs.Prelude.{IsTrue};
+    ghost use Rattle.srcp_door.specs.Pacing.{Budget, IsShort};
 
     ghost Value = { Budget };
 
-    ghost view = { λ p. record { left = p.left; refused = p.refused; end = p.end } };
+    ghost view = { λ p. record { pace = p.pace; refused = p.refused; end = p.end } };
 
-    ghost invariant = { λ p. (p.left ≤ MOST_UNPACED) × (IsTrue p.refused → p.left < HEAVY) };
+    ghost invariant = { λ p. IsTrue p.refused → IsShort p.pace };
 }
 
 impl Pacing {
-    /// Lets nothing through before the first turn.
+    /// Lets no line through that weighs something, before the first turn.
     pub fn new() -> Pacing
-        ensures { result ≡ record { left = 0; refused = false; end = false } }
+        ensures { result ≡ record { pace = Pace.Paced 0; refused = false; end = false } }
     {
         Pacing {
-            left: 0,
+            pace: Pace::Paced { left: 0 },
             refused: false,
             end: false,
         }
     }
 
-    /// Begins a turn, with all its lines to be let through. Returns whether every peer that asked for a line since the marks
-    /// were cleared got one: they are to be cleared then.
+    /// Begins a turn, with all its lines to be let through. Returns whether every peer that asked for a line since the
+    /// marks were cleared got one: they are to be cleared then.
     pub fn begin_turn(&mut self, panel: bool) -> bool
-        ensures budget { self.new ≡ record { left = cond panel MOST_WEIGHT MOST_UNPACED; refused = false; end = true } }
+        ensures budget { let pace = cond panel (Pace.Paced MOST_WEIGHT) Pace.Unpaced in
+            self.new ≡ record { pace = pace; refused = false; end = true } }
         ensures round { IsTrue result ↔ self.old.refused ≡ false }
     {
         let round = !self.refused;
-        self.left = if panel { MOST_WEIGHT } else { MOST_UNPACED };
+        self.pace = if panel {
+            Pace::Paced { left: MOST_WEIGHT }
+        } else {
+            Pace::Unpaced
+        };
         self.refused = false;
         self.end = true;
         round
     }
 
-    /// Returns the prefix of a peer's piece that may be handed out now. A peer that has its mark gets no line, and one that
-    /// gets a line gets its mark. Bytes that end no line may always be handed out.
+    /// Returns the prefix of a peer's piece that may be handed out now. If lines are paced, that is all of a piece in
+    /// which no line ends, and else whole lines, as many as may go. A peer that has its mark gets none that weighs
+    /// something, and one that gets such a line gets its mark.
     pub fn allow(&mut self, share: &mut Share, piece: &[u8]) -> Prefix
+        ensures allowed { Allows self.old.pace share.old piece.now result.count }
         ensures within { result.count ≤ length piece.now }
         ensures lines { result.lines ≡ lines (take result.count piece.now) }
-        ensures few { weight_of share.old.line (take result.count piece.now) ≤ cond share.old.mark 0 self.old.left }
-        ensures most { result.count < length piece.now → (slice_index piece.now result.count ≡ 10) × ((share.old.mark ≡ true) ⊎ (self.new.left < HEAVY)) }
-        ensures share { share.new ≡ share_after share.old (take result.count piece.now) }
-        ensures budget { self.new ≡ budget_after self.old share.old (take result.count piece.now) (not (result.count == length piece.now)) }
-        ensures fair { IsTrue self.new.refused → self.new.left < HEAVY }
+        ensures share { share.new ≡ share_after self.old.pace share.old (take result.count piece.now) }
+        ensures budget { self.new ≡ budget_after self.old share.old piece.now (take result.count piece.now) }
+        ensures fair { IsTrue self.new.refused → IsShort self.new.pace }
     {
-        let most = if share.mark { 0 } else { self.left };
+        let Pace::Paced { left } = self.pace else {
+            share.line = share.line.after(piece);
+            return Prefix {
+                count: piece.len(),
+                lines: lines_of(piece),
+            };
+        };
+        let most = if share.mark { 0 } else { left };
         let front = front_within(piece, share.line, most);
-        self.left -= front.seen.weight;
-        share.line = front.seen.line;
-        if front.seen.weight > 0 {
-            share.mark = true;
-        } else if !share.mark && front.prefix.count < piece.len() {
-            self.refused = true;
-        }
+        self.pace = Pace::Paced {
+            left: left - front.weight,
+        };
+        share.line = share.line.after(&piece[..front.prefix.count]);
+        share.mark |= front.weight > 0;
+        self.refused |= front.more && !share.mark;
         front.prefix
     }
 
     /// Returns whether the end of a peer may be told now, which is then the one of this turn.
     pub fn allow_end(&mut self) -> bool
         ensures allowed { result ≡ self.old.end }
-        ensures new { self.new ≡ record { left = self.old.left; refused = self.old.refused; end = false } }
+        ensures new { self.new ≡ record { pace = self.old.pace; refused = self.old.refused; end = false } }
     {
         let allowed = self.end;
         self.end = false;
@@ -194,34 +183,41 @@ impl Pacing {
     }
 }
 
-/// Returns the longest front whose lines weigh at most so much.
-#[tactic(auto, using(crate::proofs::Lines::seen_of_part))]
+/// Returns the prefix of a piece whose lines weigh at most so much: all of a piece in which no line ends, and else
+/// whole lines, as many as weigh no more.
 fn front_within(piece: &[u8], line: Line, most: usize) -> Front
-    requires { most ≤ MOST_UNPACED }
-    ensures within { result.prefix.count ≤ length piece.now }
+    ensures longest { IsLongest line most piece.now result.prefix.count }
     ensures lines { result.prefix.lines ≡ lines (take result.prefix.count piece.now) }
-    ensures seen { result.seen ≡ seen_of line (take result.prefix.count piece.now) }
-    ensures few { result.seen.weight ≤ most }
-    ensures most { result.prefix.count < length piece.now → (slice_index piece.now result.prefix.count ≡ 10) × (most < result.seen.weight + HEAVY) }
+    ensures weight { result.weight ≡ weight_of line (take result.prefix.count piece.now) }
+    ensures more { result.more ≡ not (result.prefix.lines == lines piece.now) }
+    ensures light { IsTrue result.more → most < result.weight + MOST_CHANGES }
 {
-    let mut seen = Seen { line, weight: 0 };
-    let mut lines = 0;
-    let mut start = 0;
-    'lines: while let Some(length) = memchr(LINE_END, &piece[start..]) {
-        let end = start + length;
-        seen = seen.after(&piece[start..end]);
-        let next = seen.after_end();
-        if next.weight > most {
-            let prefix = Prefix { count: end, lines };
-            return Front { prefix, seen };
+    let mut line = line;
+    let mut prefix = Prefix { count: 0, lines: 0 };
+    let mut weight = 0;
+    'lines: while let Some(length) = memchr(LINE_END, &piece[prefix.count..]) {
+        let end = prefix.count + length;
+        let next = line.weight(&piece[prefix.count..end]);
+        if next > most - weight {
+            return Front {
+                prefix,
+                weight,
+                more: true,
+            };
         }
-        seen = next;
-        lines += 1;
-        start = end + 1;
+        line = Line::Ended;
+        prefix = Prefix {
+            count: end + 1,
+            lines: prefix.lines + 1,
+        };
+        weight += next;
     }
-    let count = piece.len();
+    if prefix.lines == 0 {
+        prefix.count = piece.len();
+    }
     Front {
-        prefix: Prefix { count, lines },
-        seen: seen.after(&piece[start..]),
+        prefix,
+        weight,
+        more: false,
     }
 }

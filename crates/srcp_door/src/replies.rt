@@ -3,10 +3,8 @@
 ghost use Rattle.std.specs.Prelude.{◌≡◌, ◌<◌, ◌-◌, ◌↔◌, ◌⊎◌, false, IsTrue};
 ghost use Rattle.srcp_door.specs.Pacing.{lines, owed_after};
 
+use crate::pacing::LINE_END;
 use memchr::arch::all::memchr::One;
-
-/// What ends a line.
-const LINE_END: u8 = b'\n';
 
 /// How many replies a peer is owed, one for each line that it sent and one for the welcome line. A panel is a peer that was
 /// written more lines than it was owed.
@@ -50,7 +48,7 @@ impl Replies {
 }
 
 /// Returns how many lines end in the bytes.
-fn lines_of(bytes: &[u8]) -> usize
+pub(crate) fn lines_of(bytes: &[u8]) -> usize
     ensures { result ≡ lines bytes.now }
 {
     // `count` of such an iterator goes from one line end to the next, where that of `memchr_iter` reads each byte.

@@ -1,7 +1,7 @@
 //! Moments that never go back.
 
 ghost use Rattle.std.specs.Prelude.{◌≡◌, ◌<◌, ◌≤◌, ◌+◌, ◌-◌, ◌*◌, ◌↔◌, IsTrue, max};
-ghost use Rattle.srcp_door.specs.Moments.{Moments, next_moment, passed, target};
+ghost use Rattle.srcp_door.specs.Moments.{Moments, next_moment, passed, target, ten_minutes};
 
 use std::marker::Model;
 
@@ -55,13 +55,13 @@ impl Timekeeper {
 
     /// Returns the moment to be told, where the clock that is never set shows so many milliseconds.
     pub fn tell(&mut self, elapsed: u64) -> u64
-        ensures told { result ≡ next_moment STEP MOST_BEHIND self.old.last (target self.old elapsed) }
+        ensures told { result ≡ next_moment 10 ten_minutes self.old.last (target self.old elapsed) }
         ensures new { self.new ≡ record { wall = self.old.wall; start = self.old.start; last = result } }
         ensures forward { self.old.last ≤ result }
         ensures within { result ≤ max self.old.last (target self.old elapsed) }
-        ensures step { target self.old elapsed ≤ self.old.last + STEP + MOST_BEHIND → result ≤ self.old.last + STEP }
-        ensures reached { target self.old elapsed ≤ self.old.last + STEP → result ≡ max self.old.last (target self.old elapsed) }
-        ensures behind { target self.old elapsed ≤ result + MOST_BEHIND }
+        ensures step { target self.old elapsed ≤ self.old.last + 10 + ten_minutes → result ≤ self.old.last + 10 }
+        ensures reached { target self.old elapsed ≤ self.old.last + 10 → result ≡ max self.old.last (target self.old elapsed) }
+        ensures behind { target self.old elapsed ≤ result + ten_minutes }
     {
         let goal = self.goal(elapsed);
         let step = self.last.saturating_add(STEP);

@@ -1,49 +1,135 @@
-use Rattle.std.proofs.Common.{◌≡◌, ◌+◌, ◌∙◌, sym, ap, take, length, slice_index, length-drop, arith}
+use Rattle.std.proofs.Common.{◌≡◌, ◌+◌, ◌∙◌, [], sym, subst, ap, refl, take, length, slice_index, length-drop, arith}
+use Rattle.std.proofs.lemmas.Bool.{eq-eqb, ne_eqb}
+use Rattle.std.proofs.Math.Seq.{take-length}
 use Rattle.std.proofs.lemmas.Grind.{common_steps}
 use Rattle.std.proofs.lemmas.List.{take_rest}
-use Rattle.srcp_door.specs.Pacing.{seen_of, seen_after}
-use Rattle.srcp_door.proofs.Lines.{lines-part, lines_of_part, lines_of-end, seen_of_part, found-end, seen_of-end}
+use Rattle.srcp_door.specs.Pacing.{Seen, lines, seen_of, weight_of}
+use Rattle.srcp_door.specs.declared.pacing.Line.TheVariants.{Ended}
+use Rattle.srcp_door.proofs.Lines.{ends_line, found-end, lines_behind, lines_of-end, lines_of_part, lines_within, longest_at, weight_none}
 use Rattle.srcp_door.proofs.pacing.front_within.Goals as goal
-
-pub after-seen-requires : goal.after-seen-requires
-after-seen-requires c =
-    let found = c.in-Some.ensures.0 in
-    let high = found-end c.args.piece.now c.lines.start c.in-Some.length found in
-    lines-part c.args.piece.now c.lines.start (c.lines.start + c.in-Some.length) (omega arith)
-    (λ k low below. found.before k low (omega arith))
 
 pub lines-preserved : goal.lines-preserved
 lines-preserved c =
-    let end = c.lines.start + c.in-Some.length in
-    let high = found-end c.args.piece.now c.lines.start c.in-Some.length c.in-Some.ensures.0 in
-    let part = seen_of_part c.args.line c.args.piece.now c.lines.start end (omega arith) in
-    let before : c.after-seen.result ≡ seen_of c.args.line (take end c.args.piece.now) = grind (arith, common_steps) in
-    let here : slice_index c.args.piece.now end ≡ 10 = grind (arith, common_steps) in
-    let ended = seen_of-end c.args.line c.args.piece.now end high here in
-    let same = lines_of_part c.args.piece.now c.lines.start end (omega arith) (omega arith)
-    (λ k low below. c.in-Some.ensures.0.before k low (omega arith)) in
-    let one = lines_of-end c.args.piece.now end high here in
+    let piece = c.args.piece.now in
+    let start = c.lines.prefix.count in
+    let end = start + c.in-Some.length in
+    let found = c.in-Some.ensures.0 in
+    let high = found-end piece start c.in-Some.length found in
+    let here : slice_index piece end ≡ 10 = grind (arith, common_steps) in
+    let ended = ends_line c.args.line c.lines.line piece start end c.lines.weight (omega arith) high here
+    (λ k low below. found.before k low (omega arith)) c.lines.invariant.seen in
+    let same = lines_of_part piece start end (omega arith) (omega arith) (λ k low below. found.before k low (omega arith)) in
+    let one = lines_of-end piece end high here in
     record {
       within = omega arith;
-      seen = c.after_end-next.ensures ∙ ap (λ seen. seen_after seen 10) before ∙ sym ended;
+      seen =
+          subst (λ n. record { line = Ended; text = []; weight = c.lines.weight + n } ≡ seen_of c.args.line (take (end + 1) piece))
+          (sym c.weight-next.ensures.weight) ended;
       few = omega arith;
       lines = omega (arith, c.lines.invariant.lines, same, one);
       most = omega (arith, c.lines.invariant.most);
     }
 
-pub after-requires : goal.after-requires
-after-requires c =
-    lines-part c.args.piece.now c.lines.start (length c.args.piece.now) (omega arith)
+pub returns-then-next-most-clause-longest : goal.returns-then-next-most-clause-longest
+returns-then-next-most-clause-longest c =
+    let piece = c.args.piece.now in
+    let start = c.lines.prefix.count in
+    let end = start + c.in-Some.length in
+    let found = c.in-Some.ensures.0 in
+    let high = found-end piece start c.in-Some.length found in
+    let here : slice_index piece end ≡ 10 = grind (arith, common_steps) in
+    let seen = c.lines.invariant.seen in
+    let weight = ap (λ (s : Seen). s.weight) seen in
+    let ended = ends_line c.args.line c.lines.line piece start end c.lines.weight (omega arith) high here
+    (λ k low below. found.before k low (omega arith)) seen in
+    let heavier : c.lines.weight + c.weight-next.result ≡ weight_of c.args.line (take (end + 1) piece) =
+    ap (λ n. c.lines.weight + n) c.weight-next.ensures.weight ∙ ap (λ (s : Seen). s.weight) ended in
+    let same = lines_of_part piece start end (omega arith) (omega arith) (λ k low below. found.before k low (omega arith)) in
+    let behind = lines_behind piece start end high here same in
+    record {
+      within = c.lines.invariant.within;
+      few = omega (arith, weight, c.lines.invariant.few);
+      longest = longest_at c.args.line piece start end c.args.most same (omega (arith, heavier));
+      whole = λ some. sym (ap (λ (s : Seen). s.text) seen);
+      begun = λ none. absurd (omega (arith, none, behind));
+    }
+
+pub returns-then-next-most-clause-more : goal.returns-then-next-most-clause-more
+returns-then-next-most-clause-more c =
+    let piece = c.args.piece.now in
+    let start = c.lines.prefix.count in
+    let end = start + c.in-Some.length in
+    let found = c.in-Some.ensures.0 in
+    let high = found-end piece start c.in-Some.length found in
+    let here : slice_index piece end ≡ 10 = grind (arith, common_steps) in
+    let same = lines_of_part piece start end (omega arith) (omega arith) (λ k low below. found.before k low (omega arith)) in
+    let behind = lines_behind piece start end high here same in
+    rw (ne_eqb c.lines.prefix.lines (lines piece) (omega (arith, behind, c.lines.invariant.lines))) refl
+
+pub returns-then-prefix-eq0-clause-longest : goal.returns-then-prefix-eq0-clause-longest
+returns-then-prefix-eq0-clause-longest c =
+    let piece = c.args.piece.now in
+    let start = c.lines.prefix.count in
+    let same = lines_of_part piece start (length piece) (omega arith) (omega arith)
+    (λ k low below. c.in_default.ensures k low (rw take_rest (rw length-drop below))) in
+    let all = ap lines (take-length piece) in
+    let none : lines piece ≡ 0 = omega (arith, same, all, c.lines.invariant.lines) in
+    let light = weight_none c.args.line piece none in
+    let light_all = ap (weight_of c.args.line) (take-length piece) in
+    record {
+      within = omega arith;
+      few = omega (arith, light, light_all);
+      longest = λ n within more. let few = lines_within piece n within in absurd (omega (arith, few, more, all));
+      whole = λ some. absurd (some none);
+      begun = λ e. refl;
+    }
+
+pub returns-then-prefix-eq0-clause-lines : goal.returns-then-prefix-eq0-clause-lines
+returns-then-prefix-eq0-clause-lines c =
+    let piece = c.args.piece.now in
+    c.lines.invariant.lines
+    ∙ lines_of_part piece c.lines.prefix.count (length piece) (omega arith) (omega arith)
     (λ k low below. c.in_default.ensures k low (rw take_rest (rw length-drop below)))
 
-pub returns-then-next-most-clause-lines : goal.returns-then-next-most-clause-lines
-returns-then-next-most-clause-lines c =
-    let end = c.lines.start + c.in-Some.length in
-    let high = found-end c.args.piece.now c.lines.start c.in-Some.length c.in-Some.ensures.0 in
-    c.lines.invariant.lines ∙ lines_of_part c.args.piece.now c.lines.start end (omega arith) (omega arith)
-    (λ k low below. c.in-Some.ensures.0.before k low (omega arith))
+pub returns-then-prefix-eq0-clause-weight : goal.returns-then-prefix-eq0-clause-weight
+returns-then-prefix-eq0-clause-weight c =
+    let piece = c.args.piece.now in
+    let start = c.lines.prefix.count in
+    let same = lines_of_part piece start (length piece) (omega arith) (omega arith)
+    (λ k low below. c.in_default.ensures k low (rw take_rest (rw length-drop below))) in
+    let before = weight_none c.args.line (take start piece) (omega (arith, c.lines.invariant.lines)) in
+    let all = weight_none c.args.line (take (length piece) piece) (omega (arith, same, c.lines.invariant.lines)) in
+    ap (λ (s : Seen). s.weight) c.lines.invariant.seen ∙ before ∙ sym all
 
-pub returns-clause-lines : goal.returns-clause-lines
-returns-clause-lines c =
-    c.lines.invariant.lines ∙ lines_of_part c.args.piece.now c.lines.start (length c.args.piece.now) (omega arith) (omega arith)
-    (λ k low below. c.in_default.ensures k low (rw take_rest (rw length-drop below)))
+pub returns-then-prefix-eq0-clause-more : goal.returns-then-prefix-eq0-clause-more
+returns-then-prefix-eq0-clause-more c =
+    let piece = c.args.piece.now in
+    let same = lines_of_part piece c.lines.prefix.count (length piece) (omega arith) (omega arith)
+    (λ k low below. c.in_default.ensures k low (rw take_rest (rw length-drop below))) in
+    let is : c.lines.prefix.lines ≡ lines piece = c.lines.invariant.lines ∙ same ∙ ap lines (take-length piece) in
+    rw (eq-eqb c.lines.prefix.lines (lines piece) is) refl
+
+pub returns-else-prefix-eq0-clause-longest : goal.returns-else-prefix-eq0-clause-longest
+returns-else-prefix-eq0-clause-longest c =
+    let piece = c.args.piece.now in
+    let start = c.lines.prefix.count in
+    let same = lines_of_part piece start (length piece) (omega arith) (omega arith)
+    (λ k low below. c.in_default.ensures k low (rw take_rest (rw length-drop below))) in
+    let all = ap lines (take-length piece) in
+    let seen = c.lines.invariant.seen in
+    let weight = ap (λ (s : Seen). s.weight) seen in
+    record {
+      within = c.lines.invariant.within;
+      few = omega (arith, weight, c.lines.invariant.few);
+      longest = λ n within more. let few = lines_within piece n within in absurd (omega (arith, few, more, same, all));
+      whole = λ some. sym (ap (λ (s : Seen). s.text) seen);
+      begun = λ none. absurd (omega (arith, none, same, all, c.lines.invariant.lines));
+    }
+
+pub returns-else-prefix-eq0-clause-more : goal.returns-else-prefix-eq0-clause-more
+returns-else-prefix-eq0-clause-more c =
+    let piece = c.args.piece.now in
+    let same = lines_of_part piece c.lines.prefix.count (length piece) (omega arith) (omega arith)
+    (λ k low below. c.in_default.ensures k low (rw take_rest (rw length-drop below))) in
+    let is : c.lines.prefix.lines ≡ lines piece = c.lines.invariant.lines ∙ same ∙ ap lines (take-length piece) in
+    rw (eq-eqb c.lines.prefix.lines (lines piece) is) refl
