@@ -1,17 +1,15 @@
 -- How much lines weigh, and what is seen of the pacing.
-use Rattle.std.specs.Prelude.{◌≡◌, ◌≢◌, ℕ, ◌+◌, ◌-◌, ◌<◌, ◌≤◌, ◌^◌, ◌==◌, Bool, ◌||◌, ◌&&◌, not, cond, min, List, [], ◌∷◌, ◌++◌, length, take, fold, count_by}
+use Rattle.std.specs.Prelude.{◌≡◌, ◌≢◌, ℕ, ◌+◌, ◌-◌, ◌<◌, ◌≤◌, ◌==◌, Bool, ◌||◌, ◌&&◌, not, cond, max, List, [], ◌∷◌, ◌++◌, length, take, fold, count_by, Option}
+use Rattle.std.specs.Option.{unwrap_or}
 use Rattle.srcp_rules.specs.Weight.{weight}
 use Rattle.srcp_door.specs.declared.pacing.Line.{Line}
 use Rattle.srcp_door.specs.declared.pacing.Line.TheVariants.{Ended, Begun}
-use Rattle.srcp_door.specs.declared.pacing.Pace.{Pace}
-use Rattle.srcp_door.specs.declared.pacing.Pace.TheVariants.{Unpaced, Paced}
 use Rattle.srcp_door.specs.declared.pacing.Share.{Share}
-use Rattle.srcp_door.specs.declared.replies.Replies.{Replies}
 
--- how much may still be let through in this turn, whether a peer was refused its first line, and whether the end of a
--- peer may still be told
+-- how much the lines may still weigh that are let through in this turn, whether a peer was refused its first line, and
+-- whether the end of a peer may still be told
 pub record Budget : Type 0 where
-  pub pace : Pace
+  pub left : ℕ
   pub refused : Bool
   pub end : Bool
 
@@ -69,20 +67,18 @@ pub record IsLongest (line : Line) (most : ℕ) (piece : List ℕ) (count : ℕ)
   pub whole : lines piece ≢ 0 → (seen_of line (take count piece)).text ≡ []
   pub begun : lines piece ≡ 0 → count ≡ length piece
 
--- the prefix of a peer's piece that may go in a turn; a peer that has its mark gets no line that weighs something
-abbrev pub Allows : Pace → Share → (piece : List ℕ) (count : ℕ) → Type 0
-Allows Unpaced share piece count = count ≡ length piece
-Allows (Paced left) share piece count = IsLongest share.line (cond share.mark 0 left) piece count
+-- how much the lines of a turn may weigh, by the slack of the panels, which is 256 if there is none, since one may
+-- begin: 160 of it are left to moments and ends of sessions. Once a millisecond it is as much as any line weighs.
+abbrev pub allowance : (slack : Option ℕ) (ticked : Bool) → ℕ
+allowance slack ticked = max (unwrap_or slack 256 - 160) (cond ticked 11 0)
 
--- how much may be let through after bytes that follow a line
-abbrev pub pace_after : Pace → Line → (handed : List ℕ) → Pace
-pace_after Unpaced line handed = Unpaced
-pace_after (Paced left) line handed = Paced (left - weight_of line handed)
+-- the prefix of a peer's piece that may go in a turn; a peer that has its mark gets no line that weighs something
+abbrev pub Allows : (left : ℕ) → Share → (piece : List ℕ) (count : ℕ) → Type 0
+Allows left share piece count = IsLongest share.line (cond share.mark 0 left) piece count
 
 -- a peer's share after bytes were handed out to it: it has its mark if a line that weighs something ended in them
-abbrev pub share_after : Pace → Share → (handed : List ℕ) → Share
-share_after Unpaced share handed = record { line = line_after share.line handed; mark = share.mark }
-share_after (Paced left) share handed = record {
+abbrev pub share_after : Share → (handed : List ℕ) → Share
+share_after share handed = record {
   line = line_after share.line handed;
   mark = share.mark || not (weight_of share.line handed == 0);
 }
@@ -91,16 +87,7 @@ share_after (Paced left) share handed = record {
 -- back and it has no mark
 abbrev pub budget_after : Budget → Share → (piece handed : List ℕ) → Budget
 budget_after budget share piece handed = record {
-  pace = pace_after budget.pace share.line handed;
-  refused = budget.refused || not (lines handed == lines piece) && not (share_after budget.pace share handed).mark;
+  left = budget.left - weight_of share.line handed;
+  refused = budget.refused || not (lines handed == lines piece) && not (share_after share handed).mark;
   end = budget.end;
 }
-
--- less may be let through than any line can weigh
-abbrev pub IsShort : Pace → Type 0
-IsShort Unpaced = ⊥
-IsShort (Paced left) = left < 11
-
--- what a peer is owed after it sent so many lines
-abbrev pub owed_after : Replies → ℕ → Replies
-owed_after replies count = record { owed = min (replies.owed + count) (2 ^ 64 - 1); panel = replies.panel }

@@ -1,8 +1,8 @@
 //! The parts of a door over sockets, as values without sockets: what is gathered for a peer (`Held`), what was read ahead of
-//! it (`ReadAhead`), how lines are paced (`Pacing`), how an end is told (`Ending`), what a panel is known by (`Replies`), all
-//! of them for one peer (`Link`), and the moments that are told (`Timekeeper`).
+//! it (`ReadAhead`), how lines are paced (`Pacing`), how an end is told (`Ending`), all of them for one peer
+//! (`Link`), and the moments that are told (`Timekeeper`).
 //!
-//! It makes no system call and knows no protocol but where a line ends and which word it begins with.
+//! It makes no system call and knows no protocol but where a line ends. What a line weighs `srcp_rules` says.
 #![tactic(auto)]
 
 mod ending;
@@ -10,13 +10,11 @@ mod held;
 mod link;
 mod pacing;
 mod read_ahead;
-mod replies;
 mod timekeeper;
 
 pub use ending::Ending;
 pub use held::{Gathered, HandedOver, Held, MOST_GATHERED};
 pub use link::Link;
-pub use pacing::{Line, MOST_WEIGHT, Pace, Pacing, Prefix, Share};
+pub use pacing::{Line, MOST_SLACK, Pacing, RESERVE, Share};
 pub use read_ahead::{Filled, Given, Input, MOST_AHEAD, MOST_PIECE, ReadAhead};
-pub use replies::Replies;
 pub use timekeeper::Timekeeper;

@@ -3,7 +3,7 @@
 ghost use Rattle.std.specs.Prelude.{◌≡◌, ◌≢◌, ◌↔◌, ◌<◌, ◌≤◌, ◌+◌, ◌-◌, ◌++◌, ◌==◌, ◌⊎◌, ◌||◌, [], true, false, not, cond, Bool, ℕ, IfOk, IfSome, IfNone, IsTrue, length, take, drop, min};
 ghost use Rattle.std.specs.Io.KnownBytes.{Keeps, append_known, prepend_known};
 ghost use Rattle.srcp_door.specs.Ahead.{Ahead, given};
-ghost use Rattle.srcp_door.specs.Pacing.{Allows, Budget, budget_after, lines, owed_after, share_after};
+ghost use Rattle.srcp_door.specs.Pacing.{Allows, Budget, budget_after, share_after};
 ghost use Rattle.srcp_door.specs.Ends.{begun, due_end, is_told, written};
 ghost use Rattle.srcp_door.specs.declared.ending.Ending.{Ending};
 ghost use Rattle.srcp_door.specs.declared.read_ahead.Input.{Input};
@@ -13,7 +13,6 @@ use crate::ending::Ending;
 use crate::held::{Gathered, HandedOver, Held, MOST_GATHERED};
 use crate::pacing::{Line, Pacing, Share};
 use crate::read_ahead::{Filled, Given, Input, MOST_PIECE, ReadAhead};
-use crate::replies::Replies;
 use std::alloc::{AllocError, Global};
 use std::io::{Read, Write};
 
@@ -28,8 +27,6 @@ pub struct Link {
     pub ending: Ending,
     /// Its share of the lines that are let through.
     pub share: Share,
-    /// How many lines it is owed, and whether it is a panel.
-    pub replies: Replies,
     /// Whether its socket takes no more.
     pub lost: bool,
 }
@@ -41,7 +38,7 @@ impl Link {
     /// # Errors
     /// Where memory is refused.
     pub fn new(alloc: Global) -> Result<Link, AllocError>
-        ensures { IfOk result (λ link. link ≡ record { gathered = []; ahead = record { bytes = []; input = Input.Open }; ending = Ending.Open; share = record { line = Line.Ended; mark = true }; replies = record { owed = 1; panel = false }; lost = false }) }
+        ensures { IfOk result (λ link. link ≡ record { gathered = []; ahead = record { bytes = []; input = Input.Open }; ending = Ending.Open; share = record { line = Line.Ended; mark = true }; lost = false }) }
     {
         Ok(Link {
             gathered: Held::new(alloc)?,
@@ -51,7 +48,6 @@ impl Link {
                 line: Line::Ended,
                 mark: true,
             },
-            replies: Replies::new(),
             lost: false,
         })
     }
@@ -63,7 +59,7 @@ impl Link {
         ensures all { self.new.lost ≡ false → (result ≡ HandedOver.All ↔ self.new.gathered ≡ []) }
         ensures lost { result ≡ HandedOver.Lost ↔ self.new.lost ≡ true }
         ensures once_lost { self.old.lost ≡ true → (self.new ≡ self.old) × (writer.new ≡ writer.old) }
-        ensures others { self.new ≡ record { gathered = self.new.gathered; ahead = self.old.ahead; ending = self.old.ending; share = self.old.share; replies = self.old.replies; lost = self.new.lost } }
+        ensures others { self.new ≡ record { gathered = self.new.gathered; ahead = self.old.ahead; ending = self.old.ending; share = self.old.share; lost = self.new.lost } }
     {
         if self.lost {
             return HandedOver::Lost;
@@ -79,7 +75,7 @@ impl Link {
         ensures same { result ≢ Filled.Something → self.new ≡ self.old }
         ensures asked { self.old.ahead.input ≡ Input.Open → length self.old.ahead.bytes < MOST_PIECE → result ≢ Filled.Unasked }
         ensures something { result ≡ Filled.Something → (length self.old.ahead.bytes < length self.new.ahead.bytes) ⊎ (self.new.ahead.input ≢ Input.Open) }
-        ensures others { self.new ≡ record { gathered = self.old.gathered; ahead = self.new.ahead; ending = self.old.ending; share = self.old.share; replies = self.old.replies; lost = self.old.lost } }
+        ensures others { self.new ≡ record { gathered = self.old.gathered; ahead = self.new.ahead; ending = self.old.ending; share = self.old.share; lost = self.old.lost } }
     {
         self.ahead.fill(reader)
     }
@@ -89,7 +85,7 @@ impl Link {
         ensures ending { (ended : Bool) → (IsTrue ended ↔ ((self.old.ahead.bytes ≡ []) × (self.old.ahead.input ≡ Input.Ended)))
             → self.new.ending ≡ begun self.old.ending ended (not (length self.old.gathered == 0)) }
         ensures share { self.new.share ≡ record { line = self.old.share.line; mark = cond clear false self.old.share.mark } }
-        ensures others { self.new ≡ record { gathered = self.old.gathered; ahead = self.old.ahead; ending = self.new.ending; share = self.new.share; replies = self.old.replies; lost = self.old.lost } }
+        ensures others { self.new ≡ record { gathered = self.old.gathered; ahead = self.old.ahead; ending = self.new.ending; share = self.new.share; lost = self.old.lost } }
     {
         let gathered = !self.gathered.is_empty();
         self.ending = self.ending.begin_turn(self.ahead.is_over(), gathered);
@@ -105,10 +101,10 @@ impl Link {
         ensures count { (n : ℕ) → result ≡ Given.Bytes n → (0 < n) × (n ≤ min (length buffer.old) MOST_PIECE) }
         ensures allowed { self.old.ahead.bytes ≢ []
             → let piece = take (min (length buffer.old) MOST_PIECE) self.old.ahead.bytes in
-            Allows pacing.old.pace self.old.share piece (length (given result buffer.new)) }
+            Allows pacing.old.left self.old.share piece (length (given result buffer.new)) }
         ensures told { self.old.ahead.bytes ≡ [] → (self.new ≡ self.old)
             × (result ≡ cond pacing.old.end (due_end self.old.lost self.old.ahead.input self.old.ending) Given.Nothing)
-            × (pacing.new ≡ record { pace = pacing.old.pace; refused = pacing.old.refused; end = cond (is_told result) false pacing.old.end }) }
+            × (pacing.new ≡ record { left = pacing.old.left; refused = pacing.old.refused; end = cond (is_told result) false pacing.old.end }) }
         ensures handed { self.old.ahead.bytes ≢ [] → let handed = given result buffer.new in
             let piece = take (min (length buffer.old) MOST_PIECE) self.old.ahead.bytes in
             (is_told result ≡ not (length handed == 0))
@@ -116,8 +112,7 @@ impl Link {
               gathered = self.old.gathered;
               ahead = self.new.ahead;
               ending = self.old.ending;
-              share = share_after pacing.old.pace self.old.share handed;
-              replies = owed_after self.old.replies (lines handed);
+              share = share_after self.old.share handed;
               lost = self.old.lost;
             })
             × (pacing.new ≡ budget_after pacing.old self.old.share piece handed) }
@@ -128,9 +123,8 @@ impl Link {
         }
         let within = buffer.len().min(MOST_PIECE);
         let piece = self.ahead.piece(within);
-        let allowed = pacing.allow(&mut self.share, piece);
-        self.replies.sent(allowed.lines);
-        self.ahead.hand_out(allowed.count, buffer)
+        let count = pacing.allow(&mut self.share, piece);
+        self.ahead.hand_out(count, buffer)
     }
 
     /// Returns whether a read has something to hand out or to tell now or in the next turn.
@@ -154,7 +148,7 @@ impl Link {
     /// Returns what is told where nothing is held of it.
     fn told_end(&self, pacing: &mut Pacing) -> Given
         ensures result { result ≡ cond pacing.old.end (due_end self.now.lost self.now.ahead.input self.now.ending) Given.Nothing }
-        ensures pacing { pacing.new ≡ record { pace = pacing.old.pace; refused = pacing.old.refused; end = cond (is_told result) false pacing.old.end } }
+        ensures pacing { pacing.new ≡ record { left = pacing.old.left; refused = pacing.old.refused; end = cond (is_told result) false pacing.old.end } }
     {
         let due = self.due_end();
         if due == Given::Nothing || !pacing.allow_end() {
@@ -180,18 +174,12 @@ impl Link {
     pub fn write(&mut self, bytes: &[u8]) -> usize
         ensures count { result ≡ cond self.old.lost (length bytes.now) (min (length bytes.now) (MOST_GATHERED - length self.old.gathered)) }
         ensures gathered { self.new.gathered ≡ cond self.old.lost self.old.gathered (self.old.gathered ++ take result bytes.now) }
-        ensures panel { IsTrue self.new.replies.panel ↔ (IsTrue self.old.replies.panel ⊎ ((self.old.lost ≡ false) × (self.old.replies.owed < lines (take result bytes.now)))) }
-        ensures owed { self.new.replies.owed ≡ cond (self.old.lost || self.old.replies.panel) self.old.replies.owed (self.old.replies.owed - lines (take result bytes.now)) }
-        ensures others { self.new ≡ record { gathered = self.new.gathered; ahead = self.old.ahead; ending = written self.old.ending; share = self.old.share; replies = self.new.replies; lost = self.old.lost } }
+        ensures others { self.new ≡ record { gathered = self.new.gathered; ahead = self.old.ahead; ending = written self.old.ending; share = self.old.share; lost = self.old.lost } }
     {
         self.ending = self.ending.written();
         if self.lost {
             return bytes.len();
         }
-        let count = self.gathered.take(bytes);
-        if !self.replies.panel {
-            self.replies.written(&bytes[..count]);
-        }
-        count
+        self.gathered.take(bytes)
     }
 }

@@ -1,26 +1,27 @@
 //! How many lines are let through in a turn.
 
-ghost use Rattle.std.specs.Prelude.{◌≡◌, ◌<◌, ◌≤◌, ◌+◌, ◌↔◌, ◌⊎◌, ◌==◌, false, true, not, cond, IsTrue, length, take};
-ghost use Rattle.srcp_door.specs.Pacing.{Allows, Budget, IsLongest, IsShort, budget_after, line_after, line_weight};
+ghost use Rattle.std.specs.Prelude.{◌≡◌, ◌<◌, ◌≤◌, ◌+◌, ◌↔◌, ◌==◌, false, true, not, IsTrue, length, take};
+ghost use Rattle.srcp_door.specs.Pacing.{Allows, Budget, IsLongest, allowance, budget_after, line_after, line_weight};
 ghost use Rattle.srcp_door.specs.Pacing.{lines, share_after, weight_of};
 
-use crate::replies::lines_of;
 use memchr::memchr;
 use srcp_rules::{MOST_CHANGES, weight};
 use std::marker::Model;
 
-/// How much the lines of a turn weigh at most while a panel is there.
-pub const MOST_WEIGHT: usize = 88;
+/// How many changes may come in a turn before a panel overruns, if none is there when it begins: one may begin in it.
+pub const MOST_SLACK: usize = 256;
 
-// The lines of two turns meet between two visits of a panel. Of the 256 changes that may wait for it, they leave 80 to
-// what moments and ends of sessions bring.
-const _: () = prove!(2 * MOST_WEIGHT + 80 <= 256);
+/// How many of the changes that may come in a turn are left to moments and the ends of sessions.
+pub const RESERVE: usize = 160;
 
-// Each line may go in some turn.
-const _: () = prove!(MOST_CHANGES <= MOST_WEIGHT);
+// A session that ends with 150 locks closes no panel for which nothing waits.
+const _: () = prove!(150 + 1 <= RESERVE);
+
+// Any line may go while nothing waits for a panel.
+const _: () = prove!(RESERVE + MOST_CHANGES <= MOST_SLACK);
 
 /// What ends a line.
-pub(crate) const LINE_END: u8 = b'\n';
+const LINE_END: u8 = b'\n';
 
 /// Whether the line of a peer that is being handed out began in an earlier piece.
 #[derive(Clone, Copy)]
@@ -65,22 +66,13 @@ pub struct Share {
     pub mark: bool,
 }
 
-/// How much the lines may still weigh that are let through in a turn.
-#[derive(Clone, Copy)]
-pub enum Pace {
-    /// As much as they like: no panel is there.
-    Unpaced,
-    /// So much.
-    Paced { left: usize },
-}
-
 /// A prefix of a piece.
 #[derive(Clone, Copy)]
-pub struct Prefix {
-    /// How many bytes it has.
-    pub count: usize,
-    /// How many lines end in it.
-    pub lines: usize,
+struct Prefix {
+    // How many bytes it has.
+    count: usize,
+    // How many lines end in it.
+    lines: usize,
 }
 
 /// A prefix of a piece, and what was seen of it.
@@ -97,85 +89,78 @@ struct Front {
 /// whether the end of a peer may still be told. Seen as a record of the three.
 #[derive(Drop)]
 pub struct Pacing {
-    pace: Pace,
+    left: usize,
     refused: bool,
     end: bool,
 }
 
 impl Model for Pacing {
-    ghost use Rattle.std.specs.Prelude.{IsTrue};
-    ghost use Rattle.srcp_door.specs.Pacing.{Budget, IsShort};
+    ghost use Rattle.std.specs.Prelude.{◌<◌, IsTrue};
+    ghost use Rattle.srcp_rules.specs.declared.obeyed.TheConstants.{MOST_CHANGES};
+    ghost use Rattle.srcp_door.specs.Pacing.{Budget};
 
     ghost Value = { Budget };
 
-    ghost view = { λ p. record { pace = p.pace; refused = p.refused; end = p.end } };
+    ghost view = { λ p. record { left = p.left; refused = p.refused; end = p.end } };
 
-    ghost invariant = { λ p. IsTrue p.refused → IsShort p.pace };
+    ghost invariant = { λ p. IsTrue p.refused → p.left < MOST_CHANGES };
 }
 
 impl Pacing {
     /// Lets no line through that weighs something, before the first turn.
     pub fn new() -> Pacing
-        ensures { result ≡ record { pace = Pace.Paced 0; refused = false; end = false } }
+        ensures { result ≡ record { left = 0; refused = false; end = false } }
     {
         Pacing {
-            pace: Pace::Paced { left: 0 },
+            left: 0,
             refused: false,
             end: false,
         }
     }
 
-    /// Begins a turn, with all its lines to be let through. Returns whether every peer that asked for a line since the
-    /// marks were cleared got one: they are to be cleared then.
-    pub fn begin_turn(&mut self, panel: bool) -> bool
-        ensures budget { let pace = cond panel (Pace.Paced MOST_WEIGHT) Pace.Unpaced in
-            self.new ≡ record { pace = pace; refused = false; end = true } }
+    /// Begins a turn, by how many changes may come before a panel overruns, if one is there. Its lines may weigh as much as
+    /// that less what is left to moments and ends of sessions. If the clock has ticked since the turn before, they may weigh
+    /// as much as one line at least, so that nobody starves behind a panel that does not read. Returns whether every peer that
+    /// asked for a line since the marks were cleared got one: they are to be cleared then.
+    pub fn begin_turn(&mut self, slack: Option<usize>, ticked: bool) -> bool
+        ensures budget { self.new ≡ record { left = allowance slack ticked; refused = false; end = true } }
         ensures round { IsTrue result ↔ self.old.refused ≡ false }
     {
         let round = !self.refused;
-        self.pace = if panel {
-            Pace::Paced { left: MOST_WEIGHT }
-        } else {
-            Pace::Unpaced
-        };
+        let least = if ticked { MOST_CHANGES } else { 0 };
+        self.left = slack
+            .unwrap_or(MOST_SLACK)
+            .saturating_sub(RESERVE)
+            .max(least);
         self.refused = false;
         self.end = true;
         round
     }
 
-    /// Returns the prefix of a peer's piece that may be handed out now. If lines are paced, that is all of a piece in
-    /// which no line ends, and else whole lines, as many as may go. A peer that has its mark gets none that weighs
-    /// something, and one that gets such a line gets its mark.
-    pub fn allow(&mut self, share: &mut Share, piece: &[u8]) -> Prefix
-        ensures allowed { Allows self.old.pace share.old piece.now result.count }
-        ensures within { result.count ≤ length piece.now }
-        ensures lines { result.lines ≡ lines (take result.count piece.now) }
-        ensures share { share.new ≡ share_after self.old.pace share.old (take result.count piece.now) }
-        ensures budget { self.new ≡ budget_after self.old share.old piece.now (take result.count piece.now) }
-        ensures fair { IsTrue self.new.refused → IsShort self.new.pace }
+    /// Returns how many bytes of a peer's piece may be handed out now: all of a piece in which no line ends, and else those of
+    /// whole lines, as many as may go. A peer that has its mark gets none that weighs something, and one that gets such a line
+    /// gets its mark.
+    pub fn allow(&mut self, share: &mut Share, piece: &[u8]) -> usize
+        ensures allowed { Allows self.old.left share.old piece.now result }
+        ensures within { result ≤ length piece.now }
+        ensures share { share.new ≡ share_after share.old (take result piece.now) }
+        ensures budget { self.new ≡ budget_after self.old share.old piece.now (take result piece.now) }
+        ensures fair { IsTrue self.new.refused → self.new.left < MOST_CHANGES }
     {
-        let Pace::Paced { left } = self.pace else {
-            share.line = share.line.after(piece);
-            return Prefix {
-                count: piece.len(),
-                lines: lines_of(piece),
-            };
-        };
-        let most = if share.mark { 0 } else { left };
+        let most = if share.mark { 0 } else { self.left };
         let front = front_within(piece, share.line, most);
-        self.pace = Pace::Paced {
-            left: left - front.weight,
-        };
-        share.line = share.line.after(&piece[..front.prefix.count]);
+        let count = front.prefix.count;
+        self.left -= front.weight;
+        share.line = share.line.after(&piece[..count]);
         share.mark |= front.weight > 0;
         self.refused |= front.more && !share.mark;
-        front.prefix
+        count
     }
 
     /// Returns whether the end of a peer may be told now, which is then the one of this turn.
     pub fn allow_end(&mut self) -> bool
         ensures allowed { result ≡ self.old.end }
-        ensures new { self.new ≡ record { pace = self.old.pace; refused = self.old.refused; end = false } }
+        ensures new { self.new ≡ record { left = self.old.left; refused = self.old.refused; end = false } }
     {
         let allowed = self.end;
         self.end = false;

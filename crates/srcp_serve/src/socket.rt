@@ -27,7 +27,7 @@ const LAST_WAIT: u64 = 10_000;
 /// How often it looks at its clock meanwhile, at most.
 const LAST_LOOKS: u32 = 1_000_000;
 
-/// How long `now` waits where the system refuses to, in milliseconds.
+/// How long the door rests if the system refuses to wait or ends a wait early, in milliseconds.
 const REST: u64 = 8;
 
 /// Peers over TCP on the machine itself, at 127.0.0.1, with the clock that it was handed. Each peer has a number above
@@ -37,8 +37,9 @@ const REST: u64 = 8;
 /// or something falls due. Then it reads up to 4,096 bytes of each peer ahead. What a peer is written is gathered, up to 40,960
 /// bytes of it.
 ///
-/// While a panel is there, the lines that are handed out in a turn weigh at most 88, and the rest waits for the next turns. A
-/// peer whose input ends is told to have ended after a turn that wrote nothing to it. One that is let go is kept aside until
+/// The lines that are handed out in a turn can bring no more changes than may come before a panel overruns, less what is left
+/// to moments and ends of sessions, but for the changes of one line each millisecond. The rest waits for the next turns.
+/// A peer whose input ends is told to have ended after a turn that wrote nothing to it. One that is let go is kept aside until
 /// its socket took all that was gathered, 10 seconds at most.
 pub struct SocketDoor<C: Clock + Drop> {
     sockets: Sockets,
@@ -50,7 +51,7 @@ pub struct SocketDoor<C: Clock + Drop> {
     late: bool,
     // The moment at which something falls due next, if anything does.
     due: Option<u64>,
-    // How many more changes may come upon each information session, if there is one.
+    // How many changes may come before an information session overruns, if there is one.
     slack: Option<usize>,
     tally: Tally,
 }
@@ -120,9 +121,15 @@ fn open<N: Net, C: Clock>(
 ) -> io::Result<(Sockets, Timekeeper)> {
     let listener = TcpListener::bind(net, SocketAddr::from((Ipv4Addr::LOCALHOST, port)))?;
     let sockets = Sockets::new(alloc, listener, Poll::new(net)?)?;
-    let wall = milliseconds(clock.since_1970()?);
-    let start = milliseconds(clock.monotonic()?);
+    // A clock that cannot be read, or stands before 1970, counts as 0.
+    let wall = clock.since_1970().map_or(0, milliseconds);
+    let start = clock.monotonic().map_or(0, milliseconds);
     Ok((sockets, Timekeeper::new(wall, start)))
+}
+
+/// Returns whether a wait that found no socket ready was ended by something else than its time.
+fn ends_early(most: Option<u64>, took: u64) -> bool {
+    most.is_some_and(|most| took < most)
 }
 
 fn milliseconds(time: Duration) -> u64 {
@@ -134,7 +141,11 @@ impl<C: Clock + Drop> Drop for SocketDoor<C> {
     fn drop(mut self) {
         for _ in 0..LAST_LOOKS {
             let now = self.clock.monotonic().map_or(u64::MAX, milliseconds);
-            if self.sockets.deliver(now) || now >= self.elapsed.saturating_add(LAST_WAIT) {
+            let delivered = self.sockets.deliver(now);
+            if delivered.is_err() {
+                self.clock.sleep(Duration::from_millis(REST));
+            }
+            if delivered.unwrap_or(false) || now >= self.elapsed.saturating_add(LAST_WAIT) {
                 break;
             }
         }
@@ -163,14 +174,18 @@ impl<C: Clock + Drop> Door for SocketDoor<C> {
     /// of 10 from the moment on at which something falls due.
     fn now(&mut self) -> Result<u64, DoorFault> {
         let calm = self.calm();
-        let begun = self.sockets.begin_turn(self.elapsed, calm, self.slack.is_some());
-        if begun.is_err() {
-            self.clock.sleep(Duration::from_millis(REST));
-        }
+        let waited = self.sockets.begin_turn(self.elapsed, calm, self.slack);
         let Ok(time) = self.clock.monotonic() else {
             return Err(self.failed(DoorFault::Now));
         };
-        self.elapsed = milliseconds(time);
+        let elapsed = milliseconds(time);
+        if waited.map_or(
+            true,
+            |most| ends_early(most, elapsed.saturating_sub(self.elapsed)),
+        ) {
+            self.clock.sleep(Duration::from_millis(REST));
+        }
+        self.elapsed = elapsed;
         self.timekeeper.pass(self.elapsed, self.due);
         let moment = self.timekeeper.tell(self.elapsed);
         self.late = self.timekeeper.is_late(self.elapsed);
@@ -184,7 +199,11 @@ impl<C: Clock + Drop> Door for SocketDoor<C> {
         }
     }
 
+    /// Hands out what was read of a peer, but nothing in a turn that is late: what fell due comes first.
     fn read(&mut self, peer: u32, buf: &mut [u8]) -> Result<Got, DoorFault> {
+        if self.late {
+            return Ok(Got::Nothing);
+        }
         match self.sockets.read(peer, buf) {
             Ok(Given::Bytes(count)) => Ok(Got::Bytes(count)),
             Ok(Given::Nothing) => Ok(Got::Nothing),
@@ -201,7 +220,7 @@ impl<C: Clock + Drop> Door for SocketDoor<C> {
     }
 
     fn close(&mut self, peer: u32) -> Result<(), DoorFault> {
-        match self.sockets.close(peer) {
+        match self.sockets.close(peer, self.elapsed) {
             Ok(()) => Ok(()),
             Err(_) => Err(self.failed(DoorFault::Close)),
         }

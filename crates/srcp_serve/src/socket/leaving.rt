@@ -1,6 +1,6 @@
 //! Peers that were let go and are not at their end.
 
-ghost use Rattle.std.specs.Prelude.{◌≡◌, ◌≤◌, IfOk, max};
+ghost use Rattle.std.specs.Prelude.{◌≡◌, ◌<◌, ◌≤◌, IfOk, max};
 
 use super::peer::Peer;
 use mio::event::Event;
@@ -55,7 +55,8 @@ impl Leaving {
         })
     }
 
-    /// Keeps a peer aside where it is not at its end. Where too many are kept, the first goes.
+    /// Keeps a peer aside if it is not at its end. If too many are kept, one goes: the first that is owed nothing, or else the
+    /// first.
     pub(super) fn keep(&mut self, mut peer: Peer, now: u64)
         ensures { self.new ≤ max self.old MOST_LEAVING }
     {
@@ -63,7 +64,8 @@ impl Leaving {
             return;
         }
         if self.leavers.len() >= MOST_LEAVING {
-            self.leavers.remove(0);
+            let place = self.first_to_go();
+            self.leavers.remove(place);
         }
         let until = now.saturating_add(PATIENCE);
         let leaver = Leaver {
@@ -82,6 +84,17 @@ impl Leaving {
             leaver.parted = leaver.peer.part() || leaver.until <= now;
         }
         self.leavers.retain(|leaver| !leaver.parted);
+    }
+
+    /// Returns the place of the first that is owed nothing, or of the first.
+    fn first_to_go(&self) -> usize
+        requires { 0 < self.now }
+        ensures { result < self.now }
+    {
+        self.leavers
+            .iter()
+            .position(|leaver| !leaver.peer.is_owed())
+            .unwrap_or(0)
     }
 
     /// Returns whether nobody is kept.

@@ -13,6 +13,9 @@ use std::net::Shutdown;
 /// that a peer is written in a turn at most.
 const MOST_WAITING: usize = MOST_GATHERED - 300 * 126;
 
+/// How often a peer that was let go is read in a turn: what it still sends is dropped as fast as it comes.
+const MOST_DRAINED: u32 = 64;
+
 /// A peer and its socket.
 #[derive(Drop)]
 pub(super) struct Peer {
@@ -21,10 +24,13 @@ pub(super) struct Peer {
     link: Link,
     // Whether a read may find something.
     readable: bool,
-    // Whether its input was found to be over, which a read has still to tell.
-    closed: bool,
+    // Whether a read that left space may be followed by more: its input was found to be over, which a read has still to tell,
+    // or urgent data came, at which a read ends.
+    drains: bool,
     // Whether the last read was interrupted.
     again: bool,
+    // Whether input was handed out since the peer was written to last: what it is written then is an answer.
+    asked: bool,
     // Whether the socket may take something.
     writable: bool,
     // Whether its last write was cut short. The core has more for it then, and takes no input of it.
@@ -46,8 +52,9 @@ impl Peer {
             stream,
             link: Link::new(alloc)?,
             readable: true,
-            closed: false,
+            drains: false,
             again: false,
+            asked: true,
             writable: true,
             cut: false,
             shut: false,
@@ -56,10 +63,10 @@ impl Peer {
 
     /// Notes what its socket was found ready for.
     pub(super) fn wake(&mut self, event: &Event) {
-        if event.is_read_closed() || event.is_error() {
-            self.closed = true;
+        if event.is_read_closed() || event.is_error() || event.is_priority() {
+            self.drains = true;
         }
-        if event.is_readable() || self.closed {
+        if event.is_readable() || self.drains {
             self.readable = true;
         }
         if event.is_writable() || event.is_error() {
@@ -67,15 +74,16 @@ impl Peer {
         }
     }
 
-    /// Writes what is gathered, where the socket may take something. To a panel, and to a peer of which input is held, it
-    /// writes with `tick` alone, or where much is gathered, since more is to come. Returns whether the socket took something,
-    /// or was found to take no more.
+    /// Writes what is gathered, if the socket may take something. An answer goes at once, unless input of the peer is held,
+    /// since more is to come then. All else goes with `tick` alone, or if much is gathered. Returns whether the socket took
+    /// something, or was found to take no more.
     pub(super) fn hand_over(&mut self, tick: bool) -> bool {
-        let more = self.is_panel() || self.is_busy();
+        let more = !self.asked || self.is_busy();
         let waits = !tick && more && self.link.gathered.len() <= MOST_WAITING;
         if waits || !self.writable || !self.link.is_owed() {
             return false;
         }
+        self.asked = false;
         let before = self.link.gathered.len();
         if self.link.hand_over(&mut self.stream) == HandedOver::Later {
             self.writable = false;
@@ -83,7 +91,8 @@ impl Peer {
         self.link.lost || self.link.gathered.len() < before
     }
 
-    /// Reads its socket, where a read may find something. After one that left space nothing is there, but for the end.
+    /// Reads its socket, if a read may find something. After one that left space nothing is there, but for the end and what
+    /// stands behind urgent data.
     fn fill(&mut self)
         ensures { self.new.number ≡ self.old.number }
     {
@@ -94,7 +103,7 @@ impl Peer {
         self.again = filled == Filled::Again;
         match filled {
             Filled::Later => self.readable = false,
-            Filled::Something => self.readable = self.closed || self.link.ahead.is_full(),
+            Filled::Something => self.readable = self.drains || self.link.ahead.is_full(),
             Filled::Unasked | Filled::Again => (),
         }
     }
@@ -116,16 +125,28 @@ impl Peer {
             let _ = self.stream.shutdown(Shutdown::Write);
             self.shut = true;
         }
-        self.link.ahead.forget();
-        self.fill();
+        self.drain();
         self.link.lost || self.link.ahead.input() != Input::Open
+    }
+
+    /// Drops what its socket gives, as far as a turn goes.
+    fn drain(&mut self) {
+        for _ in 0..MOST_DRAINED {
+            self.link.ahead.forget();
+            self.fill();
+            if !self.readable {
+                break;
+            }
+        }
     }
 
     /// Moves what was read into the buffer, as far as the turn's lines go, or tells the end.
     pub(super) fn read(&mut self, pacing: &mut Pacing, buffer: &mut [u8]) -> Given
         ensures count { (n : ℕ) → result ≡ Given.Bytes n → (0 < n) × (n ≤ length buffer.old) }
     {
-        self.link.read(pacing, buffer)
+        let given = self.link.read(pacing, buffer);
+        self.asked |= matches!(given, Given::Bytes(_));
+        given
     }
 
     /// Takes bytes, as many as there is space for, and returns how many.
@@ -154,10 +175,5 @@ impl Peer {
     /// Returns whether something is gathered that its socket may still take.
     pub(super) fn is_owed(&self) -> bool {
         self.link.is_owed()
-    }
-
-    /// Returns whether it is a panel: it was written more lines than it sent.
-    pub(super) fn is_panel(&self) -> bool {
-        self.link.replies.panel
     }
 }

@@ -21,6 +21,10 @@ const PAUSE: u64 = 8;
 /// How long a turn waits at most for what falls due, in milliseconds: an hour.
 const LONGEST_WAIT: u64 = 3_600_000;
 
+/// A wait for what falls due ends so much earlier than it, as a part of the wait: the system may end a wait late by a
+/// thousandth of it, or a two-hundredth for a process of low priority. The turns behind it wait for the rest.
+const EARLIER: u64 = 128;
+
 /// How many sockets may be found ready at once.
 const MOST_EVENTS: usize = 128;
 
@@ -82,20 +86,29 @@ impl Sockets {
     }
 
     /// Begins a turn: writes what is gathered, waits, and reads what came. It waits until a socket is ready, and at most so many
-    /// milliseconds where `calm` says that. If there is something to do, it does not wait. Panels, and peers of which input is
-    /// held, are written to once a millisecond, or before a wait.
+    /// milliseconds if `calm` says that. If there is something to do, it does not wait. What is no answer, or the answer to a
+    /// peer of which input is held, is written once a millisecond, or before a wait. `slack` is how many changes may come before
+    /// a panel overruns, if one is there. Returns how long it would have waited for a socket and found none ready: `None` if it
+    /// did not wait or one was.
     ///
     /// # Errors
     /// Fails if the system refuses to wait. The turn has begun all the same.
-    pub(super) fn begin_turn(&mut self, now: u64, calm: Option<u64>, panels: bool) -> io::Result<()>
+    pub(super) fn begin_turn(
+        &mut self,
+        now: u64,
+        calm: Option<u64>,
+        slack: Option<usize>,
+    ) -> io::Result<Option<u64>>
         ensures { self.new.last ≡ self.old.last }
     {
-        let tick = now != self.began || !self.has_more(panels);
+        let panels = slack.is_some();
+        let ticked = now != self.began;
+        let tick = ticked || !self.has_more(panels);
         self.began = now;
         let room = self.hand_over(tick, panels);
         let more = room || self.has_more(panels);
         let waited = self.wait(tick, more, calm);
-        let clear = self.pacing.begin_turn(panels);
+        let clear = self.pacing.begin_turn(slack, ticked);
         for peer in &mut self.peers {
             peer.begin_turn(clear);
         }
@@ -130,22 +143,27 @@ impl Sockets {
 
     /// Notes which sockets are ready. If there is no `more` to do, it waits for one. Where input is held, the system is asked
     /// with `tick` alone.
-    fn wait(&mut self, tick: bool, more: bool, calm: Option<u64>) -> io::Result<()>
+    fn wait(&mut self, tick: bool, more: bool, calm: Option<u64>) -> io::Result<Option<u64>>
         ensures { self.new.last ≡ self.old.last }
     {
         self.busy = false;
         if !tick && self.is_held() {
-            return Ok(());
+            return Ok(None);
         }
         let most = if more { Some(0) } else { self.most_wait(calm) };
-        self.poll_for(most)
+        self.poll_for(most)?;
+        if self.events.is_empty() {
+            Ok(Some(most.unwrap_or(u64::MAX)))
+        } else {
+            Ok(None)
+        }
     }
 
     /// Returns how many milliseconds a turn with nothing to do waits at most; `None` if only a socket ends the wait.
     fn most_wait(&self, calm: Option<u64>) -> Option<u64> {
         let interrupted = self.wanted || self.peers.iter().any(|peer| peer.is_interrupted());
         let pause = (interrupted || !self.leaving.is_empty()).then_some(PAUSE);
-        let calm = calm.map(|left| left.min(LONGEST_WAIT));
+        let calm = calm.map(|left| (left - left / EARLIER).min(LONGEST_WAIT));
         [self.patience, pause, calm].into_iter().flatten().min()
     }
 
@@ -203,7 +221,7 @@ impl Sockets {
         self.poll.registry().register(
             &mut stream,
             Token(number as usize),
-            Interest::READABLE | Interest::WRITABLE,
+            Interest::READABLE | Interest::WRITABLE | Interest::PRIORITY,
         )?;
         // Lines are gathered here, so the system need not wait for more of them.
         stream.set_nodelay(true)?;
@@ -239,25 +257,28 @@ impl Sockets {
         Ok(count)
     }
 
-    /// Lets a peer go. It is kept aside where it is not at its end.
-    pub(super) fn close(&mut self, number: u32) -> io::Result<()>
+    /// Lets a peer go. It is kept aside from now on if it is not at its end.
+    pub(super) fn close(&mut self, number: u32, now: u64) -> io::Result<()>
         ensures { self.new.last ≡ self.old.last }
     {
         let place = self.place(number)?;
         let peer = self.peers.remove(place);
-        self.leaving.keep(peer, self.began);
+        self.leaving.keep(peer, now);
         Ok(())
     }
 
-    /// Writes what is gathered, and waits a little where the sockets did not take all. Returns whether they did.
-    pub(super) fn deliver(&mut self, now: u64) -> bool {
+    /// Writes what is gathered, and waits a little if the sockets did not take all. Returns whether they did.
+    ///
+    /// # Errors
+    /// Fails if the system refuses to wait.
+    pub(super) fn deliver(&mut self, now: u64) -> io::Result<bool> {
         self.began = now;
         let _ = self.hand_over(true, false);
         if !self.leaving.is_owed() && !self.peers.iter().any(|peer| peer.is_owed()) {
-            return true;
+            return Ok(true);
         }
-        let _ = self.poll_for(Some(PAUSE));
-        false
+        self.poll_for(Some(PAUSE))?;
+        Ok(false)
     }
 
     /// Returns the place of a peer. It looks first where it found one last, since a peer is written line by line, and then

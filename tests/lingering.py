@@ -1,0 +1,170 @@
+"""How the door over sockets serves peers that are hard to serve: that send urgent data, that end and read late, that stay."""
+import os
+import signal
+import socket
+import threading
+import time
+from contextlib import contextmanager
+
+from door import small_socket
+from faults import processor_share
+from serving import SECONDS, Client, served
+
+COMMAND_SESSION = b"SET CONNECTIONMODE SRCP COMMAND\nGO\n"
+QUESTION = b"GET 1 POWER\n"
+ANSWER = b" 100 INFO 1 POWER OFF\n"
+# The welcome line, the replies to the two lines of the handshake, and one to TERM.
+BESIDE = 4
+READERS = 12
+TURNED_AWAY = 71
+
+
+@contextmanager
+def stopped(server):
+    """The server stands still, so that all that is sent meanwhile comes at once."""
+    os.kill(server.pid, signal.SIGSTOP)
+    time.sleep(0.1)
+    try:
+        yield
+    finally:
+        time.sleep(0.1)
+        os.kill(server.pid, signal.SIGCONT)
+
+
+def urgent_data_stalls_nobody(program):
+    """A read ends at urgent data, though more stands behind it: the commands behind it are answered all the same."""
+    with served(program) as (port, server):
+        throttle = Client(port, "COMMAND")
+        throttle.socket.settimeout(3)
+        with stopped(server):
+            throttle.socket.sendall(QUESTION)
+            throttle.socket.send(b"x", socket.MSG_OOB)
+            throttle.socket.sendall(QUESTION)
+        replies = 0
+        try:
+            for replies in range(1, 3):
+                throttle.line()
+        except TimeoutError:
+            return f"{replies - 1} of 2 commands are answered"
+    return None
+
+
+def kept_by_the_system(port, client):
+    """How many bytes the system keeps of what the server at the port sent to the client."""
+    mine, kept = client.getsockname()[1], 0
+    with open("/proc/net/tcp", encoding="ascii") as table:
+        next(table)
+        for row in map(str.split, table):
+            local, remote = (int(address.split(":")[1], 16) for address in row[1:3])
+            sending, receiving = (int(count, 16) for count in row[4].split(":"))
+            kept += sending if (local, remote) == (port, mine) else receiving if (local, remote) == (mine, port) else 0
+    return kept
+
+
+def replies_that_the_system_keeps(port):
+    """How many replies fill the buffers of a session that does not read, until the server sends it no more."""
+    with small_socket(port) as probe:
+        sender = threading.Thread(target=send_as_far_as_it_goes, args=(probe, COMMAND_SESSION + QUESTION * 120_000))
+        sender.start()
+        kept, before = kept_by_the_system(port, probe), -1
+        while kept != before:
+            time.sleep(0.3)
+            kept, before = kept_by_the_system(port, probe), kept
+        probe.shutdown(socket.SHUT_RDWR)
+        sender.join()
+    return kept // len(b"0.000" + ANSWER)
+
+
+def send_as_far_as_it_goes(client, piece):
+    try:
+        client.sendall(piece)
+    except OSError:
+        pass
+
+
+def lines_to_the_end(client):
+    """How many lines come until the end, and what ended them if it was not the end of the stream."""
+    count = 0
+    try:
+        while piece := client.recv(1 << 16):
+            count += piece.count(b"\n")
+    except OSError as fault:
+        return count, type(fault).__name__
+    return count, None
+
+
+def leaver_that_reads_late(program):
+    """A session that ends itself while the server still holds replies for it, and that reads 3 s later, gets every one. So
+    does one that ends itself after the server slept for longer than such a peer is kept."""
+    with served(program) as (port, _):
+        owed = replies_that_the_system_keeps(port) + 700
+        late, sleeper = small_socket(port), small_socket(port)
+        late.sendall(COMMAND_SESSION + QUESTION * owed + b"TERM 0 SESSION\n")
+        sleeper.sendall(COMMAND_SESSION + QUESTION * owed)
+        time.sleep(3)
+        got = [lines_to_the_end(late)]
+        time.sleep(11)
+        sleeper.sendall(b"TERM 0 SESSION\n")
+        time.sleep(1)
+        got.append(lines_to_the_end(sleeper))
+    want = (owed + BESIDE, None)
+    return None if got == [want, want] else f"got {got}, want {want} of each"
+
+
+def half_closed_session_that_does_not_read(program):
+    """It is owed replies and its input has ended: the server waits for it without work."""
+    with served(program) as (port, server):
+        owed = replies_that_the_system_keeps(port) + 700
+        with small_socket(port) as client:
+            client.sendall(COMMAND_SESSION + QUESTION * owed)
+            client.shutdown(socket.SHUT_WR)
+            time.sleep(0.7)
+            share = processor_share(server, 2)
+    return None if share < 0.2 else f"it takes {share:.0%} of a processor"
+
+
+def clients_that_are_turned_away_and_stay(program):
+    """They are owed nothing, so no session that ended and reads late is given up for them."""
+    with served(program) as (port, _):
+        owed = replies_that_the_system_keeps(port) + 700
+        readers = [small_socket(port) for _ in range(READERS)]
+        for reader in readers:
+            reader.sendall(COMMAND_SESSION + QUESTION * owed + b"TERM 0 SESSION\n")
+        time.sleep(1)
+        sessions = [Client(port, "COMMAND") for _ in range(64)]
+        turned_away = [socket.create_connection(("127.0.0.1", port), timeout=SECONDS) for _ in range(TURNED_AWAY)]
+        if any(client.recv(100) for client in turned_away):
+            return "a client is answered that finds no place"
+        got = [lines_to_the_end(reader) for reader in readers]
+        del sessions, turned_away
+    cut = [lines for lines in got if lines != (owed + BESIDE, None)]
+    return f"{len(cut)} of {READERS} readers are cut: {cut[0]} of {owed + BESIDE} lines" if cut else None
+
+
+def end_of_a_session_with_much_behind_it(program):
+    """16 MB come behind the command that ends a session: they are dropped as fast as they come, and the reply is there."""
+    with served(program) as (port, _):
+        leaver = Client(port, "COMMAND")
+        begun = time.monotonic()
+        try:
+            leaver.socket.sendall(b"TERM 0 SESSION\n" + QUESTION * (16_000_000 // len(QUESTION)))
+            leaver.socket.shutdown(socket.SHUT_WR)
+            told = leaver.hears_to_the_end()
+        except OSError as fault:
+            return f"after {time.monotonic() - begun:.1f} s: {fault}"
+    return None if told.endswith(b" 200 OK\n") and told.count(b"\n") == 1 else f"got {told[-80:]!r}"
+
+
+def clients_at_64_places(program):
+    """Clients that find no place, and stay, cost no work."""
+    with served(program) as (port, server):
+        sessions = [Client(port, "COMMAND") for _ in range(64)]
+        turned_away = [socket.create_connection(("127.0.0.1", port), timeout=SECONDS) for _ in range(10)]
+        share = processor_share(server, 1)
+        reply = sessions[63].asks("GET 1 POWER")
+        del turned_away
+    return None if share < 0.2 and reply == "100 INFO 1 POWER OFF" else f"{share:.0%} of a processor, and a reply: {reply}"
+
+
+LINGERING_CASES = (urgent_data_stalls_nobody, leaver_that_reads_late, half_closed_session_that_does_not_read,
+                   clients_that_are_turned_away_and_stay, end_of_a_session_with_much_behind_it, clients_at_64_places)

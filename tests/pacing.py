@@ -1,0 +1,168 @@
+"""What sessions that send without end do to panels that read, and to sessions that wait for a reply."""
+import os
+import threading
+import time
+from contextlib import contextmanager
+
+from door import changes_without_end, pipelines, reads_to_the_end
+from serving import Client, served
+
+PANELS = 8
+SECONDS_OF_LOAD = 3
+QUIET_BESIDE = 20
+LONGEST_REPLY = 2
+LOCKS = 150
+SETS = 1_000_000
+
+
+@contextmanager
+def running(threads):
+    """The threads run, and have ended at the end."""
+    for thread in threads:
+        thread.start()
+    try:
+        yield
+    finally:
+        for thread in threads:
+            thread.join()
+
+
+def shut(clients):
+    for client in clients:
+        try:
+            client.socket.shutdown(2)
+        except OSError:
+            pass
+
+
+def reads_with_pauses(panel, ended, pause, every):
+    """Reads what a panel is told, and stands still for `pause` seconds each `every` seconds; notes it if it is closed."""
+    next_pause = time.monotonic() + every
+    try:
+        while panel.socket.recv(1 << 16):
+            if time.monotonic() >= next_pause:
+                time.sleep(pause)
+                next_pause = time.monotonic() + every
+        ended.append(panel.session)
+    except OSError:
+        pass
+
+
+def sessions_on_both_sides(program):
+    """Sessions that send without end have places before the panels and behind them: no panel that reads is closed."""
+    for before, behind in ((16, 16), (24, 8)):
+        with served(program) as (port, _):
+            first = Client(port, "COMMAND")
+            first.asks(*(f"INIT 1 GL {address} N 1 28 5" for address in range(1, before + behind + 1)))
+            throttles = [Client(port, "COMMAND") for _ in range(before)]
+            panels = [Client(port, "INFO") for _ in range(PANELS)]
+            throttles += [Client(port, "COMMAND") for _ in range(behind)]
+            ended, end = [], time.monotonic() + SECONDS_OF_LOAD
+            readers = [threading.Thread(target=reads_to_the_end, args=(panel, ended)) for panel in panels]
+            senders = [threading.Thread(target=pipelines, args=(throttle, address, end))
+                       for address, throttle in enumerate(throttles, 1)]
+            with running(readers):
+                with running(senders):
+                    pass
+                closed = len(ended)
+                shut(panels)
+        if closed:
+            return f"{closed} of {PANELS} panels are closed with {before} sessions before them and {behind} behind"
+    return None
+
+
+def quiet_session_beside_many(program):
+    """A session that sends one command at a time is answered soon, though others send without end and a panel reads."""
+    with served(program) as (port, _):
+        panel, late = Client(port, "INFO"), None
+        throttles = [Client(port, "COMMAND") for _ in range(QUIET_BESIDE)]
+        late = Client(port, "COMMAND")
+        threads = [threading.Thread(target=reads_to_the_end, args=(client, [])) for client in (panel, *throttles)]
+        threads += [threading.Thread(target=changes_without_end, args=(throttle,)) for throttle in throttles]
+        with running(threads):
+            time.sleep(0.5)
+            late.socket.settimeout(LONGEST_REPLY)
+            try:
+                replies = [late.asks("GET 1 POWER") for _ in range(5)]
+            except TimeoutError:
+                replies = None
+            shut([panel, *throttles])
+    return None if replies == ["100 INFO 1 POWER OFF"] * 5 else f"a quiet session is answered {replies}"
+
+
+def one_session_sends_a_million_commands(program):
+    """In one go, beside a panel that reads: the panel is told each change."""
+    with served(program) as (port, _):
+        throttle, panel = Client(port, "COMMAND"), Client(port, "INFO")
+        throttle.asks("INIT 1 GL 3 N 1 28 5")
+        commands = b"".join(b"SET 1 GL 3 1 %d 28\n" % (turn % 29) for turn in range(SETS)) + b"SET 1 POWER ON last\n"
+        ended = []
+        threads = [threading.Thread(target=reads_to_the_end, args=(throttle, [])),
+                   threading.Thread(target=throttle.socket.sendall, args=(commands,))]
+        with running(threads):
+            try:
+                told = told_until(panel, b" 100 INFO 1 POWER ON last\n")
+            except (EOFError, OSError) as fault:
+                told = repr(fault)
+            shut([throttle])
+    return None if told == SETS else f"a panel is told {told} of {SETS} changes"
+
+
+def told_until(panel, end):
+    """How many changes of a locomotive's speed a panel is told until the line that ends so."""
+    count, rest = 0, panel.begun
+    while not rest.endswith(end):
+        more = panel.socket.recv(1 << 20)
+        if not more:
+            raise EOFError(f"after {count}")
+        lines = (rest + more).split(b"\n")
+        rest = lines[-1] if not more.endswith(end) else end
+        count += sum(b" 100 INFO 1 GL 3 1 " in line for line in lines[:-1])
+    return count - 1
+
+
+def panels_that_pause(program):
+    """One pauses for 150 ms once, one for 50 ms each half second, while sessions send without end: neither is closed."""
+    with served(program) as (port, _):
+        first = Client(port, "COMMAND")
+        first.asks(*(f"INIT 1 GL {address} N 1 28 5" for address in range(1, 33)))
+        for senders in (1, 32):
+            panels = [Client(port, "INFO", receives=4096) for _ in range(2)]
+            throttles = [Client(port, "COMMAND") for _ in range(senders)]
+            ended, end = [], time.monotonic() + SECONDS_OF_LOAD
+            threads = [threading.Thread(target=reads_with_pauses, args=(panels[0], ended, 0.15, SECONDS_OF_LOAD / 2)),
+                       threading.Thread(target=reads_with_pauses, args=(panels[1], ended, 0.05, 0.5))]
+            with running(threads):
+                with running([threading.Thread(target=pipelines, args=(throttle, address, end))
+                              for address, throttle in enumerate(throttles, 1)]):
+                    pass
+                closed = list(ended)
+                shut(panels + throttles)
+            if closed:
+                return f"{len(closed)} of 2 panels that pause are closed beside {senders} sessions"
+    return None
+
+
+def end_of_a_session_with_locks(program):
+    """A session that ends with 150 locks, beside 16 that send without end, closes no panel."""
+    with served(program) as (port, _):
+        holder, panel = Client(port, "COMMAND"), Client(port, "INFO")
+        ended = []
+        holder.asks_many([f"INIT 1 GL {address} N 1 28 0" for address in range(1, LOCKS + 17)])
+        throttles = [Client(port, "COMMAND") for _ in range(16)]
+        reader = threading.Thread(target=reads_to_the_end, args=(panel, ended))
+        end = time.monotonic() + SECONDS_OF_LOAD
+        with running([reader]):
+            with running([threading.Thread(target=pipelines, args=(throttle, LOCKS + address, end))
+                          for address, throttle in enumerate(throttles, 1)]):
+                for _ in range(5):
+                    holder.asks_many([f"SET 1 LOCK GL {address} 0" for address in range(1, LOCKS + 1)])
+                    holder.close()
+                    holder = Client(port, "COMMAND")
+            closed = len(ended)
+            shut([panel])
+    return "the panel is closed" if closed else None
+
+
+PACING_CASES = (sessions_on_both_sides, quiet_session_beside_many, one_session_sends_a_million_commands, panels_that_pause,
+                end_of_a_session_with_locks)

@@ -1,0 +1,75 @@
+#!/usr/bin/env python3
+"""bench_latency.py PROGRAM [SECONDS]: how long a lone command waits beside a panel that stops reading, and how late a fall is.
+
+One session sends without end, and one panel reads nothing, until the server closes it. A third session sends one command at
+a time the whole time: it prints the median, the 99th percentile and the greatest of its waits, and when the panel was closed.
+Then a port is set for SECONDS, 60 if not given, and it prints how late a panel is told of its fall.
+"""
+import sys
+import threading
+import time
+from pathlib import Path
+
+sys.path.insert(0, str(Path(__file__).resolve().parent.parent / "tests"))
+from door import changes_without_end, reads_to_the_end  # noqa: E402
+from serving import Client, served  # noqa: E402
+
+SECONDS_AT_MOST = 60
+
+
+def has_ended(panel: Client) -> bool:
+    """Whether the server closed the connection: the state of its socket is CLOSE_WAIT then, though its bytes are unread."""
+    mine = f":{panel.socket.getsockname()[1]:04X}"
+    rows = [line.split() for line in Path("/proc/net/tcp").read_text().splitlines()[1:]]
+    return any(row[1].endswith(mine) and row[3] == "08" for row in rows)
+
+
+def waits_beside(port: int, panel: Client) -> tuple[list[float], float]:
+    """How long each command of a lone session waits for its reply, until the panel was closed, and when that was."""
+    lone, waits, begun = Client(port, "COMMAND"), [], time.monotonic()
+    while not has_ended(panel) and time.monotonic() < begun + SECONDS_AT_MOST:
+        for _ in range(100):
+            sent = time.monotonic()
+            lone.asks("GET 1 POWER")
+            waits.append(time.monotonic() - sent)
+    return waits, time.monotonic() - begun
+
+
+def panel_that_stops(program: str):
+    with served(program) as (port, _):
+        panel, throttle = Client(port, "INFO", receives=4096), Client(port, "COMMAND")
+        threads = [threading.Thread(target=changes_without_end, args=(throttle,)),
+                   threading.Thread(target=reads_to_the_end, args=(throttle, []))]
+        for thread in threads:
+            thread.start()
+        waits, closed = waits_beside(port, panel)
+        throttle.socket.shutdown(2)
+        for thread in threads:
+            thread.join()
+    waits.sort()
+    middle, high = (waits[len(waits) * part // 100] * 1e3 for part in (50, 99))
+    print(f"a lone command beside a panel that reads nothing and is closed after {closed:.1f} s: median {middle:.2f} ms, "
+          f"99 of 100 {high:.2f} ms, at most {waits[-1] * 1e3:.2f} ms, of {len(waits):,}", flush=True)
+
+
+def fall(program: str, seconds: int):
+    with served(program) as (port, _):
+        throttle, panel = Client(port, "COMMAND"), Client(port, "INFO")
+        throttle.asks("INIT 1 GA 5 N")
+        throttle.asks(f"SET 1 GA 5 0 1 {seconds * 1000}")
+        panel.hears_until(b" GA 5 0 1\n")
+        set_at = float(panel.lines[-1].split()[0])
+        panel.socket.settimeout(seconds + 20)
+        panel.hears_until(b" GA 5 0 0\n")
+        late = time.time() - set_at - seconds
+    print(f"a pulse of {seconds} s ends {late * 1e3:.1f} ms late", flush=True)
+
+
+def main():
+    program = str(Path(sys.argv[1]).resolve())
+    panel_that_stops(program)
+    fall(program, int(sys.argv[2]) if len(sys.argv) > 2 else 60)
+
+
+if __name__ == "__main__":
+    main()
