@@ -36,7 +36,7 @@ impl Queue {
     /// Returns an empty queue, with the memory of `MOST_WAITING` changes. No other call takes any.
     ///
     /// # Errors
-    /// Where memory is refused.
+    /// If memory is refused.
     pub(crate) fn new(alloc: Global) -> Result<Queue, Memory>
         ensures { IfOk result (λ queue. queue ≡ []) }
     {

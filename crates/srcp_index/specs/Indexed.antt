@@ -97,7 +97,7 @@ pub record IsRankedRow (row : Row) : Type 0 where
   pub held : IsSome (holder_of row) → IsTrue (may_go row)
   pub port : row.shown.key.port < port_count row.shown.key.group
 
--- the index has the pairs of the rows, and room for so many
+-- the index has the pairs of the rows, and room for `count` pairs
 pub record HasPairs (rank : Row → Option ℕ) (state : State) (index : Held) (count : ℕ) : Type 0 where
   pub pairs : index.pairs ≡ ranked (before index.since) (pairs_of rank state)
   pub room : count ≤ index.room

@@ -181,7 +181,7 @@ impl Index {
         }
     }
 
-    /// Makes room for so many pairs in all. Fails if memory is refused, and the pairs stay. No other call takes memory.
+    /// Makes room for `total` pairs in all. Fails if memory is refused, and the pairs stay. No other call takes memory.
     pub(crate) fn reserve(&mut self, total: usize) -> Result<(), AllocError>
         ensures pairs { self.new.pairs ≡ self.old.pairs }
         ensures since { self.new.since ≡ self.old.since }

@@ -30,7 +30,7 @@ impl Indexes {
         }
     }
 
-    /// Makes room for the pairs of so many rows in all.
+    /// Makes room for the pairs of `total` rows in all.
     pub(crate) fn reserve(&mut self, total: usize) -> Result<(), Memory>
         ensures moments { self.new.moments.pairs ≡ self.old.moments.pairs }
         ensures sessions { self.new.sessions.pairs ≡ self.old.sessions.pairs }

@@ -1,4 +1,4 @@
--- What is told of a configuration, word by word.
+-- What a configuration says, printed word by word.
 use Rattle.std.proofs.Common.{◌≡◌, ◌∙◌, List, ℕ, ◌∷◌, ◌++◌, ap, sym, append_assoc}
 use Rattle.std.specs.Prelude.{codes, decimal}
 use Rattle.std.specs.List.{join_with_byte}

@@ -1,4 +1,4 @@
--- What is told of a configuration that is refused.
+-- The texts of the faults of a configuration.
 use Rattle.std.specs.Prelude.{List, ℕ, ◌++◌, codes, decimal}
 use Rattle.srcp_layout_file.specs.declared.config.Field.{Field}
 use Rattle.srcp_layout_file.specs.declared.config.Field.TheVariants as field
@@ -16,7 +16,7 @@ field_key field.GaMax = codes "ga_max"
 field_key field.GaPorts = codes "ga_ports"
 field_key field.FbPorts = codes "fb_ports"
 
--- what is told of a configuration
+-- the text of a fault
 abbrev pub config_text : ConfigFault → List ℕ
 config_text config.NotToml = codes "config: not TOML"
 config_text (config.Missing field) = codes "config: " ++ field_key field ++ codes " missing"

@@ -180,7 +180,7 @@ module _ (P : Command → Type 0) where
 -- ---- how many changes the commands of an operation make
 
 module _ (state : State) (session moment : ℕ) where
-  -- at most so many
+  -- at most n changes
   abbrev AtMost : ℕ → List Update → Type 0
   AtMost n updates = length updates ≤ n
 
@@ -307,7 +307,7 @@ weight_by ends get put check go =
     (cond go (Some (codes "GO", 1)) None))))) 11)
 
 module _ (state : State) (session moment : ℕ) (buses : List Bus) where
-  -- a command of the layout brings at most so many
+  -- a command of the layout brings at most n changes
   abbrev Weighs : ℕ → Command → Type 0
   Weighs n command = IsCommandOf buses command → Brings state session moment n command
 

@@ -240,7 +240,7 @@ LocksRunOut = (buses : List Bus) (state : State) (session moment later : ℕ) (g
     ≡ (if nat_le (moment_after moment (1000 * seconds)) later then None
     else Some (row_put moment (first_key (lock_on group bus address)) (value.Lock seconds session) (Some (moment_after moment (1000 * seconds)))))
 
--- so many milliseconds later, as long as there is such a moment, and else the greatest one
+-- that many milliseconds later if there is such a moment, and else the greatest one
 pub record EndsInTime (moment milliseconds : ℕ) : Type 0 where
   pub within : moment + milliseconds < 2 ^ 64 → moment_after moment milliseconds ≡ moment + milliseconds
   pub beyond : 2 ^ 64 ≤ moment + milliseconds → moment_after moment milliseconds + 1 ≡ 2 ^ 64

@@ -26,7 +26,8 @@ pub(crate) fn read_functions(mut words: Words<'_>) -> Result<Result<Bits, Code>,
     Ok(Ok(functions))
 }
 
-/// Refuses a function that is neither 0 nor 1 behind so many others. With those that follow they may be too many, which is 418.
+/// Refuses a function that is neither 0 nor 1 behind `before` others. With those that follow they may be too many,
+/// which is 418.
 #[cold]
 fn refused(before: usize, mut words: Words<'_>, code: Code) -> Result<Result<Bits, Code>, Code>
     requires { before < MOST_FUNCTIONS }

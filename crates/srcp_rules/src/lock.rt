@@ -53,14 +53,14 @@ pub(crate) fn checked(refusal: Option<Code>, obeyed: &mut Obeyed)
     }
 }
 
-/// Returns the moment so many milliseconds later, at most the greatest moment.
+/// Returns the moment that many milliseconds later, at most the greatest moment.
 pub(crate) fn moment_after(moment: u64, milliseconds: u64) -> u64
     ensures { result ≡ moment_after moment milliseconds }
 {
     moment.saturating_add(milliseconds)
 }
 
-/// When a lock of so many seconds ends; one of 0 seconds does not end by itself (of SRCP 0.8, LOCK).
+/// When a lock of that many seconds ends; one of 0 seconds does not end by itself (of SRCP 0.8, LOCK).
 fn lock_end(moment: u64, seconds: u32) -> Option<u64>
     ensures { result ≡ lock_end moment seconds }
 {

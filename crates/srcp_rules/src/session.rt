@@ -13,7 +13,7 @@ use srcp_info::{Change, Mode, Value};
 /// only then has an id that is not there no row at all, which is what `Rows::add` asks for.
 ///
 /// # Errors
-/// `Memory` where memory is refused; the rows are as before.
+/// `Memory` if memory is refused; the rows are as before.
 pub fn begin_session<R: Rows>(
     rows: &mut R,
     session: u32,

@@ -25,7 +25,7 @@ fn walk_at_each(
 }
 
 /// The keepers tell the same at each line, and before the first and after each of them they have the
-/// same rows, at least so many in all.
+/// same rows, at least `least` in all.
 fn keep_the_same(
     rt: &impl Abort,
     alloc: Global,

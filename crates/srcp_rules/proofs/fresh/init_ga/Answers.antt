@@ -14,7 +14,7 @@ use Rattle.srcp_rules.proofs.FreshLaws.{ga_fresh, ga_taken, ga_rows, ga_puts}
 use Rattle.srcp_rules.proofs.fresh.init_ga.Goals as goal
 
 module _ (buses : List Bus) (state : State) (session moment : ℕ) (now : IsMoment moment) where
-  -- the rows that are handed on are those of an accessory with so many ports
+  -- the rows that are handed on are those of an accessory with that many ports
   handed : (most : List Row) (device made : Device) (letter : Letter) (ports n : ℕ) → ports ≤ 8 → most ≡ ga_fresh buses state session moment now device letter 8 → device ≡ made → n ≡ ports
       → take (1 + n) most ≡ ga_fresh buses state session moment now made letter ports
   handed most device made letter ports n few e same count =
