@@ -43,7 +43,8 @@ last_short (item ∷ []) told = by item.what told
     by Settled told = omega arith
 last_short (item ∷ next ∷ items) told = last_short (next ∷ items) (rest item.what told)
   where
-    rest : (what : Next) → AllByRecursion IsWellFormed (said what ++ tells (next ∷ items)) → AllByRecursion IsWellFormed (tells (next ∷ items))
+    rest : (what : Next) → AllByRecursion IsWellFormed (said what ++ tells (next ∷ items))
+        → AllByRecursion IsWellFormed (tells (next ∷ items))
     rest (Told change) told = told.1
     rest (Listed row) told = told.1
     rest Settled told = told
@@ -73,7 +74,8 @@ module _ (buses : List Bus) (layout : IsLayout buses) (events : List Event) (mom
     (there : numbered n (course buses events).connections ≡ Some conn) (up : is_open conn ≡ true) where
   lent_short : IsTaken conn → length (lent buses (course buses (events ++ Room n 0 ∷ [])) n) ≤ 126
   lent_short taken =
-      subst (λ bytes. length bytes ≤ 126) (sym (lent_is buses layout events n conn there up)) (by (overran after (history buses (course buses events))))
+      subst (λ bytes. length bytes ≤ 126) (sym (lent_is buses layout events n conn there up))
+      (by (overran after (history buses (course buses events))))
     where
       after : Connection
       after = room buses layout events n conn there up conn
@@ -95,7 +97,8 @@ module _ (buses : List Bus) (layout : IsLayout buses) (events : List Event) (mom
 
 pub line_agrees : (key : ℕ) (held : Held)
     → OfConnection key held
-    (λ buses events n. AllMoments events → replies_taken buses (course buses events) n ≡ true → length (unsent_at key (let_out key held)) ≤ 126)
+    (λ buses events n. AllMoments events → replies_taken buses (course buses events) n ≡ true
+    → length (unsent_at key (let_out key held)) ≤ 126)
 line_agrees key held buses events keys n layout named s moments taken =
     let its = found_at buses (λ n fed. fed) keys held (course buses events) n key s named in
     let all : nat_le (length its.conn.out) its.conn.taken ≡ true =

@@ -196,7 +196,9 @@ module _ (buses : List Bus) (W : World → Type 0) (kept : IsKept buses W) where
   kept_accepted (Open granted) w a = kept.opens w a
   kept_accepted (Bytes n piece) w a = kept_fed n piece (open_connection w n) w a
   kept_accepted (Room n bytes) w a = kept.room n bytes w a
-  kept_accepted (At moment) w a = kept.step (Moment (max w.moment moment)) (record w { moment = max w.moment moment }) (kept.other w (record w { moment = max w.moment moment }) refl refl a)
+  kept_accepted (At moment) w a =
+      kept.step (Moment (max w.moment moment)) (record w { moment = max w.moment moment })
+      (kept.other w (record w { moment = max w.moment moment }) refl refl a)
   kept_accepted (Shut n) w a = kept_shut n (open_connection w n) w a
 
   kept_or_refused : (o : Option CoreFault) (event : Event) (w : World) → W w → W (or_refused buses o event w)
