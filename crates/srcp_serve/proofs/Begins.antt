@@ -6,7 +6,7 @@ use Rattle.std.proofs.lemmas.Bool.Decides.{nat_tests}
 use Rattle.srcp_core.specs.Under.{Event}
 use Rattle.srcp_rules.specs.declared.layout.Bus.{Bus}
 use Rattle.srcp_serve.specs.Given.{Guest, Call, ExpectCall, NowCall, AcceptCall, ReadCall, WriteCall, CloseCall}
-use Rattle.srcp_serve.specs.Serving.{Question, Expects, Moments, expects, Newcomers, Closes, Seat, Stand, question, newcomer_of, with_moment, is_let_in, turns_away}
+use Rattle.srcp_serve.specs.Serving.{Question, Expects, Moments, Newcomers, Closes, Seat, Stand, question, newcomer_of, with_moment, is_let_in, turns_away}
 use Rattle.srcp_serve.proofs.Partings.{IsNoneOf, IsOfNone, AreOfPeers, asks_of}
 use Rattle.srcp_serve.proofs.Comings.{IsEven, even_moment}
 

@@ -8,7 +8,7 @@ use Rattle.srcp_core.specs.Waits.{due_next, slack}
 use Rattle.srcp_info.proofs.ClientLaws.{all_append}
 use Rattle.srcp_rules.specs.declared.layout.Bus.{Bus}
 use Rattle.srcp_serve.specs.Given.{Guest, Call}
-use Rattle.srcp_serve.specs.Serving.{Question, Expects, Moments, expects, Newcomers, Closes, Seat, Stand, IsFair, question, moment_of, newcomer_of, seats, taken, timed, turned, visited, visits_ask, welcomed, let_in, is_let_in, turns_away, turn_asks}
+use Rattle.srcp_serve.specs.Serving.{Question, Moments, expects, Newcomers, Closes, Seat, Stand, IsFair, question, moment_of, newcomer_of, seats, taken, timed, turned, visits_ask, welcomed, let_in, is_let_in, turns_away, turn_asks}
 use Rattle.srcp_serve.proofs.Takings.{no_writes}
 use Rattle.srcp_serve.proofs.Partings.{IsOfNone, AreOfPeers, asks_peer, away_peers, visits_peers}
 use Rattle.srcp_serve.proofs.Comings.{IsEven, IsNew, even_welcomed, new_unseated}
@@ -22,20 +22,32 @@ module _ (buses : List Bus) (before : ℕ → List ℕ) (stand : Stand) (calls :
   abbrev after : List Guest → Stand
   after peers = fold (welcomed buses) now peers
 
-  abbrev Evens : List Guest → Type 0
-  Evens peers = map question calls ≡ expects buses stand.events ∷ Moments ∷ Newcomers ∷ (flat_map (turns_away buses now.events) peers ++ visits_ask buses (after peers).events calls (seats (after peers).places)) → AllByRecursion (λ peer. IsNew peer.peer stand.guests) peers
-      → IsEven buses (λ peer. before peer ++ taken peer calls) (visited buses (after peers) calls)
+  abbrev Asks : List Guest → Type 0
+  Asks peers = map question calls ≡ expects buses stand.events ∷ Moments ∷ Newcomers ∷ (flat_map (turns_away buses now.events) peers ++ visits_ask buses (after peers).events calls (seats (after peers).places))
+
+  -- what is asked before the visits, none of it of who has a place, and then the visits
+  pub record Begins (peers : List Guest) : Type 0 where
+    pub first : List Question
+    pub still : no_writes first ≡ true
+    pub asked : map question calls ≡ first ++ visits_ask buses (after peers).events calls (seats (after peers).places)
+    pub none : IsOfNone buses first (seats (after peers).places)
+    pub begun_even : IsEven buses before (after peers)
 
   none_first : (all : List Seat) → IsOfNone buses (expects buses stand.events ∷ Moments ∷ Newcomers ∷ []) all
   none_first [] = tt
   none_first (seat ∷ all) = (refl, none_first all)
 
-  evens_one : (peer : Guest) → Evens (peer ∷ [])
-  evens_one peer asked new =
+  begins_one : (peer : Guest) → Asks (peer ∷ []) → AllByRecursion (λ peer. IsNew peer.peer stand.guests) (peer ∷ []) → Begins (peer ∷ [])
+  begins_one peer asked new =
       let t = even_timed buses before stand (filter_map moment_of calls) even in
       let here : IsNew peer.peer now.guests = subst (λ (guests : List ℕ). IsNew peer.peer guests) (sym t.1) new.0 in
-      even_visited buses before (welcomed buses now peer) calls (expects buses stand.events ∷ Moments ∷ Newcomers ∷ (turns_away buses now.events peer ++ [])) (still (is_let_in buses now.events peer.granted)) asked fair (none here (is_let_in buses now.events peer.granted) refl)
-      (even_welcomed buses before now peer here (fresh peer.peer new.0) t.0)
+      record {
+        first = expects buses stand.events ∷ Moments ∷ Newcomers ∷ (turns_away buses now.events peer ++ []);
+        still = still (is_let_in buses now.events peer.granted);
+        asked = asked;
+        none = none here (is_let_in buses now.events peer.granted) refl;
+        begun_even = even_welcomed buses before now peer here (fresh peer.peer new.0) t.0;
+      }
     where
       still : (b : Bool) → no_writes (expects buses stand.events ∷ Moments ∷ Newcomers ∷ ((if b then [] else Closes peer.peer ∷ []) ++ [])) ≡ true
       still true = refl
@@ -51,16 +63,25 @@ module _ (buses : List Bus) (before : ℕ → List ℕ) (stand : Stand) (calls :
           subst (λ (v : Stand). IsOfNone buses (expects buses stand.events ∷ Moments ∷ Newcomers ∷ (turns_away buses now.events peer ++ [])) (seats v.places)) (sym same)
           (away_of_none (due_next buses (course buses stand.events)) (slack buses (course buses stand.events)) buses now.events peer (seats now.places) (new_unseated peer.peer now.guests (seats now.places) here t.0.known))
 
-  evens : (peers : List Guest) → (peers ≡ []) ⊎ ((peer : Guest) × (peers ≡ peer ∷ [])) → Evens peers
-  evens [] few asked new = even_visited buses before now calls (expects buses stand.events ∷ Moments ∷ Newcomers ∷ []) refl asked fair (none_first (seats now.places)) (even_timed buses before stand (filter_map moment_of calls) even).0
-  evens (peer ∷ []) few asked new = evens_one peer asked new
-  evens (peer ∷ other ∷ more) few asked new = absurd (⊎_elim (λ e. let no : peer ∷ other ∷ more ≡ [] = e in cc) (λ s. let no : peer ∷ other ∷ more ≡ s.0 ∷ [] = s.1 in cc) few)
+  begins : (peers : List Guest) → (peers ≡ []) ⊎ ((peer : Guest) × (peers ≡ peer ∷ [])) → Asks peers → AllByRecursion (λ peer. IsNew peer.peer stand.guests) peers → Begins peers
+  begins [] few asked new = record {
+    first = expects buses stand.events ∷ Moments ∷ Newcomers ∷ [];
+    still = refl;
+    asked = asked;
+    none = none_first (seats now.places);
+    begun_even = (even_timed buses before stand (filter_map moment_of calls) even).0;
+  }
+  begins (peer ∷ []) few asked new = begins_one peer asked new
+  begins (peer ∷ other ∷ more) few asked new = absurd (⊎_elim (λ e. let no : peer ∷ other ∷ more ≡ [] = e in cc) (λ s. let no : peer ∷ other ∷ more ≡ s.0 ∷ [] = s.1 in cc) few)
 
-  -- the step of an induction over turns
-  pub even_turned : map question calls ≡ turn_asks buses stand calls → AllByRecursion (λ peer. IsNew peer.peer stand.guests) (filter_map newcomer_of calls) → IsEven buses (λ peer. before peer ++ taken peer calls) (turned buses stand calls)
-  even_turned asked new =
+  pub turn_begins : map question calls ≡ turn_asks buses stand calls → AllByRecursion (λ peer. IsNew peer.peer stand.guests) (filter_map newcomer_of calls) → Begins (filter_map newcomer_of calls)
+  turn_begins asked new =
       let peers : List Guest = filter_map newcomer_of calls in
       let away : List Question = flat_map (turns_away buses now.events) peers in
       let visits : List Question = visits_ask buses (after peers).events calls (seats (after peers).places) in
       let of_peers : AreOfPeers (away ++ visits) = all_append (λ q. asks_peer q ≡ true) away visits (away_peers buses now.events peers) (visits_peers buses (after peers).events calls (seats (after peers).places)) in
-      evens peers (one_newcomer _ _ calls (away ++ visits) asked of_peers) asked new
+      begins peers (one_newcomer _ _ calls (away ++ visits) asked of_peers) asked new
+
+  -- the step of an induction over turns
+  pub even_turned : Begins (filter_map newcomer_of calls) → IsEven buses (λ peer. before peer ++ taken peer calls) (turned buses stand calls)
+  even_turned b = even_visited buses before (after (filter_map newcomer_of calls)) calls b.first b.still b.asked fair b.none b.begun_even

@@ -66,7 +66,7 @@ so_far before calls all peer = before peer ++ (if list_any (λ seat. seat.peer =
 abbrev pub AreGuests : List ℕ → List Seat → Type 0
 AreGuests guests all = AllByRecursion (λ seat. IsGuest seat.conn seat.peer guests) all
 
-fair_visit : (peer : ℕ) (calls : List Call) → AllByRecursion IsFair calls → AllByRecursion IsFair (filter (is_about peer) calls)
+pub fair_visit : (peer : ℕ) (calls : List Call) → AllByRecursion IsFair calls → AllByRecursion IsFair (filter (is_about peer) calls)
 fair_visit peer [] h = tt
 fair_visit peer (call ∷ calls) h = by (is_about peer call) (fair_visit peer calls h.1)
   where

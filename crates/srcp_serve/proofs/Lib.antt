@@ -26,4 +26,6 @@ pub mod Turning
 pub mod Hosting
 mod FreePlaces
 pub mod HostedTurns
+mod TurnEvents
 pub mod Paces
+pub mod Settling

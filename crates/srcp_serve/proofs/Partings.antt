@@ -9,7 +9,7 @@ use Rattle.srcp_core.specs.Under.{Event, Bytes}
 use Rattle.srcp_info.proofs.ClientLaws.{all_append}
 use Rattle.srcp_rules.specs.declared.layout.Bus.{Bus}
 use Rattle.srcp_serve.specs.Given.{Guest, Call, ExpectCall, NowCall, AcceptCall, ReadCall, WriteCall, CloseCall}
-use Rattle.srcp_serve.specs.Serving.{Question, Expects, Moments, expects, Newcomers, Reads, Writes, Closes, Seat, Stand, question, is_about, is_expect, visit, newcomer_of, piece_of, count_of, loses, loses_reading, turns, exchange, is_let_in, is_ready, is_closing, handed, reads_of, writes_of, closes_of, visit_asks, visits_ask, visit_events, turns_away, turn_asks, turns_ask, turned, timed, begun, seats}
+use Rattle.srcp_serve.specs.Serving.{Question, Expects, Moments, expects, Newcomers, Reads, Writes, Closes, Seat, Stand, OfEachTurn, OfEachVisit, question, is_about, is_expect, visit, newcomer_of, piece_of, count_of, loses, loses_reading, turns, exchange, is_let_in, is_ready, is_closing, handed, reads_of, writes_of, closes_of, visit_asks, visits_ask, visit_events, turns_away, turn_asks, turns_ask, turned, timed, begun, seats}
 
 -- ---- questions by whom they are about
 
@@ -89,7 +89,7 @@ of_peers peer (q ∷ questions) h = (peer_question peer q h.0, of_peers peer que
 same_peer : (peer : ℕ) → (peer == peer) ≡ true
 same_peer peer = grind (arith, nat_tests)
 
-writes_own : (peer : ℕ) (texts : List (List ℕ)) → AreOf peer (map (Writes peer) texts)
+pub writes_own : (peer : ℕ) (texts : List (List ℕ)) → AreOf peer (map (Writes peer) texts)
 writes_own peer [] = tt
 writes_own peer (text ∷ texts) = (same_peer peer, writes_own peer texts)
 
@@ -136,8 +136,7 @@ module _ (buses : List Bus) where
 
   -- each visit asked what it was to ask
   abbrev pub AreAsked : List Event → List Call → List Seat → Type 0
-  AreAsked events calls [] = Unit {0}
-  AreAsked events calls (seat ∷ all) = (map question (visit calls seat) ≡ visit_asks buses events (visit calls seat) seat) × AreAsked (events ++ visit_events calls seat) calls all
+  AreAsked events calls all = OfEachVisit buses (λ events calls seat. map question (visit calls seat) ≡ visit_asks buses events (visit calls seat) seat) events calls all
 
   -- these questions are about none of them
   abbrev pub IsOfNone : List Question → List Seat → Type 0
@@ -172,8 +171,7 @@ module _ (buses : List Bus) where
 
   -- each turn asked what it was to ask
   abbrev pub AreTurnsAsked : Stand → List (List Call) → Type 0
-  AreTurnsAsked stand [] = Unit {0}
-  AreTurnsAsked stand (calls ∷ more) = (map question calls ≡ turn_asks buses stand calls) × AreTurnsAsked (turned buses stand calls) more
+  AreTurnsAsked stand all = OfEachTurn buses (λ stand calls. map question calls ≡ turn_asks buses stand calls) stand all
 
   -- the calls before the next moment
   abbrev pub in_turn : List Call → List Call

@@ -4,20 +4,22 @@ use Rattle.std.proofs.Math.Seq.{take-nil}
 use Rattle.std.specs.Option.{option_map_or}
 use Rattle.std.proofs.lemmas.List.Sums.{fold-append}
 use Rattle.std.proofs.lemmas.Option.{same_Some}
-use Rattle.srcp_core.specs.Under.{Event, Room}
+use Rattle.std.specs.Prelude.{fold}
+use Rattle.std.specs.List.{AllByRecursion}
+use Rattle.srcp_core.specs.Under.{Event, Open, Bytes, Room, At, Shut}
 use Rattle.srcp_info.specs.declared.change.Shown.{Shown}
 use Rattle.srcp_rules.specs.declared.layout.Bus.{Bus}
 use Rattle.srcp_core.specs.Agrees.{lent_of}
 use Rattle.srcp_core.specs.Connection.{Connection, History, is_open, fitting, items_of, sent, unsent, overran, owed, took, given_room}
-use Rattle.srcp_core.specs.Course.{World, start, numbered, with_numbered, if_open, open_connection, at_connection, counted, or_refused, absent_fault, happens, course, history, rows}
+use Rattle.srcp_core.specs.Course.{World, fresh, fault, start, numbered, with_numbered, if_open, open_connection, at_connection, counted, or_refused, absent_fault, happens, course, history, rows}
 use Rattle.srcp_core.specs.declared.record.CoreFault.TheVariants.{NoSuch}
 use Rattle.srcp_core.proofs.CourseLaws.RoomsAddUp.{owed_plain}
 use Rattle.srcp_core.proofs.Agreement.NumbersAndKeys.{numbered_with}
 use Rattle.srcp_core.proofs.CourseLaws.RoomGivesWhatIsOwed.{fitting_none, took_within}
-use Rattle.srcp_core.proofs.CourseLaws.SessionsAreKept.{all_numbered}
+use Rattle.srcp_core.proofs.CourseLaws.SessionsAreKept.{all_numbered, all_push}
 use Rattle.srcp_serve.specs.Serving.{lent}
 use Rattle.srcp_serve.proofs.LentLaws.{IsWithin, sends_lent}
-use Rattle.srcp_serve.proofs.Sendings.{IsSteady, IsSending, steady_at}
+use Rattle.srcp_serve.proofs.Sendings.{IsSteady, IsSending, sending_bytes, sending_shut, steady_at}
 
 -- the connection that was changed
 opened : (o : Option Connection) (conn : Connection) → if_open o ≡ Some conn → (o ≡ Some conn) × (is_open conn ≡ true)
@@ -35,7 +37,7 @@ no_bytes : (bytes : ℕ) (text : List ℕ) → text ≡ [] → bytes ≤ length 
 no_bytes bytes text e h = let none = ap length e in omega (arith, none, h)
 
 -- what is lent of the connection after room for none
-abbrev lends : History → List Shown → Connection → List ℕ
+abbrev pub lends : History → List Shown → Connection → List ℕ
 lends past shown conn = let now = given_room 0 past shown conn in if overran now past then [] else unsent now
 
 conn_sends : (past : History) (shown : List Shown) (conn : Connection) (bytes : ℕ) (over over' : Bool) → overran conn past ≡ over → overran (given_room 0 past shown conn) past ≡ over' → IsWithin conn → bytes ≤ length (lends past shown conn)
@@ -85,26 +87,27 @@ steady_room bytes past shown conn s = elim (overran conn past) as (λ b. IsStead
   | true ↦ s
   | false ↦ record {
     plain = λ h. ap (λ ns. conn.items ++ items_of (length past) (fitting bytes (unsent conn) ns)) (owed_plain conn past shown h) ∙ ap (λ ns. conn.items ++ items_of (length past) ns) (fitting_none bytes (unsent conn)) ∙ append-nil conn.items ∙ s.plain h;
+    goes_on = s.goes_on;
     within = took_within bytes (length past) (owed conn past shown) conn s.within;
   }
 ]
 
 module _ (buses : List Bus) where
   -- room for an open connection
-  after_room : (events : List Event) (n bytes : ℕ) (conn : Connection) → open_connection (course buses events) n ≡ Some conn
+  pub after_room : (events : List Event) (n bytes : ℕ) (conn : Connection) → open_connection (course buses events) n ≡ Some conn
       → course buses (events ++ Room n bytes ∷ []) ≡ at_connection n (given_room bytes (history buses (course buses events)) (rows buses (course buses events))) (counted (course buses events))
   after_room events n bytes conn e =
       let w : World = course buses events in
       fold-append (happens buses) start events (Room n bytes ∷ []) ∙ ap (λ o. or_refused buses (absent_fault buses o) (Room n bytes) (counted w)) e
 
-  there_after : (events : List Event) (n bytes : ℕ) (conn : Connection) → open_connection (course buses events) n ≡ Some conn
+  pub there_after : (events : List Event) (n bytes : ℕ) (conn : Connection) → open_connection (course buses events) n ≡ Some conn
       → numbered n (course buses (events ++ Room n bytes ∷ [])).connections ≡ Some (given_room bytes (history buses (course buses events)) (rows buses (course buses events)) conn)
   there_after events n bytes conn e =
       let w : World = course buses events in
       let change : Connection → Connection = given_room bytes (history buses w) (rows buses w) in
       ap (λ (v : World). numbered n v.connections) (after_room events n bytes conn e) ∙ numbered_with n change w.connections ∙ ap (option_map change) (opened (numbered n w.connections) conn e).0
 
-  lent_is : (events : List Event) (n : ℕ) (conn : Connection) → open_connection (course buses events) n ≡ Some conn → lent buses n events ≡ lends (history buses (course buses events)) (rows buses (course buses events)) conn
+  pub lent_is : (events : List Event) (n : ℕ) (conn : Connection) → open_connection (course buses events) n ≡ Some conn → lent buses n events ≡ lends (history buses (course buses events)) (rows buses (course buses events)) conn
   lent_is events n conn e =
       let w : World = course buses events in
       let past : History = history buses w in
@@ -158,3 +161,24 @@ module _ (buses : List Bus) where
           fold-append (happens buses) start events (Room n bytes ∷ []) ∙ ap (λ o. or_refused buses (absent_fault buses o) (Room n bytes) (counted w)) e in
           subst (λ (v : World). IsSending (put n (take bytes (lent buses n events)) texts) v.connections) (sym next)
           (subst (λ (ts : List (List ℕ)). IsSending ts w.connections) (sym (ap (λ t. put n t texts) none ∙ put_none n texts)) a)
+
+  -- every connection of a course is steady
+  steady_happens : (w : World) (event : Event) → AllByRecursion IsSteady w.connections → AllByRecursion IsSteady (happens buses w event).connections
+  steady_happens w (Open granted) a = elim (fault buses (counted w) (Open granted)) as (λ o. AllByRecursion IsSteady (or_refused buses o (Open granted) (counted w)).connections) [
+    | None ↦ all_push IsSteady w.connections fresh a (record { plain = λ h. refl; goes_on = λ h. refl; within = omega arith })
+    | Some cause ↦ a
+  ]
+  steady_happens w (Bytes n piece) a = (sending_bytes buses n (map sent w.connections) piece w (record { steady = a; sends = refl })).steady
+  steady_happens w (Room n bytes) a = elim (fault buses (counted w) (Room n bytes)) as (λ o. AllByRecursion IsSteady (or_refused buses o (Room n bytes) (counted w)).connections) [
+    | None ↦ all_numbered IsSteady n (given_room bytes (history buses w) (rows buses w)) w.connections (λ c t s. steady_room bytes (history buses w) (rows buses w) c s) a
+    | Some cause ↦ a
+  ]
+  steady_happens w (At moment) a = a
+  steady_happens w (Shut n) a = (sending_shut buses n (map sent w.connections) w (record { steady = a; sends = refl })).steady
+
+  steady_all : (events : List Event) (w : World) → AllByRecursion IsSteady w.connections → AllByRecursion IsSteady (fold (happens buses) w events).connections
+  steady_all [] w a = a
+  steady_all (event ∷ events) w a = steady_all events (happens buses w event) (steady_happens w event a)
+
+  pub steady_course : (events : List Event) → AllByRecursion IsSteady (course buses events).connections
+  steady_course events = steady_all events start tt

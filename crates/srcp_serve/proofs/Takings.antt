@@ -1,6 +1,6 @@
 -- What the calls of a visit say was taken of a peer is what its events send.
 use Rattle.std.proofs.Common.{◌≡◌, ◌∙◌, ℕ, zero, suc, ◌≤◌, Bool, true, false, not, List, [], ◌∷◌, ◌++◌, map, take, length, if◌then◌else◌, Ok, Err, refl, ap, sym, subst, arith, append-nil, append_assoc, ◌==◌}
-use Rattle.std.specs.Prelude.{◌||◌, filter_map}
+use Rattle.std.specs.Prelude.{◌<◌, ◌||◌, filter_map}
 use Rattle.std.specs.List.{list_all, list_any, AllByRecursion}
 use Rattle.std.proofs.lemmas.Bool.Decides.{nat_tests}
 use Rattle.std.proofs.lemmas.Grind.{flat_map-append}
@@ -11,7 +11,7 @@ use Rattle.srcp_rules.specs.declared.layout.Bus.{Bus}
 use Rattle.srcp_core.specs.Under.{Piece, Event, Bytes, Room, Shut}
 use Rattle.srcp_core.specs.Course.{World, start, happens, course}
 use Rattle.srcp_serve.specs.Given.{Call, ExpectCall, NowCall, AcceptCall, ReadCall, WriteCall, CloseCall}
-use Rattle.srcp_serve.specs.Serving.{Question, Expects, Moments, expects, Newcomers, Reads, Writes, Closes, Seat, question, IsFair, taken, taken_in, piece_of, count_of, is_close, loses, loses_reading, lent_none_last, exchange, is_ready, is_closing, lent, handed, unless_nil, reads_of, writes_of, closes_of, visit_asks}
+use Rattle.srcp_serve.specs.Serving.{Question, Expects, Moments, Newcomers, Reads, Writes, Closes, Seat, question, IsFair, taken, taken_in, piece_of, count_of, is_close, loses, loses_reading, lent_none_last, exchange, is_ready, is_closing, lent, handed, unless_nil, reads_of, writes_of, closes_of, visit_asks}
 use Rattle.srcp_serve.proofs.Sendings.{IsSending, sending_bytes, sending_shut}
 use Rattle.srcp_serve.proofs.SentLaws.{put, put_none, put_put, sending_room}
 
@@ -59,19 +59,21 @@ pub all_parts : {X : Type 0} (P : X → Type 0) (xs ys : List X) → AllByRecurs
 all_parts P [] ys h = (tt, h)
 all_parts P (x ∷ xs) ys h = let more = all_parts P xs ys h.1 in ((h.0, more.0), more.1)
 
--- the first question is the first write
-record IsFirst (peer who : ℕ) (bytes now : List ℕ) (questions : List Question) (more : List (List ℕ)) : Type 0 where
-  peer_is : who ≡ peer
-  bytes_are : bytes ≡ now
-  left : ℕ
-  others : questions ≡ map (Writes peer) (take left more)
+-- the first question is the first write, which hands over something
+pub record IsFirst (peer who most : ℕ) (bytes now : List ℕ) (questions : List Question) (more : List (List ℕ)) : Type 0 where
+  pub peer_is : who ≡ peer
+  pub bytes_are : bytes ≡ now
+  pub some : 0 < length now
+  pub left : ℕ
+  pub one_less : most ≡ suc left
+  pub others : questions ≡ map (Writes peer) (take left more)
 
-first_of_writes : (peer who most : ℕ) (bytes now : List ℕ) (questions : List Question) (more : List (List ℕ)) → Writes who bytes ∷ questions ≡ map (Writes peer) (take most (unless_nil now more)) → IsFirst peer who bytes now questions more
+pub first_of_writes : (peer who most : ℕ) (bytes now : List ℕ) (questions : List Question) (more : List (List ℕ)) → Writes who bytes ∷ questions ≡ map (Writes peer) (take most (unless_nil now more)) → IsFirst peer who most bytes now questions more
 first_of_writes peer who zero bytes now questions more e = cc
 first_of_writes peer who (suc most) bytes [] questions more e = cc
-first_of_writes peer who (suc most) bytes (byte ∷ now) questions more e = record { peer_is = cc; bytes_are = cc; left = most; others = cc }
+first_of_writes peer who (suc most) bytes (byte ∷ now) questions more e = record { peer_is = cc; bytes_are = cc; some = omega arith; left = most; one_less = refl; others = cc }
 
-no_write : (peer : ℕ) (q : Question) (questions : List Question) (texts : List (List ℕ)) → asks_write q ≡ false → q ∷ questions ≡ map (Writes peer) texts → ⊥
+pub no_write : (peer : ℕ) (q : Question) (questions : List Question) (texts : List (List ℕ)) → asks_write q ≡ false → q ∷ questions ≡ map (Writes peer) texts → ⊥
 no_write peer q questions [] h e = cc
 no_write peer q questions (text ∷ texts) h e = let same : q ≡ Writes peer text = cc in let t : asks_write q ≡ true = ap asks_write same in cc
 
@@ -169,15 +171,15 @@ module _ (buses : List Bus) (seat : Seat) (events : List Event) (calls : List Ca
   closes_none = elim (list_any loses calls || is_closing buses seat.conn (events ++ exchange seat.conn calls)) as (λ b. no_writes (if b then Closes seat.peer ∷ [] else []) ≡ true) [ true ↦ refl | false ↦ refl ]
 
   -- the writes among the calls
-  record HasWrites : Type 0 where
-    writes : List Call
-    asked : map question writes ≡ writes_asked
-    fair : AllByRecursion IsFair writes
-    counts : filter_map count_of calls ≡ filter_map count_of writes
-    took : taken seat.peer calls ≡ taken seat.peer writes
+  pub record HasWrites : Type 1 where
+    pub writes : List Call
+    pub asked : map question writes ≡ writes_asked
+    pub each : (P : Call → Type 0) → AllByRecursion P calls → AllByRecursion P writes
+    pub counts : filter_map count_of calls ≡ filter_map count_of writes
+    pub took : taken seat.peer calls ≡ taken seat.peer writes
 
-  has_writes : map question calls ≡ visit_asks buses events calls seat → AllByRecursion IsFair calls → HasWrites
-  has_writes e fair =
+  pub has_writes : map question calls ≡ visit_asks buses events calls seat → HasWrites
+  has_writes e =
       let s = split calls (reads_of buses events seat) (writes_asked ++ closes_asked) (e ∙ append_assoc (reads_of buses events seat) writes_asked closes_asked) in
       let t = split s.ys writes_asked closes_asked s.back in
       let reads = none_taken seat.peer s.xs (ap no_writes s.front ∙ reads_none) in
@@ -185,7 +187,7 @@ module _ (buses : List Bus) (seat : Seat) (events : List Event) (calls : List Ca
       record {
         writes = t.xs;
         asked = t.front;
-        fair = (all_parts IsFair t.xs t.ys (subst (λ (cs : List Call). AllByRecursion IsFair cs) t.is (all_parts IsFair s.xs s.ys (subst (λ (cs : List Call). AllByRecursion IsFair cs) s.is fair)).1)).0;
+        each = λ P all. (all_parts P t.xs t.ys (subst (λ (cs : List Call). AllByRecursion P cs) t.is (all_parts P s.xs s.ys (subst (λ (cs : List Call). AllByRecursion P cs) s.is all)).1)).0;
         counts = ap (filter_map count_of) s.is
             ∙ filter_map-append count_of s.xs s.ys
             ∙ ap (λ cs. cs ++ filter_map count_of s.ys) reads.0
@@ -215,7 +217,7 @@ module _ (buses : List Bus) (seat : Seat) (events : List Event) (calls : List Ca
   pub sending_visit : (texts : List (List ℕ)) → map question calls ≡ visit_asks buses events calls seat → AllByRecursion IsFair calls → IsSending texts (course buses events).connections
       → IsSending (put seat.conn (taken seat.peer calls) texts) (course buses (events ++ made_of seat.conn calls)).connections
   sending_visit texts e fair a =
-      let h = has_writes e fair in
+      let h = has_writes e in
       let now : List (List ℕ) = put seat.conn (taken seat.peer calls) texts in
       let wrote = by h (list_any loses_reading calls) h.asked in
       let wrote' : IsSending now (course buses (read_events ++ map (Room seat.conn) (filter_map count_of calls))).connections =
@@ -228,7 +230,7 @@ module _ (buses : List Bus) (seat : Seat) (events : List Event) (calls : List Ca
     where
       by : (h : HasWrites) (b : Bool) → map question h.writes ≡ (if b then [] else map (Writes seat.peer) (take 300 (handed buses seat.conn read_events (filter_map count_of calls))))
           → IsSending (put seat.conn (taken seat.peer h.writes) texts) (course buses (read_events ++ map (Room seat.conn) (filter_map count_of h.writes))).connections
-      by h true q = sending_writes buses seat.peer seat.conn h.writes h.fair 0 read_events texts q (sends_bytes buses seat.peer seat.conn texts events (filter_map piece_of calls) a)
+      by h true q = sending_writes buses seat.peer seat.conn h.writes (h.each IsFair fair) 0 read_events texts q (sends_bytes buses seat.peer seat.conn texts events (filter_map piece_of calls) a)
       by h false q =
-          sending_writes buses seat.peer seat.conn h.writes h.fair 300 read_events texts (q ∙ ap (λ cs. map (Writes seat.peer) (take 300 (handed buses seat.conn read_events cs))) h.counts)
+          sending_writes buses seat.peer seat.conn h.writes (h.each IsFair fair) 300 read_events texts (q ∙ ap (λ cs. map (Writes seat.peer) (take 300 (handed buses seat.conn read_events cs))) h.counts)
           (sends_bytes buses seat.peer seat.conn texts events (filter_map piece_of calls) a)

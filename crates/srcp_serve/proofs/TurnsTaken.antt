@@ -12,13 +12,14 @@ use Rattle.srcp_core.specs.Connection.{sent}
 use Rattle.srcp_core.specs.Course.{course}
 use Rattle.srcp_serve.specs.Calls.{peer_of}
 use Rattle.srcp_serve.specs.Given.{Guest, Call, ExpectCall, NowCall, AcceptCall, ReadCall, WriteCall, CloseCall, told_call}
-use Rattle.srcp_serve.specs.Serving.{Question, Expects, Moments, expects, Newcomers, Closes, Stand, IsFair, question, is_expect, moment_of, newcomer_of, taken, taken_in, seats, empty_stand, is_let_in, let_in, welcomed, timed, begun, turned, turns, turns_away, turn_asks, stand_after, SentIsTaken}
+use Rattle.srcp_serve.specs.Serving.{Question, Moments, expects, Newcomers, Closes, Stand, IsFair, question, is_expect, moment_of, newcomer_of, taken, taken_in, seats, empty_stand, is_let_in, let_in, welcomed, timed, begun, turned, turns, turns_away, turn_asks, stand_after, IsServed, OfEachTurn, PeersDiffer, SendsWhatIsTaken, SentIsTaken}
 use Rattle.srcp_serve.proofs.Takings.{all_parts, no_writes}
-use Rattle.srcp_serve.proofs.Partings.{AreTurnsAsked, IsNoneOf, in_turn, turns_parted}
+use Rattle.srcp_serve.proofs.Partings.{AreAsked, AreTurnsAsked, IsNoneOf, PeersApart, in_turn, turns_parted, visits_parted}
+use Rattle.srcp_serve.proofs.Guests.{AreGuests}
 use Rattle.srcp_serve.proofs.Comings.{IsEven, IsNew, even_welcomed, new_push, new_unseated}
 use Rattle.srcp_serve.proofs.Evening.{nothing_taken, same_each}
 use Rattle.srcp_serve.proofs.Begins.{even_timed}
-use Rattle.srcp_serve.proofs.Evened.{even_turned}
+use Rattle.srcp_serve.proofs.Evened.{even_turned, turn_begins}
 
 -- ---- newcomers
 
@@ -141,18 +142,31 @@ abbrev joined : List (List Call) → List Call
 joined all = flat_map (λ calls. calls) all
 
 module _ (buses : List Bus) where
+  -- in the turn, who has a place is a guest, no two are one peer, and each visit asked what it was to ask
+  pub record IsTurnOfGuests (stand : Stand) (calls : List Call) : Type 0 where
+    pub known : AreGuests (begun buses stand calls).guests (seats (begun buses stand calls).places)
+    pub apart : PeersApart (seats (begun buses stand calls).places)
+    pub asked : AreAsked buses (begun buses stand calls).events calls (seats (begun buses stand calls).places)
+    pub fair : AllByRecursion IsFair calls
+
+  abbrev SentAfter : (all : List (List Call)) (before : ℕ → List ℕ) (stand : Stand) → Type 0
+  SentAfter all before stand = map sent (course buses (fold (turned buses) stand all).events).connections ≡ map (λ peer. before peer ++ taken peer (joined all)) (fold (turned buses) stand all).guests
+
   turns_taken : (all : List (List Call)) (before : ℕ → List ℕ) (stand : Stand) → AreTurnsAsked buses stand all → AllByRecursion IsFair (joined all) → AreNew stand.guests (filter_map newcomer_of (joined all)) → IsFresh before stand.guests → IsEven buses before stand
-      → map sent (course buses (fold (turned buses) stand all).events).connections ≡ map (λ peer. before peer ++ taken peer (joined all)) (fold (turned buses) stand all).guests
-  turns_taken [] before stand asked fair new fresh even = even.sending.sends ∙ same_each before (λ peer. before peer ++ []) stand.guests (λ peer. sym (append-nil (before peer)))
+      → OfEachTurn buses IsTurnOfGuests stand all × SentAfter all before stand
+  turns_taken [] before stand asked fair new fresh even = (tt, even.sending.sends ∙ same_each before (λ peer. before peer ++ []) stand.guests (λ peer. sym (append-nil (before peer))))
   turns_taken (calls ∷ all) before stand asked fair new fresh even =
       let parts = all_parts IsFair calls (joined all) fair in
       let peers : List Guest = filter_map newcomer_of calls in
       let more : List Guest = filter_map newcomer_of (joined all) in
       let apart : AreNew stand.guests (peers ++ more) = subst (λ (ps : List Guest). AreNew stand.guests ps) (filter_map-append newcomer_of calls (joined all)) new in
       let coming : AllByRecursion (λ peer. IsNew peer.peer stand.guests) peers = (all_parts (λ peer. IsNew peer.peer stand.guests) peers more apart.new).0 in
-      turns_taken all (λ peer. before peer ++ taken peer calls) (turned buses stand calls) asked.1 parts.1 (new_turned buses before stand calls more apart fresh even) (fresh_turned buses before stand calls more apart fresh even asked.0)
-      (even_turned buses before stand calls parts.0 fresh even asked.0 coming)
-      ∙ same_each (λ peer. (before peer ++ taken peer calls) ++ taken peer (joined all)) (λ peer. before peer ++ taken peer (joined (calls ∷ all))) (fold (turned buses) (turned buses stand calls) all).guests (regrouped before calls (joined all))
+      let b = turn_begins buses before stand calls parts.0 fresh even asked.0 coming in
+      let now : Stand = begun buses stand calls in
+      let here : IsTurnOfGuests stand calls = record { known = b.begun_even.known; apart = b.begun_even.apart; asked = visits_parted buses b.first now.events calls (seats now.places) b.begun_even.apart b.none b.asked; fair = parts.0 } in
+      let rest = turns_taken all (λ peer. before peer ++ taken peer calls) (turned buses stand calls) asked.1 parts.1 (new_turned buses before stand calls more apart fresh even) (fresh_turned buses before stand calls more apart fresh even asked.0) (even_turned buses before stand calls parts.0 fresh even b) in
+      ((here, rest.0), rest.1
+      ∙ same_each (λ peer. (before peer ++ taken peer calls) ++ taken peer (joined all)) (λ peer. before peer ++ taken peer (joined (calls ∷ all))) (fold (turned buses) (turned buses stand calls) all).guests (regrouped before calls (joined all)))
     where
       regrouped : (before : ℕ → List ℕ) (calls others : List Call) (peer : ℕ) → (before peer ++ taken peer calls) ++ taken peer others ≡ before peer ++ taken peer (calls ++ others)
       regrouped before calls others peer = append_assoc (before peer) (taken peer calls) (taken peer others) ∙ ap (λ t. before peer ++ t) (sym (flat_map-append (taken_in peer) calls others))
@@ -173,11 +187,21 @@ module _ (buses : List Bus) where
   nobody_even : IsEven buses (λ peer. []) empty_stand
   nobody_even = record { sending = record { steady = tt; sends = refl }; known = tt; apart = tt }
 
+  module _ (count : ℕ) (told : List Call) (served : IsServed buses count told) (differ : PeersDiffer buses told) (fair : AllByRecursion IsFair told) where
+    whole : joined (turns told) ≡ told
+    whole = ap (λ cs. cs ++ joined (turns told)) (sym (no_calls (in_turn buses told) (turns_parted buses empty_stand told [] tt served.asked).0)) ∙ turns_joined told
+
+    all_turns : OfEachTurn buses IsTurnOfGuests empty_stand (turns told) × SentAfter (turns told) (λ peer. []) empty_stand
+    all_turns =
+        let guests : List Guest = filter_map newcomer_of told in
+        let first : AreNew [] guests = record { new = all_new_first guests; differ = differ_guests guests (subst (λ (peers : List ℕ). IsDistinct (λ a b. a == b) peers) (peers_told told) differ) } in
+        turns_taken (turns told) (λ peer. []) empty_stand (turns_parted buses empty_stand told [] tt served.asked).1 (subst (λ (cs : List Call). AllByRecursion IsFair cs) (sym whole) fair) (subst (λ (cs : List Call). AreNew [] (filter_map newcomer_of cs)) (sym whole) first) (λ peer h. refl) nobody_even
+
+    pub turns_of_guests : OfEachTurn buses IsTurnOfGuests empty_stand (turns told)
+    turns_of_guests = all_turns.0
+
+    pub sends_taken : SendsWhatIsTaken buses told
+    sends_taken = all_turns.1 ∙ ap (λ cs. map (λ peer. taken peer cs) (stand_after buses told).guests) whole
+
   pub sent_taken : SentIsTaken buses
-  sent_taken count told served differ fair =
-      let parted = turns_parted buses empty_stand told [] tt served.asked in
-      let whole : joined (turns told) ≡ told = ap (λ cs. cs ++ joined (turns told)) (sym (no_calls (in_turn buses told) parted.0)) ∙ turns_joined told in
-      let guests : List Guest = filter_map newcomer_of told in
-      let first : AreNew [] guests = record { new = all_new_first guests; differ = differ_guests guests (subst (λ (peers : List ℕ). IsDistinct (λ a b. a == b) peers) (peers_told told) differ) } in
-      turns_taken (turns told) (λ peer. []) empty_stand parted.1 (subst (λ (cs : List Call). AllByRecursion IsFair cs) (sym whole) fair) (subst (λ (cs : List Call). AreNew [] (filter_map newcomer_of cs)) (sym whole) first) (λ peer h. refl) nobody_even
-      ∙ ap (λ cs. map (λ peer. taken peer cs) (stand_after buses told).guests) whole
+  sent_taken count told served differ fair = sends_taken count told served differ fair

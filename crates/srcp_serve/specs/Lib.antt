@@ -1,9 +1,10 @@
 pub mod Calls
 pub mod Given
 pub mod Listening
+pub mod Pacing
 pub mod Places
 pub mod Serving
+pub mod Settling
 pub mod Tally
 pub mod Turns
 pub mod Visits
-pub mod Sparing

@@ -2,7 +2,7 @@
 -- A turn asks for the moment, lets in one peer, and visits each peer that has a place, in the order of the places.
 -- What a reader gets: a peer is handed exactly what the course of these events leaves unsent of its connection. So
 -- what the door took of each peer is what that course says was sent: SentIsTaken, which `laws::sent_is_taken` ensures.
-use Rattle.std.specs.Prelude.{◌≡◌, ℕ, ◌+◌, Bool, true, false, not, ◌&&◌, ◌||◌, ◌==◌, nat_lt, if◌then◌else◌, List, [], ◌∷◌, ◌++◌, map, take, length, filter, filter_map, flat_map, fold, count_by, replicate, Option, Some, None, is_none, option_map, Ok, Err}
+use Rattle.std.specs.Prelude.{⊤, ◌≡◌, ℕ, ◌+◌, Bool, true, false, not, ◌&&◌, ◌||◌, ◌==◌, nat_lt, if◌then◌else◌, List, [], ◌∷◌, ◌++◌, map, take, length, filter, filter_map, flat_map, fold, count_by, replicate, Option, Some, None, is_none, option_map, Ok, Err}
 use Rattle.std.specs.List.{list_any, AllByRecursion}
 use Rattle.srcp_rules.specs.declared.layout.Bus.{Bus}
 use Rattle.srcp_core.specs.Agrees.{closes, lent as lent_in}
@@ -291,6 +291,16 @@ module _ (buses : List Bus) where
   abbrev pub turns_ask : Stand → List (List Call) → List Question
   turns_ask stand [] = []
   turns_ask stand (calls ∷ more) = turn_asks stand calls ++ turns_ask (turned stand calls) more
+
+  -- this holds of each of the turns, by how the server stood before it
+  abbrev pub OfEachTurn : (Stand → List Call → Type 0) → Stand → List (List Call) → Type 0
+  OfEachTurn Law stand [] = ⊤
+  OfEachTurn Law stand (calls ∷ more) = Law stand calls × OfEachTurn Law (turned stand calls) more
+
+  -- this holds of each of the visits of a turn, by what had happened before it
+  abbrev pub OfEachVisit : (List Event → List Call → Seat → Type 0) → List Event → List Call → List Seat → Type 0
+  OfEachVisit Law events calls [] = ⊤
+  OfEachVisit Law events calls (seat ∷ more) = Law events calls seat × OfEachVisit Law (events ++ visit_events calls seat) calls more
 
   -- the calls are those of so many turns, none more and none fewer
   pub record IsServed (count : ℕ) (told : List Call) : Type 0 where

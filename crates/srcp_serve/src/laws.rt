@@ -5,7 +5,8 @@ ghost use Rattle.std.specs.Prelude.{List};
 ghost use Rattle.srcp_rules.specs.declared.layout.Bus.{Bus};
 ghost use Rattle.srcp_serve.specs.Given.{GivesUnlessCounted};
 ghost use Rattle.srcp_serve.specs.Serving.{SentIsTaken};
-ghost use Rattle.srcp_serve.specs.Sparing.{PacedServingSparesAll, PacedTurnsSpare};
+ghost use Rattle.srcp_serve.specs.Settling.{SettlesSoon, WaitsAreGoneAfterAVisit};
+ghost use Rattle.srcp_serve.specs.Pacing.{PacedServingSparesAll, PacedTurnsSpare};
 
 /// What the door took of each peer is to the byte what the course of its answers says was sent to the
 /// peer's connection: wherever the calls are those of so many turns, no peer came in twice, and no
@@ -24,4 +25,16 @@ pub fn gives_unless_counted()
 pub fn paced_turns()
     ensures each { (buses : List Bus) → PacedTurnsSpare buses }
     ensures all { (buses : List Bus) → PacedServingSparesAll buses }
+{}
+
+/// An information session whose peer takes all that it is handed, and is not lost, is settled after as many turns without a
+/// change as it takes to write once for each line that it was owed, 300 times a turn, and once more if bytes were unsent.
+pub fn settles_soon()
+    ensures { (buses : List Bus) → SettlesSoon buses }
+{}
+
+/// No change waits for an information session right after a visit in which its peer took all that it was handed: at most 256
+/// wait, a visit writes up to 300 times, and changes go before rows.
+pub fn waits_are_gone_after_a_visit()
+    ensures { (buses : List Bus) → WaitsAreGoneAfterAVisit buses }
 {}

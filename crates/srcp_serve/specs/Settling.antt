@@ -1,0 +1,61 @@
+-- To be believed: how soon an information session whose peer takes all that it is handed has nothing more to get.
+use Rattle.std.specs.Prelude.{◌≡◌, ℕ, ◌+◌, ◌*◌, ◌≤◌, if◌then◌else◌, true, false, fold, List, [], ◌++◌, length, slice_get, Some}
+use Rattle.std.specs.List.{list_any, AllByRecursion}
+use Rattle.srcp_rules.specs.Layout.{IsLayout}
+use Rattle.srcp_rules.specs.declared.layout.Bus.{Bus}
+use Rattle.srcp_core.specs.Connection.{Connection, is_nil, is_settled, owed, unsent, waiting}
+use Rattle.srcp_core.specs.Course.{World, course, history, numbered, rows}
+use Rattle.srcp_core.specs.Under.{Event}
+use Rattle.srcp_core.specs.Waits.{IsPanel}
+use Rattle.srcp_serve.specs.Given.{Call}
+use Rattle.srcp_serve.specs.Pacing.{brought_in}
+use Rattle.srcp_serve.specs.Serving.{Seat, Stand, IsFair, IsServed, OfEachTurn, OfEachVisit, PeersDiffer, begun, empty_stand, events_of, falls_short, loses, seats, turned, turns, visit, visit_events}
+
+-- the peer took all that it was handed in its visit of the turn, and was not lost
+pub record TakesAll (calls : List Call) (seat : Seat) : Type 0 where
+  pub keeps : list_any loses (visit calls seat) ≡ false
+  pub whole : list_any falls_short (visit calls seat) ≡ false
+
+module _ (buses : List Bus) where
+  -- ---- the changes that wait
+
+  -- they are gone right after a visit in which the peer took all
+  abbrev pub TakesWaits : List Event → List Call → Seat → Type 0
+  TakesWaits events calls seat = (conn later : Connection) → IsPanel buses (course buses events) seat.conn conn → TakesAll calls seat
+      → numbered seat.conn (course buses (events ++ visit_events calls seat)).connections ≡ Some later
+      → waiting later (history buses (course buses (events ++ visit_events calls seat))) ≡ []
+
+  -- in each visit of each turn, over any layout
+  abbrev pub WaitsAreGoneAfterAVisit : Type 0
+  WaitsAreGoneAfterAVisit = IsLayout buses → (count : ℕ) (told : List Call) → IsServed buses count told → PeersDiffer buses told
+      → AllByRecursion IsFair told
+      → OfEachTurn buses (λ stand calls. OfEachVisit buses TakesWaits (begun buses stand calls).events calls
+      (seats (begun buses stand calls).places)) empty_stand (turns told)
+
+  -- ---- all that is owed
+
+  -- the turn brought no change, and the peer took all
+  pub record IsStill (seat : Seat) (stand : Stand) (calls : List Call) : Type 0 where
+    pub nothing : brought_in buses stand calls ≡ 0
+    pub takes : TakesAll calls seat
+
+  -- how many writes are left: one for each line that the session is owed, and one more where bytes of earlier ones are unsent
+  abbrev pub writes_left : World → Connection → ℕ
+  writes_left w conn = length (owed conn (history buses w) (rows buses w)) + (if is_nil (unsent conn) then 0 else 1)
+
+  -- how the server stands after these turns
+  abbrev pub after_turns : List (List Call) → Stand
+  after_turns all = fold (turned buses) empty_stand all
+
+  -- over any layout, the session of a peer that has a place is settled after turns without a change, in each of which its peer
+  -- took all, where 300 times their number is at least what was left
+  abbrev pub SettlesSoon : Type 0
+  SettlesSoon = IsLayout buses → (count : ℕ) (told : List Call) → IsServed buses count told → PeersDiffer buses told
+      → AllByRecursion IsFair told → (before after : List (List Call)) → turns told ≡ before ++ after
+      → (place : ℕ) (seat : Seat) → slice_get (after_turns before).places place ≡ Some (Some seat)
+      → (conn : Connection) → IsPanel buses (course buses (after_turns before).events) seat.conn conn
+      → OfEachTurn buses (IsStill seat) (after_turns before) after
+      → writes_left (course buses (after_turns before).events) conn ≤ 300 * length after
+      → (later : Connection) → numbered seat.conn (course buses (events_of buses told)).connections ≡ Some later
+      → is_settled later (history buses (course buses (events_of buses told))) (rows buses (course buses (events_of buses told)))
+      ≡ true
