@@ -89,11 +89,19 @@ LeadsAt key event old new =
     → key_of n keys ≡ Some key → StandsFor buses keys old (course buses events)
     → StandsFor buses keys new (course buses (events ++ event n ∷ []))
 
--- the same of a piece, with what memory answered to its lines
+-- what such a call counted as refused is what was asked for in the course
+abbrev pub CountsAt : ℕ → (ℕ → Event) → Held → Held → Type 0
+CountsAt key event old new =
+    (buses : List Bus) (events : List Event) (keys : List (Option ℕ)) (n : ℕ) → IsLayout buses
+    → key_of n keys ≡ Some key → StandsFor buses keys old (course buses events)
+    → new.denied ≡ denied_in buses old.denied (counted (course buses events)) (event n)
+
+-- the same of a piece, with what memory answered to its lines: what it refused is what was asked for in the course
 pub record LeadsOn (key : ℕ) (piece : List ℕ) (old new : Held) : Type 0 where
   pub grants : List Bool
   pub counted : new.denied ≡ denied_by old.denied grants
   pub given : GivesAll grants new
+  pub asked : CountsAt key (λ n. Bytes n (record { bytes = piece; grants = grants })) old new
   pub leads : LeadsAt key (λ n. Bytes n (record { bytes = piece; grants = grants })) old new
 
 -- the same of a hang-up, which leaves the key free

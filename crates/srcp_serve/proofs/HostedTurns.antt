@@ -19,12 +19,13 @@ use Rattle.srcp_serve.specs.Given.{Guest, Call, ExpectCall, NowCall, AcceptCall,
 use Rattle.srcp_serve.specs.Serving.{Seat, Stand, Expects, Moments, expects, Newcomers, IsFair, IsServed, question, is_expect, moment_of, newcomer_of, seats, visits_ask, visit_events, kept, is_let_in, let_in, welcomed, with_moment, timed, begun, visited, turned, turn_asks, turns_away, stand_after}
 use Rattle.srcp_serve.specs.Places.{IsHosting, IsServing, IsLeftOut, IsNotOf, IsOneOf, IsTurnGiven, one_if, LetsIn, MakesTurn, SeatsPeer, SeatsDiffer, ServesCourse, ServesSoFar, Sit, TakesMoment, Visit, VisitsPlaces, AreOwn, asked_by, calls_of, left_by, made_by, seat_of, visits_of}
 use Rattle.srcp_serve.specs.Turns.{AsksNewcomer, AsksPeers, AsksTurn, AsksTurns, IsTurn, is_of_peer}
-use Rattle.srcp_serve.specs.Visits.{AddsGiven}
+use Rattle.srcp_serve.specs.Visits.{AddsGiven, CountsAsked}
 use Rattle.srcp_serve.specs.declared.door.DoorFault.{DoorFault}
 use Rattle.srcp_serve.specs.declared.serving.visit.Seat.{Seat as Own}
 use Rattle.srcp_serve.proofs.Hosting.{none_left_out}
 use Rattle.srcp_serve.proofs.PlaceLaws.{all_here, all_seated, kept_by, known_left, round_seats, visits_apart}
 use Rattle.srcp_serve.proofs.ServingLaws.{served-more}
+use Rattle.srcp_serve.proofs.AskedFor.{asked_moment, asked_then}
 use Rattle.srcp_serve.proofs.Telling.{adds_one, adds_then, given_then, refusals_then, same_calls}
 use Rattle.srcp_serve.proofs.TurnsTaken.{peers_told, sent_taken}
 use Rattle.srcp_serve.proofs.VisitLaws.{AreApart, visits_asked, visits_make}
@@ -151,6 +152,7 @@ module _ (old : Held) (told_old told_new : Option (List DoorCall)) (owns : List 
     keys = keys;
     adds = adds_one (door.AcceptCall (Ok None)) told_old told_new told h is;
     counted = refl;
+    asked_for = λ first e. e;
     asked = refl;
     others = none_left_out stand.places;
     hosting = hosting;
@@ -165,6 +167,7 @@ module _ (old : Held) (told_old told_new : Option (List DoorCall)) (owns : List 
     keys = keys;
     adds = adds_one (door.AcceptCall (Err failed)) told_old told_new told h is;
     counted = refl;
+    asked_for = λ first e. e;
     asked = refl;
     others = none_left_out stand.places;
     hosting = hosting;
@@ -187,6 +190,7 @@ lets_peer peer opens old new told_old told_mid told_new owns owns_new h asks sit
       keys = x.welcomes.keys;
       adds = given_then told_old told_mid later.adds.before told (AcceptCall (Ok (Some peer)) x.granted ∷ []) x.welcomes.early later.adds.was first x.welcomes.adds;
       counted = x.welcomes.counted;
+      asked_for = x.welcomes.asked_for;
       asked = x.welcomes.asked ∙ sym (append-nil (turns_away buses stand.events guest));
       others = x.welcomes.others;
       hosting = x.welcomes.hosting;
@@ -304,6 +308,9 @@ makes_turn opens old mid between new told_old told_mid told_between told_new own
       keys = x.keys;
       adds = adds_all;
       counted = refusals_then old between new begins seen (b.counted ∙ ap (λ k. denied_by k (answers_of begins)) same_count) x.counted;
+      asked_for = subst (λ (s : Stand). CountsAsked buses stand.events s.events old new) (sym ends)
+          (asked_then buses stand.events first_stand.events (second_stand.events ++ made_by (visits_of x.round)) old mid new (asked_moment buses t.answer stand old mid same_count)
+          (asked_then buses first_stand.events second_stand.events (second_stand.events ++ made_by (visits_of x.round)) mid between new b.asked_for x.asked_for));
       turn = record { due = t.due; slack = t.slack; now = t.answer; newcomer = b.answer; granted = b.granted; rest = b.early ++ seen; is = refl; peers = of_peers };
       asked = turn_asked buses stand t.due t.slack t.answer b.answer b.granted b.early x.round of_peers x.own x.seats_are b.hosting.differ b.others t.asked b.asked x.asked;
       known = subst (λ (s : Stand). AllByRecursion (IsOneOf peers_then) s.places) (sym ends) known_last;
@@ -333,6 +340,7 @@ serves_first old told_old buses before calls layout stands was is differ =
       keys = [];
       are = refl;
       counted = refl;
+      asked_for = λ first e. e;
       served = record { turns_are = refl; asked = refl };
       known = known_none 64;
       hosting = record { layout = layout; sit = sit_none 64; few = omega arith; differ = differ_none 64; long = refl; stands = stands };
@@ -372,6 +380,7 @@ serves_on count opened opens old mid new told_old told_mid told_new owns owns_ne
       keys = x.keys;
       are = map-append told_call s.calls x.calls ∙ ap (λ c. c ++ map told_call x.calls) s.are ∙ ap (λ c. first ++ c) (sym same) ∙ sym whole;
       counted = refusals_then old mid new s.calls x.calls s.counted x.counted;
+      asked_for = subst (λ (v : Stand). CountsAsked buses [] v.events old new) (sym more.1) (asked_then buses [] stood.events (turned buses stood x.calls).events old mid new s.asked_for x.asked_for);
       served = more.0;
       known = subst (λ (v : Stand). AllByRecursion (IsOneOf (filter_map peer_of calls)) v.places) (sym more.1) known;
       hosting = subst (λ (v : Stand). IsHosting buses v x.keys new owns_new) (sym more.1) x.hosting;
@@ -389,6 +398,7 @@ serves_all count turns opened old now told_old told_now owns e asks so buses bef
       calls = s.calls;
       are = s.are;
       counted = s.counted;
+      asked = s.asked_for old.denied refl;
       course = record {
         keys = s.keys;
         served = served;

@@ -3,11 +3,11 @@ use Rattle.std.proofs.Common.{◌≡◌, ◌∙◌, ℕ, suc, ◌+◌, ◌<◌, 
 use Rattle.std.proofs.lemmas.Grind.{flat_map-append}
 use Rattle.std.proofs.lemmas.List.{map-append, length-map}
 use Rattle.std.specs.List.{filter, slice_index_or, slice_set, AllByRecursion}
-use Rattle.std.specs.Prelude.{is_none, position, nat_lt}
+use Rattle.std.specs.Prelude.{is_none, not, position, nat_lt}
 use Rattle.std.proofs.lemmas.List.Sums.{fold-append}
 use Rattle.srcp_rules.specs.declared.layout.Bus.{Bus}
 use Rattle.srcp_core.specs.Connection.{is_open}
-use Rattle.srcp_core.specs.Course.{World, start, counted, course, fault, happens, or_refused}
+use Rattle.srcp_core.specs.Course.{World, start, counted, course, denied_in, fault, happens, or_refused}
 use Rattle.srcp_core.specs.Held.{Held, open_count}
 use Rattle.srcp_core.specs.Machine.{IsAdmitted, IsNotAdmitted, advanced, slack_at}
 use Rattle.srcp_core.specs.Waits.{due_next, least}
@@ -26,10 +26,11 @@ use Rattle.srcp_serve.specs.Given.{Guest, Call, CloseCall, CountsRefusals}
 use Rattle.srcp_serve.specs.Serving.{Seat, Stand, Expects, expects, Closes as ClosesQuestion, question, is_let_in, let_in, welcomed, visit_events}
 use Rattle.srcp_serve.specs.Places.{AreOwn, Visit, calls_of, made_by, asked_by, visits_of, seat_of, left_by, Sit, SitsAt, IsNotOf, IsLeftOut, IsHosting, WelcomesPeer, AreVisited, AreVisitedSoFar, SeatsPeer, TakesMoment, VisitsPlace, VisitsPlaces, VisitsSoFar}
 use Rattle.srcp_serve.specs.Turns.{AsksPeers}
-use Rattle.srcp_serve.specs.Visits.{AddsGiven, Closes, Visits}
+use Rattle.srcp_serve.specs.Visits.{AddsGiven, Closes, CountsAsked, Visits}
 use Rattle.srcp_serve.specs.declared.door.DoorFault.{DoorFault}
 use Rattle.srcp_serve.specs.declared.serving.visit.Seat.{Seat as Own}
 use Rattle.srcp_serve.proofs.PlaceLaws.{count_append, count_cleared, count_cons, count_seated, count_without, differ_cleared, differ_seated, free_in, free_is, length-sit, new_apart, none_free, own_append, sit_pushed, sit_seated, sit_without, sits_here, visits-append}
+use Rattle.srcp_serve.proofs.AskedFor.{asked_none, asked_one, asked_then}
 use Rattle.srcp_serve.proofs.Telling.{adds_none, adds_one, adds_then, given_then, refusals_then}
 use Rattle.srcp_serve.proofs.VisitLaws.{asked_by-append}
 
@@ -89,6 +90,14 @@ module _ (buses : List Bus) where
       by true e = cc
       by false e = refl
 
+  -- and where memory is what is refused, there are not too many
+  few_open : (w : World) → fault buses w (Open false) ≡ Some MemoryFault → not (nat_lt (length (filter is_open w.connections)) 64) ≡ false
+  few_open w e = by (nat_lt (length (filter is_open w.connections)) 64) e
+    where
+      by : (b : Bool) → (if b then Some MemoryFault else Some Full) ≡ Some MemoryFault → not b ≡ false
+      by true e = refl
+      by false e = cc
+
   full_course : (events : List Event) → fault buses (course buses events) (Open false) ≡ Some Full → course buses (events ++ Open false ∷ []) ≡ course buses (events ++ Open true ∷ [])
   full_course events e =
       let w : World = course buses events in
@@ -109,8 +118,8 @@ seats_full peer old mid cause told_old told_new owns closes turned_away buses st
     stands = calls_lead.not_opened cause old mid turned_away buses stand.events keys hosting.layout hosting.stands
 
     away : (cause : CoreFault) (granted : Bool) → fault buses (course buses stand.events) (Open granted) ≡ Some cause
-        → StandsFor buses keys mid (course buses (stand.events ++ Open granted ∷ [])) → mid.denied ≡ denied_by old.denied (granted ∷ []) → WelcomesPeer buses stand told_old told mid owns old peer false
-    away cause granted denies after_open counted =
+        → StandsFor buses keys mid (course buses (stand.events ++ Open granted ∷ [])) → mid.denied ≡ denied_by old.denied (granted ∷ []) → mid.denied ≡ denied_in buses old.denied (counted (course buses stand.events)) (Open granted) → WelcomesPeer buses stand told_old told mid owns old peer false
+    away cause granted denies after_open counts asks =
         let guest : Guest = record { peer = peer; granted = granted } in
         let shut : is_let_in buses stand.events granted ≡ false = ap is_none denies in
         let after : Stand = record { events = stand.events ++ Open granted ∷ []; guests = stand.guests; places = stand.places } in
@@ -122,7 +131,8 @@ seats_full peer old mid cause told_old told_new owns closes turned_away buses st
             early = CloseCall peer c.answer ∷ [];
             keys = keys;
             adds = c.adds;
-            counted = counted;
+            counted = counts;
+            asked_for = subst (λ (s : Stand). CountsAsked buses stand.events s.events old mid) (sym w) (asked_one buses stand.events (Open granted) old mid asks);
             asked = sym (ap (λ b. if b then [] else ClosesQuestion peer ∷ []) shut);
             others = subst (λ (s : Stand). AllByRecursion (IsLeftOut (CloseCall peer c.answer ∷ [])) s.places) (sym w) (close_left_out peer c.answer stand.places new);
             hosting = subst (λ (s : Stand). IsHosting buses s keys mid owns) (sym w) (record {
@@ -141,8 +151,10 @@ seats_full peer old mid cause told_old told_new owns closes turned_away buses st
         → WelcomesPeer buses stand told_old told mid owns old peer false
     by Full a out =
         away Full true (full_open buses (course buses stand.events) out)
-        (subst (λ (w : World). StandsFor buses keys mid w) (full_course buses stand.events out) stands) (ap (λ (h : Held). h.denied) a.1)
-    by MemoryFault a out = away MemoryFault false out stands (ap (λ (h : Held). h.denied) a.1)
+        (subst (λ (w : World). StandsFor buses keys mid w) (full_course buses stand.events out) stands) (ap (λ (h : Held). h.denied) a.1) (ap (λ (h : Held). h.denied) a.1)
+    by MemoryFault a out =
+        let e : mid.denied ≡ denied_by old.denied (false ∷ []) = ap (λ (h : Held). h.denied) a.1 in
+        away MemoryFault false out stands e (e ∙ ap (λ b. denied_by old.denied (not b ∷ [])) (sym (few_open buses (course buses stand.events) out)))
     by other a out = absurd a
 
 pub seats_in : (peer key free : ℕ) (old mid : Held) (told_old : Option (List DoorCall)) (owns : List (Option Own)) → IsAdmitted key old mid
@@ -171,6 +183,7 @@ seats_in peer key free old mid told_old owns admitted place buses stand keys tol
         keys = pushed;
         adds = adds_none told_old told is;
         counted = ap (λ (h : Held). h.denied) admitted.rest;
+        asked_for = subst (λ (s : Stand). CountsAsked buses stand.events s.events old mid) (sym w) (asked_one buses stand.events (Open true) old mid (ap (λ (h : Held). h.denied) admitted.rest));
         asked = sym (ap (λ b. if b then [] else ClosesQuestion peer ∷ []) let_in_is);
         others = none_left_out (welcomed buses stand guest).places;
         hosting = subst (λ (s : Stand). IsHosting buses s pushed mid (slice_set owns free (Some own))) (sym w) (record {
@@ -206,6 +219,7 @@ place_free place d old told_old owns here buses stand keys told hosting is front
   keys = keys;
   adds = adds_none told_old told is;
   counted = refl;
+  asked_for = asked_none buses stand.events old;
   seats_are = refl;
   own = tt;
   asked = refl;
@@ -232,6 +246,7 @@ module _ (place : ℕ) (d : Option Own) (own : Own) (old new : Held) (told_old t
         keys = keys;
         adds = subst (λ (c : List Call). AddsGiven told_old told c) (sym (append-nil x.calls)) x.adds;
         counted = subst (λ (c : List Call). CountsRefusals old c new) (sym (append-nil x.calls)) x.counted;
+        asked_for = subst (λ (more : List Event). CountsAsked buses stand.events (stand.events ++ more) old new) (sym (append-nil (visit_events x.calls seat))) x.asked_for;
         seats_are = refl;
         own = (x.own, tt);
         asked = ap (map question) (append-nil x.calls) ∙ x.asked ∙ sym (append-nil _);
@@ -267,6 +282,7 @@ module _ (place : ℕ) (d : Option Own) (own : Own) (old new : Held) (told_old t
         keys = fewer;
         adds = subst (λ (c : List Call). AddsGiven told_old told c) (sym (append-nil x.calls)) x.adds;
         counted = subst (λ (c : List Call). CountsRefusals old c new) (sym (append-nil x.calls)) x.counted;
+        asked_for = subst (λ (more : List Event). CountsAsked buses stand.events (stand.events ++ more) old new) (sym (append-nil (visit_events x.calls seat))) x.asked_for;
         seats_are = refl;
         own = (x.own, tt);
         asked = ap (map question) (append-nil x.calls) ∙ x.asked ∙ sym (append-nil _);
@@ -287,6 +303,7 @@ places_first old told_old owns buses stand keys told hosting is = record {
     keys = keys;
     adds = adds_none told_old told is;
     counted = refl;
+    asked_for = asked_none buses stand.events old;
     seats_are = refl;
     own = tt;
     asked = refl;
@@ -314,6 +331,7 @@ module _ (buses : List Bus) (stand : Stand) (old : Option (List DoorCall)) (core
         keys = y.keys;
         adds = subst (λ (c : List Call). AddsGiven old told c) (sym calls) (given_then old told_mid mid told (calls_of xs) (calls_of ys) is x.adds y.adds);
         counted = subst (λ (c : List Call). CountsRefusals core_old c new) (sym calls) (refusals_then core_old between new (calls_of xs) (calls_of ys) x.counted y.counted);
+        asked_for = subst (λ (all : List Event). CountsAsked buses stand.events all core_old new) events (asked_then buses stand.events (stand.events ++ made_by xs) ((stand.events ++ made_by xs) ++ made_by ys) core_old between new x.asked_for y.asked_for);
         seats_are = map-append seat_of x.round y.round ∙ ap (λ front. front ++ map seat_of y.round) x.seats_are ∙ ap (λ more. seats ++ more) y.seats_are;
         own = subst (λ (vs : List Visit). AreOwn vs) (sym all) (own_append xs ys x.own y.own);
         asked = ap (map question) calls ∙ map-append question (calls_of xs) (calls_of ys) ∙ ap (λ qs. qs ++ map question (calls_of ys)) x.asked ∙ ap (λ qs. asked_by buses stand.events xs ++ qs) y.asked

@@ -17,6 +17,7 @@ pub mod PlaceLaws
 mod HandedLaws
 pub mod Tallies
 pub mod Telling
+mod AskedFor
 pub mod Writing
 pub mod Rounds
 pub mod Reading

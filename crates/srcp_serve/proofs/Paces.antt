@@ -1,14 +1,14 @@
 -- A turn that brings no more changes than the door was told makes no panel overrun.
-use Rattle.std.proofs.Common.{◌≡◌, ◌∙◌, ℕ, zero, suc, ◌≤◌, Bool, true, false, List, [], ◌∷◌, ◌++◌, map, length, if◌then◌else◌, Option, Some, None, refl, ap, sym, subst, append_assoc, append-nil}
-use Rattle.std.specs.Prelude.{filter_map, flat_map, fold}
+use Rattle.std.proofs.Common.{◌≡◌, ℕ, zero, suc, ◌≤◌, List, [], ◌∷◌, map, length, ap, subst}
+use Rattle.std.specs.Prelude.{fold}
 use Rattle.srcp_rules.specs.declared.layout.Bus.{Bus}
 use Rattle.srcp_core.specs.Connection.{Connection}
 use Rattle.srcp_core.specs.Course.{course}
 use Rattle.srcp_core.specs.Under.{Event}
 use Rattle.srcp_core.specs.Waits.{IsOverrun, brought, changes_since, option_or_256, slack, room}
 use Rattle.srcp_core.proofs.CourseLaws.WaitsGrow.{few_close_none}
-use Rattle.srcp_serve.specs.Given.{Guest, Call, ExpectCall, NowCall, AcceptCall, ReadCall, WriteCall, CloseCall}
-use Rattle.srcp_serve.specs.Serving.{Question, Expects, Stand, IsServed, OfEachTurn, empty_stand, events_of, expects, is_let_in, let_in, moment_of, newcomer_of, question, seats, timed, begun, turned, turn_asks, turns, visit_events, welcomed, with_moment}
+use Rattle.srcp_serve.specs.Given.{Call, ExpectCall, NowCall, AcceptCall, ReadCall, WriteCall, CloseCall}
+use Rattle.srcp_serve.specs.Serving.{Expects, Stand, OfEachTurn, empty_stand, expects, question, turned, turn_asks, turns}
 use Rattle.srcp_serve.specs.Pacing.{IsPaced, PacedServingSparesAll, PacedTurnsSpare, SparesPanels, told_room}
 use Rattle.srcp_serve.proofs.Partings.{AreTurnsAsked, turns_parted}
 use Rattle.srcp_serve.proofs.TurnEvents.{turn_events, turned_events}

@@ -17,10 +17,11 @@ use Rattle.srcp_serve.specs.Calls.{Call as DoorCall, Tells}
 use Rattle.srcp_serve.specs.Calls as door
 use Rattle.srcp_serve.specs.Given.{ReadCall}
 use Rattle.srcp_serve.specs.Serving.{Reads, is_ready, question, piece_of, loses_reading}
-use Rattle.srcp_serve.specs.Visits.{ReadsIn}
+use Rattle.srcp_serve.specs.Visits.{CountsAsked, ReadsIn}
 use Rattle.srcp_serve.specs.declared.door.DoorFault.{DoorFault}
 use Rattle.srcp_serve.specs.declared.door.Got.{Got}
 use Rattle.srcp_serve.specs.declared.door.Got.TheVariants as got
+use Rattle.srcp_serve.proofs.AskedFor.{asked_none, asked_one}
 use Rattle.srcp_serve.proofs.Telling.{adds_none, adds_one}
 
 module _ (peer key : ℕ) (old : Held) (told_old : Option (List DoorCall)) (ready : Bool) (ready_is : ready ≡ is_none (bytes_fault key [] old)) where
@@ -35,6 +36,7 @@ module _ (peer key : ℕ) (old : Held) (told_old : Option (List DoorCall)) (read
         read = None;
         adds = adds_none told_old told is;
         counted = refl;
+        asked_for = asked_none buses events old;
         asked = ap (λ t. if t then Reads peer 256 ∷ [] else []) (sym none);
         stays_is = refl;
         stands = subst (λ (all : List Event). StandsFor buses keys old (course buses all)) (sym (append-nil events)) s.stands;
@@ -50,6 +52,7 @@ module _ (peer key : ℕ) (old : Held) (told_old : Option (List DoorCall)) (read
           read = Some (record { answer = answer; buffer = buffer; grants = [] });
           adds = adds_one (door.ReadCall peer answer buffer) told_old told_new told tells is;
           counted = refl;
+          asked_for = subst (λ (o : Option Piece). CountsAsked buses events (events ++ map (Bytes n) (pieces o)) old old) (sym none) (asked_none buses events old);
           asked = asks buses events n [] (course_says buses events keys n s.layout s.named s.stands);
           stays_is = ap (λ t. t || false) loses ∙ or_no stays;
           stands = subst (λ (o : Option Piece). StandsFor buses keys old (course buses (events ++ map (Bytes n) (pieces o)))) (sym none)
@@ -78,6 +81,7 @@ module _ (peer key : ℕ) (old : Held) (told_old : Option (List DoorCall)) (read
         read = Some (record { answer = Ok (got.Bytes count); buffer = buffer; grants = leads.grants });
         adds = adds_one (door.ReadCall peer (Ok (got.Bytes count)) buffer) told_old told_new told tells named;
         counted = leads.counted ∙ ap (denied_by old.denied) (sym (append-nil leads.grants));
+        asked_for = asked_one buses events (Bytes n (record { bytes = piece; grants = leads.grants })) old new (leads.asked buses events keys n s.layout s.named s.stands);
         asked = asks (Ok (got.Bytes count)) buffer told_new e full tells buses events n leads.grants (course_says buses events keys n s.layout s.named s.stands);
         stays_is = ap not (sym (stays_ok ∙ fine.0));
         stands = leads.leads buses events keys n s.layout s.named s.stands;

@@ -1,12 +1,11 @@
 -- Laws of what a door tells: of some turns, and then some more.
-use Rattle.std.proofs.Common.{◌≡◌, ◌∙◌, ℕ, ◌+◌, true, not, List, [], ◌∷◌, ◌++◌, map, fold, Option, Result, refl, ap, sym, length-append, append_assoc}
+use Rattle.std.proofs.Common.{◌≡◌, ◌∙◌, ℕ, ◌+◌, true, not, List, [], ◌∷◌, ◌++◌, map, fold, Option, refl, ap, sym, length-append, append_assoc}
 use Rattle.std.specs.List.{list_all}
 use Rattle.std.proofs.lemmas.List.{map-append, append-nil}
 use Rattle.std.proofs.lemmas.List.Sums.{fold-append}
 use Rattle.srcp_rules.specs.declared.layout.Bus.{Bus}
-use Rattle.srcp_serve.specs.Given.{Call, ExpectCall, NowCall}
+use Rattle.srcp_serve.specs.Given.{Call, ExpectCall}
 use Rattle.srcp_serve.specs.Serving.{Stand, empty_stand, is_expect, question, turns, turned, turn_asks, turns_ask, stand_after, IsServed}
-use Rattle.srcp_serve.specs.declared.door.DoorFault.{DoorFault}
 use Rattle.srcp_serve.proofs.Parts.{one_part, parts-append}
 
 module _ (buses : List Bus) where

@@ -21,7 +21,8 @@ use Rattle.srcp_serve.specs.Calls.{Call as DoorCall}
 use Rattle.srcp_serve.specs.Given.{Call, ReadCall, WriteCall, CloseCall, answers_of}
 use Rattle.srcp_serve.specs.Serving.{Seat, Question, Writes, Closes as ClosesQuestion, question, visit, exchange, rooms, lent_none_last, handed, is_closing, reads_of, writes_of, closes_of, visit_events, is_about, is_close, is_write, loses, loses_reading, loses_writing, falls_short, piece_of, count_of}
 use Rattle.srcp_serve.specs.Turns.{AsksPeers}
-use Rattle.srcp_serve.specs.Visits.{AreAbout, AreWritesTo, Closes, Exchanges, IsExchanged, IsLetGo, IsReadFrom, IsVisited, IsWrittenTo, LetsGo, Reading, ReadsIn, Visits, WritesOut, read_calls}
+use Rattle.srcp_serve.specs.Visits.{AreAbout, AreWritesTo, Closes, CountsAsked, Exchanges, IsExchanged, IsLetGo, IsReadFrom, IsVisited, IsWrittenTo, LetsGo, Reading, ReadsIn, Visits, WritesOut, read_calls}
+use Rattle.srcp_serve.proofs.AskedFor.{asked_one, asked_rooms, asked_then}
 use Rattle.srcp_serve.proofs.Telling.{given_then, refusals_then}
 use Rattle.srcp_serve.proofs.VisitLaws.{own_calls}
 
@@ -139,6 +140,7 @@ module _ (buses : List Bus) (events : List Event) (keys : List (Option ℕ)) (n 
         calls = calls;
         adds = r.adds;
         counted = r.counted;
+        asked_for = subst (λ (more : List Event). CountsAsked buses events (events ++ more) core_old new) (sym same) r.asked_for;
         own = reads_about peer r.read;
         quiet = reads_close peer r.read;
         asked = r.asked ∙ sym (append-nil (reads_of buses events seat)) ∙ ap (λ t. reads_of buses events seat ++ handed_by t (filter_map piece_of calls) (filter_map count_of calls)) (sym r.stays_is);
@@ -167,6 +169,8 @@ module _ (buses : List Bus) (events : List Event) (keys : List (Option ℕ)) (n 
         calls = calls;
         adds = given_then old told_mid mid told reads w.calls is r.adds w.adds;
         counted = refusals_then core_old between new reads w.calls r.counted (same ∙ ap (denied_by between.denied) (sym (writes_answers peer w.calls w.own)));
+        asked_for = subst (λ (all : List Event). CountsAsked buses events all core_old new) (append_assoc events read (map (Room n) (rooms w.calls)) ∙ ap (λ all. events ++ all) (sym more))
+            (asked_then buses events (events ++ read) ((events ++ read) ++ map (Room n) (rooms w.calls)) core_old between new r.asked_for (asked_rooms buses n (rooms w.calls) (events ++ read) between new same));
         own = about_append peer reads w.calls (reads_about peer r.read) (writes_about peer w.calls w.own);
         quiet = any_second is_close reads w.calls (reads_close peer r.read) ∙ writes_close peer w.calls w.own;
         asked = map-append question reads w.calls ∙ ap (λ qs. qs ++ map question w.calls) r.asked ∙ ap (λ qs. reads_of buses events seat ++ qs) (w.asked ∙ sym asks);
@@ -194,6 +198,7 @@ module _ (buses : List Bus) (events : List Event) (keys : List (Option ℕ)) (n 
         calls = x.calls;
         adds = x.adds;
         counted = x.counted;
+        asked_for = subst (λ (all : List Event). CountsAsked buses events (events ++ all) core_old new) (sym more) x.asked_for;
         own = x.own;
         asked = x.asked ∙ sym (append-nil (reads_of buses events seat ++ writes_of buses events x.calls seat)) ∙ ap (λ qs. (reads_of buses events seat ++ writes_of buses events x.calls seat) ++ qs) (sym none);
         closes = x.quiet;
@@ -225,6 +230,8 @@ module _ (buses : List Bus) (events : List Event) (keys : List (Option ℕ)) (n 
         calls = calls;
         adds = given_then old told_mid mid told x.calls (last ∷ []) is x.adds g.closed.adds;
         counted = refusals_then core_old between new x.calls (last ∷ []) x.counted same;
+        asked_for = subst (λ (all : List Event). CountsAsked buses events all core_old new) (append_assoc events (exchange n x.calls) (Shut n ∷ []) ∙ ap (λ all. events ++ all) (sym more))
+            (asked_then buses events (events ++ exchange n x.calls) ((events ++ exchange n x.calls) ++ Shut n ∷ []) core_old between new x.asked_for (asked_one buses (events ++ exchange n x.calls) (Shut n) between new same));
         own = own;
         asked = map-append question x.calls (last ∷ []) ∙ ap (λ qs. qs ++ ClosesQuestion peer ∷ []) (x.asked ∙ ap (λ qs. reads_of buses events seat ++ qs) (sym writes)) ∙ ap (λ qs. (reads_of buses events seat ++ writes_of buses events calls seat) ++ qs) (sym asks);
         closes = closing;

@@ -3,7 +3,7 @@ use Rattle.std.specs.Prelude.{Bool, ⊤, ◌≡◌, ◌⊎◌, ℕ, ◌+◌, ◌
 use Rattle.std.specs.List.{list_all, list_any, AllByRecursion}
 use Rattle.srcp_rules.specs.Layout.{IsLayout}
 use Rattle.srcp_rules.specs.declared.layout.Bus.{Bus}
-use Rattle.srcp_core.specs.Course.{course}
+use Rattle.srcp_core.specs.Course.{course, denied_over, start}
 use Rattle.srcp_core.specs.Held.{Held}
 use Rattle.srcp_core.specs.Recording.{key_of}
 use Rattle.srcp_core.specs.Stands.{StandsFor}
@@ -12,7 +12,7 @@ use Rattle.srcp_serve.specs.Calls.{Call as DoorCall, Adds, PeersDiffer, peer_of}
 use Rattle.srcp_serve.specs.Given.{Guest, Call, ExpectCall, NowCall, AcceptCall, CountsRefusals, told_call}
 use Rattle.srcp_serve.specs.Serving.{Seat, Stand, Question, Expects, expects, IsServed, question, newcomer_of, is_about, is_close, visit_events, visit_asks, timed, turned, turn_asks, turns_away, welcomed, stand_after, events_of, SendsWhatIsTaken}
 use Rattle.srcp_serve.specs.Turns.{is_of_peer}
-use Rattle.srcp_serve.specs.Visits.{AddsGiven, AreAbout}
+use Rattle.srcp_serve.specs.Visits.{AddsGiven, AreAbout, CountsAsked}
 use Rattle.srcp_serve.specs.declared.door.DoorFault.{DoorFault}
 use Rattle.srcp_serve.specs.declared.serving.visit.Seat.{Seat as Own}
 
@@ -151,6 +151,7 @@ module _ (buses : List Bus) (stand : Stand) (old : Option (List DoorCall)) (told
       pub keys : List (Option ℕ)
       pub adds : AddsGiven old told early
       pub counted : CountsRefusals core_old (AcceptCall (Ok (Some guest.peer)) guest.granted ∷ early) held
+      pub asked_for : CountsAsked buses stand.events (welcomed buses stand guest).events core_old held
       pub asked : map question early ≡ turns_away buses stand.events guest
       pub others : AllByRecursion (IsLeftOut early) (welcomed buses stand guest).places
       pub hosting : IsHosting buses (welcomed buses stand guest) keys held owns
@@ -169,6 +170,8 @@ module _ (buses : List Bus) (stand : Stand) (old : Option (List DoorCall)) (told
       pub keys : List (Option ℕ)
       pub adds : AddsGiven old told (AcceptCall answer granted ∷ early)
       pub counted : CountsRefusals core_old (AcceptCall answer granted ∷ early) held
+      pub asked_for : CountsAsked buses stand.events
+          (fold (welcomed buses) stand (filter_map newcomer_of (AcceptCall answer granted ∷ []))).events core_old held
       pub asked : map question early
           ≡ flat_map (turns_away buses stand.events) (filter_map newcomer_of (AcceptCall answer granted ∷ []))
       pub others : AllByRecursion (IsLeftOut early)
@@ -184,6 +187,7 @@ module _ (buses : List Bus) (stand : Stand) (old : Option (List DoorCall)) (told
       pub keys : List (Option ℕ)
       pub adds : AddsGiven old told (calls_of (visits_of round))
       pub counted : CountsRefusals core_old (calls_of (visits_of round)) held
+      pub asked_for : CountsAsked buses stand.events (stand.events ++ made_by (visits_of round)) core_old held
       pub seats_are : map seat_of round ≡ seats
       pub own : AreOwn (visits_of round)
       pub asked : map question (calls_of (visits_of round)) ≡ asked_by buses stand.events (visits_of round)
@@ -201,6 +205,7 @@ module _ (buses : List Bus) (stand : Stand) (old : Option (List DoorCall)) (told
       pub keys : List (Option ℕ)
       pub adds : AddsGiven old told calls
       pub counted : CountsRefusals core_old calls held
+      pub asked_for : CountsAsked buses stand.events (turned buses stand calls).events core_old held
       pub turn : IsTurnGiven calls
       pub asked : map question calls ≡ turn_asks buses stand calls
       pub known : AllByRecursion (IsOneOf (peers ++ filter_map peer_of (map told_call calls))) (turned buses stand calls).places
@@ -283,6 +288,7 @@ pub record IsServing (buses : List Bus) (count opens : ℕ) (told : List DoorCal
   pub keys : List (Option ℕ)
   pub are : map told_call calls ≡ told
   pub counted : CountsRefusals old calls held
+  pub asked_for : CountsAsked buses [] (events_of buses calls) old held
   pub served : IsServed buses count calls
   pub known : AllByRecursion (IsOneOf (filter_map peer_of told)) (stand_after buses calls).places
   pub hosting : IsHosting buses (stand_after buses calls) keys held owns
@@ -311,11 +317,12 @@ pub record IsOfCourse (buses : List Bus) (count opens : ℕ) (told : List Call) 
   pub taken : SendsWhatIsTaken buses told
 
 -- memory answered something in the calls that the door told, by which they are of the course; and the core counted
--- exactly the answers that refused
+-- exactly the answers that refused, which are all asked for in that course
 pub record IsOfGiven (buses : List Bus) (count opens : ℕ) (told : List DoorCall) (old held : Held) : Type 0 where
   pub calls : List Call
   pub are : map told_call calls ≡ told
   pub counted : CountsRefusals old calls held
+  pub asked : held.denied ≡ denied_over buses old.denied start (events_of buses calls)
   pub course : IsOfCourse buses count opens calls held
 
 -- what serving so many turns is, where so many peers were let in

@@ -4,7 +4,7 @@ use Rattle.std.specs.Prelude.{◌≡◌, ℕ, ◌<◌, Bool, false, true, not, i
 use Rattle.std.specs.List.{list_any, AllByRecursion}
 use Rattle.srcp_rules.specs.Layout.{IsLayout}
 use Rattle.srcp_rules.specs.declared.layout.Bus.{Bus}
-use Rattle.srcp_core.specs.Course.{course}
+use Rattle.srcp_core.specs.Course.{course, denied_over, start}
 use Rattle.srcp_core.specs.Held.{Held}
 use Rattle.srcp_core.specs.Recording.{key_of, without_key}
 use Rattle.srcp_core.specs.Stands.{StandsFor}
@@ -66,6 +66,11 @@ abbrev pub read_calls : (peer : ℕ) → Option Reading → List Call
 read_calls peer None = []
 read_calls peer (Some read) = ReadCall peer read.answer read.buffer read.grants ∷ []
 
+-- what the core counted more than before is what was asked of memory and refused in the events since
+abbrev pub CountsAsked : List Bus → (before after : List Event) → (old new : Held) → Type 0
+CountsAsked buses before after old new = (first : ℕ) → old.denied ≡ denied_over buses first start before
+    → new.denied ≡ denied_over buses first start after
+
 module _ (buses : List Bus) (events : List Event) (keys : List (Option ℕ)) (n peer : ℕ)
     (old : Option (List DoorCall)) (told : List DoorCall) (new : Held) where
   -- it was read from, where bytes would be taken
@@ -73,6 +78,7 @@ module _ (buses : List Bus) (events : List Event) (keys : List (Option ℕ)) (n 
     pub read : Option Reading
     pub adds : AddsGiven old told (read_calls peer read)
     pub counted : CountsRefusals core_old (read_calls peer read) new
+    pub asked_for : CountsAsked buses events (events ++ map (Bytes n) (filter_map piece_of (read_calls peer read))) core_old new
     pub asked : map question (read_calls peer read) ≡ reads_of buses events (record { peer = peer; conn = n })
     pub stays_is : list_any loses_reading (read_calls peer read) ≡ not stays
     pub stands : StandsFor buses keys new (course buses (events ++ map (Bytes n) (filter_map piece_of (read_calls peer read))))
@@ -125,6 +131,7 @@ module _ (buses : List Bus) (events : List Event) (keys : List (Option ℕ)) (n 
     pub calls : List Call
     pub adds : AddsGiven old told calls
     pub counted : CountsRefusals core_old calls new
+    pub asked_for : CountsAsked buses events (events ++ exchange n calls) core_old new
     pub own : AreAbout peer calls
     pub quiet : list_any is_close calls ≡ false
     pub asked : map question calls
@@ -143,6 +150,7 @@ module _ (buses : List Bus) (events : List Event) (keys : List (Option ℕ)) (n 
     pub calls : List Call
     pub adds : AddsGiven old told calls
     pub counted : CountsRefusals core_old calls new
+    pub asked_for : CountsAsked buses events (events ++ visit_events calls (record { peer = peer; conn = n })) core_old new
     pub own : AreAbout peer calls
     pub asked : map question calls ≡ visit_asks buses events calls (record { peer = peer; conn = n })
     pub closes : list_any is_close calls ≡ not stays

@@ -3,7 +3,8 @@ use Rattle.std.proofs.Common.{◌≡◌, ℕ, ◌+◌, Bool, List, [], ◌∷◌
 use Rattle.std.specs.List.{fold}
 use Rattle.std.specs.Prelude.{Option, Some, None}
 use Rattle.srcp_core.specs.Under.{Bytes, Piece, giving, denied_by}
-use Rattle.srcp_core.specs.Course.{course}
+use Rattle.srcp_core.specs.Course.{counted, course}
+use Rattle.srcp_core.specs.declared.event.Event.TheVariants as plain
 use Rattle.srcp_core.specs.Held.{Held, at}
 use Rattle.srcp_core.specs.Machine.{IsReceived, CountsEach, bytes_fault, heard_at, line_answered, lines_answered, steps_of_line, answered}
 use Rattle.srcp_core.specs.Recording.{Recording, key_of, noted}
@@ -15,7 +16,8 @@ use Rattle.srcp_core.proofs.Invariants.LinesAreFound.{line_found, heard_denied}
 use Rattle.srcp_core.proofs.Agreement.CallsFollowTheCourse.{telling, runs_telling}
 use Rattle.srcp_core.proofs.Agreement.RecordIsOfTheCourse.{runs_on}
 use Rattle.srcp_core.proofs.Agreement.MemoryAnswers.{counted_more, none_denied}
-use Rattle.srcp_core.proofs.Agreement.RunsBytes.{ReadsWith, reads_with_none, reads_with_more, bytes_with, bytes_refused, noted_keys}
+use Rattle.srcp_core.proofs.Agreement.RefusalsAreCounted.{denied_in_none}
+use Rattle.srcp_core.proofs.Agreement.RunsBytes.{ReadsWith, reads_with_none, reads_with_more, bytes_asked, bytes_with, bytes_refused, noted_keys}
 
 -- a line of a piece, taken at a place of it
 abbrev line_on : ℕ → List ℕ → ℕ × Held → Bool → ℕ × Held
@@ -74,6 +76,10 @@ accepted_leads key piece old new free received =
       grants = a.grants;
       counted = counted;
       given = λ d. (none_denied a.grants old.denied (sym counted ∙ d)).1;
+      asked = λ buses events keys n layout named s.
+          let first_r = telling keys (course buses events) in
+          let i = a.is n first_r named in
+          bytes_asked a.grants n key piece first_r old reached.0 i.told reached.1 new received.rest i.reads buses events layout (runs_telling buses keys old (course buses events) s);
       leads = λ buses events keys n layout named s.
           let first_r = telling keys (course buses events) in
           let i = a.is n first_r named in
@@ -89,6 +95,7 @@ refused_leads key piece old new cause e same = record {
   grants = [];
   counted = ap (λ (x : Held). x.denied) same;
   given = λ d. tt;
+  asked = λ buses events keys n layout named s. ap (λ (x : Held). x.denied) same ∙ sym (denied_in_none buses (counted (course buses events)) old.denied (plain.Bytes n piece));
   leads = λ buses events keys n layout named s.
       let first_r = telling keys (course buses events) in
       let h = (bytes_refused n key piece first_r old cause named e).happens buses events layout (runs_telling buses keys old (course buses events) s) in

@@ -14,7 +14,7 @@ use Rattle.srcp_core.specs.Course.{World, open_connection, counted, bytes_fault 
 use Rattle.srcp_core.specs.Held.{Place, Held, at}
 use Rattle.srcp_core.specs.Machine.{HasRoom, bytes_fault, bytes_fault_from, heard_at, line_answered, steps_of_line, unsent_of, has_overrun}
 use Rattle.srcp_core.specs.Recording.{Recording, key_of, noted}
-use Rattle.srcp_core.specs.Run.{Tells, Runs, Happened, HappensAs}
+use Rattle.srcp_core.specs.Run.{CountsAsked, Tells, Runs, Happened, HappensAs}
 use Rattle.srcp_core.specs.Stands.{StandsFor}
 use Rattle.srcp_core.specs.declared.line.Asked.{Asked}
 use Rattle.srcp_core.specs.declared.record.CoreFault.{CoreFault}
@@ -148,16 +148,21 @@ bytes_with grants n key piece first_r first start r held new is reads buses even
       }),
     )
 
+-- what was refused to its lines was asked for
+pub bytes_asked : (grants : List Bool) (n key : ℕ) (piece : List ℕ) (first_r : Recording) (first : Held) (start : ℕ) (r : Recording) (held new : Held) → ◌≡◌ {A = Option (ℕ × Asked) × Held} (None, new) (heard_at key piece start held) → ReadsWith grants n key piece first_r first start r held
+    → CountsAsked first_r first new (Bytes n (record { bytes = piece; grants = grants }))
+bytes_asked grants n key piece first_r first start r held new is reads buses events layout s =
+    let i = reads buses events layout s in
+    let w = counted (course buses events) in
+    let p : Piece = record { bytes = piece; grants = grants } in
+    (lines_ended buses (opening_in_order buses layout) first_r.keys n key i.named i.conn.fed piece (accepting n piece w) first.denied grants start held new is i.upto).counts
+    ∙ sym (ap (λ (cause : Option CoreFault). denied_fed buses n p w first.denied cause (open_connection w n)) i.free ∙ ap (denied_fed buses n p w first.denied None) i.opened)
+
 pub bytes_happens : (n key : ℕ) (piece : List ℕ) (first_r : Recording) (first : Held) (start : ℕ) (r : Recording) (held new : Held) → ◌≡◌ {A = Option (ℕ × Asked) × Held} (None, new) (heard_at key piece start held) → ReadsOn n key piece first_r first start r held
     → HappensAs (plain.Bytes n piece) None first_r first r new
 bytes_happens n key piece first_r first start r held new is reads = record {
   grants = reads.grants;
   counted = ap (λ (x : Option (ℕ × Asked) × Held). x.1.denied) is ∙ heard_denied key piece start held (at held key) ∙ reads.counted;
-  asked = λ buses events layout s.
-      let i = reads.reads buses events layout s in
-      let w = counted (course buses events) in
-      let p : Piece = record { bytes = piece; grants = reads.grants } in
-      (lines_ended buses (opening_in_order buses layout) first_r.keys n key i.named i.conn.fed piece (accepting n piece w) first.denied reads.grants start held new is i.upto).counts
-      ∙ sym (ap (λ (cause : Option CoreFault). denied_fed buses n p w first.denied cause (open_connection w n)) i.free ∙ ap (denied_fed buses n p w first.denied None) i.opened);
+  asked = bytes_asked reads.grants n key piece first_r first start r held new is reads.reads;
   happens = bytes_with reads.grants n key piece first_r first start r held new is reads.reads;
 }
