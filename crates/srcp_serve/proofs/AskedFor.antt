@@ -1,5 +1,5 @@
 -- What was refused of memory was asked for in the course, event after event.
-use Rattle.std.proofs.Common.{◌≡◌, ◌∙◌, ℕ, List, [], ◌∷◌, ◌++◌, map, Result, Ok, Err, ap, refl, sym, subst, append-nil, append_assoc}
+use Rattle.std.proofs.Common.{◌≡◌, ◌∙◌, ℕ, List, [], ◌∷◌, ◌++◌, map, Result, Ok, Err, ap, refl, sym, append-nil, append_assoc}
 use Rattle.srcp_rules.specs.declared.layout.Bus.{Bus}
 use Rattle.srcp_core.specs.Course.{counted, course, denied_in, denied_over, start}
 use Rattle.srcp_core.specs.Held.{Held}
@@ -31,5 +31,5 @@ module _ (buses : List Bus) where
 
   -- nor does a moment
   pub asked_moment : (answer : Result ℕ DoorFault) (stand : Stand) (old new : Held) → new.denied ≡ old.denied → CountsAsked buses stand.events (timed buses stand (NowCall answer ∷ [])).events old new
-  asked_moment (Ok moment) stand old new same = asked_one stand.events (At moment) old new same
+  asked_moment (Ok moment) stand old new same first h = asked_one stand.events (At moment) old new same first h
   asked_moment (Err failed) stand old new same first h = same ∙ h

@@ -154,7 +154,7 @@ seats_full peer old mid cause told_old told_new owns closes turned_away buses st
         (subst (λ (w : World). StandsFor buses keys mid w) (full_course buses stand.events out) stands) (ap (λ (h : Held). h.denied) a.1) (ap (λ (h : Held). h.denied) a.1)
     by MemoryFault a out =
         let e : mid.denied ≡ denied_by old.denied (false ∷ []) = ap (λ (h : Held). h.denied) a.1 in
-        away MemoryFault false out stands e (e ∙ ap (λ b. denied_by old.denied (not b ∷ [])) (sym (few_open buses (course buses stand.events) out)))
+        away MemoryFault false out stands e (e ∙ ap (λ b. denied_by old.denied (b ∷ [])) (sym (few_open buses (course buses stand.events) out)))
     by other a out = absurd a
 
 pub seats_in : (peer key free : ℕ) (old mid : Held) (told_old : Option (List DoorCall)) (owns : List (Option Own)) → IsAdmitted key old mid

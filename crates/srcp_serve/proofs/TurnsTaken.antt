@@ -164,9 +164,11 @@ module _ (buses : List Bus) where
       let b = turn_begins buses before stand calls parts.0 fresh even asked.0 coming in
       let now : Stand = begun buses stand calls in
       let here : IsTurnOfGuests stand calls = record { known = b.begun_even.known; apart = b.begun_even.apart; asked = visits_parted buses b.first now.events calls (seats now.places) b.begun_even.apart b.none b.asked; fair = parts.0 } in
-      let rest = turns_taken all (λ peer. before peer ++ taken peer calls) (turned buses stand calls) asked.1 parts.1 (new_turned buses before stand calls more apart fresh even) (fresh_turned buses before stand calls more apart fresh even asked.0) (even_turned buses before stand calls parts.0 fresh even b) in
-      ((here, rest.0), rest.1
-      ∙ same_each (λ peer. (before peer ++ taken peer calls) ++ taken peer (joined all)) (λ peer. before peer ++ taken peer (joined (calls ∷ all))) (fold (turned buses) (turned buses stand calls) all).guests (regrouped before calls (joined all)))
+      let rest = turns_taken all (λ peer. before peer ++ taken peer calls) (turned buses stand calls) asked.1 parts.1 (new_turned buses before stand calls more apart fresh even) (fresh_turned buses before stand calls more apart fresh even asked.0) (even_turned buses before stand calls parts.0 fresh even b) in (
+        (here, rest.0),
+        rest.1
+            ∙ same_each (λ peer. (before peer ++ taken peer calls) ++ taken peer (joined all)) (λ peer. before peer ++ taken peer (joined (calls ∷ all))) (fold (turned buses) (turned buses stand calls) all).guests (regrouped before calls (joined all)),
+      )
     where
       regrouped : (before : ℕ → List ℕ) (calls others : List Call) (peer : ℕ) → (before peer ++ taken peer calls) ++ taken peer others ≡ before peer ++ taken peer (calls ++ others)
       regrouped before calls others peer = append_assoc (before peer) (taken peer calls) (taken peer others) ∙ ap (λ t. before peer ++ t) (sym (flat_map-append (taken_in peer) calls others))

@@ -1,9 +1,11 @@
 -- To be believed: which turns close no panel, by what they brought and what the door was told.
-use Rattle.std.specs.Prelude.{ℕ, ◌≤◌, List, [], ◌∷◌, length}
+use Rattle.std.specs.Prelude.{ℕ, ◌+◌, ◌≤◌, List, [], ◌∷◌, drop, length}
+use Rattle.srcp_rules.specs.Layout.{IsLayout}
 use Rattle.srcp_rules.specs.declared.layout.Bus.{Bus}
 use Rattle.srcp_core.specs.Connection.{Connection}
 use Rattle.srcp_core.specs.Course.{course}
-use Rattle.srcp_core.specs.Waits.{IsOverrun, changes_since, option_or_256}
+use Rattle.srcp_core.specs.Under.{Event}
+use Rattle.srcp_core.specs.Waits.{IsOverrun, brought_besides, changes_since, option_or_256, weighs}
 use Rattle.srcp_serve.specs.Given.{Call, ExpectCall}
 use Rattle.srcp_serve.specs.Serving.{Stand, IsServed, OfEachTurn, empty_stand, events_of, turned, turns}
 
@@ -32,7 +34,36 @@ module _ (buses : List Bus) where
   PacedTurnsSpare = (count : ℕ) (told : List Call) → IsServed buses count told
       → OfEachTurn buses (λ stand calls. IsPaced stand calls → SparesPanels stand calls) empty_stand (turns told)
 
-  -- so none ever overran where each turn is so
+  -- so none ever overran if each turn is so
   abbrev pub PacedServingSparesAll : Type 0
   PacedServingSparesAll = (count : ℕ) (told : List Call) → IsServed buses count told → OfEachTurn buses IsPaced empty_stand (turns told)
+      → (number : ℕ) (later : Connection) → IsOverrun buses (course buses (events_of buses told)) number later → ⊥
+
+  -- ---- by the lines that were handed out
+
+  -- the events of the turn
+  abbrev pub events_in : Stand → List Call → List Event
+  events_in stand calls = drop (length stand.events) (turned buses stand calls).events
+
+  -- how much the lines weigh that end in the bytes handed out in the turn
+  abbrev pub weighs_in : Stand → List Call → ℕ
+  weighs_in stand calls = weighs buses (course buses stand.events) (events_in stand calls)
+
+  -- how many changes its moment and the ends of sessions brought
+  abbrev pub besides_in : Stand → List Call → ℕ
+  besides_in stand calls = brought_besides buses (course buses stand.events) (course buses (turned buses stand calls).events)
+
+  -- both together are no more than the door was told
+  abbrev pub IsLight : Stand → List Call → Type 0
+  IsLight stand calls = weighs_in stand calls + besides_in stand calls ≤ told_room calls
+
+  -- over any layout, a turn in which they are makes no panel overrun
+  abbrev pub LightTurnsSpare : Type 0
+  LightTurnsSpare = IsLayout buses → (count : ℕ) (told : List Call) → IsServed buses count told
+      → OfEachTurn buses (λ stand calls. IsLight stand calls → SparesPanels stand calls) empty_stand (turns told)
+
+  -- so none ever overran if each turn is so
+  abbrev pub LightServingSparesAll : Type 0
+  LightServingSparesAll = IsLayout buses → (count : ℕ) (told : List Call) → IsServed buses count told
+      → OfEachTurn buses IsLight empty_stand (turns told)
       → (number : ℕ) (later : Connection) → IsOverrun buses (course buses (events_of buses told)) number later → ⊥

@@ -6,7 +6,7 @@ ghost use Rattle.srcp_rules.specs.declared.layout.Bus.{Bus};
 ghost use Rattle.srcp_serve.specs.Given.{GivesUnlessCounted};
 ghost use Rattle.srcp_serve.specs.Serving.{SentIsTaken};
 ghost use Rattle.srcp_serve.specs.Settling.{SettlesSoon, WaitsAreGoneAfterAVisit};
-ghost use Rattle.srcp_serve.specs.Pacing.{PacedServingSparesAll, PacedTurnsSpare};
+ghost use Rattle.srcp_serve.specs.Pacing.{LightServingSparesAll, LightTurnsSpare, PacedServingSparesAll, PacedTurnsSpare};
 
 /// What the door took of each peer is to the byte what the course of its answers says was sent to the
 /// peer's connection: wherever the calls are those of so many turns, no peer came in twice, and no
@@ -25,6 +25,14 @@ pub fn gives_unless_counted()
 pub fn paced_turns()
     ensures each { (buses : List Bus) → PacedTurnsSpare buses }
     ensures all { (buses : List Bus) → PacedServingSparesAll buses }
+{}
+
+/// If the weights of the lines that end in what was handed out in a turn, by `srcp_rules::weight`, and the changes of its moment
+/// and of the ends of sessions are together within the slack that the door was told, or 256 if it was told none, no panel overruns
+/// in the turn but one that had overrun before (`each`); so none ever overran if each turn is so (`all`).
+pub fn light_turns()
+    ensures each { (buses : List Bus) → LightTurnsSpare buses }
+    ensures all { (buses : List Bus) → LightServingSparesAll buses }
 {}
 
 /// An information session whose peer takes all that it is handed, and is not lost, is settled after as many turns without a

@@ -41,7 +41,6 @@ among_seats (Some other ∷ places) (suc place) seat e =
     record { front = other ∷ more.front; rest = more.rest; are = ap (λ all. other ∷ all) more.are }
 
 module _ (buses : List Bus) (place : ℕ) (seat : Seat) where
-
   moments_stay : (stand : Stand) (moments : List ℕ) → HasPlace place seat stand.places → HasPlace place seat (fold (with_moment buses) stand moments).places
   moments_stay stand [] e = e
   moments_stay stand (moment ∷ moments) e = moments_stay (with_moment buses stand moment) moments e

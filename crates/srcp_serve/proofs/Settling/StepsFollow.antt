@@ -54,8 +54,9 @@ module _ (buses : List Bus) where
     step = λ step w a. (a.0 ++ step ∷ [], ap (λ steps. steps ++ step ∷ []) a.1 ∙ append_assoc first a.0 (step ∷ []));
     other = λ w v s c a. (a.0, s ∙ a.1);
     opens = λ w a. a;
-    bytes = λ n change w f a. a;
-    enters = λ n id w a. a;
+    same = λ n change w f a. a;
+    answers = λ n reply w plain a. a;
+    enters = λ n id reply w plain a. a;
     shuts = λ n w a. a;
     room = λ n bytes w a. a;
   }
