@@ -23,7 +23,9 @@ module _ (buses : List Bus) (before : ℕ → List ℕ) (stand : Stand) (calls :
   after peers = fold (welcomed buses) now peers
 
   abbrev Asks : List Guest → Type 0
-  Asks peers = map question calls ≡ expects buses stand.events ∷ Moments ∷ Newcomers ∷ (flat_map (turns_away buses now.events) peers ++ visits_ask buses (after peers).events calls (seats (after peers).places))
+  Asks peers = map question calls
+      ≡ expects buses stand.events ∷ Moments ∷ Newcomers ∷
+      (flat_map (turns_away buses now.events) peers ++ visits_ask buses (after peers).events calls (seats (after peers).places))
 
   -- what is asked before the visits, none of it of who has a place, and then the visits
   pub record Begins (peers : List Guest) : Type 0 where
@@ -63,7 +65,8 @@ module _ (buses : List Bus) (before : ℕ → List ℕ) (stand : Stand) (calls :
           subst (λ (v : Stand). IsOfNone buses (expects buses stand.events ∷ Moments ∷ Newcomers ∷ (turns_away buses now.events peer ++ [])) (seats v.places)) (sym same)
           (away_of_none (due_next buses (course buses stand.events)) (slack buses (course buses stand.events)) buses now.events peer (seats now.places) (new_unseated peer.peer now.guests (seats now.places) here t.0.known))
 
-  begins : (peers : List Guest) → (peers ≡ []) ⊎ ((peer : Guest) × (peers ≡ peer ∷ [])) → Asks peers → AllByRecursion (λ peer. IsNew peer.peer stand.guests) peers → Begins peers
+  begins : (peers : List Guest) → (peers ≡ []) ⊎ ((peer : Guest) × (peers ≡ peer ∷ [])) → Asks peers
+      → AllByRecursion (λ peer. IsNew peer.peer stand.guests) peers → Begins peers
   begins [] few asked new = record {
     first = expects buses stand.events ∷ Moments ∷ Newcomers ∷ [];
     still = refl;
@@ -72,9 +75,11 @@ module _ (buses : List Bus) (before : ℕ → List ℕ) (stand : Stand) (calls :
     begun_even = (even_timed buses before stand (filter_map moment_of calls) even).0;
   }
   begins (peer ∷ []) few asked new = begins_one peer asked new
-  begins (peer ∷ other ∷ more) few asked new = absurd (⊎_elim (λ e. let no : peer ∷ other ∷ more ≡ [] = e in cc) (λ s. let no : peer ∷ other ∷ more ≡ s.0 ∷ [] = s.1 in cc) few)
+  begins (peer ∷ other ∷ more) few asked new =
+      absurd (⊎_elim (λ e. let no : peer ∷ other ∷ more ≡ [] = e in cc) (λ s. let no : peer ∷ other ∷ more ≡ s.0 ∷ [] = s.1 in cc) few)
 
-  pub turn_begins : map question calls ≡ turn_asks buses stand calls → AllByRecursion (λ peer. IsNew peer.peer stand.guests) (filter_map newcomer_of calls) → Begins (filter_map newcomer_of calls)
+  pub turn_begins : map question calls ≡ turn_asks buses stand calls
+      → AllByRecursion (λ peer. IsNew peer.peer stand.guests) (filter_map newcomer_of calls) → Begins (filter_map newcomer_of calls)
   turn_begins asked new =
       let peers : List Guest = filter_map newcomer_of calls in
       let away : List Question = flat_map (turns_away buses now.events) peers in
@@ -83,5 +88,6 @@ module _ (buses : List Bus) (before : ℕ → List ℕ) (stand : Stand) (calls :
       begins peers (one_newcomer _ _ calls (away ++ visits) asked of_peers) asked new
 
   -- the step of an induction over turns
-  pub even_turned : Begins (filter_map newcomer_of calls) → IsEven buses (λ peer. before peer ++ taken peer calls) (turned buses stand calls)
+  pub even_turned : Begins (filter_map newcomer_of calls)
+      → IsEven buses (λ peer. before peer ++ taken peer calls) (turned buses stand calls)
   even_turned b = even_visited buses before (after (filter_map newcomer_of calls)) calls b.first b.still b.asked fair b.none b.begun_even

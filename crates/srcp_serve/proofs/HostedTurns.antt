@@ -309,8 +309,10 @@ makes_turn opens old mid between new told_old told_mid told_between told_new own
       adds = adds_all;
       counted = refusals_then old between new begins seen (b.counted ∙ ap (λ k. denied_by k (answers_of begins)) same_count) x.counted;
       asked_for = subst (λ (s : Stand). CountsAsked buses stand.events s.events old new) (sym ends)
-          (asked_then buses stand.events first_stand.events (second_stand.events ++ made_by (visits_of x.round)) old mid new (asked_moment buses t.answer stand old mid same_count)
-          (asked_then buses first_stand.events second_stand.events (second_stand.events ++ made_by (visits_of x.round)) mid between new b.asked_for x.asked_for));
+          (asked_then buses stand.events first_stand.events (second_stand.events ++ made_by (visits_of x.round)) old mid new
+          (asked_moment buses t.answer stand old mid same_count)
+          (asked_then buses first_stand.events second_stand.events
+          (second_stand.events ++ made_by (visits_of x.round)) mid between new b.asked_for x.asked_for));
       turn = record { due = t.due; slack = t.slack; now = t.answer; newcomer = b.answer; granted = b.granted; rest = b.early ++ seen; is = refl; peers = of_peers };
       asked = turn_asked buses stand t.due t.slack t.answer b.answer b.granted b.early x.round of_peers x.own x.seats_are b.hosting.differ b.others t.asked b.asked x.asked;
       known = subst (λ (s : Stand). AllByRecursion (IsOneOf peers_then) s.places) (sym ends) known_last;
@@ -380,7 +382,8 @@ serves_on count opened opens old mid new told_old told_mid told_new owns owns_ne
       keys = x.keys;
       are = map-append told_call s.calls x.calls ∙ ap (λ c. c ++ map told_call x.calls) s.are ∙ ap (λ c. first ++ c) (sym same) ∙ sym whole;
       counted = refusals_then old mid new s.calls x.calls s.counted x.counted;
-      asked_for = subst (λ (v : Stand). CountsAsked buses [] v.events old new) (sym more.1) (asked_then buses [] stood.events (turned buses stood x.calls).events old mid new s.asked_for x.asked_for);
+      asked_for = subst (λ (v : Stand). CountsAsked buses [] v.events old new) (sym more.1)
+          (asked_then buses [] stood.events (turned buses stood x.calls).events old mid new s.asked_for x.asked_for);
       served = more.0;
       known = subst (λ (v : Stand). AllByRecursion (IsOneOf (filter_map peer_of calls)) v.places) (sym more.1) known;
       hosting = subst (λ (v : Stand). IsHosting buses v x.keys new owns_new) (sym more.1) x.hosting;

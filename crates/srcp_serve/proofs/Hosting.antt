@@ -118,7 +118,9 @@ seats_full peer old mid cause told_old told_new owns closes turned_away buses st
     stands = calls_lead.not_opened cause old mid turned_away buses stand.events keys hosting.layout hosting.stands
 
     away : (cause : CoreFault) (granted : Bool) → fault buses (course buses stand.events) (Open granted) ≡ Some cause
-        → StandsFor buses keys mid (course buses (stand.events ++ Open granted ∷ [])) → mid.denied ≡ denied_by old.denied (granted ∷ []) → mid.denied ≡ denied_in buses old.denied (counted (course buses stand.events)) (Open granted) → WelcomesPeer buses stand told_old told mid owns old peer false
+        → StandsFor buses keys mid (course buses (stand.events ++ Open granted ∷ [])) → mid.denied ≡ denied_by old.denied (granted ∷ [])
+        → mid.denied ≡ denied_in buses old.denied (counted (course buses stand.events)) (Open granted)
+        → WelcomesPeer buses stand told_old told mid owns old peer false
     away cause granted denies after_open counts asks =
         let guest : Guest = record { peer = peer; granted = granted } in
         let shut : is_let_in buses stand.events granted ≡ false = ap is_none denies in
@@ -132,7 +134,8 @@ seats_full peer old mid cause told_old told_new owns closes turned_away buses st
             keys = keys;
             adds = c.adds;
             counted = counts;
-            asked_for = subst (λ (s : Stand). CountsAsked buses stand.events s.events old mid) (sym w) (asked_one buses stand.events (Open granted) old mid asks);
+            asked_for = subst (λ (s : Stand). CountsAsked buses stand.events s.events old mid) (sym w)
+                (asked_one buses stand.events (Open granted) old mid asks);
             asked = sym (ap (λ b. if b then [] else ClosesQuestion peer ∷ []) shut);
             others = subst (λ (s : Stand). AllByRecursion (IsLeftOut (CloseCall peer c.answer ∷ [])) s.places) (sym w) (close_left_out peer c.answer stand.places new);
             hosting = subst (λ (s : Stand). IsHosting buses s keys mid owns) (sym w) (record {
@@ -151,10 +154,12 @@ seats_full peer old mid cause told_old told_new owns closes turned_away buses st
         → WelcomesPeer buses stand told_old told mid owns old peer false
     by Full a out =
         away Full true (full_open buses (course buses stand.events) out)
-        (subst (λ (w : World). StandsFor buses keys mid w) (full_course buses stand.events out) stands) (ap (λ (h : Held). h.denied) a.1) (ap (λ (h : Held). h.denied) a.1)
+        (subst (λ (w : World). StandsFor buses keys mid w) (full_course buses stand.events out) stands) (ap (λ (h : Held). h.denied) a.1)
+        (ap (λ (h : Held). h.denied) a.1)
     by MemoryFault a out =
         let e : mid.denied ≡ denied_by old.denied (false ∷ []) = ap (λ (h : Held). h.denied) a.1 in
-        away MemoryFault false out stands e (e ∙ ap (λ b. denied_by old.denied (b ∷ [])) (sym (few_open buses (course buses stand.events) out)))
+        away MemoryFault false out stands e
+        (e ∙ ap (λ b. denied_by old.denied (b ∷ [])) (sym (few_open buses (course buses stand.events) out)))
     by other a out = absurd a
 
 pub seats_in : (peer key free : ℕ) (old mid : Held) (told_old : Option (List DoorCall)) (owns : List (Option Own)) → IsAdmitted key old mid
@@ -183,7 +188,8 @@ seats_in peer key free old mid told_old owns admitted place buses stand keys tol
         keys = pushed;
         adds = adds_none told_old told is;
         counted = ap (λ (h : Held). h.denied) admitted.rest;
-        asked_for = subst (λ (s : Stand). CountsAsked buses stand.events s.events old mid) (sym w) (asked_one buses stand.events (Open true) old mid (ap (λ (h : Held). h.denied) admitted.rest));
+        asked_for = subst (λ (s : Stand). CountsAsked buses stand.events s.events old mid) (sym w)
+            (asked_one buses stand.events (Open true) old mid (ap (λ (h : Held). h.denied) admitted.rest));
         asked = sym (ap (λ b. if b then [] else ClosesQuestion peer ∷ []) let_in_is);
         others = none_left_out (welcomed buses stand guest).places;
         hosting = subst (λ (s : Stand). IsHosting buses s pushed mid (slice_set owns free (Some own))) (sym w) (record {
@@ -246,7 +252,8 @@ module _ (place : ℕ) (d : Option Own) (own : Own) (old new : Held) (told_old t
         keys = keys;
         adds = subst (λ (c : List Call). AddsGiven told_old told c) (sym (append-nil x.calls)) x.adds;
         counted = subst (λ (c : List Call). CountsRefusals old c new) (sym (append-nil x.calls)) x.counted;
-        asked_for = subst (λ (more : List Event). CountsAsked buses stand.events (stand.events ++ more) old new) (sym (append-nil (visit_events x.calls seat))) x.asked_for;
+        asked_for = subst (λ (more : List Event). CountsAsked buses stand.events (stand.events ++ more) old new)
+            (sym (append-nil (visit_events x.calls seat))) x.asked_for;
         seats_are = refl;
         own = (x.own, tt);
         asked = ap (map question) (append-nil x.calls) ∙ x.asked ∙ sym (append-nil _);
@@ -282,7 +289,8 @@ module _ (place : ℕ) (d : Option Own) (own : Own) (old new : Held) (told_old t
         keys = fewer;
         adds = subst (λ (c : List Call). AddsGiven told_old told c) (sym (append-nil x.calls)) x.adds;
         counted = subst (λ (c : List Call). CountsRefusals old c new) (sym (append-nil x.calls)) x.counted;
-        asked_for = subst (λ (more : List Event). CountsAsked buses stand.events (stand.events ++ more) old new) (sym (append-nil (visit_events x.calls seat))) x.asked_for;
+        asked_for = subst (λ (more : List Event). CountsAsked buses stand.events (stand.events ++ more) old new)
+            (sym (append-nil (visit_events x.calls seat))) x.asked_for;
         seats_are = refl;
         own = (x.own, tt);
         asked = ap (map question) (append-nil x.calls) ∙ x.asked ∙ sym (append-nil _);
@@ -331,7 +339,9 @@ module _ (buses : List Bus) (stand : Stand) (old : Option (List DoorCall)) (core
         keys = y.keys;
         adds = subst (λ (c : List Call). AddsGiven old told c) (sym calls) (given_then old told_mid mid told (calls_of xs) (calls_of ys) is x.adds y.adds);
         counted = subst (λ (c : List Call). CountsRefusals core_old c new) (sym calls) (refusals_then core_old between new (calls_of xs) (calls_of ys) x.counted y.counted);
-        asked_for = subst (λ (all : List Event). CountsAsked buses stand.events all core_old new) events (asked_then buses stand.events (stand.events ++ made_by xs) ((stand.events ++ made_by xs) ++ made_by ys) core_old between new x.asked_for y.asked_for);
+        asked_for = subst (λ (all : List Event). CountsAsked buses stand.events all core_old new) events
+            (asked_then buses stand.events (stand.events ++ made_by xs)
+            ((stand.events ++ made_by xs) ++ made_by ys) core_old between new x.asked_for y.asked_for);
         seats_are = map-append seat_of x.round y.round ∙ ap (λ front. front ++ map seat_of y.round) x.seats_are ∙ ap (λ more. seats ++ more) y.seats_are;
         own = subst (λ (vs : List Visit). AreOwn vs) (sym all) (own_append xs ys x.own y.own);
         asked = ap (map question) calls ∙ map-append question (calls_of xs) (calls_of ys) ∙ ap (λ qs. qs ++ map question (calls_of ys)) x.asked ∙ ap (λ qs. asked_by buses stand.events xs ++ qs) y.asked

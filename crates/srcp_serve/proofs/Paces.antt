@@ -31,7 +31,8 @@ module _ (buses : List Bus) where
   room_told stand (CloseCall peer answer ∷ calls) e = cc
 
   -- what was told, of the course before the turn
-  room_within : (stand : Stand) (calls : List Call) (n : ℕ) → map question calls ≡ turn_asks buses stand calls → n ≤ told_room calls → n ≤ room buses (course buses stand.events)
+  room_within : (stand : Stand) (calls : List Call) (n : ℕ) → map question calls ≡ turn_asks buses stand calls → n ≤ told_room calls
+      → n ≤ room buses (course buses stand.events)
   room_within stand calls n asked few = subst (λ k. n ≤ k) (room_told stand calls asked) few
 
   spares : (stand : Stand) (calls : List Call) → map question calls ≡ turn_asks buses stand calls → IsPaced buses stand calls → SparesPanels buses stand calls
@@ -39,36 +40,45 @@ module _ (buses : List Bus) where
       let more : List Event = turn_events buses stand calls in
       let same = turned_events buses stand calls in
       let few : brought buses stand.events more ≤ room buses (course buses stand.events) =
-      subst (λ (es : List Event). changes_since buses (length (course buses stand.events).steps) (course buses es) ≤ room buses (course buses stand.events)) same (room_within stand calls (brought_in buses stand calls) asked paced) in
-      few_close_none buses stand.events more few number later (subst (λ (es : List Event). IsOverrun buses (course buses es) number later) same over)
+      subst (λ (es : List Event). changes_since buses (length (course buses stand.events).steps) (course buses es) ≤ room buses
+      (course buses stand.events)) same (room_within stand calls (brought_in buses stand calls) asked paced) in
+      few_close_none buses stand.events more few number later
+      (subst (λ (es : List Event). IsOverrun buses (course buses es) number later) same over)
 
-  light_spares : IsLayout buses → (stand : Stand) (calls : List Call) → map question calls ≡ turn_asks buses stand calls → IsLight buses stand calls → SparesPanels buses stand calls
+  light_spares : IsLayout buses → (stand : Stand) (calls : List Call) → map question calls ≡ turn_asks buses stand calls
+      → IsLight buses stand calls → SparesPanels buses stand calls
   light_spares layout stand calls asked light number later over =
       let w : World = course buses stand.events in
       let more : List Event = turn_events buses stand calls in
       let same = turned_events buses stand calls in
-      let events : events_in buses stand calls ≡ more = ap (drop (length stand.events)) same ∙ drop_at stand.events more (length stand.events) refl in
+      let events : events_in buses stand calls ≡ more = ap (drop (length stand.events)) same
+      ∙ drop_at stand.events more (length stand.events) refl in
       let few : may_bring buses stand.events more ≤ room buses w =
       subst (λ (es : List Event). weighs buses w more + brought_besides buses w (course buses es) ≤ room buses w) same
-      (subst (λ (es : List Event). weighs buses w es + brought_besides buses w (course buses (turned buses stand calls).events) ≤ room buses w) events
+      (subst (λ (es : List Event). weighs buses w es + brought_besides buses w
+      (course buses (turned buses stand calls).events) ≤ room buses w) events
       (room_within stand calls (weighs_in buses stand calls + besides_in buses stand calls) asked light)) in
-      light_lines buses layout stand.events more few number later (subst (λ (es : List Event). IsOverrun buses (course buses es) number later) same over)
+      light_lines buses layout stand.events more few number later
+      (subst (λ (es : List Event). IsOverrun buses (course buses es) number later) same over)
 
   -- ---- turn after turn
 
   -- what is so of a turn by what it asked is so of each
-  each_spares : (Law : Stand → List Call → Type 0) → ((stand : Stand) (calls : List Call) → map question calls ≡ turn_asks buses stand calls → Law stand calls)
+  each_spares : (Law : Stand → List Call → Type 0)
+      → ((stand : Stand) (calls : List Call) → map question calls ≡ turn_asks buses stand calls → Law stand calls)
       → (stand : Stand) (all : List (List Call)) → AreTurnsAsked buses stand all → OfEachTurn buses Law stand all
   each_spares Law law stand [] asked = tt
   each_spares Law law stand (calls ∷ all) asked = (law stand calls asked.0, each_spares Law law (turned buses stand calls) all asked.1)
 
   -- so none ever overran
-  all_spared : (Law : Stand → List Call → Type 0) (stand : Stand) (all : List (List Call)) → OfEachTurn buses (λ stand calls. Law stand calls → SparesPanels buses stand calls) stand all → OfEachTurn buses Law stand all
+  all_spared : (Law : Stand → List Call → Type 0) (stand : Stand) (all : List (List Call))
+      → OfEachTurn buses (λ stand calls. Law stand calls → SparesPanels buses stand calls) stand all → OfEachTurn buses Law stand all
       → ((number : ℕ) (later : Connection) → IsOverrun buses (course buses stand.events) number later → ⊥)
       → (number : ℕ) (later : Connection) → IsOverrun buses (course buses (fold (turned buses) stand all).events) number later → ⊥
   all_spared Law stand [] spare law none = none
   all_spared Law stand (calls ∷ all) spare law none =
-      all_spared Law (turned buses stand calls) all spare.1 law.1 (λ number later over. let was = spare.0 law.0 number later over in none number was.0 was.1)
+      all_spared Law (turned buses stand calls) all spare.1 law.1
+      (λ number later over. let was = spare.0 law.0 number later over in none number was.0 was.1)
 
   none_first : (number : ℕ) (later : Connection) → IsOverrun buses (course buses []) number later → ⊥
   none_first zero later over = let e = over.there in cc
@@ -78,10 +88,13 @@ module _ (buses : List Bus) where
   paced_spare count told served = each_spares _ spares empty_stand (turns told) (turns_parted buses empty_stand told [] tt served.asked).1
 
   pub paced_spares_all : PacedServingSparesAll buses
-  paced_spares_all count told served paced = all_spared (IsPaced buses) empty_stand (turns told) (paced_spare count told served) paced none_first
+  paced_spares_all count told served paced =
+      all_spared (IsPaced buses) empty_stand (turns told) (paced_spare count told served) paced none_first
 
   pub light_spare : LightTurnsSpare buses
-  light_spare layout count told served = each_spares _ (light_spares layout) empty_stand (turns told) (turns_parted buses empty_stand told [] tt served.asked).1
+  light_spare layout count told served =
+      each_spares _ (light_spares layout) empty_stand (turns told) (turns_parted buses empty_stand told [] tt served.asked).1
 
   pub light_spares_all : LightServingSparesAll buses
-  light_spares_all layout count told served light = all_spared (IsLight buses) empty_stand (turns told) (light_spare layout count told served) light none_first
+  light_spares_all layout count told served light =
+      all_spared (IsLight buses) empty_stand (turns told) (light_spare layout count told served) light none_first

@@ -136,7 +136,8 @@ module _ (buses : List Bus) where
 
   -- each visit asked what it was to ask
   abbrev pub AreAsked : List Event → List Call → List Seat → Type 0
-  AreAsked events calls all = OfEachVisit buses (λ events calls seat. map question (visit calls seat) ≡ visit_asks buses events (visit calls seat) seat) events calls all
+  AreAsked events calls all = OfEachVisit buses
+      (λ events calls seat. map question (visit calls seat) ≡ visit_asks buses events (visit calls seat) seat) events calls all
 
   -- these questions are about none of them
   abbrev pub IsOfNone : List Question → List Seat → Type 0

@@ -52,7 +52,8 @@ module _ (peer key : ℕ) (old : Held) (told_old : Option (List DoorCall)) (read
           read = Some (record { answer = answer; buffer = buffer; grants = [] });
           adds = adds_one (door.ReadCall peer answer buffer) told_old told_new told tells is;
           counted = refl;
-          asked_for = subst (λ (o : Option Piece). CountsAsked buses events (events ++ map (Bytes n) (pieces o)) old old) (sym none) (asked_none buses events old);
+          asked_for = subst (λ (o : Option Piece). CountsAsked buses events (events ++ map (Bytes n) (pieces o)) old old) (sym none)
+              (asked_none buses events old);
           asked = asks buses events n [] (course_says buses events keys n s.layout s.named s.stands);
           stays_is = ap (λ t. t || false) loses ∙ or_no stays;
           stands = subst (λ (o : Option Piece). StandsFor buses keys old (course buses (events ++ map (Bytes n) (pieces o)))) (sym none)
@@ -81,7 +82,8 @@ module _ (peer key : ℕ) (old : Held) (told_old : Option (List DoorCall)) (read
         read = Some (record { answer = Ok (got.Bytes count); buffer = buffer; grants = leads.grants });
         adds = adds_one (door.ReadCall peer (Ok (got.Bytes count)) buffer) told_old told_new told tells named;
         counted = leads.counted ∙ ap (denied_by old.denied) (sym (append-nil leads.grants));
-        asked_for = asked_one buses events (Bytes n (record { bytes = piece; grants = leads.grants })) old new (leads.asked buses events keys n s.layout s.named s.stands);
+        asked_for = asked_one buses events (Bytes n (record { bytes = piece; grants = leads.grants })) old new
+            (leads.asked buses events keys n s.layout s.named s.stands);
         asked = asks (Ok (got.Bytes count)) buffer told_new e full tells buses events n leads.grants (course_says buses events keys n s.layout s.named s.stands);
         stays_is = ap not (sym (stays_ok ∙ fine.0));
         stands = leads.leads buses events keys n s.layout s.named s.stands;

@@ -86,12 +86,16 @@ quiet_with n f texts conns h q = record {
   none = λ conn e. by (numbered n conns) refl conn (sym (numbered_with n f conns) ∙ e);
 }
   where
-    by : (o : Option Connection) → numbered n conns ≡ o → (conn : Connection) → option_map f (numbered n conns) ≡ Some conn → (conn.items ≡ []) × (conn.ended ≡ false)
+    by : (o : Option Connection) → numbered n conns ≡ o → (conn : Connection) → option_map f (numbered n conns) ≡ Some conn
+        → (conn.items ≡ []) × (conn.ended ≡ false)
     by None t conn e = let no : option_map f None ≡ Some conn = ap (option_map f) (sym t) ∙ e in cc
     by (Some c) t conn e =
         let is : Some (f c) ≡ Some conn = ap (option_map f) (sym t) ∙ e in
-        let same = sym (same_Some (f c) conn is) in
-        (ap (λ (x : Connection). x.items) same ∙ (h c).items ∙ (q.none c t).0, ap (λ (x : Connection). x.ended) same ∙ (h c).ended ∙ (q.none c t).1)
+        let same = sym (same_Some (f c) conn is) in (
+          ap (λ (x : Connection). x.items) same ∙ (h c).items ∙ (q.none c t).0,
+          ap (λ (x : Connection). x.ended) same ∙ (h c).ended
+              ∙ (q.none c t).1,
+        )
 
 module _ (buses : List Bus) (n : ℕ) (texts : List (List ℕ)) where
   abbrev Quiet : World → Type 0
@@ -101,7 +105,8 @@ module _ (buses : List Bus) (n : ℕ) (texts : List (List ℕ)) where
   Sending w = IsSending texts w.connections
 
   quiet_replied : (reply : Reply) (w : World) → Quiet w → Quiet (replied n reply w)
-  quiet_replied reply w q = quiet_with n (λ conn. record conn { out = conn.out ++ reply_line w.moment reply }) texts w.connections (λ conn. record { items = refl; ended = refl; taken = refl; more = reply_line w.moment reply; out = refl }) q
+  quiet_replied reply w q = quiet_with n (λ conn. record conn { out = conn.out ++ reply_line w.moment reply }) texts w.connections
+      (λ conn. record { items = refl; ended = refl; taken = refl; more = reply_line w.moment reply; out = refl }) q
 
   quiet_goes : (mode : Mode) (w : World) → Quiet w → Quiet (goes buses n mode w)
   quiet_goes mode w q =
@@ -109,14 +114,21 @@ module _ (buses : List Bus) (n : ℕ) (texts : List (List ℕ)) where
       let begun : World = did (Began id w.moment mode) (record w { last_id = id }) in
       elim (nat_lt w.last_id 4294967295) as (λ t. Quiet (if t then replied n (Go id) (entered buses n id begun) else replied n (Refused C500) w)) [
         | true ↦ quiet_replied (Go id) (entered buses n id begun)
-            (quiet_with n (λ conn. record conn { session = id; info = is_info conn.mode; go_step = length begun.steps }) texts w.connections (λ conn. record { items = refl; ended = refl; taken = refl; more = []; out = sym (append-nil conn.out) }) q)
+            (quiet_with n (λ conn. record conn {
+              session = id;
+              info = is_info conn.mode;
+              go_step =
+                  length begun.steps;
+            }) texts w.connections
+            (λ conn. record { items = refl; ended = refl; taken = refl; more = []; out = sym (append-nil conn.out) }) q)
         | false ↦ quiet_replied (Refused C500) w q
       ]
 
   quiet_chosen : (mode : Mode) (w : World) → Quiet w → Quiet (replied n ModeReply (at_connection n (λ conn. record conn { mode = mode }) w))
   quiet_chosen mode w q =
       quiet_replied ModeReply (at_connection n (λ conn. record conn { mode = mode }) w)
-      (quiet_with n (λ conn. record conn { mode = mode }) texts w.connections (λ conn. record { items = refl; ended = refl; taken = refl; more = []; out = sym (append-nil conn.out) }) q)
+      (quiet_with n (λ conn. record conn { mode = mode }) texts w.connections
+      (λ conn. record { items = refl; ended = refl; taken = refl; more = []; out = sym (append-nil conn.out) }) q)
 
   module _ (mode : Mode) (w : World) (q : Quiet w) where
     refuses : (code : Code) → Quiet (replied n (Refused code) w)
@@ -129,27 +141,39 @@ module _ (buses : List Bus) (n : ℕ) (texts : List (List ℕ)) where
   abbrev IsPlain : World → Type 0
   IsPlain w = (conn : Connection) → numbered n w.connections ≡ Some conn → conn.info ≡ false
 
-  sending_obeyed : (session : ℕ) (command : Order) (result : Effect) (w : World) → IsPlain w → Quiet w → Sending (obeyed buses n session command result w)
+  sending_obeyed : (session : ℕ) (command : Order) (result : Effect) (w : World) → IsPlain w → Quiet w
+      → Sending (obeyed buses n session command result w)
   sending_obeyed session command result w p q =
       let once : World = replied n result.reply (did (Obeyed session w.moment command) w) in
       let still : Quiet once = quiet_replied result.reply (did (Obeyed session w.moment command) w) q in
       elim result.ends as (λ t. Sending (if t then ended buses n session once else once)) [
-        | true ↦ sending_with n (λ conn. record conn { ended = true }) texts once.connections (λ conn e s. (record { plain = s.plain; goes_on = λ info. absurd (plain_still conn e info); within = s.within }, refl)) still.sending
+        | true ↦ sending_with n (λ conn. record conn { ended = true }) texts once.connections
+            (λ conn e s. (
+              record { plain = s.plain; goes_on = λ info. absurd (plain_still conn e info); within = s.within },
+              refl,
+            )) still.sending
         | false ↦ still.sending
       ]
     where
-      plain_still : (conn : Connection) → numbered n (replied n result.reply (did (Obeyed session w.moment command) w)).connections ≡ Some conn → conn.info ≡ true → ⊥
+      plain_still : (conn : Connection) → numbered n (replied n result.reply (did (Obeyed session w.moment command) w)).connections
+          ≡ Some conn → conn.info ≡ true → ⊥
       plain_still conn e info = by (numbered n w.connections) refl (sym (numbered_with n _ w.connections) ∙ e)
         where
-          by : (o : Option Connection) → numbered n w.connections ≡ o → option_map (λ (c : Connection). record c { out = c.out ++ reply_line w.moment result.reply }) (numbered n w.connections) ≡ Some conn → ⊥
-          by None t e = let no : None ≡ Some conn = ap (option_map (λ (c : Connection). record c { out = c.out ++ reply_line w.moment result.reply })) (sym t) ∙ e in cc
+          by : (o : Option Connection) → numbered n w.connections ≡ o
+              → option_map (λ (c : Connection). record c { out = c.out ++ reply_line w.moment result.reply }) (numbered n w.connections)
+              ≡ Some conn → ⊥
+          by None t e = let no : None ≡ Some conn =
+              ap (option_map (λ (c : Connection). record c { out = c.out ++ reply_line w.moment result.reply })) (sym t) ∙ e in cc
           by (Some c) t e =
-              let is : Some (record c { out = c.out ++ reply_line w.moment result.reply }) ≡ Some conn = ap (option_map (λ (c : Connection). record c { out = c.out ++ reply_line w.moment result.reply })) (sym t) ∙ e in
-              let same : c.info ≡ conn.info = ap (λ (x : Connection). x.info) (same_Some (record c { out = c.out ++ reply_line w.moment result.reply }) conn is) in
+              let is : Some (record c { out = c.out ++ reply_line w.moment result.reply }) ≡ Some conn =
+              ap (option_map (λ (c : Connection). record c { out = c.out ++ reply_line w.moment result.reply })) (sym t) ∙ e in
+              let same : c.info ≡ conn.info =
+              ap (λ (x : Connection). x.info) (same_Some (record c { out = c.out ++ reply_line w.moment result.reply }) conn is) in
               let no : c.info ≡ false = p c t in
               cc
 
-  sending_commanded : (session : ℕ) (command : Result Order Code) (w : World) → IsPlain w → Quiet w → Sending (commanded buses n session command w)
+  sending_commanded : (session : ℕ) (command : Result Order Code) (w : World) → IsPlain w → Quiet w
+      → Sending (commanded buses n session command w)
   sending_commanded session (Err code) w p q = (quiet_replied (Refused code) w q).sending
   sending_commanded session (Ok command) w p q = sending_obeyed session command (effect (state buses w) session w.moment command) w p q
 
@@ -163,7 +187,10 @@ module _ (buses : List Bus) (n : ℕ) (texts : List (List ℕ)) where
       quiet : conn.info ≡ false → conn.ended ≡ false → Quiet w
       quiet e on = record {
         sending = a;
-        none = λ c t. (ap (λ (x : Connection). x.items) (is c t) ∙ (steady_at n w.connections conn (f conn refl) a.steady).plain e, ap (λ (x : Connection). x.ended) (is c t) ∙ on);
+        none = λ c t. (
+          ap (λ (x : Connection). x.items) (is c t) ∙ (steady_at n w.connections conn (f conn refl) a.steady).plain e,
+          ap (λ (x : Connection). x.ended) (is c t) ∙ on,
+        );
       }
 
       plain : conn.info ≡ false → IsPlain w
@@ -173,12 +200,16 @@ module _ (buses : List Bus) (n : ℕ) (texts : List (List ℕ)) where
       by true e = a
       by false e = still conn.ended refl
         where
-          still : (t : Bool) → conn.ended ≡ t → Sending (if t then w else (if conn.session == 0 then greeted buses n conn.mode (greets mark) w else commanded buses n conn.session (order_of buses mark) w))
+          still : (t : Bool) → conn.ended ≡ t
+              → Sending (if t then w else (if conn.session ==
+              0 then greeted buses n conn.mode (greets mark) w else commanded buses n conn.session (order_of buses mark) w))
           still true on = a
-          still false on = elim (conn.session == 0) as (λ t. Sending (if t then greeted buses n conn.mode (greets mark) w else commanded buses n conn.session (order_of buses mark) w)) [
-            | true ↦ (quiet_greeted conn.mode w (quiet e on) mark).sending
-            | false ↦ sending_commanded conn.session (order_of buses mark) w (plain e) (quiet e on)
-          ]
+          still false on = elim (conn.session == 0) as
+              (λ t. Sending (if t then greeted buses n conn.mode (greets mark) w else commanded buses n conn.session
+              (order_of buses mark) w)) [
+                | true ↦ (quiet_greeted conn.mode w (quiet e on) mark).sending
+                | false ↦ sending_commanded conn.session (order_of buses mark) w (plain e) (quiet e on)
+              ]
 
   sending_marks : (marks : List Heard) (w : World) → Sending w → Sending (fold (answered buses n) w marks)
   sending_marks [] w a = a
@@ -188,13 +219,15 @@ module _ (buses : List Bus) (n : ℕ) (texts : List (List ℕ)) where
   sending_fed piece None w a = a
   sending_fed piece (Some conn) w a =
       sending_marks (new_lines buses conn.fed piece) (at_connection n (λ c. record c { fed = c.fed ++ piece.bytes }) w)
-      (sending_with n (λ c. record c { fed = c.fed ++ piece.bytes }) texts w.connections (λ c e s. (record { plain = s.plain; goes_on = s.goes_on; within = s.within }, refl)) a)
+      (sending_with n (λ c. record c { fed = c.fed ++ piece.bytes }) texts w.connections
+      (λ c e s. (record { plain = s.plain; goes_on = s.goes_on; within = s.within }, refl)) a)
 
   sending_shut_as : (o : Option Connection) (w : World) → Sending w → Sending (shut_as buses n o w)
   sending_shut_as None w a = a
   sending_shut_as (Some conn) w a =
       let f : Connection → Connection = λ c. record c { shut = Some (length w.steps) } in
-      let once : Sending (at_connection n f w) = sending_with n f texts w.connections (λ c e s. (record { plain = s.plain; goes_on = s.goes_on; within = s.within }, refl)) a in
+      let once : Sending (at_connection n f w) =
+      sending_with n f texts w.connections (λ c e s. (record { plain = s.plain; goes_on = s.goes_on; within = s.within }, refl)) a in
       elim ((conn.session == 0) || conn.ended) as (λ t. Sending (if t then at_connection n f w else did (Ended conn.session w.moment) (at_connection n f w))) [ true ↦ once | false ↦ once ]
 
   pub sending_bytes : (piece : Piece) (w : World) → Sending w → Sending (happens buses w (Bytes n piece))
@@ -222,7 +255,8 @@ module _ (buses : List Bus) (texts : List (List ℕ)) where
   -- a connection more was sent nothing
   pub sending_opened : (granted : Bool) (w : World) → IsSending texts w.connections → fault buses w (Open granted) ≡ None → IsSending (texts ++ [] ∷ []) (happens buses w (Open granted)).connections
   sending_opened granted w a e =
-      let more : AllByRecursion IsSteady (w.connections ++ fresh ∷ []) = all_push IsSteady w.connections fresh a.steady (record { plain = λ h. refl; goes_on = λ h. refl; within = omega arith }) in
+      let more : AllByRecursion IsSteady (w.connections ++ fresh ∷ []) =
+      all_push IsSteady w.connections fresh a.steady (record { plain = λ h. refl; goes_on = λ h. refl; within = omega arith }) in
       let one : IsSending (texts ++ [] ∷ []) (w.connections ++ fresh ∷ []) = record { steady = more; sends = sent_push w.connections fresh ∙ ap (λ ts. ts ++ [] ∷ []) a.sends } in
       subst (λ (o : Option CoreFault). IsSending (texts ++ [] ∷ []) (or_refused buses o (Open granted) (counted w)).connections) (sym e) one
 

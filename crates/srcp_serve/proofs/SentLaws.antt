@@ -107,7 +107,8 @@ module _ (buses : List Bus) where
       let change : Connection → Connection = given_room bytes (history buses w) (rows buses w) in
       ap (λ (v : World). numbered n v.connections) (after_room events n bytes conn e) ∙ numbered_with n change w.connections ∙ ap (option_map change) (opened (numbered n w.connections) conn e).0
 
-  pub lent_is : (events : List Event) (n : ℕ) (conn : Connection) → open_connection (course buses events) n ≡ Some conn → lent buses n events ≡ lends (history buses (course buses events)) (rows buses (course buses events)) conn
+  pub lent_is : (events : List Event) (n : ℕ) (conn : Connection) → open_connection (course buses events) n ≡ Some conn
+      → lent buses n events ≡ lends (history buses (course buses events)) (rows buses (course buses events)) conn
   lent_is events n conn e =
       let w : World = course buses events in
       let past : History = history buses w in
@@ -163,20 +164,27 @@ module _ (buses : List Bus) where
           (subst (λ (ts : List (List ℕ)). IsSending ts w.connections) (sym (ap (λ t. put n t texts) none ∙ put_none n texts)) a)
 
   -- every connection of a course is steady
-  steady_happens : (w : World) (event : Event) → AllByRecursion IsSteady w.connections → AllByRecursion IsSteady (happens buses w event).connections
-  steady_happens w (Open granted) a = elim (fault buses (counted w) (Open granted)) as (λ o. AllByRecursion IsSteady (or_refused buses o (Open granted) (counted w)).connections) [
-    | None ↦ all_push IsSteady w.connections fresh a (record { plain = λ h. refl; goes_on = λ h. refl; within = omega arith })
-    | Some cause ↦ a
-  ]
+  steady_happens : (w : World) (event : Event) → AllByRecursion IsSteady w.connections
+      → AllByRecursion IsSteady (happens buses w event).connections
+  steady_happens w (Open granted) a =
+      elim (fault buses (counted w) (Open granted)) as
+      (λ o. AllByRecursion IsSteady (or_refused buses o (Open granted) (counted w)).connections) [
+        | None ↦ all_push IsSteady w.connections fresh a (record { plain = λ h. refl; goes_on = λ h. refl; within = omega arith })
+        | Some cause ↦ a
+      ]
   steady_happens w (Bytes n piece) a = (sending_bytes buses n (map sent w.connections) piece w (record { steady = a; sends = refl })).steady
-  steady_happens w (Room n bytes) a = elim (fault buses (counted w) (Room n bytes)) as (λ o. AllByRecursion IsSteady (or_refused buses o (Room n bytes) (counted w)).connections) [
-    | None ↦ all_numbered IsSteady n (given_room bytes (history buses w) (rows buses w)) w.connections (λ c t s. steady_room bytes (history buses w) (rows buses w) c s) a
-    | Some cause ↦ a
-  ]
+  steady_happens w (Room n bytes) a =
+      elim (fault buses (counted w) (Room n bytes)) as
+      (λ o. AllByRecursion IsSteady (or_refused buses o (Room n bytes) (counted w)).connections) [
+        | None ↦ all_numbered IsSteady n (given_room bytes (history buses w) (rows buses w)) w.connections
+            (λ c t s. steady_room bytes (history buses w) (rows buses w) c s) a
+        | Some cause ↦ a
+      ]
   steady_happens w (At moment) a = a
   steady_happens w (Shut n) a = (sending_shut buses n (map sent w.connections) w (record { steady = a; sends = refl })).steady
 
-  steady_all : (events : List Event) (w : World) → AllByRecursion IsSteady w.connections → AllByRecursion IsSteady (fold (happens buses) w events).connections
+  steady_all : (events : List Event) (w : World) → AllByRecursion IsSteady w.connections
+      → AllByRecursion IsSteady (fold (happens buses) w events).connections
   steady_all [] w a = a
   steady_all (event ∷ events) w a = steady_all events (happens buses w event) (steady_happens w event a)
 

@@ -68,12 +68,15 @@ pub record IsFirst (peer who most : ℕ) (bytes now : List ℕ) (questions : Lis
   pub one_less : most ≡ suc left
   pub others : questions ≡ map (Writes peer) (take left more)
 
-pub first_of_writes : (peer who most : ℕ) (bytes now : List ℕ) (questions : List Question) (more : List (List ℕ)) → Writes who bytes ∷ questions ≡ map (Writes peer) (take most (unless_nil now more)) → IsFirst peer who most bytes now questions more
+pub first_of_writes : (peer who most : ℕ) (bytes now : List ℕ) (questions : List Question) (more : List (List ℕ))
+    → Writes who bytes ∷ questions ≡ map (Writes peer) (take most (unless_nil now more)) → IsFirst peer who most bytes now questions more
 first_of_writes peer who zero bytes now questions more e = cc
 first_of_writes peer who (suc most) bytes [] questions more e = cc
-first_of_writes peer who (suc most) bytes (byte ∷ now) questions more e = record { peer_is = cc; bytes_are = cc; some = omega arith; left = most; one_less = refl; others = cc }
+first_of_writes peer who (suc most) bytes (byte ∷ now) questions more e =
+    record { peer_is = cc; bytes_are = cc; some = omega arith; left = most; one_less = refl; others = cc }
 
-pub no_write : (peer : ℕ) (q : Question) (questions : List Question) (texts : List (List ℕ)) → asks_write q ≡ false → q ∷ questions ≡ map (Writes peer) texts → ⊥
+pub no_write : (peer : ℕ) (q : Question) (questions : List Question) (texts : List (List ℕ)) → asks_write q ≡ false → q ∷ questions
+    ≡ map (Writes peer) texts → ⊥
 no_write peer q questions [] h e = cc
 no_write peer q questions (text ∷ texts) h e = let same : q ≡ Writes peer text = cc in let t : asks_write q ≡ true = ap asks_write same in cc
 
@@ -187,7 +190,9 @@ module _ (buses : List Bus) (seat : Seat) (events : List Event) (calls : List Ca
       record {
         writes = t.xs;
         asked = t.front;
-        each = λ P all. (all_parts P t.xs t.ys (subst (λ (cs : List Call). AllByRecursion P cs) t.is (all_parts P s.xs s.ys (subst (λ (cs : List Call). AllByRecursion P cs) s.is all)).1)).0;
+        each = λ P all. (all_parts P t.xs t.ys
+            (subst (λ (cs : List Call). AllByRecursion P cs) t.is
+            (all_parts P s.xs s.ys (subst (λ (cs : List Call). AllByRecursion P cs) s.is all)).1)).0;
         counts = ap (filter_map count_of) s.is
             ∙ filter_map-append count_of s.xs s.ys
             ∙ ap (λ cs. cs ++ filter_map count_of s.ys) reads.0
@@ -230,7 +235,9 @@ module _ (buses : List Bus) (seat : Seat) (events : List Event) (calls : List Ca
     where
       by : (h : HasWrites) (b : Bool) → map question h.writes ≡ (if b then [] else map (Writes seat.peer) (take 300 (handed buses seat.conn read_events (filter_map count_of calls))))
           → IsSending (put seat.conn (taken seat.peer h.writes) texts) (course buses (read_events ++ map (Room seat.conn) (filter_map count_of h.writes))).connections
-      by h true q = sending_writes buses seat.peer seat.conn h.writes (h.each IsFair fair) 0 read_events texts q (sends_bytes buses seat.peer seat.conn texts events (filter_map piece_of calls) a)
+      by h true q = sending_writes buses seat.peer seat.conn h.writes (h.each IsFair fair) 0 read_events texts q
+          (sends_bytes buses seat.peer seat.conn texts events (filter_map piece_of calls) a)
       by h false q =
-          sending_writes buses seat.peer seat.conn h.writes (h.each IsFair fair) 300 read_events texts (q ∙ ap (λ cs. map (Writes seat.peer) (take 300 (handed buses seat.conn read_events cs))) h.counts)
+          sending_writes buses seat.peer seat.conn h.writes (h.each IsFair fair) 300 read_events texts
+          (q ∙ ap (λ cs. map (Writes seat.peer) (take 300 (handed buses seat.conn read_events cs))) h.counts)
           (sends_bytes buses seat.peer seat.conn texts events (filter_map piece_of calls) a)

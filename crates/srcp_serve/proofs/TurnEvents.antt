@@ -17,10 +17,14 @@ opening_events calls = map At (filter_map moment_of calls) ++ map opens (filter_
 module _ (buses : List Bus) where
   moments_events : (stand : Stand) (moments : List ℕ) → (fold (with_moment buses) stand moments).events ≡ stand.events ++ map At moments
   moments_events stand [] = sym (append-nil stand.events)
-  moments_events stand (moment ∷ moments) = moments_events (with_moment buses stand moment) moments ∙ append_assoc stand.events (At moment ∷ []) (map At moments)
+  moments_events stand (moment ∷ moments) = moments_events (with_moment buses stand moment) moments
+      ∙ append_assoc stand.events (At moment ∷ []) (map At moments)
 
   welcomed_events : (stand : Stand) (guest : Guest) → (welcomed buses stand guest).events ≡ stand.events ++ opens guest ∷ []
-  welcomed_events stand guest = elim (is_let_in buses stand.events guest.granted) as (λ t. (if t then let_in buses stand guest else record stand { events = stand.events ++ opens guest ∷ [] }).events ≡ stand.events ++ opens guest ∷ []) [ true ↦ refl | false ↦ refl ]
+  welcomed_events stand guest =
+      elim (is_let_in buses stand.events guest.granted) as
+      (λ t. (if t then let_in buses stand guest else record stand { events = stand.events ++ opens guest ∷ [] }).events
+      ≡ stand.events ++ opens guest ∷ []) [ true ↦ refl | false ↦ refl ]
 
   guests_events : (stand : Stand) (guests : List Guest) → (fold (welcomed buses) stand guests).events ≡ stand.events ++ map opens guests
   guests_events stand [] = sym (append-nil stand.events)

@@ -150,11 +150,13 @@ module _ (buses : List Bus) where
     pub fair : AllByRecursion IsFair calls
 
   abbrev SentAfter : (all : List (List Call)) (before : ℕ → List ℕ) (stand : Stand) → Type 0
-  SentAfter all before stand = map sent (course buses (fold (turned buses) stand all).events).connections ≡ map (λ peer. before peer ++ taken peer (joined all)) (fold (turned buses) stand all).guests
+  SentAfter all before stand = map sent (course buses (fold (turned buses) stand all).events).connections
+      ≡ map (λ peer. before peer ++ taken peer (joined all)) (fold (turned buses) stand all).guests
 
   turns_taken : (all : List (List Call)) (before : ℕ → List ℕ) (stand : Stand) → AreTurnsAsked buses stand all → AllByRecursion IsFair (joined all) → AreNew stand.guests (filter_map newcomer_of (joined all)) → IsFresh before stand.guests → IsEven buses before stand
       → OfEachTurn buses IsTurnOfGuests stand all × SentAfter all before stand
-  turns_taken [] before stand asked fair new fresh even = (tt, even.sending.sends ∙ same_each before (λ peer. before peer ++ []) stand.guests (λ peer. sym (append-nil (before peer))))
+  turns_taken [] before stand asked fair new fresh even =
+      (tt, even.sending.sends ∙ same_each before (λ peer. before peer ++ []) stand.guests (λ peer. sym (append-nil (before peer))))
   turns_taken (calls ∷ all) before stand asked fair new fresh even =
       let parts = all_parts IsFair calls (joined all) fair in
       let peers : List Guest = filter_map newcomer_of calls in
@@ -163,11 +165,23 @@ module _ (buses : List Bus) where
       let coming : AllByRecursion (λ peer. IsNew peer.peer stand.guests) peers = (all_parts (λ peer. IsNew peer.peer stand.guests) peers more apart.new).0 in
       let b = turn_begins buses before stand calls parts.0 fresh even asked.0 coming in
       let now : Stand = begun buses stand calls in
-      let here : IsTurnOfGuests stand calls = record { known = b.begun_even.known; apart = b.begun_even.apart; asked = visits_parted buses b.first now.events calls (seats now.places) b.begun_even.apart b.none b.asked; fair = parts.0 } in
-      let rest = turns_taken all (λ peer. before peer ++ taken peer calls) (turned buses stand calls) asked.1 parts.1 (new_turned buses before stand calls more apart fresh even) (fresh_turned buses before stand calls more apart fresh even asked.0) (even_turned buses before stand calls parts.0 fresh even b) in (
+      let here : IsTurnOfGuests stand calls =
+      record {
+        known = b.begun_even.known;
+        apart = b.begun_even.apart;
+        asked =
+            visits_parted buses b.first now.events calls (seats now.places) b.begun_even.apart b.none b.asked;
+        fair = parts.0;
+      } in
+      let rest = turns_taken all (λ peer. before peer ++ taken peer calls) (turned buses stand calls) asked.1 parts.1
+      (new_turned buses before stand calls more apart fresh even)
+      (fresh_turned buses before stand calls more apart fresh even asked.0)
+      (even_turned buses before stand calls parts.0 fresh even b) in (
         (here, rest.0),
         rest.1
-            ∙ same_each (λ peer. (before peer ++ taken peer calls) ++ taken peer (joined all)) (λ peer. before peer ++ taken peer (joined (calls ∷ all))) (fold (turned buses) (turned buses stand calls) all).guests (regrouped before calls (joined all)),
+            ∙ same_each (λ peer. (before peer ++ taken peer calls) ++ taken peer (joined all))
+            (λ peer. before peer ++ taken peer (joined (calls ∷ all))) (fold (turned buses) (turned buses stand calls) all).guests
+            (regrouped before calls (joined all)),
       )
     where
       regrouped : (before : ℕ → List ℕ) (calls others : List Call) (peer : ℕ) → (before peer ++ taken peer calls) ++ taken peer others ≡ before peer ++ taken peer (calls ++ others)
@@ -189,15 +203,24 @@ module _ (buses : List Bus) where
   nobody_even : IsEven buses (λ peer. []) empty_stand
   nobody_even = record { sending = record { steady = tt; sends = refl }; known = tt; apart = tt }
 
-  module _ (count : ℕ) (told : List Call) (served : IsServed buses count told) (differ : PeersDiffer buses told) (fair : AllByRecursion IsFair told) where
+  module _ (count : ℕ) (told : List Call) (served : IsServed buses count told) (differ : PeersDiffer buses told)
+      (fair : AllByRecursion IsFair told) where
     whole : joined (turns told) ≡ told
-    whole = ap (λ cs. cs ++ joined (turns told)) (sym (no_calls (in_turn buses told) (turns_parted buses empty_stand told [] tt served.asked).0)) ∙ turns_joined told
+    whole = ap (λ cs. cs ++ joined (turns told))
+        (sym (no_calls (in_turn buses told) (turns_parted buses empty_stand told [] tt served.asked).0)) ∙ turns_joined told
 
     all_turns : OfEachTurn buses IsTurnOfGuests empty_stand (turns told) × SentAfter (turns told) (λ peer. []) empty_stand
     all_turns =
         let guests : List Guest = filter_map newcomer_of told in
-        let first : AreNew [] guests = record { new = all_new_first guests; differ = differ_guests guests (subst (λ (peers : List ℕ). IsDistinct (λ a b. a == b) peers) (peers_told told) differ) } in
-        turns_taken (turns told) (λ peer. []) empty_stand (turns_parted buses empty_stand told [] tt served.asked).1 (subst (λ (cs : List Call). AllByRecursion IsFair cs) (sym whole) fair) (subst (λ (cs : List Call). AreNew [] (filter_map newcomer_of cs)) (sym whole) first) (λ peer h. refl) nobody_even
+        let first : AreNew [] guests =
+        record {
+          new = all_new_first guests;
+          differ =
+              differ_guests guests (subst (λ (peers : List ℕ). IsDistinct (λ a b. a == b) peers) (peers_told told) differ);
+        } in
+        turns_taken (turns told) (λ peer. []) empty_stand (turns_parted buses empty_stand told [] tt served.asked).1
+        (subst (λ (cs : List Call). AllByRecursion IsFair cs) (sym whole) fair)
+        (subst (λ (cs : List Call). AreNew [] (filter_map newcomer_of cs)) (sym whole) first) (λ peer h. refl) nobody_even
 
     pub turns_of_guests : OfEachTurn buses IsTurnOfGuests empty_stand (turns told)
     turns_of_guests = all_turns.0

@@ -169,8 +169,10 @@ module _ (buses : List Bus) (events : List Event) (keys : List (Option ℕ)) (n 
         calls = calls;
         adds = given_then old told_mid mid told reads w.calls is r.adds w.adds;
         counted = refusals_then core_old between new reads w.calls r.counted (same ∙ ap (denied_by between.denied) (sym (writes_answers peer w.calls w.own)));
-        asked_for = subst (λ (all : List Event). CountsAsked buses events all core_old new) (append_assoc events read (map (Room n) (rooms w.calls)) ∙ ap (λ all. events ++ all) (sym more))
-            (asked_then buses events (events ++ read) ((events ++ read) ++ map (Room n) (rooms w.calls)) core_old between new r.asked_for (asked_rooms buses n (rooms w.calls) (events ++ read) between new same));
+        asked_for = subst (λ (all : List Event). CountsAsked buses events all core_old new)
+            (append_assoc events read (map (Room n) (rooms w.calls)) ∙ ap (λ all. events ++ all) (sym more))
+            (asked_then buses events (events ++ read) ((events ++ read) ++ map (Room n) (rooms w.calls)) core_old between new r.asked_for
+            (asked_rooms buses n (rooms w.calls) (events ++ read) between new same));
         own = about_append peer reads w.calls (reads_about peer r.read) (writes_about peer w.calls w.own);
         quiet = any_second is_close reads w.calls (reads_close peer r.read) ∙ writes_close peer w.calls w.own;
         asked = map-append question reads w.calls ∙ ap (λ qs. qs ++ map question w.calls) r.asked ∙ ap (λ qs. reads_of buses events seat ++ qs) (w.asked ∙ sym asks);
@@ -230,8 +232,11 @@ module _ (buses : List Bus) (events : List Event) (keys : List (Option ℕ)) (n 
         calls = calls;
         adds = given_then old told_mid mid told x.calls (last ∷ []) is x.adds g.closed.adds;
         counted = refusals_then core_old between new x.calls (last ∷ []) x.counted same;
-        asked_for = subst (λ (all : List Event). CountsAsked buses events all core_old new) (append_assoc events (exchange n x.calls) (Shut n ∷ []) ∙ ap (λ all. events ++ all) (sym more))
-            (asked_then buses events (events ++ exchange n x.calls) ((events ++ exchange n x.calls) ++ Shut n ∷ []) core_old between new x.asked_for (asked_one buses (events ++ exchange n x.calls) (Shut n) between new same));
+        asked_for = subst (λ (all : List Event). CountsAsked buses events all core_old new)
+            (append_assoc events (exchange n x.calls) (Shut n ∷ []) ∙ ap (λ all. events ++ all) (sym more))
+            (asked_then buses events (events ++ exchange n x.calls)
+            ((events ++ exchange n x.calls) ++ Shut n ∷ []) core_old between new x.asked_for
+            (asked_one buses (events ++ exchange n x.calls) (Shut n) between new same));
         own = own;
         asked = map-append question x.calls (last ∷ []) ∙ ap (λ qs. qs ++ ClosesQuestion peer ∷ []) (x.asked ∙ ap (λ qs. reads_of buses events seat ++ qs) (sym writes)) ∙ ap (λ qs. (reads_of buses events seat ++ writes_of buses events calls seat) ++ qs) (sym asks);
         closes = closing;

@@ -9,7 +9,8 @@ use Rattle.srcp_core.specs.Waits.{IsOverrun, brought_besides, changes_since, opt
 use Rattle.srcp_serve.specs.Given.{Call, ExpectCall}
 use Rattle.srcp_serve.specs.Serving.{Stand, IsServed, OfEachTurn, empty_stand, events_of, turned, turns}
 
--- how many changes the turn may bring, by the slack that the door was told: 256 where there was no panel, since one may begin
+-- how many changes the turn may bring, by the slack that the door was told: 256 if there was no panel, since one may
+-- begin
 abbrev pub told_room : List Call → ℕ
 told_room [] = 256
 told_room (ExpectCall due slack ∷ calls) = option_or_256 slack
@@ -18,11 +19,13 @@ told_room (other ∷ calls) = 256
 module _ (buses : List Bus) where
   -- how many changes the turn brought
   abbrev pub brought_in : Stand → List Call → ℕ
-  brought_in stand calls = changes_since buses (length (course buses stand.events).steps) (course buses (turned buses stand calls).events)
+  brought_in stand calls = changes_since buses (length (course buses stand.events).steps)
+      (course buses (turned buses stand calls).events)
 
   -- only those overran after the turn that overran before it
   abbrev pub SparesPanels : Stand → List Call → Type 0
-  SparesPanels stand calls = (number : ℕ) (later : Connection) → IsOverrun buses (course buses (turned buses stand calls).events) number later
+  SparesPanels stand calls = (number : ℕ) (later : Connection)
+      → IsOverrun buses (course buses (turned buses stand calls).events) number later
       → (conn : Connection) × IsOverrun buses (course buses stand.events) number conn
 
   -- the turn brings no more than the door was told
@@ -36,7 +39,8 @@ module _ (buses : List Bus) where
 
   -- so none ever overran if each turn is so
   abbrev pub PacedServingSparesAll : Type 0
-  PacedServingSparesAll = (count : ℕ) (told : List Call) → IsServed buses count told → OfEachTurn buses IsPaced empty_stand (turns told)
+  PacedServingSparesAll = (count : ℕ) (told : List Call) → IsServed buses count told
+      → OfEachTurn buses IsPaced empty_stand (turns told)
       → (number : ℕ) (later : Connection) → IsOverrun buses (course buses (events_of buses told)) number later → ⊥
 
   -- ---- by the lines that were handed out
@@ -51,7 +55,8 @@ module _ (buses : List Bus) where
 
   -- how many changes its moment and the ends of sessions brought
   abbrev pub besides_in : Stand → List Call → ℕ
-  besides_in stand calls = brought_besides buses (course buses stand.events) (course buses (turned buses stand calls).events)
+  besides_in stand calls = brought_besides buses (course buses stand.events)
+      (course buses (turned buses stand calls).events)
 
   -- both together are no more than the door was told
   abbrev pub IsLight : Stand → List Call → Type 0

@@ -300,7 +300,8 @@ module _ (buses : List Bus) where
   -- this holds of each of the visits of a turn, by what had happened before it
   abbrev pub OfEachVisit : (List Event → List Call → Seat → Type 0) → List Event → List Call → List Seat → Type 0
   OfEachVisit Law events calls [] = ⊤
-  OfEachVisit Law events calls (seat ∷ more) = Law events calls seat × OfEachVisit Law (events ++ visit_events calls seat) calls more
+  OfEachVisit Law events calls (seat ∷ more) = Law events calls seat
+      × OfEachVisit Law (events ++ visit_events calls seat) calls more
 
   -- the calls are those of so many turns, none more and none fewer
   pub record IsServed (count : ℕ) (told : List Call) : Type 0 where

@@ -21,13 +21,15 @@ module _ (buses : List Bus) where
 
   -- they are gone right after a visit in which the peer took all
   abbrev pub TakesWaits : List Event → List Call → Seat → Type 0
-  TakesWaits events calls seat = (conn later : Connection) → IsPanel buses (course buses events) seat.conn conn → TakesAll calls seat
+  TakesWaits events calls seat = (conn later : Connection) → IsPanel buses (course buses events) seat.conn conn
+      → TakesAll calls seat
       → numbered seat.conn (course buses (events ++ visit_events calls seat)).connections ≡ Some later
       → waiting later (history buses (course buses (events ++ visit_events calls seat))) ≡ []
 
   -- in each visit of each turn, over any layout
   abbrev pub WaitsAreGoneAfterAVisit : Type 0
-  WaitsAreGoneAfterAVisit = IsLayout buses → (count : ℕ) (told : List Call) → IsServed buses count told → PeersDiffer buses told
+  WaitsAreGoneAfterAVisit = IsLayout buses → (count : ℕ) (told : List Call) → IsServed buses count told
+      → PeersDiffer buses told
       → AllByRecursion IsFair told
       → OfEachTurn buses (λ stand calls. OfEachVisit buses TakesWaits (begun buses stand calls).events calls
       (seats (begun buses stand calls).places)) empty_stand (turns told)
@@ -39,7 +41,7 @@ module _ (buses : List Bus) where
     pub nothing : brought_in buses stand calls ≡ 0
     pub takes : TakesAll calls seat
 
-  -- how many writes are left: one for each line that the session is owed, and one more where bytes of earlier ones are unsent
+  -- how many writes are left: one for each line that the session is owed, and one more if bytes of others are unsent
   abbrev pub writes_left : World → Connection → ℕ
   writes_left w conn = length (owed conn (history buses w) (rows buses w)) + (if is_nil (unsent conn) then 0 else 1)
 
@@ -47,8 +49,8 @@ module _ (buses : List Bus) where
   abbrev pub after_turns : List (List Call) → Stand
   after_turns all = fold (turned buses) empty_stand all
 
-  -- over any layout, the session of a peer that has a place is settled after turns without a change, in each of which its peer
-  -- took all, where 300 times their number is at least what was left
+  -- over any layout, the session of a peer that has a place is settled after turns without a change, in each of which
+  -- its peer took all, if 300 times their number is at least what was left
   abbrev pub SettlesSoon : Type 0
   SettlesSoon = IsLayout buses → (count : ℕ) (told : List Call) → IsServed buses count told → PeersDiffer buses told
       → AllByRecursion IsFair told → (before after : List (List Call)) → turns told ≡ before ++ after
@@ -57,5 +59,6 @@ module _ (buses : List Bus) where
       → OfEachTurn buses (IsStill seat) (after_turns before) after
       → writes_left (course buses (after_turns before).events) conn ≤ 300 * length after
       → (later : Connection) → numbered seat.conn (course buses (events_of buses told)).connections ≡ Some later
-      → is_settled later (history buses (course buses (events_of buses told))) (rows buses (course buses (events_of buses told)))
+      → is_settled later (history buses (course buses (events_of buses told)))
+      (rows buses (course buses (events_of buses told)))
       ≡ true

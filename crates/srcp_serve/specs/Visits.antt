@@ -78,7 +78,8 @@ module _ (buses : List Bus) (events : List Event) (keys : List (Option ℕ)) (n 
     pub read : Option Reading
     pub adds : AddsGiven old told (read_calls peer read)
     pub counted : CountsRefusals core_old (read_calls peer read) new
-    pub asked_for : CountsAsked buses events (events ++ map (Bytes n) (filter_map piece_of (read_calls peer read))) core_old new
+    pub asked_for : CountsAsked buses events
+        (events ++ map (Bytes n) (filter_map piece_of (read_calls peer read))) core_old new
     pub asked : map question (read_calls peer read) ≡ reads_of buses events (record { peer = peer; conn = n })
     pub stays_is : list_any loses_reading (read_calls peer read) ≡ not stays
     pub stands : StandsFor buses keys new (course buses (events ++ map (Bytes n) (filter_map piece_of (read_calls peer read))))
@@ -150,7 +151,8 @@ module _ (buses : List Bus) (events : List Event) (keys : List (Option ℕ)) (n 
     pub calls : List Call
     pub adds : AddsGiven old told calls
     pub counted : CountsRefusals core_old calls new
-    pub asked_for : CountsAsked buses events (events ++ visit_events calls (record { peer = peer; conn = n })) core_old new
+    pub asked_for : CountsAsked buses events
+        (events ++ visit_events calls (record { peer = peer; conn = n })) core_old new
     pub own : AreAbout peer calls
     pub asked : map question calls ≡ visit_asks buses events calls (record { peer = peer; conn = n })
     pub closes : list_any is_close calls ≡ not stays

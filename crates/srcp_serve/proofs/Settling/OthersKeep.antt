@@ -38,21 +38,29 @@ module _ (buses : List Bus) (n : ℕ) (conn : Connection) where
     stays_goes : (mode : Mode) (w : World) → Stays w → Stays (goes buses m mode w)
     stays_goes mode w s =
         let begun : World = did (Began (w.last_id + 1) w.moment mode) (record w { last_id = w.last_id + 1 }) in
-        elim (nat_lt w.last_id 4294967295) as (λ t. Stays (if t then replied m (Go (w.last_id + 1)) (entered buses m (w.last_id + 1) begun) else replied m (Refused C500) w)) [
+        elim (nat_lt w.last_id 4294967295) as
+        (λ t. Stays (if t then replied m (Go (w.last_id + 1)) (entered buses m (w.last_id + 1) begun) else replied m
+        (Refused C500) w)) [
           | true ↦ stays_at _ (entered buses m (w.last_id + 1) begun) (stays_at _ begun s)
           | false ↦ stays_at _ w s
         ]
 
     stays_greeted : (mode : Mode) (line : Heard) (w : World) → Stays w → Stays (greeted buses m mode (greets line) w)
     stays_greeted mode line w s =
-        line_law Stays buses m mode line w (stays_at _ w s) (λ chosen. stays_at _ (at_connection m (λ c. record c { mode = chosen }) w) (stays_at (λ c. record c { mode = chosen }) w s)) (stays_goes mode w s)
+        line_law Stays buses m mode line w (stays_at _ w s)
+        (λ chosen. stays_at _ (at_connection m (λ c. record c { mode = chosen }) w) (stays_at (λ c. record c { mode = chosen }) w s))
+        (stays_goes mode w s)
         (λ code. stays_at _ w s)
 
     stays_obeyed : (session : ℕ) (order : Order) (result : Effect) (w : World) → Stays w → Stays (obeyed buses m session order result w)
     stays_obeyed session order result w s =
         let once : World = replied m result.reply (did (Obeyed session w.moment order) w) in
         let still : Stays once = stays_at _ (did (Obeyed session w.moment order) w) s in
-        elim result.ends as (λ t. Stays (if t then ended buses m session once else once)) [ true ↦ stays_at (λ c. record c { ended = true }) once still | false ↦ still ]
+        elim result.ends as (λ t. Stays (if t then ended buses m session once else once)) [
+          | true ↦ stays_at
+              (λ c. record c { ended = true }) once still
+          | false ↦ still
+        ]
 
     stays_commanded : (session : ℕ) (order : Result Order Code) (w : World) → Stays w → Stays (commanded buses m session order w)
     stays_commanded session (Err code) w s = stays_at _ w s
@@ -61,12 +69,15 @@ module _ (buses : List Bus) (n : ℕ) (conn : Connection) where
     stays_answered : (o : Option Connection) (line : Heard) (w : World) → Stays w → Stays (answered_as buses m o line w)
     stays_answered None line w s = s
     stays_answered (Some c) line w s =
-        elim (c.info || c.ended) as (λ t. Stays (if t then w else (if c.session == 0 then greeted buses m c.mode (greets line) w else commanded buses m c.session (order_of buses line) w))) [
+        elim (c.info || c.ended) as (λ t. Stays
+        (if t then w else (if c.session ==
+        0 then greeted buses m c.mode (greets line) w else commanded buses m c.session (order_of buses line) w))) [
           | true ↦ s
-          | false ↦ elim (c.session == 0) as (λ t. Stays (if t then greeted buses m c.mode (greets line) w else commanded buses m c.session (order_of buses line) w)) [
-            | true ↦ stays_greeted c.mode line w s
-            | false ↦ stays_commanded c.session (order_of buses line) w s
-          ]
+          | false ↦ elim (c.session == 0) as
+              (λ t. Stays (if t then greeted buses m c.mode (greets line) w else commanded buses m c.session (order_of buses line) w)) [
+                | true ↦ stays_greeted c.mode line w s
+                | false ↦ stays_commanded c.session (order_of buses line) w s
+              ]
         ]
 
     stays_lines : (lines : List Heard) (w : World) → Stays w → Stays (fold (answered buses m) w lines)
@@ -75,14 +86,17 @@ module _ (buses : List Bus) (n : ℕ) (conn : Connection) where
 
     stays_fed : (piece : Piece) (o : Option Connection) (w : World) → Stays w → Stays (fed_to buses m piece o w)
     stays_fed piece None w s = s
-    stays_fed piece (Some c) w s = stays_lines (new_lines buses c.fed piece) (at_connection m (λ c. record c { fed = c.fed ++ piece.bytes }) w) (stays_at (λ c. record c { fed = c.fed ++ piece.bytes }) w s)
+    stays_fed piece (Some c) w s =
+        stays_lines (new_lines buses c.fed piece) (at_connection m (λ c. record c { fed = c.fed ++ piece.bytes }) w)
+        (stays_at (λ c. record c { fed = c.fed ++ piece.bytes }) w s)
 
     stays_shut : (o : Option Connection) (w : World) → Stays w → Stays (shut_as buses m o w)
     stays_shut None w s = s
     stays_shut (Some c) w s =
         let closed : World = at_connection m (λ c. record c { shut = Some (length w.steps) }) w in
         let still : Stays closed = stays_at (λ c. record c { shut = Some (length w.steps) }) w s in
-        elim ((c.session == 0) || c.ended) as (λ t. Stays (if t then closed else did (Ended c.session w.moment) closed)) [ true ↦ still | false ↦ still ]
+        elim ((c.session == 0) || c.ended) as
+        (λ t. Stays (if t then closed else did (Ended c.session w.moment) closed)) [ true ↦ still | false ↦ still ]
 
   stays_accepted : (event : Event) (w : World) → is_of n event ≡ false → Stays w → Stays (accepted buses event w)
   stays_accepted (Open granted) w e s = numbered_push n w.connections fresh conn s
@@ -92,7 +106,8 @@ module _ (buses : List Bus) (n : ℕ) (conn : Connection) where
   stays_accepted (Shut m) w e s = stays_shut m (eqb-false m n e) (open_connection w m) w s
 
   stays_happens : (event : Event) (w : World) → is_of n event ≡ false → Stays w → Stays (happens buses w event)
-  stays_happens event w e s = elim (fault buses (counted w) event) as (λ o. Stays (or_refused buses o event (counted w))) [ None ↦ stays_accepted event (counted w) e s | Some cause ↦ s ]
+  stays_happens event w e s = elim (fault buses (counted w) event) as
+      (λ o. Stays (or_refused buses o event (counted w))) [ None ↦ stays_accepted event (counted w) e s | Some cause ↦ s ]
 
   pub stays_all : (events : List Event) (w : World) → AreOfOthers n events → Stays w → Stays (fold (happens buses) w events)
   stays_all [] w e s = s

@@ -17,7 +17,8 @@ module _ (conn : Connection) where
   part_of step = if nat_le conn.go_step step.0 then filter (concerns (cursor_at conn step.0)) step.1 else []
 
   part_none : (n : ℕ) → part_of (n, []) ≡ []
-  part_none n = elim (nat_le conn.go_step n) as (λ t. (if t then filter (concerns (cursor_at conn n)) [] else []) ≡ []) [ true ↦ refl | false ↦ refl ]
+  part_none n = elim (nat_le conn.go_step n) as
+      (λ t. (if t then filter (concerns (cursor_at conn n)) [] else []) ≡ []) [ true ↦ refl | false ↦ refl ]
 
   concerning_same : (past more : History) → AreNone more → concerning conn (past ++ more) ≡ concerning conn past
   concerning_same past [] none = ap (concerning conn) (append-nil past)
@@ -41,9 +42,12 @@ module _ (conn : Connection) where
     pub overran_same : (past more : History) → AreNone more → overran conn (past ++ more) ≡ overran conn past
     overran_same past more none = ap (λ (cs : List Change). nat_lt 256 (length cs)) (untold_same past more none)
 
-    pub owed_same : (past more : History) (rows : List Shown) → AreBy (length past) conn.items → IsDoneBy (length past) conn.done → AreNone more → owed conn (past ++ more) rows ≡ owed conn past rows
+    pub owed_same : (past more : History) (rows : List Shown) → AreBy (length past) conn.items → IsDoneBy (length past) conn.done
+        → AreNone more → owed conn (past ++ more) rows ≡ owed conn past rows
     owed_same past more rows numbers finished none =
         let longer = length-append past more in
-        let cursor : cursor_at conn (length (past ++ more)) ≡ cursor_at conn (length past) = cursor_later (length past) (length (past ++ more)) conn.done conn.items (omega arith) finished numbers in
-        ap (λ (cs : List Change). if is_open conn && conn.info then map Told cs ++ map Listed (beyond (cursor_at conn (length (past ++ more))) rows) else []) (untold_same past more none)
+        let cursor : cursor_at conn (length (past ++ more)) ≡ cursor_at conn (length past) =
+        cursor_later (length past) (length (past ++ more)) conn.done conn.items (omega arith) finished numbers in
+        ap (λ (cs : List Change). if is_open conn && conn.info then map Told cs ++ map Listed
+        (beyond (cursor_at conn (length (past ++ more))) rows) else []) (untold_same past more none)
         ∙ ap (λ (c : Cursor). if is_open conn && conn.info then map Told (untold conn past) ++ map Listed (beyond c rows) else []) cursor

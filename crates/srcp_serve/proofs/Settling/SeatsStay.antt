@@ -18,7 +18,8 @@ use Rattle.srcp_serve.proofs.Settling.OthersKeep.{AreOfOthers, is_of}
 abbrev pub HasPlace : ℕ → Seat → List (Option Seat) → Type 0
 HasPlace place seat places = slice_get places place ≡ Some (Some seat)
 
-seated_stays : (new : Seat) (places : List (Option Seat)) (place : ℕ) (seat : Seat) → HasPlace place seat places → HasPlace place seat (seated new places)
+seated_stays : (new : Seat) (places : List (Option Seat)) (place : ℕ) (seat : Seat) → HasPlace place seat places
+    → HasPlace place seat (seated new places)
 seated_stays new [] place seat e = cc
 seated_stays new (None ∷ places) zero seat e = cc
 seated_stays new (None ∷ places) (suc place) seat e = e
@@ -35,28 +36,39 @@ pub among_seats : (places : List (Option Seat)) (place : ℕ) (seat : Seat) → 
 among_seats [] place seat e = cc
 among_seats (None ∷ places) zero seat e = cc
 among_seats (None ∷ places) (suc place) seat e = among_seats places place seat e
-among_seats (Some other ∷ places) zero seat e = let same : other ≡ seat = cc in record { front = []; rest = seats places; are = ap (λ s. s ∷ seats places) same }
+among_seats (Some other ∷ places) zero seat e = let same : other ≡ seat =
+    cc in record { front = []; rest = seats places; are = ap (λ s. s ∷ seats places) same }
 among_seats (Some other ∷ places) (suc place) seat e =
     let more = among_seats places place seat e in
     record { front = other ∷ more.front; rest = more.rest; are = ap (λ all. other ∷ all) more.are }
 
 module _ (buses : List Bus) (place : ℕ) (seat : Seat) where
-  moments_stay : (stand : Stand) (moments : List ℕ) → HasPlace place seat stand.places → HasPlace place seat (fold (with_moment buses) stand moments).places
+  moments_stay : (stand : Stand) (moments : List ℕ) → HasPlace place seat stand.places
+      → HasPlace place seat (fold (with_moment buses) stand moments).places
   moments_stay stand [] e = e
   moments_stay stand (moment ∷ moments) e = moments_stay (with_moment buses stand moment) moments e
 
-  welcomed_stays : (stand : Stand) (guest : Guest) → HasPlace place seat stand.places → HasPlace place seat (welcomed buses stand guest).places
-  welcomed_stays stand guest e = elim (is_let_in buses stand.events guest.granted) as (λ t. HasPlace place seat (if t then let_in buses stand guest else record stand { events = stand.events ++ Open guest.granted ∷ [] }).places) [
-    | true ↦ seated_stays _ stand.places place seat e
-    | false ↦ e
-  ]
+  welcomed_stays : (stand : Stand) (guest : Guest) → HasPlace place seat stand.places
+      → HasPlace place seat (welcomed buses stand guest).places
+  welcomed_stays stand guest e =
+      elim (is_let_in buses stand.events guest.granted) as
+      (λ t. HasPlace place seat (if t then let_in buses stand guest else record stand {
+        events =
+            stand.events ++ Open guest.granted ∷ [];
+      }).places) [
+        | true ↦ seated_stays _ stand.places place seat e
+        | false ↦ e
+      ]
 
-  guests_stay : (stand : Stand) (guests : List Guest) → HasPlace place seat stand.places → HasPlace place seat (fold (welcomed buses) stand guests).places
+  guests_stay : (stand : Stand) (guests : List Guest) → HasPlace place seat stand.places
+      → HasPlace place seat (fold (welcomed buses) stand guests).places
   guests_stay stand [] e = e
   guests_stay stand (guest ∷ guests) e = guests_stay (welcomed buses stand guest) guests (welcomed_stays stand guest e)
 
-  pub begun_stays : (stand : Stand) (calls : List Call) → HasPlace place seat stand.places → HasPlace place seat (begun buses stand calls).places
-  begun_stays stand calls e = guests_stay (timed buses stand calls) (filter_map newcomer_of calls) (moments_stay stand (filter_map moment_of calls) e)
+  pub begun_stays : (stand : Stand) (calls : List Call) → HasPlace place seat stand.places
+      → HasPlace place seat (begun buses stand calls).places
+  begun_stays stand calls e = guests_stay (timed buses stand calls) (filter_map newcomer_of calls)
+      (moments_stay stand (filter_map moment_of calls) e)
 
 -- ---- numbers
 
@@ -82,12 +94,15 @@ conns_differ m a n b guests x y e = by (m == n) refl
 abbrev pub AreOthers : ℕ → List Seat → Type 0
 AreOthers n all = AllByRecursion (λ seat. (seat.conn == n) ≡ false) all
 
-rest_others : (guests : List ℕ) (seat : Seat) (rest : List Seat) → IsGuest seat.conn seat.peer guests → AreGuests guests rest → IsNoneOf seat.peer rest → AreOthers seat.conn rest
+rest_others : (guests : List ℕ) (seat : Seat) (rest : List Seat) → IsGuest seat.conn seat.peer guests → AreGuests guests rest
+    → IsNoneOf seat.peer rest → AreOthers seat.conn rest
 rest_others guests seat [] g k h = tt
-rest_others guests seat (other ∷ rest) g k h = (conns_differ other.conn other.peer seat.conn seat.peer guests k.0 g h.0, rest_others guests seat rest g k.1 h.1)
+rest_others guests seat (other ∷ rest) g k h =
+    (conns_differ other.conn other.peer seat.conn seat.peer guests k.0 g h.0, rest_others guests seat rest g k.1 h.1)
 
 -- none of the others has its connection
-pub others_apart : (guests : List ℕ) (front : List Seat) (seat : Seat) (rest : List Seat) → AreGuests guests (front ++ seat ∷ rest) → PeersApart (front ++ seat ∷ rest) → AreOthers seat.conn front × AreOthers seat.conn rest
+pub others_apart : (guests : List ℕ) (front : List Seat) (seat : Seat) (rest : List Seat) → AreGuests guests (front ++ seat ∷ rest)
+    → PeersApart (front ++ seat ∷ rest) → AreOthers seat.conn front × AreOthers seat.conn rest
 others_apart guests [] seat rest k h = (tt, rest_others guests seat rest k.0 k.1 h.0)
 others_apart guests (other ∷ front) seat rest k h =
     let more = others_apart guests front seat rest k.1 h.1 in
@@ -107,7 +122,8 @@ module _ (n : ℕ) where
   each_of event (x ∷ xs) h = (h x, each_of event xs h)
 
   pub opening_others : (calls : List Call) → AreOfOthers n (opening_events calls)
-  opening_others calls = all_append (λ event. is_of n event ≡ false) _ _ (each_of _ (filter_map moment_of calls) (λ x. refl)) (each_of opens (filter_map newcomer_of calls) (λ x. refl))
+  opening_others calls = all_append (λ event. is_of n event ≡ false) _ _ (each_of _ (filter_map moment_of calls) (λ x. refl))
+      (each_of opens (filter_map newcomer_of calls) (λ x. refl))
 
   pub visits_others : (calls : List Call) (all : List Seat) → AreOthers n all → AreOfOthers n (flat_map (visit_events calls) all)
   visits_others calls [] h = tt
@@ -116,7 +132,8 @@ module _ (n : ℕ) where
       let Other : Event → Type 0 = λ event. is_of n event ≡ false in
       all_append Other (visit_events calls seat) (flat_map (visit_events calls) all)
       (all_append Other (exchange seat.conn own) (if list_any is_close own then Shut seat.conn ∷ [] else [])
-      (all_append Other (map (Bytes seat.conn) (filter_map piece_of own)) (map (Room seat.conn) (rooms own)) (each_of (Bytes seat.conn) (filter_map piece_of own) (λ x. h.0)) (each_of (Room seat.conn) (rooms own) (λ x. h.0)))
+      (all_append Other (map (Bytes seat.conn) (filter_map piece_of own)) (map (Room seat.conn) (rooms own))
+      (each_of (Bytes seat.conn) (filter_map piece_of own) (λ x. h.0)) (each_of (Room seat.conn) (rooms own) (λ x. h.0)))
       (shuts (list_any is_close own)))
       (visits_others calls all h.1)
     where
@@ -125,7 +142,8 @@ module _ (n : ℕ) where
       shuts false = tt
 
 -- what holds of the visit in the middle
-pub visit_in : (buses : List Bus) (Law : List Event → List Call → Seat → Type 0) (events : List Event) (calls : List Call) (front : List Seat) (seat : Seat) (rest : List Seat)
+pub visit_in : (buses : List Bus) (Law : List Event → List Call → Seat → Type 0) (events : List Event) (calls : List Call)
+    (front : List Seat) (seat : Seat) (rest : List Seat)
     → OfEachVisit buses Law events calls (front ++ seat ∷ rest) → Law (events ++ flat_map (visit_events calls) front) calls seat
 visit_in buses Law events calls [] seat rest h = subst (λ (es : List Event). Law es calls seat) (sym (append-nil events)) h.0
 visit_in buses Law events calls (other ∷ front) seat rest h =

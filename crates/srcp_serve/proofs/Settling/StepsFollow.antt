@@ -32,9 +32,11 @@ pub none_each : (history : History) → changes_of history ≡ [] → AreNone hi
 none_each [] e = tt
 none_each (changes ∷ history) e = let both = no_lists changes (changes_of history) e in (both.0, none_each history both.1)
 
-pub history_append : (state : State) (xs ys : List Step) → history_from state (xs ++ ys) ≡ history_from state xs ++ history_from (state_after state xs) ys
+pub history_append : (state : State) (xs ys : List Step) → history_from state (xs ++ ys)
+    ≡ history_from state xs ++ history_from (state_after state xs) ys
 history_append state [] ys = refl
-history_append state (step ∷ xs) ys = ap (λ h. map (λ update. update.change) (updates_of state step) ∷ h) (history_append (stepped state step) xs ys)
+history_append state (step ∷ xs) ys =
+    ap (λ h. map (λ update. update.change) (updates_of state step) ∷ h) (history_append (stepped state step) xs ys)
 
 -- steps without a change leave the registry as it was
 pub same_state : (state : State) (steps : List Step) → changes_of (history_from state steps) ≡ [] → state_after state steps ≡ state
@@ -62,12 +64,15 @@ module _ (buses : List Bus) where
   }
 
   -- the steps of the later events
-  pub steps_follow : (events more : List Event) → (steps : List Step) × ((course buses (events ++ more)).steps ≡ (course buses events).steps ++ steps)
+  pub steps_follow : (events more : List Event) → (steps : List Step)
+      × ((course buses (events ++ more)).steps ≡ (course buses events).steps ++ steps)
   steps_follow events more =
       let first : List Step = (course buses events).steps in
-      subst (Follows first) (sym (fold-append (happens buses) start events more)) (kept_all buses (Follows first) (steps_kept first) more (course buses events) ([], sym (append-nil first)))
+      subst (Follows first) (sym (fold-append (happens buses) start events more))
+      (kept_all buses (Follows first) (steps_kept first) more (course buses events) ([], sym (append-nil first)))
 
-  module _ (events more : List Event) (steps : List Step) (follow : (course buses (events ++ more)).steps ≡ (course buses events).steps ++ steps) where
+  module _ (events more : List Event) (steps : List Step)
+      (follow : (course buses (events ++ more)).steps ≡ (course buses events).steps ++ steps) where
     abbrev since : History
     since = history_from (state buses (course buses events)) steps
 
@@ -81,7 +86,8 @@ module _ (buses : List Bus) where
     brought_is =
         let first : List Step = (course buses events).steps in
         ap (λ h. length (changes_of (drop (length first) h))) history_follows
-        ∙ ap (λ h. length (changes_of h)) (drop_at (history buses (course buses events)) since (length first) (length_history (opening buses 0) first))
+        ∙ ap (λ h. length (changes_of h))
+        (drop_at (history buses (course buses events)) since (length first) (length_history (opening buses 0) first))
 
   -- what two parts bring
   pub brought_adds : (events a b : List Event) → brought buses events (a ++ b) ≡ brought buses events a + brought buses (events ++ a) b
@@ -90,11 +96,14 @@ module _ (buses : List Bus) where
       let y = steps_follow (events ++ a) b in
       let first : State = state buses (course buses events) in
       let whole : (course buses (events ++ (a ++ b))).steps ≡ (course buses events).steps ++ (x.0 ++ y.0) =
-      ap (λ (es : List Event). (course buses es).steps) (sym (append_assoc events a b)) ∙ y.1 ∙ ap (λ steps. steps ++ y.0) x.1 ∙ append_assoc (course buses events).steps x.0 y.0 in
+      ap (λ (es : List Event). (course buses es).steps) (sym (append_assoc events a b)) ∙ y.1 ∙ ap (λ steps. steps ++ y.0) x.1
+      ∙ append_assoc (course buses events).steps x.0 y.0 in
       brought_is events (a ++ b) (x.0 ++ y.0) whole
       ∙ ap (λ h. length (changes_of h)) (history_append first x.0 y.0)
-      ∙ ap (λ (cs : List Change). length cs) (flat_map-append (λ changes. changes) (history_from first x.0) (history_from (state_after first x.0) y.0))
+      ∙ ap (λ (cs : List Change). length cs)
+      (flat_map-append (λ changes. changes) (history_from first x.0) (history_from (state_after first x.0) y.0))
       ∙ length-append (changes_of (history_from first x.0)) (changes_of (history_from (state_after first x.0) y.0))
-      ∙ ap (λ s. length (changes_of (history_from first x.0)) + length (changes_of (history_from s y.0))) (sym (state_follows events a x.0 x.1))
+      ∙ ap (λ s. length (changes_of (history_from first x.0)) + length (changes_of (history_from s y.0)))
+      (sym (state_follows events a x.0 x.1))
       ∙ ap (λ n. n + length (changes_of (history_from (state buses (course buses (events ++ a))) y.0))) (sym (brought_is events a x.0 x.1))
       ∙ ap (λ n. brought buses events a + n) (sym (brought_is (events ++ a) b y.0 y.1))

@@ -23,8 +23,10 @@ use Rattle.srcp_serve.proofs.Settling.StepsFollow.{brought_adds}
 use Rattle.srcp_serve.proofs.Settling.VisitHands.{one_unless_nil, visited_whole}
 
 -- a visit that lets nobody go
-pub stays_exchange : (calls : List Call) (seat : Seat) → list_any is_close (visit calls seat) ≡ false → visit_events calls seat ≡ exchange seat.conn (visit calls seat)
-stays_exchange calls seat e = ap (λ b. exchange seat.conn (visit calls seat) ++ (if b then Shut seat.conn ∷ [] else [])) e ∙ append-nil (exchange seat.conn (visit calls seat))
+pub stays_exchange : (calls : List Call) (seat : Seat) → list_any is_close (visit calls seat) ≡ false → visit_events calls seat
+    ≡ exchange seat.conn (visit calls seat)
+stays_exchange calls seat e = ap (λ b. exchange seat.conn (visit calls seat) ++ (if b then Shut seat.conn ∷ [] else [])) e
+    ∙ append-nil (exchange seat.conn (visit calls seat))
 
 neither : (a b : ℕ) → a + b ≡ 0 → (a ≡ 0) × (b ≡ 0)
 neither a b e = (omega arith, omega arith)
@@ -39,14 +41,16 @@ module _ (buses : List Bus) (layout : IsLayout buses) (place : ℕ) (seat : Seat
     pub ends : (rest ≡ []) ⊎ (length lines + one_unless_nil bytes ≡ 300)
     pub stays : HasPlace place seat (turned buses stand calls).places
 
-  turned_whole : (stand : Stand) (calls : List Call) (bytes : List ℕ) (nexts : List Next) → IsTurnOfGuests buses stand calls → IsStill buses seat stand calls → HasPlace place seat stand.places → Panel buses seat.conn stand.events bytes nexts
+  turned_whole : (stand : Stand) (calls : List Call) (bytes : List ℕ) (nexts : List Next) → IsTurnOfGuests buses stand calls
+      → IsStill buses seat stand calls → HasPlace place seat stand.places → Panel buses seat.conn stand.events bytes nexts
       → IsTurnedWhole stand calls bytes nexts
   turned_whole stand calls bytes nexts t still has p =
       let n : ℕ = seat.conn in
       let now : Stand = begun buses stand calls in
       let here : HasPlace place seat now.places = begun_stays buses place seat stand calls has in
       let among = among_seats now.places place seat here in
-      let apart = others_apart now.guests among.front seat among.rest (subst (AreGuests now.guests) among.are t.known) (subst PeersApart among.are t.apart) in
+      let apart = others_apart now.guests among.front seat among.rest (subst (AreGuests now.guests) among.are t.known)
+      (subst PeersApart among.are t.apart) in
       let first : List Event = opening_events calls in
       let front : List Event = flat_map (visit_events calls) among.front in
       let own : List Event = visit_events calls seat in
@@ -55,36 +59,51 @@ module _ (buses : List Bus) (layout : IsLayout buses) (place : ℕ) (seat : Seat
       let b : List Event = a ++ front in
       let c : List Event = b ++ own in
       let all : turn_events buses stand calls ≡ first ++ (front ++ (own ++ rest)) =
-      ap (λ all. first ++ flat_map (visit_events calls) all) among.are ∙ ap (λ es. first ++ es) (flat_map-append (visit_events calls) among.front (seat ∷ among.rest)) in
+      ap (λ all. first ++ flat_map (visit_events calls) all) among.are
+      ∙ ap (λ es. first ++ es) (flat_map-append (visit_events calls) among.front (seat ∷ among.rest)) in
       let nothing : brought buses stand.events (first ++ (front ++ (own ++ rest))) ≡ 0 =
-      sym (ap (λ (es : List Event). changes_since buses (length (course buses stand.events).steps) (course buses es)) (turned_events buses stand calls ∙ ap (λ es. stand.events ++ es) all)) ∙ still.nothing in
-      let x = neither (brought buses stand.events first) (brought buses a (front ++ (own ++ rest))) (sym (brought_adds buses stand.events first (front ++ (own ++ rest))) ∙ nothing) in
+      sym (ap (λ (es : List Event). changes_since buses (length (course buses stand.events).steps) (course buses es))
+      (turned_events buses stand calls ∙ ap (λ es. stand.events ++ es) all)) ∙ still.nothing in
+      let x = neither (brought buses stand.events first) (brought buses a (front ++ (own ++ rest)))
+      (sym (brought_adds buses stand.events first (front ++ (own ++ rest))) ∙ nothing) in
       let y = neither (brought buses a front) (brought buses b (own ++ rest)) (sym (brought_adds buses a front (own ++ rest)) ∙ x.1) in
       let z = neither (brought buses b own) (brought buses c rest) (sym (brought_adds buses b own rest) ∙ y.1) in
       let at_a : Panel buses n a bytes nexts = panel_others buses n stand.events bytes nexts p layout first (opening_others n calls) x.0 in
-      let at_b : Panel buses n b bytes nexts = panel_others buses n a bytes nexts at_a layout front (visits_others n calls among.front apart.0) y.0 in
+      let at_b : Panel buses n b bytes nexts =
+      panel_others buses n a bytes nexts at_a layout front (visits_others n calls among.front apart.0) y.0 in
       let asked_all = subst (λ (all : List Seat). AreAsked buses now.events calls all) among.are t.asked in
-      let asked = subst (λ (es : List Event). map question (visit calls seat) ≡ visit_asks buses es (visit calls seat) seat) (ap (λ (es : List Event). es ++ front) (begun_events buses stand calls)) (visit_in buses _ now.events calls among.front seat among.rest asked_all) in
-      let v = visited_whole buses layout seat b (visit calls seat) bytes nexts at_b asked (fair_visit seat.peer calls t.fair) still.takes.keeps still.takes.whole in
-      let at_c : Panel buses n c [] v.rest = subst (λ (es : List Event). Panel buses n (b ++ es) [] v.rest) (sym (stays_exchange calls seat v.stays)) v.panel in
-      let at_end : Panel buses n (c ++ rest) [] v.rest = panel_others buses n c [] v.rest at_c layout rest (visits_others n calls among.rest apart.1) z.1 in
+      let asked = subst (λ (es : List Event). map question (visit calls seat) ≡ visit_asks buses es (visit calls seat) seat)
+      (ap (λ (es : List Event). es ++ front) (begun_events buses stand calls))
+      (visit_in buses _ now.events calls among.front seat among.rest asked_all) in
+      let v = visited_whole buses layout seat b (visit calls seat) bytes nexts at_b asked
+      (fair_visit seat.peer calls t.fair) still.takes.keeps still.takes.whole in
+      let at_c : Panel buses n c [] v.rest =
+      subst (λ (es : List Event). Panel buses n (b ++ es) [] v.rest) (sym (stays_exchange calls seat v.stays)) v.panel in
+      let at_end : Panel buses n (c ++ rest) [] v.rest =
+      panel_others buses n c [] v.rest at_c layout rest (visits_others n calls among.rest apart.1) z.1 in
       let end : c ++ rest ≡ (turned buses stand calls).events =
-      append_assoc b own rest ∙ append_assoc a front (own ++ rest) ∙ append_assoc stand.events first (front ++ (own ++ rest)) ∙ ap (λ es. stand.events ++ es) (sym all) ∙ sym (turned_events buses stand calls) in
+      append_assoc b own rest ∙ append_assoc a front (own ++ rest) ∙ append_assoc stand.events first (front ++ (own ++ rest))
+      ∙ ap (λ es. stand.events ++ es) (sym all) ∙ sym (turned_events buses stand calls) in
       record {
         lines = v.lines;
         rest = v.rest;
         whole = v.whole;
         panel = subst (λ (es : List Event). Panel buses n es [] v.rest) end at_end;
         ends = v.ends;
-        stays = slice_get-map (kept calls) now.places place ∙ ap (option_map (kept calls)) here ∙ ap (λ t. Some (if t then None else Some seat)) v.stays;
+        stays = slice_get-map (kept calls) now.places place ∙ ap (option_map (kept calls)) here
+            ∙ ap (λ t. Some (if t then None else Some seat)) v.stays;
       }
 
   -- so often that nothing is left
-  pub turns_settle : (all : List (List Call)) (stand : Stand) (bytes : List ℕ) (nexts : List Next) → OfEachTurn buses (IsTurnOfGuests buses) stand all → OfEachTurn buses (IsStill buses seat) stand all → HasPlace place seat stand.places
-      → Panel buses seat.conn stand.events bytes nexts → length nexts + one_unless_nil bytes ≤ 300 * length all → Panel buses seat.conn (fold (turned buses) stand all).events [] []
+  pub turns_settle : (all : List (List Call)) (stand : Stand) (bytes : List ℕ) (nexts : List Next)
+      → OfEachTurn buses (IsTurnOfGuests buses) stand all → OfEachTurn buses (IsStill buses seat) stand all
+      → HasPlace place seat stand.places
+      → Panel buses seat.conn stand.events bytes nexts → length nexts + one_unless_nil bytes ≤ 300 * length all
+      → Panel buses seat.conn (fold (turned buses) stand all).events [] []
   turns_settle [] stand bytes nexts t still has p few = nothing bytes nexts p few
     where
-      nothing : (bytes : List ℕ) (nexts : List Next) → Panel buses seat.conn stand.events bytes nexts → length nexts + one_unless_nil bytes ≤ 300 * 0 → Panel buses seat.conn stand.events [] []
+      nothing : (bytes : List ℕ) (nexts : List Next) → Panel buses seat.conn stand.events bytes nexts
+          → length nexts + one_unless_nil bytes ≤ 300 * 0 → Panel buses seat.conn stand.events [] []
       nothing [] [] p few = p
       nothing [] (what ∷ nexts) p few = absurd (omega (arith, few))
       nothing (byte ∷ bytes) nexts p few = absurd (omega (arith, few))
@@ -92,8 +111,10 @@ module _ (buses : List Bus) (layout : IsLayout buses) (place : ℕ) (seat : Seat
       let h = turned_whole stand calls bytes nexts t.0 still.0 has p in
       turns_settle all (turned buses stand calls) [] h.rest t.1 still.1 h.stays h.panel (fewer h.lines h.rest h.whole h.ends)
     where
-      fewer : (lines rest : List Next) → nexts ≡ lines ++ rest → (rest ≡ []) ⊎ (length lines + one_unless_nil bytes ≡ 300) → length rest + 0 ≤ 300 * length all
-      fewer lines rest whole (inl none) = let zero_long : length rest ≡ 0 = ap (λ (ns : List Next). length ns) none in omega (arith, zero_long)
+      fewer : (lines rest : List Next) → nexts ≡ lines ++ rest → (rest ≡ []) ⊎ (length lines + one_unless_nil bytes ≡ 300)
+          → length rest + 0 ≤ 300 * length all
+      fewer lines rest whole (inl none) = let zero_long : length rest ≡ 0 =
+          ap (λ (ns : List Next). length ns) none in omega (arith, zero_long)
       fewer lines rest whole (inr many) =
           let size : length nexts ≡ length lines + length rest = ap (λ (ns : List Next). length ns) whole ∙ length-append lines rest in
           by (length nexts) (length lines) (length rest) (one_unless_nil bytes) (length all) size many few

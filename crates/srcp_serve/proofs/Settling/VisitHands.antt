@@ -34,7 +34,8 @@ one_unless_nil (byte ∷ bytes) = 1
 
 module _ (buses : List Bus) (layout : IsLayout buses) (peer n : ℕ) where
   -- the first of some writes, and what it leaves
-  record IsWritten (most : ℕ) (events : List Event) (bytes : List ℕ) (nexts : List Next) (calls : List Call) (counts : List ℕ) : Type 0 where
+  record IsWritten (most : ℕ) (events : List Event) (bytes : List ℕ) (nexts : List Next) (calls : List Call)
+      (counts : List ℕ) : Type 0 where
     count : ℕ
     more : List ℕ
     counts_are : counts ≡ count ∷ more
@@ -48,12 +49,16 @@ module _ (buses : List Bus) (layout : IsLayout buses) (peer n : ℕ) where
   abbrev Asked : ℕ → List Event → List Call → List Question → Type 0
   Asked most events calls questions = questions ≡ map (Writes peer) (take most (handed buses n events (filter_map count_of calls)))
 
-  first_write : (call : Call) (calls : List Call) (most : ℕ) (events : List Event) (bytes : List ℕ) (nexts : List Next) → IsWhole call → Asked most events (call ∷ calls) (question call ∷ map question calls)
+  first_write : (call : Call) (calls : List Call) (most : ℕ) (events : List Event) (bytes : List ℕ) (nexts : List Next) → IsWhole call
+      → Asked most events (call ∷ calls) (question call ∷ map question calls)
       → Panel buses n events bytes nexts → IsWritten most events bytes nexts calls (filter_map count_of (call ∷ calls))
-  first_write (ExpectCall due slack) calls most events bytes nexts h e p = absurd (no_write peer (Expects due slack) (map question calls) _ refl e)
+  first_write (ExpectCall due slack) calls most events bytes nexts h e p =
+      absurd (no_write peer (Expects due slack) (map question calls) _ refl e)
   first_write (NowCall answer) calls most events bytes nexts h e p = absurd (no_write peer Moments (map question calls) _ refl e)
-  first_write (AcceptCall answer granted) calls most events bytes nexts h e p = absurd (no_write peer Newcomers (map question calls) _ refl e)
-  first_write (ReadCall who answer buffer grants) calls most events bytes nexts h e p = absurd (no_write peer (Reads who (length buffer)) (map question calls) _ refl e)
+  first_write (AcceptCall answer granted) calls most events bytes nexts h e p =
+      absurd (no_write peer Newcomers (map question calls) _ refl e)
+  first_write (ReadCall who answer buffer grants) calls most events bytes nexts h e p =
+      absurd (no_write peer (Reads who (length buffer)) (map question calls) _ refl e)
   first_write (CloseCall who answer) calls most events bytes nexts h e p = absurd (no_write peer (Closes who) (map question calls) _ refl e)
   first_write (WriteCall who text (Err failed)) calls most events bytes nexts h e p = let no : true ≡ false = h.1 in cc
   first_write (WriteCall who text (Ok count)) calls most events bytes nexts h e p =
@@ -72,7 +77,8 @@ module _ (buses : List Bus) (layout : IsLayout buses) (peer n : ℕ) where
         some = subst (λ (l : List ℕ). 0 < length l) lends f.some;
         left = f.left;
         one_less = f.one_less;
-        panel = subst (λ (k : ℕ). Panel buses n (events ++ Room n k ∷ []) [] (owed_then bytes nexts)) size (panel_room buses n events bytes nexts p layout);
+        panel = subst (λ (k : ℕ). Panel buses n (events ++ Room n k ∷ []) [] (owed_then bytes nexts)) size
+            (panel_room buses n events bytes nexts p layout);
         others = f.others ∙ ap (λ b. map (Writes peer) (take f.left (rest b))) yes;
         counted = refl;
       }
@@ -87,7 +93,8 @@ module _ (buses : List Bus) (layout : IsLayout buses) (peer n : ℕ) where
     pub ends : (rest ≡ []) ⊎ (length counts ≡ most)
 
   -- where no more is asked for, nothing is left, or no more may be
-  no_more : (most : ℕ) (events : List Event) (bytes : List ℕ) (nexts : List Next) → Asked most events [] [] → Panel buses n events bytes nexts → (first_text bytes nexts ≡ []) ⊎ (0 ≡ most)
+  no_more : (most : ℕ) (events : List Event) (bytes : List ℕ) (nexts : List Next) → Asked most events [] []
+      → Panel buses n events bytes nexts → (first_text bytes nexts ≡ []) ⊎ (0 ≡ most)
   no_more zero events bytes nexts e p = inr refl
   no_more (suc most) events bytes nexts e p = inl (by (first_text bytes nexts) refl)
     where
@@ -95,20 +102,26 @@ module _ (buses : List Bus) (layout : IsLayout buses) (peer n : ℕ) where
       by [] t = refl
       by (byte ∷ text) t =
           let lends : lent buses n events ≡ byte ∷ text = panel_lends buses n events bytes nexts p layout ∙ t in
-          let no : [] ≡ map (Writes peer) (take (suc most) ((byte ∷ text) ∷ [])) = e ∙ ap (λ now. map (Writes peer) (take (suc most) (unless_nil now []))) lends in
+          let no : [] ≡ map (Writes peer) (take (suc most) ((byte ∷ text) ∷ [])) = e
+          ∙ ap (λ now. map (Writes peer) (take (suc most) (unless_nil now []))) lends in
           cc
 
   -- the first write and then the others
-  then_others : (most first : ℕ) (events : List Event) (bytes : List ℕ) (nexts front : List Next) (calls : List Call) (counts : List ℕ) (f : IsWritten most events bytes nexts calls counts) → nexts ≡ front ++ owed_then bytes nexts → length front + first ≡ 1
-      → IsHanded f.left 0 (owed_then bytes nexts) (events ++ Room n f.count ∷ []) (filter_map count_of calls) → IsHanded most first nexts events counts
+  then_others : (most first : ℕ) (events : List Event) (bytes : List ℕ) (nexts front : List Next) (calls : List Call) (counts : List ℕ)
+      (f : IsWritten most events bytes nexts calls counts) → nexts ≡ front ++ owed_then bytes nexts → length front + first ≡ 1
+      → IsHanded f.left 0 (owed_then bytes nexts) (events ++ Room n f.count ∷ []) (filter_map count_of calls)
+      → IsHanded most first nexts events counts
   then_others most first events bytes nexts front calls counts f split one r =
       let are : counts ≡ f.count ∷ filter_map count_of calls = f.counts_are ∙ ap (λ cs. f.count ∷ cs) f.counted in
       record {
         lines = front ++ r.lines;
         rest = r.rest;
         whole = split ∙ ap (λ ns. front ++ ns) r.whole ∙ sym (append_assoc front r.lines r.rest);
-        panel = subst (λ (es : List Event). Panel buses n es [] r.rest) (append_assoc events (Room n f.count ∷ []) (map (Room n) (filter_map count_of calls)) ∙ ap (λ cs. events ++ map (Room n) cs) (sym are)) r.panel;
-        many = longer (length front) (length r.lines) (length (front ++ r.lines)) (length (filter_map count_of calls)) (length counts) one (length-append front r.lines) r.many (ap length are);
+        panel = subst (λ (es : List Event). Panel buses n es [] r.rest)
+            (append_assoc events (Room n f.count ∷ []) (map (Room n) (filter_map count_of calls))
+            ∙ ap (λ cs. events ++ map (Room n) cs) (sym are)) r.panel;
+        many = longer (length front) (length r.lines) (length (front ++ r.lines)) (length (filter_map count_of calls)) (length counts) one
+            (length-append front r.lines) r.many (ap length are);
         ends = by (length (filter_map count_of calls)) (length counts) r.ends (ap length are);
       }
     where
@@ -120,10 +133,13 @@ module _ (buses : List Bus) (layout : IsLayout buses) (peer n : ℕ) where
       by a b (inr same) size = inr (size ∙ ap (λ k. suc k) same ∙ sym f.one_less)
 
   -- the others, asked for after the first
-  asked_then : (most : ℕ) (events : List Event) (bytes : List ℕ) (nexts : List Next) (calls : List Call) (counts : List ℕ) (f : IsWritten most events bytes nexts calls counts) → Asked f.left (events ++ Room n f.count ∷ []) calls (map question calls)
-  asked_then most events bytes nexts calls counts f = f.others ∙ ap (λ cs. map (Writes peer) (take f.left (handed buses n (events ++ Room n f.count ∷ []) cs))) f.counted
+  asked_then : (most : ℕ) (events : List Event) (bytes : List ℕ) (nexts : List Next) (calls : List Call) (counts : List ℕ)
+      (f : IsWritten most events bytes nexts calls counts) → Asked f.left (events ++ Room n f.count ∷ []) calls (map question calls)
+  asked_then most events bytes nexts calls counts f = f.others
+      ∙ ap (λ cs. map (Writes peer) (take f.left (handed buses n (events ++ Room n f.count ∷ []) cs))) f.counted
 
-  hands_lines : (calls : List Call) (most : ℕ) (events : List Event) (nexts : List Next) → AllByRecursion IsWhole calls → Asked most events calls (map question calls)
+  hands_lines : (calls : List Call) (most : ℕ) (events : List Event) (nexts : List Next) → AllByRecursion IsWhole calls
+      → Asked most events calls (map question calls)
       → Panel buses n events [] nexts → IsHanded most 0 nexts events (filter_map count_of calls)
   hands_lines [] most events nexts h e p = record {
     lines = [];
@@ -134,18 +150,23 @@ module _ (buses : List Bus) (layout : IsLayout buses) (peer n : ℕ) where
     ends = by nexts (panel_full buses n events [] nexts p) (no_more most events [] nexts e p);
   }
     where
-      by : (nexts : List Next) → AllByRecursion (λ what. 0 < length (line_of what)) nexts → (first_text [] nexts ≡ []) ⊎ (0 ≡ most) → (nexts ≡ []) ⊎ (0 ≡ most)
+      by : (nexts : List Next) → AllByRecursion (λ what. 0 < length (line_of what)) nexts → (first_text [] nexts ≡ []) ⊎ (0 ≡ most)
+          → (nexts ≡ []) ⊎ (0 ≡ most)
       by nexts full (inr none) = inr none
       by [] full (inl none) = inl refl
-      by (what ∷ nexts) full (inl none) = let some = full.0 in let empty : length (line_of what) ≡ 0 = ap (λ (l : List ℕ). length l) none in absurd (omega (arith, some, empty))
-  hands_lines (call ∷ calls) most events [] h e p = let no = (first_write call calls most events [] [] h.0 e p).some in absurd (omega (arith, no))
+      by (what ∷ nexts) full (inl none) = let some = full.0 in let empty : length (line_of what) ≡ 0 =
+          ap (λ (l : List ℕ). length l) none in absurd (omega (arith, some, empty))
+  hands_lines (call ∷ calls) most events [] h e p =
+      let no = (first_write call calls most events [] [] h.0 e p).some in absurd (omega (arith, no))
   hands_lines (call ∷ calls) most events (what ∷ nexts) h e p =
       let f = first_write call calls most events [] (what ∷ nexts) h.0 e p in
       then_others most 0 events [] (what ∷ nexts) (what ∷ []) calls (filter_map count_of (call ∷ calls)) f refl refl
-      (hands_lines calls f.left (events ++ Room n f.count ∷ []) nexts h.1 (asked_then most events [] (what ∷ nexts) calls (filter_map count_of (call ∷ calls)) f) f.panel)
+      (hands_lines calls f.left (events ++ Room n f.count ∷ []) nexts h.1
+      (asked_then most events [] (what ∷ nexts) calls (filter_map count_of (call ∷ calls)) f) f.panel)
 
   -- where some may be
-  pub hands_all : (calls : List Call) (most : ℕ) (events : List Event) (bytes : List ℕ) (nexts : List Next) → 0 < most → AllByRecursion IsWhole calls → Asked most events calls (map question calls)
+  pub hands_all : (calls : List Call) (most : ℕ) (events : List Event) (bytes : List ℕ) (nexts : List Next) → 0 < most
+      → AllByRecursion IsWhole calls → Asked most events calls (map question calls)
       → Panel buses n events bytes nexts → IsHanded most (one_unless_nil bytes) nexts events (filter_map count_of calls)
   hands_all calls most events [] nexts some h e p = hands_lines calls most events nexts h e p
   hands_all [] most events (byte ∷ bytes) nexts some h e p = absurd (by (no_more most events (byte ∷ bytes) nexts e p))
@@ -156,7 +177,8 @@ module _ (buses : List Bus) (layout : IsLayout buses) (peer n : ℕ) where
   hands_all (call ∷ calls) most events (byte ∷ bytes) nexts some h e p =
       let f = first_write call calls most events (byte ∷ bytes) nexts h.0 e p in
       then_others most 1 events (byte ∷ bytes) nexts [] calls (filter_map count_of (call ∷ calls)) f refl refl
-      (hands_lines calls f.left (events ++ Room n f.count ∷ []) nexts h.1 (asked_then most events (byte ∷ bytes) nexts calls (filter_map count_of (call ∷ calls)) f) f.panel)
+      (hands_lines calls f.left (events ++ Room n f.count ∷ []) nexts h.1
+      (asked_then most events (byte ∷ bytes) nexts calls (filter_map count_of (call ∷ calls)) f) f.panel)
 
 -- ---- the whole visit
 
@@ -172,11 +194,13 @@ any_not : {X : Type 0} (p : X → Bool) (xs : List X) → AllByRecursion (λ x. 
 any_not p [] a = refl
 any_not p (x ∷ xs) a = ap (λ b. b || list_any p xs) a.0 ∙ any_not p xs a.1
 
-each_whole : (calls : List Call) → AllByRecursion IsFair calls → AllByRecursion (λ call. loses call ≡ false) calls → AllByRecursion (λ call. falls_short call ≡ false) calls → AllByRecursion IsWhole calls
+each_whole : (calls : List Call) → AllByRecursion IsFair calls → AllByRecursion (λ call. loses call ≡ false) calls
+    → AllByRecursion (λ call. falls_short call ≡ false) calls → AllByRecursion IsWhole calls
 each_whole [] f l s = tt
 each_whole (call ∷ calls) f l s = ((f.0, l.0, s.0), each_whole calls f.1 l.1 s.1)
 
-each_read : (calls : List Call) → AllByRecursion (λ call. loses call ≡ false) calls → AllByRecursion (λ call. loses_reading call ≡ false) calls
+each_read : (calls : List Call) → AllByRecursion (λ call. loses call ≡ false) calls
+    → AllByRecursion (λ call. loses_reading call ≡ false) calls
 each_read [] l = tt
 each_read (call ∷ calls) l = (first (loses_reading call) (loses_writing call) l.0, each_read calls l.1)
   where
@@ -219,15 +243,19 @@ writes_close : (peer : ℕ) (texts : List (List ℕ)) → list_any asks_close (m
 writes_close peer [] = refl
 writes_close peer (text ∷ texts) = writes_close peer texts
 
-module _ (buses : List Bus) (layout : IsLayout buses) (seat : Seat) (events : List Event) (calls : List Call) (bytes : List ℕ) (nexts : List Next) (p : Panel buses seat.conn events bytes nexts)
-    (asked : map question calls ≡ visit_asks buses events calls seat) (fair : AllByRecursion IsFair calls) (keeps : list_any loses calls ≡ false) (takes : list_any falls_short calls ≡ false) where
+module _ (buses : List Bus) (layout : IsLayout buses) (seat : Seat) (events : List Event) (calls : List Call) (bytes : List ℕ)
+    (nexts : List Next) (p : Panel buses seat.conn events bytes nexts)
+    (asked : map question calls ≡ visit_asks buses events calls seat) (fair : AllByRecursion IsFair calls)
+    (keeps : list_any loses calls ≡ false) (takes : list_any falls_short calls ≡ false) where
   abbrev read_events : List Event
   read_events = events ++ map (Bytes seat.conn) (filter_map piece_of calls)
 
-  after_pieces : (events : List Event) (pieces : List Piece) → Panel buses seat.conn events bytes nexts → Panel buses seat.conn (events ++ map (Bytes seat.conn) pieces) bytes nexts
+  after_pieces : (events : List Event) (pieces : List Piece) → Panel buses seat.conn events bytes nexts
+      → Panel buses seat.conn (events ++ map (Bytes seat.conn) pieces) bytes nexts
   after_pieces events [] q = subst (λ (es : List Event). Panel buses seat.conn es bytes nexts) (sym (append-nil events)) q
   after_pieces events (piece ∷ pieces) q =
-      subst (λ (es : List Event). Panel buses seat.conn es bytes nexts) (append_assoc events (Bytes seat.conn piece ∷ []) (map (Bytes seat.conn) pieces))
+      subst (λ (es : List Event). Panel buses seat.conn es bytes nexts)
+      (append_assoc events (Bytes seat.conn piece ∷ []) (map (Bytes seat.conn) pieces))
       (after_pieces (events ++ Bytes seat.conn piece ∷ []) pieces (panel_bytes buses seat.conn events bytes nexts q piece))
 
   -- the writes of the visit
@@ -238,9 +266,11 @@ module _ (buses : List Bus) (layout : IsLayout buses) (seat : Seat) (events : Li
       let whole : AllByRecursion IsWhole h.writes = h.each IsWhole (each_whole calls fair losing (not_any falls_short calls takes)) in
       let reading : list_any loses_reading calls ≡ false = any_not loses_reading calls (each_read calls losing) in
       let texts : List ℕ → List Question = λ cs. map (Writes seat.peer) (take 300 (handed buses seat.conn read_events cs)) in
-      let asks : map question h.writes ≡ texts (filter_map count_of h.writes) = h.asked ∙ ap (λ b. if b then [] else texts (filter_map count_of calls)) reading ∙ ap texts h.counts in
+      let asks : map question h.writes ≡ texts (filter_map count_of h.writes) = h.asked
+      ∙ ap (λ b. if b then [] else texts (filter_map count_of calls)) reading ∙ ap texts h.counts in
       subst (λ (cs : List ℕ). IsHanded buses layout seat.peer seat.conn 300 (one_unless_nil bytes) nexts read_events cs) (sym h.counts)
-      (hands_all buses layout seat.peer seat.conn h.writes 300 read_events bytes nexts (omega arith) whole asks (after_pieces events (filter_map piece_of calls) p))
+      (hands_all buses layout seat.peer seat.conn h.writes 300 read_events bytes nexts (omega arith) whole asks
+      (after_pieces events (filter_map piece_of calls) p))
 
   -- after a visit nothing is unsent, and these lines are left to it: none, or it was handed 300
   pub record IsVisitedWhole : Type 0 where
@@ -251,7 +281,8 @@ module _ (buses : List Bus) (layout : IsLayout buses) (seat : Seat) (events : Li
     pub ends : (rest ≡ []) ⊎ (length lines + one_unless_nil bytes ≡ 300)
     pub stays : list_any is_close calls ≡ false
 
-  last_room : (now : List Event) (rest : List Next) (b : Bool) → (b ≡ true → rest ≡ []) → Panel buses seat.conn now [] rest → Panel buses seat.conn (now ++ map (Room seat.conn) (if b then 0 ∷ [] else [])) [] rest
+  last_room : (now : List Event) (rest : List Next) (b : Bool) → (b ≡ true → rest ≡ []) → Panel buses seat.conn now [] rest
+      → Panel buses seat.conn (now ++ map (Room seat.conn) (if b then 0 ∷ [] else [])) [] rest
   last_room now rest false none q = subst (λ (es : List Event). Panel buses seat.conn es [] rest) (sym (append-nil now)) q
   last_room now rest true none q =
       let empty : rest ≡ [] = none refl in
@@ -259,11 +290,14 @@ module _ (buses : List Bus) (layout : IsLayout buses) (seat : Seat) (events : Li
       (panel_room buses seat.conn now [] [] (subst (λ (ns : List Next). Panel buses seat.conn now [] ns) empty q) layout)
 
   -- of a session that goes on
-  not_closing : (now : List Event) (left : List ℕ) (rest : List Next) → Panel buses seat.conn now left rest → is_closing buses seat.conn now ≡ false
+  not_closing : (now : List Event) (left : List ℕ) (rest : List Next) → Panel buses seat.conn now left rest
+      → is_closing buses seat.conn now ≡ false
   not_closing now left rest q =
       let w : World = course buses now in
       ap (λ o. option_map_or (λ conn. is_last (finish conn (history buses w))) o false) (panel_open buses seat.conn now left rest q)
-      ∙ ap (λ t. is_last (if t then (if overran q.conn (history buses w) then Overrun else (if q.conn.ended && is_nil (unsent q.conn) then Closing else Live)) else ShutFinish)) q.is.open_now
+      ∙ ap (λ t. is_last (if t then
+      (if overran q.conn (history buses w) then Overrun else
+      (if q.conn.ended && is_nil (unsent q.conn) then Closing else Live)) else ShutFinish)) q.is.open_now
       ∙ ap (λ t. is_last (if t then Overrun else (if q.conn.ended && is_nil (unsent q.conn) then Closing else Live))) q.is.fine
       ∙ ap (λ t. is_last (if t && is_nil (unsent q.conn) then Closing else Live)) (panel_goes_on buses seat.conn now left rest q)
 
@@ -279,10 +313,12 @@ module _ (buses : List Bus) (layout : IsLayout buses) (seat : Seat) (events : Li
       append_assoc read_events (map (Room n) counts) (map (Room n) (if asks_last then 0 ∷ [] else []))
       ∙ ap (λ es. read_events ++ es) (sym (map-append (Room n) counts (if asks_last then 0 ∷ [] else [])))
       ∙ append_assoc events (map (Bytes n) (filter_map piece_of calls)) (map (Room n) (rooms calls)) in
-      let panel : Panel buses n (events ++ exchange n calls) [] r.rest = subst (λ (es : List Event). Panel buses n es [] r.rest) whole last in
+      let panel : Panel buses n (events ++ exchange n calls) [] r.rest =
+      subst (λ (es : List Event). Panel buses n es [] r.rest) whole last in
       let open_still = not_closing (events ++ exchange n calls) [] r.rest panel in
       let none_closed : closes_of buses events calls seat ≡ [] =
-      ap (λ b. if b || is_closing buses n (events ++ exchange n calls) then Closes seat.peer ∷ [] else []) keeps ∙ ap (λ b. if b then Closes seat.peer ∷ [] else []) open_still in
+      ap (λ b. if b || is_closing buses n (events ++ exchange n calls) then Closes seat.peer ∷ [] else []) keeps
+      ∙ ap (λ b. if b then Closes seat.peer ∷ [] else []) open_still in
       record {
         lines = r.lines;
         rest = r.rest;
@@ -291,8 +327,10 @@ module _ (buses : List Bus) (layout : IsLayout buses) (seat : Seat) (events : Li
         ends = by r.rest r.ends r.many;
         stays = closes_asked calls
             ∙ ap (list_any asks_close) asked
-            ∙ list_any-append asks_close (reads_of buses events seat ++ writes_of buses events calls seat) (closes_of buses events calls seat)
-            ∙ ap (λ qs. list_any asks_close (reads_of buses events seat ++ writes_of buses events calls seat) || list_any asks_close qs) none_closed
+            ∙ list_any-append asks_close (reads_of buses events seat ++ writes_of buses events calls seat)
+            (closes_of buses events calls seat)
+            ∙ ap (λ qs. list_any asks_close
+            (reads_of buses events seat ++ writes_of buses events calls seat) || list_any asks_close qs) none_closed
             ∙ ap (λ b. b || false) (list_any-append asks_close (reads_of buses events seat) (writes_of buses events calls seat))
             ∙ ap (λ b. (b || list_any asks_close (writes_of buses events calls seat)) || false) (reads (is_ready buses seat.conn events))
             ∙ ap (λ b. b || false) (writes (list_any loses_reading calls));
@@ -301,16 +339,19 @@ module _ (buses : List Bus) (layout : IsLayout buses) (seat : Seat) (events : Li
       few : lent_none_last calls ≡ true → length (filter_map count_of calls) < 300
       few e = fewer (list_any loses calls) (list_any falls_short calls) (count_by is_write calls) (counts_many calls) e
         where
-          fewer : (a b : Bool) (k : ℕ) → k ≡ length (filter_map count_of calls) → not a && (not b && nat_lt k 300) ≡ true → length (filter_map count_of calls) < 300
+          fewer : (a b : Bool) (k : ℕ) → k ≡ length (filter_map count_of calls) → not a && (not b && nat_lt k 300) ≡ true
+              → length (filter_map count_of calls) < 300
           fewer true b k same e = cc
           fewer false true k same e = cc
           fewer false false k same e = let less : k < 300 = ltb-true k 300 e in omega (arith, less, same)
 
-      nothing : (rest : List Next) → (rest ≡ []) ⊎ (length (filter_map count_of calls) ≡ 300) → length (filter_map count_of calls) < 300 → rest ≡ []
+      nothing : (rest : List Next) → (rest ≡ []) ⊎ (length (filter_map count_of calls) ≡ 300) → length (filter_map count_of calls) < 300
+          → rest ≡ []
       nothing rest (inl none) h = none
       nothing rest (inr all) h = absurd (omega (arith, all, h))
 
-      by : (rest : List Next) {k : ℕ} → (rest ≡ []) ⊎ (length (filter_map count_of calls) ≡ 300) → k ≡ length (filter_map count_of calls) → (rest ≡ []) ⊎ (k ≡ 300)
+      by : (rest : List Next) {k : ℕ} → (rest ≡ []) ⊎ (length (filter_map count_of calls) ≡ 300) → k ≡ length (filter_map count_of calls)
+          → (rest ≡ []) ⊎ (k ≡ 300)
       by rest (inl none) many = inl none
       by rest (inr all) many = inr (many ∙ all)
 
@@ -318,6 +359,7 @@ module _ (buses : List Bus) (layout : IsLayout buses) (seat : Seat) (events : Li
       reads true = refl
       reads false = refl
 
-      writes : (b : Bool) → list_any asks_close (if b then [] else map (Writes seat.peer) (take 300 (handed buses seat.conn read_events (filter_map count_of calls)))) ≡ false
+      writes : (b : Bool) → list_any asks_close
+          (if b then [] else map (Writes seat.peer) (take 300 (handed buses seat.conn read_events (filter_map count_of calls)))) ≡ false
       writes true = refl
       writes false = writes_close seat.peer (take 300 (handed buses seat.conn read_events (filter_map count_of calls)))
