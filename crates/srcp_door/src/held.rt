@@ -5,7 +5,6 @@ ghost use Rattle.std.specs.Io.{StartsWith};
 ghost use Rattle.std.specs.Io.KnownBytes.{Appends, Consumes, IsAtEnd, Keeps, append_known};
 ghost use Rattle.srcp_door.specs.Handing.{refusal_told};
 
-use srcp_info::LONGEST_LINE;
 use std::alloc::{AllocError, Global};
 use std::io;
 use std::io::{ErrorKind, Read, Write};
@@ -14,9 +13,6 @@ use std::vec::Vec;
 
 /// How many bytes of a peer are gathered at most.
 pub const MOST_GATHERED: usize = 40_960;
-
-// It holds the 300 lines that a peer is written in a turn at most.
-const _: () = prove!(300 * LONGEST_LINE <= MOST_GATHERED);
 
 /// What a peer was written that its socket did not take yet.
 pub type Gathered = Held<MOST_GATHERED>;

@@ -7,6 +7,7 @@
 
 mod ending;
 mod held;
+pub mod laws;
 mod link;
 mod pacing;
 mod read_ahead;

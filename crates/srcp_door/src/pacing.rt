@@ -14,12 +14,6 @@ pub const MOST_SLACK: usize = 256;
 /// How many of the changes that may come in a turn are left to moments and the ends of sessions.
 pub const RESERVE: usize = 160;
 
-// A session that ends with 150 locks closes no panel for which nothing waits.
-const _: () = prove!(150 + 1 <= RESERVE);
-
-// Any line may go while nothing waits for a panel.
-const _: () = prove!(RESERVE + MOST_CHANGES <= MOST_SLACK);
-
 /// What ends a line.
 const LINE_END: u8 = b'\n';
 

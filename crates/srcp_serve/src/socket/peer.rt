@@ -5,13 +5,18 @@ ghost use Rattle.srcp_door.specs.declared.read_ahead.Given.{Given};
 
 use mio::event::Event;
 use mio::net::TcpStream;
-use srcp_door::{Filled, Given, HandedOver, Input, Link, MOST_GATHERED, Pacing};
+use srcp_core::MOST_IN_PIECE;
+use srcp_door::{Filled, Given, HandedOver, Input, Link, MOST_GATHERED, MOST_PIECE, Pacing};
+use srcp_info::LONGEST_LINE;
 use std::alloc::{AllocError, Global};
 use std::net::Shutdown;
 
-/// How many bytes of a peer may wait for the next tick. What else may be gathered holds the 300 lines of 126 bytes
-/// that a peer is written in a turn at most.
-const MOST_WAITING: usize = MOST_GATHERED - 300 * 126;
+/// How many bytes of a peer may wait for the next tick. What else may be gathered holds the 300 lines that a peer is written
+/// in a turn at most.
+const MOST_WAITING: usize = MOST_GATHERED - 300 * LONGEST_LINE;
+
+// The core takes at once what is handed out at once.
+const _: () = prove!(MOST_PIECE == MOST_IN_PIECE);
 
 /// How often a peer that was let go is read in a turn: what it still sends is dropped as fast as it comes.
 const MOST_DRAINED: u32 = 64;

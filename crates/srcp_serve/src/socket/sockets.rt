@@ -7,7 +7,8 @@ use super::leaving::Leaving;
 use super::peer::Peer;
 use mio::net::{TcpListener, TcpStream};
 use mio::{Events, Interest, Poll, Token};
-use srcp_door::{Given, Pacing};
+use srcp_door::{Given, MOST_SLACK, Pacing};
+use srcp_feed::MOST_WAITING;
 use std::alloc::Global;
 use std::io;
 use std::io::ErrorKind;
@@ -27,6 +28,9 @@ const EARLIER: u64 = 128;
 
 /// How many sockets may be found ready at once.
 const MOST_EVENTS: usize = 128;
+
+// The most changes that may wait for a panel are those that may come before one overruns for which none waits.
+const _: () = prove!(MOST_SLACK == MOST_WAITING);
 
 /// The listener's token; a peer's is its number.
 const LISTENER: Token = Token(0);
