@@ -1,8 +1,8 @@
 //! The functions of a GL command.
 
-ghost use Rattle.std.specs.Prelude.{◌≡◌, ◌<◌, ◌+◌, Ok, Err, length, nat_lt, if◌then◌else◌};
+ghost use Rattle.std.specs.Prelude.{◌≡◌, ◌<◌, ◌+◌, ℕ, List, [], ◌∷◌, MatchOption, Ok, Err, length, nat_lt, if◌then◌else◌};
 ghost use Rattle.srcp_info.specs.declared.change.Code.TheVariants.{C418 as TooLong};
-ghost use Rattle.srcp_rules.specs.Grammar.{bits_of};
+ghost use Rattle.srcp_rules.specs.Grammar.{bit_of, bits_of};
 
 use crate::read::bit_of;
 use srcp_info::{Bits, Code, MOST_FUNCTIONS};
@@ -14,16 +14,30 @@ pub(crate) fn read_functions(mut words: Words<'_>) -> Result<Result<Bits, Code>,
     ensures { result ≡ (if nat_lt MOST_FUNCTIONS (length words.entry) then Err TooLong else Ok (bits_of words.entry)) }
 {
     let mut functions = Bits::new();
-    while let Some(word) = words.next() {
+    while let Some(read) = next_function(&mut words) {
         if functions.len() == Bits::CAPACITY {
             return Err(Code::TOO_LONG);
         }
-        match bit_of(word) {
+        match read {
             Ok(bit) => functions.push(bit),
             Err(code) => return refused(functions.len(), words, code),
         }
     }
     Ok(Ok(functions))
+}
+
+/// Reads the next function; none if no word is left.
+#[inline(always)]
+fn next_function(words: &mut Words<'_>) -> Option<Result<bool, Code>>
+    ensures { MatchOption result (words.old ≡ []) (λ read. (word : List ℕ) × (words.old ≡ word ∷ words.new) × (read ≡ bit_of word)) }
+{
+    if let Some(bit) = words.next_bit() {
+        return Some(Ok(bit));
+    }
+    match words.next() {
+        Some(word) => Some(bit_of(word)),
+        None => None,
+    }
 }
 
 /// Refuses a function that is neither 0 nor 1 behind `before` others. With those that follow they may be too many,

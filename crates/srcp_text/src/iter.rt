@@ -1,8 +1,8 @@
 //! The iterator over the words of a line.
 
-ghost use Rattle.std.specs.Prelude.{◌≡◌};
+ghost use Rattle.std.specs.Prelude.{◌≡◌, [], ◌∷◌, MatchOption};
 ghost use Rattle.std.specs.Iterator.{YieldsFirstRef, item_count};
-ghost use Rattle.srcp_text.specs.Words.{words_of};
+ghost use Rattle.srcp_text.specs.Words.{bit_word, words_of};
 
 use crate::word::{first_blank, first_filled};
 use std::marker::Model;
@@ -28,6 +28,23 @@ impl<'a> Words<'a> {
         ensures { result ≡ words_of line.now }
     {
         Words { rest: line }
+    }
+
+    /// Takes the next word if it is 0 or 1 between two single spaces, as most functions of a locomotive are written. That is
+    /// read in fewer steps than by `next`, which takes every word.
+    #[inline(always)]
+    pub fn next_bit(&mut self) -> Option<bool>
+        ensures { MatchOption result (self.new ≡ self.old) (λ bit. self.old ≡ bit_word bit ∷ self.new) }
+    {
+        if self.rest.len() < 3 || self.rest[0] != b' ' || self.rest[2] != b' ' {
+            return None;
+        }
+        let byte = self.rest[1];
+        if byte != b'0' && byte != b'1' {
+            return None;
+        }
+        self.rest = &self.rest[2..];
+        Some(byte == b'1')
     }
 }
 
