@@ -83,13 +83,14 @@ def send_as_far_as_it_goes(client, piece):
 
 
 def lines_to_the_end(client):
-    """How many lines come until the end, and what ended them if it was not the end of the stream."""
+    """How many lines come until the end, and what ended them if it was not the end of the stream. Then it closes."""
     count = 0
-    try:
-        while piece := client.recv(1 << 16):
-            count += piece.count(b"\n")
-    except OSError as fault:
-        return count, type(fault).__name__
+    with client:
+        try:
+            while piece := client.recv(1 << 16):
+                count += piece.count(b"\n")
+        except OSError as fault:
+            return count, type(fault).__name__
     return count, None
 
 
