@@ -103,7 +103,7 @@ mode_brings (name ∷ mode ∷ more ∷ words) = refl
 -- ---- worlds
 
 module _ (buses : List Bus) where
-  -- a world that comes of another by more steps, whose changes are at most so many beside those that no line weighs for
+  -- a world that comes of another by more steps, which bring at most that number of changes beside moments and ends
   record ComesOf (most : ℕ) (w later : World) : Type 0 where
     steps : List Step
     longer : later.steps ≡ w.steps ++ steps
@@ -133,7 +133,7 @@ module _ (buses : List Bus) where
   within : (a b : ℕ) (w later : World) → a ≤ b → ComesOf a w later → ComesOf b w later
   within a b w later h f = record { steps = f.steps; longer = f.longer; few = let few = f.few in omega arith }
 
-  -- where nothing happens to the registry, it is within any number
+  -- no steps are within any number
   idle : (most : ℕ) (w later : World) → later.steps ≡ w.steps → ComesOf most w later
   idle most w later e = within 0 most w later (omega arith) (same w later e)
 
