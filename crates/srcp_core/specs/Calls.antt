@@ -67,7 +67,8 @@ pub record CallsAgree : Type 0 where
       → length (unsent_at key (let_out key held)) ≤ LONGEST_LINE)
   pub shuts : (key : ℕ) (held : Held) → OfConnection key held (λ buses events n. fault buses (course buses events) (Shut n) ≡ None)
   -- how many more changes may come upon each information session, and when something falls due next
-  pub slack : (held : Held) → OfCourse held (λ buses events. least (map slack_at held.places) ≡ slack_in_course buses (course buses events))
+  pub slack : (held : Held)
+      → OfCourse held (λ buses events. least (map slack_at held.places) ≡ slack_in_course buses (course buses events))
   pub due : (first : Option ℕ) (held : Held) → IsEarliestDue first held.rows
       → OfCourse held (λ buses events. first ≡ due_next buses (course buses events))
 

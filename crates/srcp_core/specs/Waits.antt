@@ -83,11 +83,14 @@ module _ (buses : List Bus) where
     pub open_now : is_open conn ≡ true
     pub over : overran conn (history buses w) ≡ true
 
-  -- whatever happens, no more changes wait for an information session than waited before it happened and were brought since
+  -- whatever happens, no more changes wait for an information session than waited before it happened and were brought
+  -- since
   abbrev pub WaitsGrowByChanges : Type 0
-  WaitsGrowByChanges = (events more : List Event) (number : ℕ) (conn later : Connection) → IsPanel (course buses events) number conn
+  WaitsGrowByChanges = (events more : List Event) (number : ℕ) (conn later : Connection)
+      → IsPanel (course buses events) number conn
       → numbered number (course buses (events ++ more)).connections ≡ Some later → later.info ≡ true
-      → length (waiting later (history buses (course buses (events ++ more)))) ≤ length (waiting conn (history buses (course buses events))) + brought events more
+      → length (waiting later (history buses (course buses (events ++ more))))
+      ≤ length (waiting conn (history buses (course buses events))) + brought events more
 
   -- how many changes may come: the least over all panels, and 256 if there is none, since one may begin
   abbrev pub room : World → ℕ

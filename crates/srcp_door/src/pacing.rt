@@ -27,8 +27,8 @@ pub enum Line {
 }
 
 impl Line {
-    /// Returns how much the line weighs that ends behind these bytes. If it began in an earlier piece, it weighs as much
-    /// as a line can, since nobody has all its bytes.
+    /// Returns how much the line weighs that ends behind these bytes. If it began in an earlier piece, it weighs as
+    /// much as a line can, since nobody has all its bytes.
     fn weight(self, text: &[u8]) -> usize
         ensures weight { result ≡ line_weight self text.now }
         ensures most { result ≤ MOST_CHANGES }
@@ -112,10 +112,10 @@ impl Pacing {
         }
     }
 
-    /// Begins a turn, by how many changes may come before a panel overruns, if one is there. Its lines may weigh as much as
-    /// that less what is left to moments and ends of sessions. If the clock has ticked since the turn before, they may weigh
-    /// as much as one line at least, so that nobody starves behind a panel that does not read. Returns whether every peer that
-    /// asked for a line since the marks were cleared got one: they are to be cleared then.
+    /// Begins a turn, by how many changes may come before a panel overruns, if one is there. Its lines may weigh as
+    /// much as that less what is left to moments and ends of sessions. If the clock has ticked since the turn before,
+    /// they may weigh as much as one line at least, so that nobody starves behind a panel that does not read. Returns
+    /// whether every peer that asked for a line since the marks were cleared got one: they are to be cleared then.
     pub fn begin_turn(&mut self, slack: Option<usize>, ticked: bool) -> bool
         ensures budget { self.new ≡ record { left = allowance slack ticked; refused = false; end = true } }
         ensures round { IsTrue result ↔ self.old.refused ≡ false }
@@ -131,9 +131,9 @@ impl Pacing {
         round
     }
 
-    /// Returns how many bytes of a peer's piece may be handed out now: all of a piece in which no line ends, and else those of
-    /// whole lines, as many as may go. A peer that has its mark gets none that weighs something, and one that gets such a line
-    /// gets its mark.
+    /// Returns how many bytes of a peer's piece may be handed out now: all of a piece in which no line ends, and else
+    /// those of whole lines, as many as may go. A peer that has its mark gets none that weighs something, and one that
+    /// gets such a line gets its mark.
     pub fn allow(&mut self, share: &mut Share, piece: &[u8]) -> usize
         ensures allowed { Allows self.old.left share.old piece.now result }
         ensures within { result ≤ length piece.now }

@@ -46,9 +46,9 @@ pub trait Door {
     /// The calls so far with their answers, where the door tells them.
     ghost told: { Self → Option (List Call) } = { λ _. None };
 
-    /// Takes what may come without a word from any peer: the moment at which something falls due next, if anything does, and how
-    /// many more changes may come upon each information session, if there is one. `serve` says it before it asks for a moment, so
-    /// a door that waits in `now` knows how long it may, and how much it may hand out.
+    /// Takes what may come without a word from any peer: the moment at which something falls due next, if anything
+    /// does, and how many more changes may come upon each information session, if there is one. `serve` says it before
+    /// it asks for a moment, so a door that waits in `now` knows how long it may, and how much it may hand out.
     fn expect(&mut self, due: Option<u64>, slack: Option<usize>)
         ensures faults { faults self.new ≡ faults self.old }
         ensures told { Tells (told self.old) (ExpectCall due slack) (told self.new) };

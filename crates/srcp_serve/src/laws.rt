@@ -27,23 +27,24 @@ pub fn paced_turns()
     ensures all { (buses : List Bus) → PacedServingSparesAll buses }
 {}
 
-/// If the weights by `srcp_rules::weight` of the lines that end in what a turn handed out, and the changes of its moment
-/// and of the ends of sessions, are together within the slack that the door was told, or within 256 if it was told none,
-/// no panel overruns in the turn but one that had overrun before (`each`). So none ever overran if each turn is so (`all`).
+/// If the weights by `srcp_rules::weight` of the lines that end in what a turn handed out, and the changes of its
+/// moment and of the ends of sessions, are together within the slack that the door was told, or within 256 if it was
+/// told none, no panel overruns in the turn but one that had overrun before (`each`). So none ever overran if each turn
+/// is so (`all`).
 pub fn light_turns()
     ensures each { (buses : List Bus) → LightTurnsSpare buses }
     ensures all { (buses : List Bus) → LightServingSparesAll buses }
 {}
 
 /// An information session is settled after turns that bring no change, in each of which its peer took all that it was
-/// handed and was not lost, if 300 times their number is at least the lines that it was owed, and one more if bytes were
-/// unsent.
+/// handed and was not lost, if 300 times their number is at least the lines that it was owed, and one more if bytes
+/// were unsent.
 pub fn settles_soon()
     ensures { (buses : List Bus) → SettlesSoon buses }
 {}
 
-/// No change waits for an information session right after a visit in which its peer took all that it was handed: at most
-/// 256 wait, a visit writes up to 300 times, and changes go before rows.
+/// No change waits for an information session right after a visit in which its peer took all that it was handed: at
+/// most 256 wait, a visit writes up to 300 times, and changes go before rows.
 pub fn waits_are_gone_after_a_visit()
     ensures { (buses : List Bus) → WaitsAreGoneAfterAVisit buses }
 {}

@@ -33,14 +33,14 @@ const REST: u64 = 8;
 /// Peers over TCP on the machine itself, at 127.0.0.1, with the clock that it was handed. Each peer has a number above
 /// those of all peers before it.
 ///
-/// `now` begins a turn. It writes what is gathered to the sockets. If there is nothing to do, it waits until a socket is ready
-/// or something falls due. Then it reads up to 4,096 bytes of each peer ahead. What a peer is written is gathered, up to 40,960
-/// bytes of it.
+/// `now` begins a turn. It writes what is gathered to the sockets. If there is nothing to do, it waits until a socket
+/// is ready or something falls due. Then it reads up to 4,096 bytes of each peer ahead. What a peer is written is
+/// gathered, up to 40,960 bytes of it.
 ///
-/// The lines that are handed out in a turn can bring no more changes than may come before a panel overruns, less what is left
-/// to moments and ends of sessions, but for the changes of one line each millisecond. The rest waits for the next turns.
-/// A peer whose input ends is told to have ended after a turn that wrote nothing to it. One that is let go is kept aside until
-/// its socket took all that was gathered, 10 seconds at most.
+/// The lines that are handed out in a turn can bring no more changes than may come before a panel overruns, less what
+/// is left to moments and ends of sessions, but for the changes of one line each millisecond. The rest waits for the
+/// next turns. A peer whose input ends is told to have ended after a turn that wrote nothing to it. One that is let go
+/// is kept aside until its socket took all that was gathered, 10 seconds at most.
 pub struct SocketDoor<C: Clock + Drop> {
     sockets: Sockets,
     clock: C,
@@ -57,12 +57,12 @@ pub struct SocketDoor<C: Clock + Drop> {
 }
 
 impl<C: Clock + Drop> SocketDoor<C> {
-    /// Opens a door at the port. Its moments begin with the wall clock as it stands now, and go on with the clock that is
-    /// never set.
+    /// Opens a door at the port. Its moments begin with the wall clock as it stands now, and go on with the clock that
+    /// is never set.
     ///
     /// # Errors
-    /// Fails with `Port` if the port is taken or refused, the system has no descriptors for it, or a clock cannot be read,
-    /// and with `Memory` if memory is refused. Then it does not listen.
+    /// Fails with `Port` if the port is taken or refused, or the system has no descriptors for it, and with `Memory` if
+    /// memory is refused. Then it does not listen. A clock that cannot be read counts as 0.
     pub fn listen<N: Net>(
         net: &N,
         alloc: Global,
@@ -170,8 +170,8 @@ impl<C: Clock + Drop> Door for SocketDoor<C> {
         self.slack = slack;
     }
 
-    /// Begins a turn. Returns milliseconds since 1970, which never go back. Where no turn began for long, they catch up in steps
-    /// of 10 from the moment on at which something falls due.
+    /// Begins a turn. Returns milliseconds since 1970, which never go back. Where no turn began for long, they catch up
+    /// in steps of 10 from the moment on at which something falls due.
     fn now(&mut self) -> Result<u64, DoorFault> {
         let calm = self.calm();
         let waited = self.sockets.begin_turn(self.elapsed, calm, self.slack);

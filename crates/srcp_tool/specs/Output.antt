@@ -139,8 +139,8 @@ abbrev pub WritesText : (text : List ℕ) → Result Unit ToolFault → (old new
 WritesText text (Ok done) old new = Appends old new text
 WritesText text (Err fault) old new = (fault ≡ Output) × AppendsPrefix old new text
 
--- the text that is to be printed is written whole, or a prefix of it if the writing fails; nothing is written if it stops
--- for another reason
+-- the text that is to be printed is written whole, or a prefix of it if the writing fails; nothing is written if it
+-- stops for another reason
 abbrev pub Writes : (Prints : List ℕ → Type 0) (Stops : ToolFault → Type 0) → Result Unit ToolFault
     → (old new : Option (List ℕ)) → Type 0
 Writes Prints Stops (Ok done) old new = (text : List ℕ) × Prints text × Appends old new text

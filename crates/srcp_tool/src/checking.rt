@@ -27,8 +27,8 @@ pub fn check_text(alloc: Global, bytes: &[u8]) -> Result<Vec<u8>, ToolFault>
 /// Writes what the bytes of a configuration say (`check_text`).
 ///
 /// # Errors
-/// `Config` for the configuration's first fault, `Memory` if memory is refused: nothing is written then. `Output` if a write
-/// fails or takes nothing: a prefix is written.
+/// `Config` for the configuration's first fault, `Memory` if memory is refused: nothing is written then.
+/// `Output` if a write fails or takes nothing: a prefix is written.
 pub fn check<W: Write>(alloc: Global, bytes: &[u8], writer: &mut W) -> Result<(), ToolFault>
     ensures { Writes (λ text. check_output bytes.now ≡ Ok text)
         (RefusesFor (λ fault. check_output bytes.now ≡ Err fault))

@@ -11,8 +11,9 @@ use crate::record::CoreFault;
 use srcp_rules::Rows;
 
 impl<'a, R: Rows> Core<'a, R> {
-    /// Takes the moment, in milliseconds, and carries out every row that is due then, in key order: accessories fall back
-    /// and locks end, as SRCP 0.8 has it. A moment before the last one counts as that. Its law is `moment` of `laws::calls_follow`.
+    /// Takes the moment, in milliseconds, and carries out every row that is due then, in key order: accessories fall
+    /// back and locks end, as SRCP 0.8 has it. A moment before the last one counts as that. Its law is `moment` of
+    /// `laws::calls_follow`.
     pub fn advance(&mut self, moment: u64)
         ensures { self.new ≡ advanced moment self.old }
     {
@@ -25,17 +26,18 @@ impl<'a, R: Rows> Core<'a, R> {
         );
     }
 
-    /// Returns the moment at which the first of the rows falls due, in milliseconds; none if no row has a due moment. Until then
-    /// `advance` changes no row, if nothing else is called meanwhile. Its law is `due` of `laws::calls_follow`.
+    /// Returns the moment at which the first of the rows falls due, in milliseconds; none if no row has a due moment.
+    /// Until then `advance` changes no row, if nothing else is called meanwhile. Its law is `due` of
+    /// `laws::calls_follow`.
     pub fn earliest_due(&self) -> Option<u64>
         ensures { IsEarliestDue result self.now.rows }
     {
         self.rows.earliest_due()
     }
 
-    /// Returns how many more changes may come before an information session overruns: 256 less the changes that wait, the
-    /// least over all of these sessions; none if there is no such session. No change waits for a session that overran, so it
-    /// counts 256 until it is hung up. Its law is `slack` of `laws::calls_follow`.
+    /// Returns how many more changes may come before an information session overruns: 256 less the changes that wait,
+    /// the least over all of these sessions; none if there is no such session. No change waits for a session that
+    /// overran, so it counts 256 until it is hung up. Its law is `slack` of `laws::calls_follow`.
     pub fn slack(&self) -> Option<usize>
         ensures { result ≡ least (map slack_at self.now.places) }
     {
@@ -45,9 +47,9 @@ impl<'a, R: Rows> Core<'a, R> {
         least_slack(&self.connections)
     }
 
-    /// Takes a connection out. Its session then ends, if it has one that did not end: its locks are taken out in key order,
-    /// and then its own row. That locks end with their session is of SRCP 0.8. Its laws are `shut`, `shuts` and `there` of
-    /// `laws::calls_follow`.
+    /// Takes a connection out. Its session then ends, if it has one that did not end: its locks are taken out in key
+    /// order, and then its own row. That locks end with their session is of SRCP 0.8. Its laws are `shut`, `shuts` and
+    /// `there` of `laws::calls_follow`.
     ///
     /// # Errors
     /// `NoSuch` if there is no such connection, and then nothing changes.

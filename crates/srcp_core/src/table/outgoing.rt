@@ -14,8 +14,8 @@ impl<'a, R: Rows> Core<'a, R> {
     ghost use Rattle.srcp_core.specs.Lending.{EndsAs};
 
     /// Lends the bytes that are to be sent of a connection, from its own buffer and without a copy. If an information
-    /// session's buffer is empty, its next line is put in first, which has at most 126 bytes. Once all replies are taken,
-    /// no more than one line is lent. Its laws are `lent`, `lends`, `lends_none`, `lends_line` and `there` of
+    /// session's buffer is empty, its next line is put in first, which has at most 126 bytes. Once all replies are
+    /// taken, no more than one line is lent. Its laws are `lent`, `lends`, `lends_none`, `lends_line` and `there` of
     /// `laws::calls_follow`.
     ///
     /// # Errors

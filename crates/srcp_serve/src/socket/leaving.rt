@@ -55,8 +55,8 @@ impl Leaving {
         })
     }
 
-    /// Keeps a peer aside if it is not at its end. If too many are kept, one goes: the first that is owed nothing, or else the
-    /// first.
+    /// Keeps a peer aside if it is not at its end. If too many are kept, one goes: the first that is owed nothing, or
+    /// else the first.
     pub(super) fn keep(&mut self, mut peer: Peer, now: u64)
         ensures { self.new ≤ max self.old MOST_LEAVING }
     {

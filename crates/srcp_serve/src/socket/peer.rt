@@ -11,8 +11,8 @@ use srcp_info::LONGEST_LINE;
 use std::alloc::{AllocError, Global};
 use std::net::Shutdown;
 
-/// How many bytes of a peer may wait for the next tick. What else may be gathered holds the 300 lines that a peer is written
-/// in a turn at most.
+/// How many bytes of a peer may wait for the next tick. What else may be gathered holds the 300 lines that a peer is
+/// written in a turn at most.
 const MOST_WAITING: usize = MOST_GATHERED - 300 * LONGEST_LINE;
 
 // The core takes at once what is handed out at once.
@@ -29,8 +29,8 @@ pub(super) struct Peer {
     link: Link,
     // Whether a read may find something.
     readable: bool,
-    // Whether a read that left space may be followed by more: its input was found to be over, which a read has still to tell,
-    // or urgent data came, at which a read ends.
+    // Whether a read that left space may be followed by more: its input was found to be over, which a read has still to
+    // tell, or urgent data came, at which a read ends.
     drains: bool,
     // Whether the last read was interrupted.
     again: bool,
@@ -79,9 +79,9 @@ impl Peer {
         }
     }
 
-    /// Writes what is gathered, if the socket may take something. An answer goes at once, unless input of the peer is held,
-    /// since more is to come then. All else goes with `tick` alone, or if much is gathered. Returns whether the socket took
-    /// something, or was found to take no more.
+    /// Writes what is gathered, if the socket may take something. An answer goes at once, unless input of the peer is
+    /// held, since more is to come then. All else goes with `tick` alone, or if much is gathered. Returns whether the
+    /// socket took something, or was found to take no more.
     pub(super) fn hand_over(&mut self, tick: bool) -> bool {
         let more = !self.asked || self.is_busy();
         let waits = !tick && more && self.link.gathered.len() <= MOST_WAITING;
@@ -96,8 +96,8 @@ impl Peer {
         self.link.lost || self.link.gathered.len() < before
     }
 
-    /// Reads its socket, if a read may find something. After one that left space nothing is there, but for the end and what
-    /// stands behind urgent data.
+    /// Reads its socket, if a read may find something. After one that left space nothing is there, but for the end and
+    /// what stands behind urgent data.
     fn fill(&mut self)
         ensures { self.new.number ≡ self.old.number }
     {
@@ -119,8 +119,8 @@ impl Peer {
         self.link.begin_turn(clear);
     }
 
-    /// Writes what is gathered, shuts the socket for writing behind that, and drops what still comes: a socket that is closed
-    /// with input in it resets the connection. Returns whether there is nothing left to do.
+    /// Writes what is gathered, shuts the socket for writing behind that, and drops what still comes: a socket that is
+    /// closed with input in it resets the connection. Returns whether there is nothing left to do.
     pub(super) fn part(&mut self) -> bool {
         self.hand_over(true);
         if self.link.is_owed() {
@@ -163,8 +163,8 @@ impl Peer {
         count
     }
 
-    /// Returns whether the next turn has something of it that the core takes: input is held or may be read, or its end is to
-    /// be told.
+    /// Returns whether the next turn has something of it that the core takes: input is held or may be read, or its end
+    /// is to be told.
     pub(super) fn is_busy(&self) -> bool {
         let ahead = &self.link.ahead;
         let reads = self.readable && !self.again && ahead.is_wanting();

@@ -15,8 +15,8 @@ use std::io::ErrorKind;
 use std::time::Duration;
 use std::vec::Vec;
 
-/// How long a turn waits at most in milliseconds where a call of the system is to be made again, or a peer that was let go is
-/// kept aside.
+/// How long a turn waits at most in milliseconds where a call of the system is to be made again, or a peer that was let
+/// go is kept aside.
 const PAUSE: u64 = 8;
 
 /// How long a turn waits at most for what falls due, in milliseconds: an hour.
@@ -89,11 +89,11 @@ impl Sockets {
         self.patience = Some(milliseconds);
     }
 
-    /// Begins a turn: writes what is gathered, waits, and reads what came. It waits until a socket is ready, and at most so many
-    /// milliseconds if `calm` says that. If there is something to do, it does not wait. What is no answer, or the answer to a
-    /// peer of which input is held, is written once a millisecond, or before a wait. `slack` is how many changes may come before
-    /// a panel overruns, if one is there. Returns how long it would have waited for a socket and found none ready: `None` if it
-    /// did not wait or one was.
+    /// Begins a turn: writes what is gathered, waits, and reads what came. It waits until a socket is ready, and at
+    /// most so many milliseconds if `calm` says that. If there is something to do, it does not wait. What is no answer,
+    /// or the answer to a peer of which input is held, is written once a millisecond, or before a wait. `slack` is how
+    /// many changes may come before a panel overruns, if one is there. Returns how long it would have waited for a
+    /// socket and found none ready: `None` if it did not wait or one was.
     ///
     /// # Errors
     /// Fails if the system refuses to wait. The turn has begun all the same.
@@ -119,8 +119,8 @@ impl Sockets {
         waited
     }
 
-    /// Returns whether the next turn has something to do, though no socket says so: input is held, or something happened and a
-    /// change may wait for a panel, or the next newcomer wants in.
+    /// Returns whether the next turn has something to do, though no socket says so: input is held, or something
+    /// happened and a change may wait for a panel, or the next newcomer wants in.
     fn has_more(&self, panels: bool) -> bool {
         let happened = self.busy && (panels || self.wanted);
         happened || self.is_held()
@@ -131,8 +131,9 @@ impl Sockets {
         self.peers.iter().any(|peer| peer.is_busy())
     }
 
-    /// Writes what is gathered; to those for which more is to come, with `tick` alone. Returns whether the next turn is not to
-    /// wait for that: the core can go on writing to a peer, or panels were written to, and commands may have come meanwhile.
+    /// Writes what is gathered; to those for which more is to come, with `tick` alone. Returns whether the next turn is
+    /// not to wait for that: the core can go on writing to a peer, or panels were written to, and commands may have
+    /// come meanwhile.
     fn hand_over(&mut self, tick: bool, panels: bool) -> bool
         ensures { self.new.last ≡ self.old.last }
     {
@@ -145,8 +146,8 @@ impl Sockets {
         room
     }
 
-    /// Notes which sockets are ready. If there is no `more` to do, it waits for one. Where input is held, the system is asked
-    /// with `tick` alone.
+    /// Notes which sockets are ready. If there is no `more` to do, it waits for one. Where input is held, the system is
+    /// asked with `tick` alone.
     fn wait(&mut self, tick: bool, more: bool, calm: Option<u64>) -> io::Result<Option<u64>>
         ensures { self.new.last ≡ self.old.last }
     {
@@ -285,8 +286,8 @@ impl Sockets {
         Ok(false)
     }
 
-    /// Returns the place of a peer. It looks first where it found one last, since a peer is written line by line, and then
-    /// behind that, since peers are visited nearly as they came.
+    /// Returns the place of a peer. It looks first where it found one last, since a peer is written line by line, and
+    /// then behind that, since peers are visited nearly as they came.
     fn place(&mut self, number: u32) -> io::Result<usize>
         ensures place { IfOk result (λ place. place < length self.new.peers.items) }
         ensures last { self.new.last ≡ self.old.last }
