@@ -7,7 +7,7 @@ use super::leaving::Leaving;
 use super::peer::Peer;
 use mio::net::{TcpListener, TcpStream};
 use mio::{Events, Interest, Poll, Token};
-use srcp_door::{Given, MOST_SLACK, Pacing};
+use srcp_door::{Given, MOST_SLACK, Pacing, RESERVE};
 use srcp_feed::MOST_WAITING;
 use std::alloc::Global;
 use std::io;
@@ -54,6 +54,8 @@ pub(super) struct Sockets {
     pacing: Pacing,
     // Whether something happened since the turn began.
     busy: bool,
+    // Whether a panel was so far behind when the turn began that no line might go but once a millisecond.
+    behind: bool,
     // When the turn before began, in milliseconds of the clock that is never set.
     began: u64,
     // How long a turn waits at most, in milliseconds, where that was said.
@@ -76,6 +78,7 @@ impl Sockets {
             leaving: Leaving::new(alloc)?,
             pacing: Pacing::new(),
             busy: true,
+            behind: false,
             began: 0,
             patience: None,
         })
@@ -111,7 +114,8 @@ impl Sockets {
         self.began = now;
         let room = self.hand_over(tick, panels);
         let more = room || self.has_more(panels);
-        let waited = self.wait(tick, more, calm);
+        let most = self.most_wait(more, slack, calm);
+        let waited = self.wait(tick, most);
         let clear = self.pacing.begin_turn(slack, ticked);
         for peer in &mut self.peers {
             peer.begin_turn(clear);
@@ -146,16 +150,15 @@ impl Sockets {
         room
     }
 
-    /// Notes which sockets are ready. If there is no `more` to do, it waits for one. Where input is held, the system is
-    /// asked with `tick` alone.
-    fn wait(&mut self, tick: bool, more: bool, calm: Option<u64>) -> io::Result<Option<u64>>
+    /// Notes which sockets are ready, and waits for one, so many milliseconds at most if that is said. If it is not to
+    /// wait and input is held, the system is asked with `tick` alone.
+    fn wait(&mut self, tick: bool, most: Option<u64>) -> io::Result<Option<u64>>
         ensures { self.new.last ≡ self.old.last }
     {
         self.busy = false;
-        if !tick && self.is_held() {
+        if !tick && most == Some(0) && self.is_held() {
             return Ok(None);
         }
-        let most = if more { Some(0) } else { self.most_wait(calm) };
         self.poll_for(most)?;
         if self.events.is_empty() {
             Ok(Some(most.unwrap_or(u64::MAX)))
@@ -164,8 +167,18 @@ impl Sockets {
         }
     }
 
-    /// Returns how many milliseconds a turn with nothing to do waits at most; `None` if only a socket ends the wait.
-    fn most_wait(&self, calm: Option<u64>) -> Option<u64> {
+    /// Returns how many milliseconds a turn waits at most; `None` if only a socket ends the wait. With `more` to do it does
+    /// not wait. But if a panel is so far behind for the second turn that no line may go until the clock ticks, it waits
+    /// for that.
+    fn most_wait(&mut self, more: bool, slack: Option<usize>, calm: Option<u64>) -> Option<u64>
+        ensures { self.new.last ≡ self.old.last }
+    {
+        let behind = slack.is_some_and(|slack| slack <= RESERVE);
+        let still = behind && self.behind;
+        self.behind = behind;
+        if more {
+            return Some(u64::from(still));
+        }
         let interrupted = self.wanted || self.peers.iter().any(|peer| peer.is_interrupted());
         let pause = (interrupted || !self.leaving.is_empty()).then_some(PAUSE);
         let calm = calm.map(|left| (left - left / EARLIER).min(LONGEST_WAIT));
