@@ -154,3 +154,27 @@ lines_behind bytes i j within here same =
     let one = lines_of-end bytes j within here in
     let all = lines_within bytes (j + 1) (omega (arith, within)) in
     omega (arith, one, all, same)
+
+-- prefixes in which as many lines end weigh the same
+pub weight_same : (line : Line) (bytes : List ℕ) (i j : ℕ) → i ≤ j → lines (take i bytes) ≡ lines (take j bytes)
+    → weight_of line (take i bytes) ≡ weight_of line (take j bytes)
+weight_same line bytes i j le same =
+    let part = take (j - i) (drop i bytes) in
+    let parts : i + (j - i) ≡ j = omega arith in
+    let sum = sum_by-append (λ (byte : ℕ). cond (byte == 10) 1 0) (take i bytes) part in
+    let split : lines (take (i + (j - i)) bytes) ≡ lines (take i bytes) + lines part = rw take-add sum in
+    let upto = ap (λ n. lines (take n bytes)) parts in
+    let none : lines part ≡ 0 = omega (arith, split, same, upto) in
+    sym (ap (λ (s : Seen). s.weight) (fold_text (seen_of line (take i bytes)) part none))
+    ∙ ap (λ (s : Seen). s.weight) (seen_of_part line bytes i j le)
+
+-- one in which no more lines end weighs no more
+pub weight_by_lines : (line : Line) (bytes : List ℕ) (i j : ℕ) → lines (take i bytes) ≤ lines (take j bytes)
+    → weight_of line (take i bytes) ≤ weight_of line (take j bytes)
+weight_by_lines line bytes i j few = ⊎_elim
+    (λ (late : j < i).
+    let upto = lines_upto bytes j i (omega (arith, late)) in
+    let same = weight_same line bytes j i (omega (arith, late)) (omega (arith, upto, few)) in
+    omega (arith, same))
+    (λ (early : i ≤ j). weight_upto line bytes i j early)
+    (cases_lt j i)

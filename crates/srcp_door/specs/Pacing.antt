@@ -1,15 +1,19 @@
 -- How much lines weigh, and what is seen of the pacing.
-use Rattle.std.specs.Prelude.{◌≡◌, ◌≢◌, ℕ, ◌+◌, ◌-◌, ◌<◌, ◌≤◌, ◌==◌, Bool, ◌||◌, ◌&&◌, not, cond, max, List, [], ◌∷◌, ◌++◌, length, take, fold, count_by, Option}
+use Rattle.std.specs.Prelude.{◌≡◌, ◌≢◌, ℕ, ◌+◌, ◌-◌, ◌<◌, ◌≤◌, ◌==◌, Bool, ◌||◌, ◌&&◌, not, cond}
+use Rattle.std.specs.Prelude.{nat_lt, Option, ⊤, List, [], ◌∷◌, ◌++◌, length, take, fold, count_by}
+use Rattle.std.specs.Bool.{MatchBool}
 use Rattle.std.specs.Option.{unwrap_or}
 use Rattle.srcp_rules.specs.Weight.{weight}
 use Rattle.srcp_door.specs.declared.pacing.Line.{Line}
 use Rattle.srcp_door.specs.declared.pacing.Line.TheVariants.{Ended, Begun}
+use Rattle.srcp_door.specs.declared.pacing.Pace.{Pace}
+use Rattle.srcp_door.specs.declared.pacing.Pace.TheVariants.{Paced, OneLine}
 use Rattle.srcp_door.specs.declared.pacing.Share.{Share}
 
--- how much the lines may still weigh that are let through in this turn, whether a peer was refused its first line, and
--- whether the end of a peer may still be told
+-- how much may still be let through in this turn, whether a peer was refused its first line, and whether the end of a
+-- peer may still be told
 pub record Budget : Type 0 where
-  pub left : ℕ
+  pub pace : Pace
   pub refused : Bool
   pub end : Bool
 
@@ -67,14 +71,39 @@ pub record IsLongest (line : Line) (most : ℕ) (piece : List ℕ) (count : ℕ)
   pub whole : lines piece ≢ 0 → (seen_of line (take count piece)).text ≡ []
   pub begun : lines piece ≡ 0 → count ≡ length piece
 
--- how much the lines of a turn may weigh, by the slack of the panels, which is 256 if there is none, since one may
--- begin: 160 of it are left to moments and ends of sessions. Once a millisecond it is as much as any line weighs.
-abbrev pub allowance : (slack : Option ℕ) (ticked : Bool) → ℕ
-allowance slack ticked = max (unwrap_or slack 256 - 160) (cond ticked 11 0)
+-- how much the first line of a piece weighs that weighs something: that is the weight of a prefix of which all shorter
+-- prefixes with fewer lines weigh nothing; 0 if no line weighs something
+pub record IsFirstWeight (line : Line) (piece : List ℕ) (first : ℕ) : Type 0 where
+  pub count : ℕ
+  pub within : count ≤ length piece
+  pub is : weight_of line (take count piece) ≡ first
+  pub before : (k : ℕ) → k ≤ length piece → lines (take k piece) < lines (take count piece)
+      → weight_of line (take k piece) ≡ 0
+  pub none : first ≡ 0 → weight_of line piece ≡ 0
+
+-- the longest prefix in which at most one line weighs something
+pub record IsOneLine (line : Line) (piece : List ℕ) (count : ℕ) : Type 0 where
+  pub first : ℕ
+  pub is_first : IsFirstWeight line piece first
+  pub longest : IsLongest line first piece count
+
+-- how much may be let through in a turn: what the slack of the panels leaves beside the 160 changes of moments and ends
+-- of sessions, where the slack is 256 if no panel is there, since one may begin; if that is less than any line can weigh,
+-- one line at each tick of the clock
+abbrev pub pace_of : (slack : Option ℕ) (tick : Bool) → Pace
+pace_of slack tick =
+    let left = unwrap_or slack 256 - 160 in cond (tick && nat_lt left 11) OneLine (Paced left)
 
 -- the prefix of a peer's piece that may go in a turn; a peer that has its mark gets no line that weighs something
-abbrev pub Allows : (left : ℕ) → Share → (piece : List ℕ) (count : ℕ) → Type 0
-Allows left share piece count = IsLongest share.line (cond share.mark 0 left) piece count
+abbrev pub Allows : Pace → Share → (piece : List ℕ) (count : ℕ) → Type 0
+Allows (Paced left) share piece count = IsLongest share.line (cond share.mark 0 left) piece count
+Allows OneLine share piece count =
+    MatchBool share.mark (IsLongest share.line 0 piece count) (IsOneLine share.line piece count)
+
+-- how much may be let through after lines that weigh so much
+abbrev pub spent : Pace → (weight : ℕ) → Pace
+spent (Paced left) weight = Paced (left - weight)
+spent OneLine weight = cond (weight == 0) OneLine (Paced 0)
 
 -- a peer's share after bytes were handed out to it: it has its mark if a line that weighs something ended in them
 abbrev pub share_after : Share → (handed : List ℕ) → Share
@@ -87,7 +116,12 @@ share_after share handed = record {
 -- back and it has no mark
 abbrev pub budget_after : Budget → Share → (piece handed : List ℕ) → Budget
 budget_after budget share piece handed = record {
-  left = budget.left - weight_of share.line handed;
+  pace = spent budget.pace (weight_of share.line handed);
   refused = budget.refused || not (lines handed == lines piece) && not (share_after share handed).mark;
   end = budget.end;
 }
+
+-- less may be let through than any line can weigh
+abbrev pub IsShort : Pace → Type 0
+IsShort (Paced left) = left < 11
+IsShort OneLine = ⊤

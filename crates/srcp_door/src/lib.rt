@@ -16,6 +16,6 @@ mod timekeeper;
 pub use ending::Ending;
 pub use held::{Gathered, HandedOver, Held, MOST_GATHERED};
 pub use link::Link;
-pub use pacing::{Line, MOST_SLACK, Pacing, RESERVE, Share};
+pub use pacing::{Line, MOST_SLACK, Pace, Pacing, RESERVE, Share};
 pub use read_ahead::{Filled, Given, Input, MOST_AHEAD, MOST_PIECE, ReadAhead};
 pub use timekeeper::Timekeeper;

@@ -101,10 +101,10 @@ impl Link {
         ensures count { (n : ℕ) → result ≡ Given.Bytes n → (0 < n) × (n ≤ min (length buffer.old) MOST_PIECE) }
         ensures allowed { self.old.ahead.bytes ≢ []
             → let piece = take (min (length buffer.old) MOST_PIECE) self.old.ahead.bytes in
-            Allows pacing.old.left self.old.share piece (length (given result buffer.new)) }
+            Allows pacing.old.pace self.old.share piece (length (given result buffer.new)) }
         ensures told { self.old.ahead.bytes ≡ [] → (self.new ≡ self.old)
             × (result ≡ cond pacing.old.end (due_end self.old.lost self.old.ahead.input self.old.ending) Given.Nothing)
-            × (pacing.new ≡ record { left = pacing.old.left; refused = pacing.old.refused; end = cond (is_told result) false pacing.old.end }) }
+            × (pacing.new ≡ record { pace = pacing.old.pace; refused = pacing.old.refused; end = cond (is_told result) false pacing.old.end }) }
         ensures handed { self.old.ahead.bytes ≢ [] → let handed = given result buffer.new in
             let piece = take (min (length buffer.old) MOST_PIECE) self.old.ahead.bytes in
             (is_told result ≡ not (length handed == 0))
@@ -148,7 +148,7 @@ impl Link {
     /// Returns what is told where nothing is held of it.
     fn told_end(&self, pacing: &mut Pacing) -> Given
         ensures result { result ≡ cond pacing.old.end (due_end self.now.lost self.now.ahead.input self.now.ending) Given.Nothing }
-        ensures pacing { pacing.new ≡ record { left = pacing.old.left; refused = pacing.old.refused; end = cond (is_told result) false pacing.old.end } }
+        ensures pacing { pacing.new ≡ record { pace = pacing.old.pace; refused = pacing.old.refused; end = cond (is_told result) false pacing.old.end } }
     {
         let due = self.due_end();
         if due == Given::Nothing || !pacing.allow_end() {

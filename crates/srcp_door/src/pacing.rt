@@ -1,8 +1,8 @@
 //! How many lines are let through in a turn.
 
-ghost use Rattle.std.specs.Prelude.{◌≡◌, ◌<◌, ◌≤◌, ◌+◌, ◌↔◌, ◌==◌, false, true, not, IsTrue, length, take};
-ghost use Rattle.srcp_door.specs.Pacing.{Allows, Budget, IsLongest, allowance, budget_after, line_after, line_weight};
-ghost use Rattle.srcp_door.specs.Pacing.{lines, share_after, weight_of};
+ghost use Rattle.std.specs.Prelude.{◌≡◌, ◌<◌, ◌≤◌, ◌+◌, ◌↔◌, ◌⊎◌, ◌==◌, false, true, not, cond, IsTrue, length, take};
+ghost use Rattle.srcp_door.specs.Pacing.{Allows, Budget, IsFirstWeight, IsLongest, IsShort, budget_after};
+ghost use Rattle.srcp_door.specs.Pacing.{line_after, line_weight, lines, pace_of, share_after, spent, weight_of};
 
 use memchr::memchr;
 use srcp_rules::{MOST_CHANGES, weight};
@@ -27,8 +27,8 @@ pub enum Line {
 }
 
 impl Line {
-    /// Returns how much the line weighs that ends behind these bytes. If it began in an earlier piece, it weighs as
-    /// much as a line can, since nobody has all its bytes.
+    /// Returns how much the line weighs that ends behind these bytes. If it began in an earlier piece, it weighs as much
+    /// as a line can, since nobody has all its bytes.
     fn weight(self, text: &[u8]) -> usize
         ensures weight { result ≡ line_weight self text.now }
         ensures most { result ≤ MOST_CHANGES }
@@ -60,6 +60,42 @@ pub struct Share {
     pub mark: bool,
 }
 
+/// How much the lines may still weigh that are let through in a turn.
+#[derive(Clone, Copy)]
+pub enum Pace {
+    /// As much as that.
+    Paced { left: usize },
+    /// As much as one line, whatever that weighs: the clock lets it through.
+    OneLine,
+}
+
+impl Pace {
+    /// Returns what may be let through in a turn, by how many changes may come before a panel overruns, if one is there.
+    fn of_turn(slack: Option<usize>, tick: bool) -> Pace
+        ensures { result ≡ pace_of slack tick }
+    {
+        let left = slack.unwrap_or(MOST_SLACK).saturating_sub(RESERVE);
+        if tick && left < MOST_CHANGES {
+            Pace::OneLine
+        } else {
+            Pace::Paced { left }
+        }
+    }
+
+    /// Returns what may be let through after lines of that weight.
+    fn after(self, weight: usize) -> Pace
+        ensures { result ≡ spent self weight }
+    {
+        match self {
+            Pace::Paced { left } => Pace::Paced {
+                left: left.saturating_sub(weight),
+            },
+            Pace::OneLine if weight > 0 => Pace::Paced { left: 0 },
+            Pace::OneLine => Pace::OneLine,
+        }
+    }
+}
+
 /// A prefix of a piece.
 #[derive(Clone, Copy)]
 struct Prefix {
@@ -75,57 +111,52 @@ struct Front {
     prefix: Prefix,
     // How much the lines weigh that end in it.
     weight: usize,
-    // Whether a line ends in the piece behind it.
+    // Whether a line ends in the piece behind it, and how much the next such line weighs.
     more: bool,
+    next: usize,
 }
 
 /// How much the lines that are let through may still weigh in this turn, whether a peer was refused its first one, and
 /// whether the end of a peer may still be told. Seen as a record of the three.
 #[derive(Drop)]
 pub struct Pacing {
-    left: usize,
+    pace: Pace,
     refused: bool,
     end: bool,
 }
 
 impl Model for Pacing {
-    ghost use Rattle.std.specs.Prelude.{◌<◌, IsTrue};
-    ghost use Rattle.srcp_rules.specs.declared.obeyed.TheConstants.{MOST_CHANGES};
-    ghost use Rattle.srcp_door.specs.Pacing.{Budget};
+    ghost use Rattle.std.specs.Prelude.{IsTrue};
+    ghost use Rattle.srcp_door.specs.Pacing.{Budget, IsShort};
 
     ghost Value = { Budget };
 
-    ghost view = { λ p. record { left = p.left; refused = p.refused; end = p.end } };
+    ghost view = { λ p. record { pace = p.pace; refused = p.refused; end = p.end } };
 
-    ghost invariant = { λ p. IsTrue p.refused → p.left < MOST_CHANGES };
+    ghost invariant = { λ p. IsTrue p.refused → IsShort p.pace };
 }
 
 impl Pacing {
     /// Lets no line through that weighs something, before the first turn.
     pub fn new() -> Pacing
-        ensures { result ≡ record { left = 0; refused = false; end = false } }
+        ensures { result ≡ record { pace = Pace.Paced 0; refused = false; end = false } }
     {
         Pacing {
-            left: 0,
+            pace: Pace::Paced { left: 0 },
             refused: false,
             end: false,
         }
     }
 
-    /// Begins a turn, by how many changes may come before a panel overruns, if one is there. Its lines may weigh as
-    /// much as that less what is left to moments and ends of sessions. If the clock has ticked since the turn before,
-    /// they may weigh as much as one line at least, so that nobody starves behind a panel that does not read. Returns
+    /// Begins a turn, by how many changes may come before a panel overruns, if one is there. With `tick` it lets one line
+    /// through though the panels may take none, so that nobody starves behind a panel that does not read. Returns
     /// whether every peer that asked for a line since the marks were cleared got one: they are to be cleared then.
-    pub fn begin_turn(&mut self, slack: Option<usize>, ticked: bool) -> bool
-        ensures budget { self.new ≡ record { left = allowance slack ticked; refused = false; end = true } }
+    pub fn begin_turn(&mut self, slack: Option<usize>, tick: bool) -> bool
+        ensures budget { self.new ≡ record { pace = pace_of slack tick; refused = false; end = true } }
         ensures round { IsTrue result ↔ self.old.refused ≡ false }
     {
         let round = !self.refused;
-        let least = if ticked { MOST_CHANGES } else { 0 };
-        self.left = slack
-            .unwrap_or(MOST_SLACK)
-            .saturating_sub(RESERVE)
-            .max(least);
+        self.pace = Pace::of_turn(slack, tick);
         self.refused = false;
         self.end = true;
         round
@@ -135,16 +166,20 @@ impl Pacing {
     /// those of whole lines, as many as may go. A peer that has its mark gets none that weighs something, and one that
     /// gets such a line gets its mark.
     pub fn allow(&mut self, share: &mut Share, piece: &[u8]) -> usize
-        ensures allowed { Allows self.old.left share.old piece.now result }
+        ensures allowed { Allows self.old.pace share.old piece.now result }
         ensures within { result ≤ length piece.now }
         ensures share { share.new ≡ share_after share.old (take result piece.now) }
         ensures budget { self.new ≡ budget_after self.old share.old piece.now (take result piece.now) }
-        ensures fair { IsTrue self.new.refused → self.new.left < MOST_CHANGES }
+        ensures fair { IsTrue self.new.refused → IsShort self.new.pace }
     {
-        let most = if share.mark { 0 } else { self.left };
+        let left = match self.pace {
+            Pace::Paced { left } => left,
+            Pace::OneLine => first_weight(piece, share.line),
+        };
+        let most = if share.mark { 0 } else { left };
         let front = front_within(piece, share.line, most);
         let count = front.prefix.count;
-        self.left -= front.weight;
+        self.pace = self.pace.after(front.weight);
         share.line = share.line.after(&piece[..count]);
         share.mark |= front.weight > 0;
         self.refused |= front.more && !share.mark;
@@ -154,7 +189,7 @@ impl Pacing {
     /// Returns whether the end of a peer may be told now, which is then the one of this turn.
     pub fn allow_end(&mut self) -> bool
         ensures allowed { result ≡ self.old.end }
-        ensures new { self.new ≡ record { left = self.old.left; refused = self.old.refused; end = false } }
+        ensures new { self.new ≡ record { pace = self.old.pace; refused = self.old.refused; end = false } }
     {
         let allowed = self.end;
         self.end = false;
@@ -170,6 +205,7 @@ fn front_within(piece: &[u8], line: Line, most: usize) -> Front
     ensures weight { result.weight ≡ weight_of line (take result.prefix.count piece.now) }
     ensures more { result.more ≡ not (result.prefix.lines == lines piece.now) }
     ensures light { IsTrue result.more → most < result.weight + MOST_CHANGES }
+    ensures next { most ≡ 0 → IsFirstWeight line piece.now result.next }
 {
     let mut line = line;
     let mut prefix = Prefix { count: 0, lines: 0 };
@@ -182,6 +218,7 @@ fn front_within(piece: &[u8], line: Line, most: usize) -> Front
                 prefix,
                 weight,
                 more: true,
+                next,
             };
         }
         line = Line::Ended;
@@ -198,5 +235,13 @@ fn front_within(piece: &[u8], line: Line, most: usize) -> Front
         prefix,
         weight,
         more: false,
+        next: 0,
     }
+}
+
+/// Returns how much the first line of a piece weighs that weighs something; 0 if none does.
+fn first_weight(piece: &[u8], line: Line) -> usize
+    ensures { IsFirstWeight line piece.now result }
+{
+    front_within(piece, line, 0).next
 }

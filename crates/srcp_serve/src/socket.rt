@@ -38,9 +38,9 @@ const REST: u64 = 8;
 /// gathered, up to 40,960 bytes of it.
 ///
 /// The lines that are handed out in a turn can bring no more changes than may come before a panel overruns, less what
-/// is left to moments and ends of sessions, but for as many as one line can bring each millisecond. The rest waits for
-/// the next turns. A peer whose input ends is told to have ended after a turn that wrote nothing to it. One that is let go
-/// is kept aside until its socket took all that was gathered, 10 seconds at most.
+/// is left to moments and ends of sessions, but for one line each millisecond. The rest waits for the next turns. A
+/// peer whose input ends is told to have ended after a turn that wrote nothing to it. One that is let go is kept aside
+/// until its socket took all that was gathered, 10 seconds at most.
 pub struct SocketDoor<C: Clock + Drop> {
     sockets: Sockets,
     clock: C,

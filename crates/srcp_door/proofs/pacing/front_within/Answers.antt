@@ -5,7 +5,8 @@ use Rattle.std.proofs.lemmas.Grind.{common_steps}
 use Rattle.std.proofs.lemmas.List.{take_rest}
 use Rattle.srcp_door.specs.Pacing.{Seen, lines, seen_of, weight_of}
 use Rattle.srcp_door.specs.declared.pacing.Line.TheVariants.{Ended}
-use Rattle.srcp_door.proofs.Lines.{ends_line, found-end, lines_behind, lines_of-end, lines_of_part, lines_within, longest_at, weight_none}
+use Rattle.srcp_door.proofs.Lines.{ends_line, found-end, lines_behind, lines_of-end, lines_of_part}
+use Rattle.srcp_door.proofs.Lines.{lines_within, longest_at, weight_by_lines, weight_none, weight_same}
 use Rattle.srcp_door.proofs.pacing.front_within.Goals as goal
 
 pub lines-preserved : goal.lines-preserved
@@ -133,3 +134,61 @@ returns-else-prefix-eq0-clause-more c =
     (λ k low below. c.in_default.ensures k low (rw take_rest (rw length-drop below))) in
     let is : c.lines.prefix.lines ≡ lines piece = c.lines.invariant.lines ∙ same ∙ ap lines (take-length piece) in
     rw (eq-eqb c.lines.prefix.lines (lines piece) is) refl
+
+pub returns-then-next-most-clause-next : goal.returns-then-next-most-clause-next
+returns-then-next-most-clause-next c = λ zero.
+    let piece = c.args.piece.now in
+    let start = c.lines.prefix.count in
+    let end = start + c.in-Some.length in
+    let found = c.in-Some.ensures.0 in
+    let high = found-end piece start c.in-Some.length found in
+    let here : slice_index piece end ≡ 10 = grind (arith, common_steps) in
+    let seen = c.lines.invariant.seen in
+    let weight = ap (λ (s : Seen). s.weight) seen in
+    let ended = ends_line c.args.line c.lines.line piece start end c.lines.weight (omega arith) high here
+    (λ k low below. found.before k low (omega arith)) seen in
+    let heavier : c.lines.weight + c.weight-next.result ≡ weight_of c.args.line (take (end + 1) piece) =
+    ap (λ n. c.lines.weight + n) c.weight-next.ensures.weight ∙ ap (λ (s : Seen). s.weight) ended in
+    let same = lines_of_part piece start end (omega arith) (omega arith) (λ k low below. found.before k low (omega arith)) in
+    let one = lines_of-end piece end high here in
+    record {
+      count = end + 1;
+      within = omega (arith, high);
+      is = omega (arith, heavier, c.lines.invariant.few, zero);
+      before = λ k within few.
+          let upto = weight_by_lines c.args.line piece k start (omega (arith, few, one, same)) in
+          omega (arith, upto, weight, c.lines.invariant.few, zero);
+      none = λ light. absurd (omega (arith, light));
+    }
+
+pub returns-then-prefix-eq0-clause-next : goal.returns-then-prefix-eq0-clause-next
+returns-then-prefix-eq0-clause-next c = λ zero.
+    let piece = c.args.piece.now in
+    let same = lines_of_part piece c.lines.prefix.count (length piece) (omega arith) (omega arith)
+    (λ k low below. c.in_default.ensures k low (rw take_rest (rw length-drop below))) in
+    let all = ap lines (take-length piece) in
+    let none : lines piece ≡ 0 = omega (arith, same, all, c.lines.invariant.lines) in
+    record {
+      count = 0;
+      within = omega arith;
+      is = refl;
+      before = λ k within few. absurd (omega (arith, few));
+      none = λ e. weight_none c.args.line piece none;
+    }
+
+pub returns-else-prefix-eq0-clause-next : goal.returns-else-prefix-eq0-clause-next
+returns-else-prefix-eq0-clause-next c = λ zero.
+    let piece = c.args.piece.now in
+    let start = c.lines.prefix.count in
+    let same = lines_of_part piece start (length piece) (omega arith) (omega arith)
+    (λ k low below. c.in_default.ensures k low (rw take_rest (rw length-drop below))) in
+    let weight = ap (λ (s : Seen). s.weight) c.lines.invariant.seen in
+    let whole = weight_same c.args.line piece start (length piece) (omega arith) same in
+    let all = ap (weight_of c.args.line) (take-length piece) in
+    record {
+      count = 0;
+      within = omega arith;
+      is = refl;
+      before = λ k within few. absurd (omega (arith, few));
+      none = λ e. omega (arith, weight, whole, all, c.lines.invariant.few, zero);
+    }
