@@ -1,7 +1,7 @@
 #!/usr/bin/env python3
 """run_cases.py PROGRAM [NAME ..]: runs the built program over every case of cases/, over the failures of its streams, over
 tables of inputs, over inputs that are cut or large, serving, and over the commands of the pages; or over the cases that
-are named.
+are named. Cases of bridges/ run beside each other.
 
 A case is a folder: `args` (one word a line), `stdin`, or in `stdin.from` the path of a file to read in its place,
 `config.toml` where it needs one, `status`, and what is expected: `stdout` and `stderr` to the byte, or in `expect.json`
@@ -17,9 +17,11 @@ import sys
 import tempfile
 import time
 import traceback
+from concurrent.futures import ThreadPoolExecutor
 from functools import partial
 from pathlib import Path
 
+from bridge_tests import BRIDGE_CASES, TriedNothing
 from clients import CLIENT_CASES
 from door import DOOR_CASES
 from faults import FAULT_CASES
@@ -226,7 +228,8 @@ STREAM_CASES = (input_past_its_limit, input_at_its_limit, input_that_cannot_be_r
                 script_past_its_limit, script_at_its_limit, script_that_cannot_be_read, run_that_cannot_be_written,
                 run_in_little_memory, full_bus_that_stalls_nobody)
 ALL_CASES = (STREAM_CASES + TABLE_CASES + INPUT_CASES + SERVING_CASES + DOOR_CASES + FAULT_CASES + CLIENT_CASES
-             + PAGE_CASES + RUN_SCRIPT_CASES)
+             + PAGE_CASES + RUN_SCRIPT_CASES + BRIDGE_CASES)
+BESIDE = 10
 
 
 def cases_by_name():
@@ -239,6 +242,8 @@ def fault_of(case, program):
     """Why a case fails, or None. One that stops, as where nothing comes for too long, fails at the line where it stood."""
     try:
         return case(program)
+    except TriedNothing as missing:
+        return missing
     except Exception as stop:
         stood = [frame for frame in traceback.extract_tb(stop.__traceback__) if frame.filename.startswith(str(TESTS))][-1]
         return f"{stop!r} at {Path(stood.filename).name}:{stood.lineno}: {stood.line}"
@@ -252,11 +257,18 @@ def main():
     if unknown := [name for name in names if name not in cases]:
         sys.exit(f"no such case: {' '.join(unknown)}")
     program = str(Path(program).resolve())
-    results = [(name, fault_of(cases[name], program)) for name in names or cases]
-    failed = [(name, fault) for name, fault in results if fault]
+    beside = [name for name in names or cases if name.startswith("bridge-")]
+    results = [(name, fault_of(cases[name], program)) for name in names or cases if name not in beside]
+    with ThreadPoolExecutor(BESIDE) as pool:
+        results += zip(beside, pool.map(lambda name: fault_of(cases[name], program), beside))
+    skipped = [(name, fault) for name, fault in results if isinstance(fault, TriedNothing)]
+    failed = [(name, fault) for name, fault in results if fault and (name, fault) not in skipped]
+    for name, missing in skipped:
+        print(f"{name} tried nothing: {missing}")
     for name, fault in failed:
         print(f"FAIL {name}: {fault}")
-    print(f"cases: {len(results) - len(failed)} passed, {len(failed)} failed")
+    passed = len(results) - len(failed) - len(skipped)
+    print(f"cases: {passed} passed, {len(failed)} failed, {len(skipped)} skipped")
     return 1 if failed else 0
 
 

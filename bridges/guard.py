@@ -1,0 +1,45 @@
+#!/usr/bin/env python3
+"""Stops the locomotives of a throttle that is gone.
+
+The server keeps a locomotive's speed when the session that drove it ends. If a session ends while it holds the lock of
+a locomotive, this program sets that locomotive's speed to 0. Whoever wants it to drive on gives the lock back first.
+"""
+import asyncio
+
+from program import arguments, run, say
+from srcp import Mirror, Refused
+
+
+class Guard:
+    """`freed` has, by locomotive, when it lost its lock (None: at a moment that nobody told), and whose that was."""
+
+    def __init__(self, asked):
+        self.mirror, self.freed, self.stops = Mirror(asked, self.told), {}, set()
+
+    def told(self, change):
+        """As a session ends, its locks go at the same moment. After an overrun it is not known: in doubt it stops."""
+        bus, group, address, part = change.key
+        if group == "GL" and part == "lock":
+            self.freed.pop((bus, address), None)
+            if not change.row:
+                self.freed[bus, address] = change.stamp, change.before.session
+        elif group == "SESSION" and not change.row:
+            for locomotive, (stamp, session) in list(self.freed.items()):
+                if session == address:
+                    del self.freed[locomotive]
+                    if stamp == change.stamp or None in (stamp, change.stamp):
+                        self.stops.add(asyncio.create_task(self.stop(*locomotive)))
+
+    async def stop(self, bus, address):
+        drive = self.mirror.rows.get((bus, "GL", address, "does"))
+        if drive and drive.v:
+            try:
+                await self.mirror.session.ask(f"SET {bus} GL {address} {drive.mode} 0 {drive.v_max}")
+                say(f"{bus} GL {address}: stopped")
+            except (Refused, ConnectionError) as fault:
+                say(f"{bus} GL {address}: {fault}")
+        self.stops.discard(asyncio.current_task())
+
+
+if __name__ == "__main__":
+    run(Guard(arguments(__doc__).parse_args()).mirror.run())

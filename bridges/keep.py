@@ -1,0 +1,142 @@
+#!/usr/bin/env python3
+"""Keeps locomotives and accessories over restarts of the server.
+
+FILE holds the commands that make them again, to read, and to edit while this program is not running. They are sent to a
+server that has started, for each device that it does not have. From then on FILE follows what changes. Locomotives come
+back standing, with their direction and functions; accessories as they were put; power only with --power. Sensors and
+locks do not: others set them anew. What the server refuses stays in FILE~.
+"""
+import asyncio
+import os
+import shutil
+
+from program import arguments, run, say
+from srcp import Mirror, Refused
+
+TOGETHER = 0.002  # seconds between two ports of an accessory, so that their stamps tell which was put last
+GROUPS = ["POWER", "GL", "GA"]
+
+
+def commands_of(rows, power):
+    """Returns the commands that make these rows again."""
+    commands = []
+    wanted = [key for key in rows if key[1] == "POWER" and power or key[1] in ("GL", "GA") and key[3] == "is"]
+    for bus, group, address, part in sorted(wanted, key=lambda key: (key[0], GROUPS.index(key[1]), key[2])):
+        row = rows[bus, group, address, part]
+        if group == "POWER":
+            commands.append(f"SET {bus} POWER {'ON' if row.on else 'OFF'} {row.text}".rstrip())
+            continue
+        commands.append(f"INIT {bus} {group} {address} {' '.join(map(str, row[1:]))}")
+        if drive := rows.get((bus, group, address, "does")):
+            words = [drive.mode, 0, drive.v_max, *drive.functions]
+            commands.append(f"SET {bus} GL {address} {' '.join(map(str, words))}")
+        ports = [(*port, number) for number in range(8) if (port := rows.get((bus, group, address, number)))]
+        for stamp, value, number in sorted(ports):  # what was put last comes last
+            if stamp > row.stamp or value:
+                commands.append(f"SET {bus} GA {address} {number} {value} -1")
+    return commands
+
+
+def device_of(command):
+    """Returns the device that a command is to, or None if it names none."""
+    try:
+        _, bus, group, *address = command.upper().split()
+        return int(bus), group, 0 if group == "POWER" else int(address[0]), False
+    except (ValueError, IndexError):
+        return None
+
+
+def makes(command):
+    return command.upper().startswith("INIT ")
+
+
+class Keeper:
+    def __init__(self, asked):
+        self.path, self.power, self.rest = asked.file, asked.power, asked.rest
+        self.changed, self.session, self.written = asyncio.Event(), None, []
+        self.mirror = Mirror(asked, lambda change: self.changed.set(), lambda anew: self.changed.set())
+
+    async def run(self):
+        self.held()  # a FILE that cannot be read ends this program, before anything is made
+        await asyncio.gather(self.mirror.run(), self.keep())
+
+    async def keep(self):
+        while True:
+            await self.changed.wait()
+            self.changed.clear()
+            try:
+                if self.session is not self.mirror.session:  # a server that was started anew
+                    session = self.mirror.session
+                    await self.restore(session)
+                    self.session = session
+                await self.follow()
+            except ConnectionError:
+                self.changed.set()
+            await asyncio.sleep(self.rest)
+
+    async def restore(self, session):
+        """Has the server make what FILE holds and it does not have."""
+        self.written, absent = self.held(), set()
+        for command in self.written:
+            device = device_of(command)
+            if device and makes(command) and not await self.mirror.has(device):
+                absent.add(device)
+            if device in absent or self.power and device and device[1] == "POWER":
+                await self.order(session, command)
+            elif not device:
+                self.refused(command, "names no device")
+        say(f"made {len(absent)} devices")
+
+    async def order(self, session, command):
+        try:
+            await session.ask(command)
+        except Refused as reply:
+            self.refused(command, reply)
+        await asyncio.sleep(TOGETHER if " GA " in command.upper() else 0)
+
+    def refused(self, command, why):
+        """Says so, and keeps FILE as it is now in FILE~, since the command will not be written again."""
+        say(f"{command}: {why}; {self.path}~ keeps it")
+        shutil.copyfile(self.path, self.path + "~")
+
+    async def follow(self):
+        """Writes FILE, if all that it would lose is gone from the very server that it was restored to."""
+        if self.mirror.session is not self.session:
+            return self.changed.set()
+        commands = commands_of(self.mirror.rows, self.power)
+        kept = {device_of(command) for command in commands if makes(command)}
+        for device in filter(None, map(device_of, filter(makes, self.written))):
+            if device not in kept and await self.mirror.has(device):
+                return self.changed.set()  # it is there, and has not been told yet
+        if commands != self.written and self.mirror.session is self.session:
+            self.write(commands)
+
+    def held(self):
+        """Returns the commands in FILE; none if there is no such file yet."""
+        try:
+            with open(self.path, encoding="latin-1") as file:
+                return [line for line in file.read().split("\n") if line.strip()]
+        except FileNotFoundError:
+            return []
+
+    def write(self, commands):
+        """Puts the commands in FILE: all of them, or, if the machine fails meanwhile, those that stood there."""
+        with open(self.path + ".new", "w", encoding="latin-1") as file:
+            file.writelines(command + "\n" for command in commands)
+            file.flush()
+            os.fsync(file.fileno())
+        os.replace(self.path + ".new", self.path)
+        self.written = commands
+
+
+def main():
+    words = arguments(__doc__)
+    words.add_argument("file", metavar="FILE")
+    words.add_argument("--power", action="store_true", help="keep power too")
+    words.add_argument("--rest", type=float, default=1.0, metavar="SECONDS",
+                       help="from one writing to the next (%(default)s)")
+    run(Keeper(words.parse_args()).run())
+
+
+if __name__ == "__main__":
+    main()

@@ -1,0 +1,236 @@
+#!/usr/bin/env python3
+"""Shows the registry at an MQTT broker, one retained message for each row, and takes commands from topics with /set.
+
+PREFIX is `srcp` if not told otherwise. One value is a plain word, several are a JSON object:
+
+  PREFIX/online                offline while this program, or the server, is away (last will)
+  PREFIX/1/POWER               ON or OFF; its text, if there is one, at PREFIX/1/POWER/text
+  PREFIX/1/GL/3                {"mode": 1, "v": 40, "v_max": 126, "functions": [1, 0]}
+  PREFIX/1/GL/3/is             {"protocol": "N", "version": 1, "steps": 126, "functions": 2}
+  PREFIX/1/GL/3/lock           {"seconds": 0, "session": 7}; so PREFIX/1/GA/5/lock
+  PREFIX/1/GA/5/0, ../1        0 or 1, port by port; which was put to last at PREFIX/1/GA/5/position
+  PREFIX/1/GA/5/is             N
+  PREFIX/1/FB/7                0 or 1
+  PREFIX/0/SESSION/4           COMMAND or INFO
+
+To PREFIX/stop/set goes anything: all locomotives make an emergency stop. To PREFIX/1/POWER/set, 1/FB/7/set and
+1/GA/5/1/set go ON, OFF, 1 or 0; to 1/GA/5/position/set the port; to 1/GL/3/set a speed, or any of the members above as
+JSON (`functions` as a list, or as {"2": 1}), and what is left out stays; to 1/GL/3/is/set the words of an INIT
+(`N 1 126 5`), and nothing for TERM. What is refused is told at PREFIX/error. Retained commands are not carried out.
+"""
+import asyncio
+import json
+import os
+import sys
+
+from program import arguments, names, run, say
+from srcp import Mirror, Refused, keys_of
+from stop import stop_all
+from topics import announced, commands_for, device_of, node, shown
+
+try:
+    import paho.mqtt.client as paho
+except ImportError:
+    sys.exit("-- mqtt.py needs paho-mqtt: apt install python3-paho-mqtt")
+
+MOMENT = 0.3  # seconds until what the broker has and the registry has not is looked at again
+READING = 15.0  # seconds that the reading of what the broker has may take
+LONGEST = 1000  # bytes of a command
+WAITING = 1000  # commands that may wait
+
+
+class Bridge:
+    """`wanted` has what the broker is to show, `there` what it shows, as far as is known; both by topic."""
+
+    def __init__(self, asked):
+        self.asked, self.prefix, self.wanted, self.there = asked, asked.prefix.strip("/") + "/", {}, {}
+        self.node, self.names = node(self.prefix), names(asked.names)
+        self.client, self.following = None, False
+        self.orders, self.urgent = asyncio.Queue(WAITING), asyncio.Queue(WAITING)
+        self.mirror = Mirror(asked, self.told, lambda anew: self.online(), self.online)
+
+    def told(self, change):
+        for place, payload in shown(self.mirror.rows, change.key).items():
+            self.want(self.prefix + place, payload, place.endswith(("/position", "/text")))
+        if self.asked.home_assistant and (found := announced(self.mirror.rows, change.key, self.prefix, self.names)):
+            self.want(f"{self.asked.home_assistant}/{found[0]}/config", found[1], True)
+
+    def want(self, topic, payload, once):
+        """Has the broker show a payload; `once`: not again, if it shows that already."""
+        self.wanted[topic] = payload
+        if not payload:
+            del self.wanted[topic]
+        if not once or self.there.get(topic) != self.wanted.get(topic):
+            self.put(topic)
+
+    def put(self, topic):
+        """Has the broker show what is wanted at a topic; an empty message takes out what is retained."""
+        payload = self.wanted.get(topic, "")
+        if self.following and (payload or topic in self.there):
+            self.client.publish(topic, payload, qos=1, retain=True)
+            self.there[topic] = payload
+            if not payload:
+                del self.there[topic]
+
+    def online(self):
+        if self.following:
+            now = "online" if self.mirror.here else "offline"
+            return self.client.publish(self.prefix + "online", now, qos=1, retain=True)
+
+    async def clear(self):
+        """Takes out what the broker shows and the registry has not; of what is not listed (yet) the server is asked."""
+        while stale := [topic for topic in self.there if topic not in self.wanted]:
+            try:
+                for topic in stale:
+                    device = device_of(self.place(topic))
+                    listed = device and any(key in self.mirror.rows for key in keys_of(device))
+                    if not device or listed or self.mirror.here and not await self.mirror.has(device):
+                        self.put(topic)
+            except OSError:
+                pass  # the server has gone meanwhile
+            await asyncio.sleep(MOMENT)
+
+    def place(self, topic):
+        """Returns a topic without what comes before its bus."""
+        if topic.startswith(self.prefix):
+            return topic.removeprefix(self.prefix)
+        return topic.split("/")[-2].replace("_", "/")
+
+    async def carry_out(self, orders):
+        """Carries out the commands that come, one after the other."""
+        while True:
+            place, text = await orders.get()
+            try:
+                if not self.mirror.here:
+                    raise Refused("the server is away")
+                if place == "stop" and (faults := await stop_all(self.mirror)):
+                    raise Refused("; ".join(faults))
+                for command in commands_for(self.mirror.rows, place, text) if place != "stop" else ():
+                    await self.mirror.session.ask(command)
+            except Exception as fault:  # whatever was sent, this program goes on
+                self.refused(place, text, fault)
+
+    def refused(self, place, text, fault):
+        if self.following:
+            words = {"topic": f"{self.prefix}{place}", "payload": text[:LONGEST], "reply": str(fault)}
+            self.client.publish(self.prefix + "error", json.dumps(words))
+
+    def heard(self, topic, payload, retained):
+        if not any(paho.topic_matches_sub(levels, topic) for levels, _ in self.all_topics()):
+            return  # nobody asked for it
+        text, place = payload.decode("utf-8", "replace").strip(), self.place(topic)
+        if topic == self.prefix + "mark":
+            self.marked.set()
+        elif topic == self.prefix + "online":
+            if text == "offline" and self.mirror.here:
+                self.online()  # it was the last will of a connection before this one
+        elif retained and not self.following and not topic.endswith("/set"):
+            self.there[topic] = text
+        elif topic.startswith(self.prefix) and topic.endswith("/set") and not retained:
+            place = place.removesuffix("/set")
+            orders = self.urgent if place == "stop" or place.endswith("/POWER") else self.orders
+            if len(payload) > LONGEST or orders.full():
+                self.refused(place, text, "too long" if len(payload) > LONGEST else "too many commands wait")
+            else:
+                orders.put_nowait((place, text))
+
+    def connect(self, loop, lost, joined):
+        """Connects a client. It runs in a thread of its own, and hands all that comes to this one."""
+        def came(client, data, message):
+            try:
+                loop.call_soon_threadsafe(self.heard, message.topic, message.payload, message.retain)
+            except UnicodeDecodeError:
+                pass  # no topic of ours
+
+        version = [paho.CallbackAPIVersion.VERSION1] if hasattr(paho, "CallbackAPIVersion") else []
+        client = paho.Client(*version, client_id=self.node + "-bridge", clean_session=True)
+        client.will_set(self.prefix + "online", "offline", qos=1, retain=True)
+        if self.asked.user:
+            client.username_pw_set(self.asked.user, os.environ.get("MQTT_PASSWORD"))
+        if self.asked.tls:
+            client.tls_set()
+        client.max_queued_messages_set(0)
+        client.on_message = came
+        client.on_connect = lambda _, __, ___, code: loop.call_soon_threadsafe(lost.set if code else joined.set)
+        client.on_disconnect = lambda *_: loop.call_soon_threadsafe(lost.set)
+        client.connect(self.asked.broker, self.asked.broker_port, keepalive=10)
+        client.loop_start()
+        return client
+
+    async def follow(self):
+        """One connection to the broker: reads what it shows, has it show what is wanted, until it is lost."""
+        joined, self.lost, self.marked, self.there = asyncio.Event(), asyncio.Event(), asyncio.Event(), {}
+        client = self.client = await asyncio.to_thread(self.connect, asyncio.get_running_loop(), self.lost, joined)
+        clearing = None
+        try:
+            await self.comes(joined)
+            client.subscribe(self.all_topics())
+            client.publish(self.prefix + "mark", "read")
+            await self.comes(self.marked)
+            self.begin(client)
+            clearing = asyncio.create_task(self.clear())
+            await self.lost.wait()
+            raise ConnectionError("closed the connection")
+        finally:
+            if clearing:
+                clearing.cancel()
+            if self.following and not self.lost.is_set():  # this program is ended
+                client.publish(self.prefix + "online", "offline", qos=1, retain=True).wait_for_publish(1)
+            self.following = False
+            client.disconnect()
+            await asyncio.to_thread(client.loop_stop)
+
+    def all_topics(self):
+        """QoS 0: of 1 mosquitto sends 1,000 messages and drops the others."""
+        discovery = [(f"{self.asked.home_assistant}/+/{self.node}/+/config", 0)] if self.asked.home_assistant else []
+        return [(self.prefix + "#", 0), *discovery]
+
+    async def comes(self, event):
+        """Waits for what has to come from the broker."""
+        waits = [asyncio.create_task(each.wait()) for each in (event, self.lost)]
+        await asyncio.wait(waits, timeout=READING, return_when=asyncio.FIRST_COMPLETED)
+        for each in waits:
+            each.cancel()
+        if not event.is_set():
+            raise ConnectionError("closed or refused the connection, or does not answer")
+
+    def begin(self, client):
+        """What the broker shows is known: has it show what is wanted, and takes commands from now on."""
+        say(f"broker: joined; it had {len(self.there)} topics")
+        client.unsubscribe([topic for topic, _ in self.all_topics()])
+        sets = [f"{self.prefix}{levels}set" for levels in ("+/", "+/+/", "+/+/+/", "+/+/+/+/")]
+        client.subscribe([(topic, 1) for topic in [*sets, self.prefix + "online"]])
+        self.following = True
+        for topic, payload in self.wanted.items():
+            if self.there.get(topic) != payload:
+                self.put(topic)
+        self.online()
+
+    async def keep_broker(self):
+        while True:
+            try:
+                await self.follow()
+            except (OSError, ValueError) as fault:
+                say(f"broker: {fault}")
+            await asyncio.sleep(self.asked.again)
+
+    async def run(self):
+        carry_out = self.carry_out(self.urgent), self.carry_out(self.orders)
+        await asyncio.gather(self.mirror.run(), self.keep_broker(), *carry_out)
+
+
+def main():
+    words = arguments(__doc__)
+    words.add_argument("--broker", default="127.0.0.1", metavar="HOST", help="where the broker is (%(default)s)")
+    words.add_argument("--broker-port", type=int, default=1883, metavar="PORT", help="its port (%(default)s)")
+    words.add_argument("--prefix", default="srcp", help="what all topics begin with (%(default)s)")
+    words.add_argument("--home-assistant", nargs="?", const="homeassistant", metavar="PREFIX",
+                       help="announce all devices to Home Assistant, below its PREFIX (homeassistant)")
+    words.add_argument("--names", metavar="FILE", help="names of devices, for Home Assistant")
+    words.add_argument("--user", help="its password is taken from the environment: MQTT_PASSWORD")
+    words.add_argument("--tls", action="store_true", help="encrypt, and trust the authorities that this machine trusts")
+    run(Bridge(words.parse_args()).run())
+
+
+if __name__ == "__main__":
+    main()

@@ -1,0 +1,44 @@
+"""The cases of the programs in bridges/: each is a test of one of the classes below, by the name bridge-PROGRAM-TEST.
+
+They wait most of the time, so `run_cases.py` runs them beside each other. One that needs what is not installed raises
+TriedNothing.
+"""
+import unittest
+
+from . import common
+
+
+class TriedNothing(Exception):
+    """What a case needs is not installed here."""
+
+
+def case_of(kind, method):
+    """The case that a test is: a function of the built server that returns why it fails, or None."""
+    def case(program):
+        common.SERVER, result = program, unittest.TestResult()
+        kind(method).run(result)
+        if result.skipped:
+            raise TriedNothing(result.skipped[0][1])
+        faults = result.failures + result.errors
+        return " | ".join(faults[0][1].strip().splitlines()[-3:]) if faults else None
+
+    case.__name__ = f"bridge_{kind.program}_{method.removeprefix('test_')}"
+    return case
+
+
+def cases_of(*kinds):
+    return tuple(case_of(kind, method) for kind in kinds for method in unittest.defaultTestLoader.getTestCaseNames(kind))
+
+
+from .test_dcc_ex import DccEx  # noqa: E402
+from .test_guard import Guard  # noqa: E402
+from .test_keep import Keep  # noqa: E402
+from .test_mqtt import (Mqtt, MqttForHomeAssistant, MqttWithAWrongBroker, MqttWithPersistence,  # noqa: E402
+                        Payloads)
+from .test_readme import Readme  # noqa: E402
+from .test_srcp import Following, Parsing  # noqa: E402
+from .test_web import Web, WebInChromium, WebThatSleeps, WebWithAWord  # noqa: E402
+from .test_withrottle import WiThrottle  # noqa: E402
+
+BRIDGE_CASES = cases_of(Readme, Following, MqttWithAWrongBroker, Mqtt, MqttForHomeAssistant, MqttWithPersistence, Payloads,
+                        WebInChromium, Web, WebThatSleeps, WebWithAWord, WiThrottle, DccEx, Guard, Keep, Parsing)

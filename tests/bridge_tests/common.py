@@ -1,0 +1,298 @@
+"""What the cases of bridges/ share: a server, the programs, a way between that can be cut, and waiting for what comes."""
+import itertools
+import os
+import signal
+import socket
+import subprocess
+import sys
+import tempfile
+import threading
+import time
+import unittest
+from pathlib import Path
+
+TOP = Path(__file__).resolve().parent.parent.parent
+PROGRAMS = Path(os.environ.get("SRCP_PROGRAMS", TOP / "bridges"))
+SERVER = None  # the built program; the case that runs sets it
+PACKAGES = "/usr/lib/python3/dist-packages"  # where Debian has paho, which another python3 does not look through
+LAYOUT = """port = {port}
+[[bus]]
+number = 1
+groups = ["POWER", "GL", "GA", "FB"]
+gl_max = 10239
+ga_max = 2044
+fb_ports = 32
+[[bus]]
+number = 2
+groups = ["GA", "FB"]
+ga_max = 12
+ga_ports = 4
+fb_ports = 16
+"""
+WAIT = 20.0  # seconds that a busy machine may take
+folder = tempfile.TemporaryDirectory()  # gone at the end, with all that the tests write
+ports = itertools.count(12000 + os.getpid() % 100 * 200)  # below those that the system gives to connections
+choosing = threading.Lock()
+sys.path[:0] = [str(PROGRAMS)]
+sys.path.append(PACKAGES)
+
+
+def free_port():
+    """A port that nobody listens at, and that no other test is given."""
+    with choosing:
+        for port in ports:
+            try:
+                socket.create_server(("127.0.0.1", port)).close()
+                return port
+            except OSError:
+                pass
+
+
+def new_folder():
+    return tempfile.mkdtemp(dir=folder.name)
+
+
+def connects(port):
+    try:
+        socket.create_connection(("127.0.0.1", port), 1).close()
+        return True
+    except OSError:
+        return False
+
+
+def until(true, what, seconds=WAIT):
+    end = time.monotonic() + seconds
+    while not true():
+        if time.monotonic() > end:
+            raise AssertionError(f"not within {seconds} s: {what}")
+        time.sleep(0.02)
+
+
+class Process:
+    """A program that was started here, and is ended by its id."""
+
+    def __init__(self, *words, **more):
+        self.log = os.path.join(new_folder(), "log")
+        with open(self.log, "w") as log:
+            self.process = subprocess.Popen([str(word) for word in words], stdout=log, stderr=log, **more)
+        self.pid = self.process.pid
+
+    def told(self):
+        return Path(self.log).read_text()
+
+    def send(self, number):
+        self.process.send_signal(number)
+
+    def end(self, number=signal.SIGTERM):
+        """Ends it; returns its exit status."""
+        if self.process.poll() is None:
+            self.process.send_signal(signal.SIGCONT)
+            self.process.send_signal(number)
+        return self.process.wait(WAIT)
+
+
+def interpreter(name):
+    """The python3 that runs a program: the one of these tests, or, if that has no paho, Debian's."""
+    if name != "mqtt.py":
+        return sys.executable
+    needs = "import sys, paho.mqtt.client; sys.exit(sys.version_info < (3, 11))"
+    for python in (sys.executable, "/usr/bin/python3"):
+        if os.path.exists(python) and subprocess.run([python, "-c", needs], capture_output=True).returncode == 0:
+            return python
+    return None
+
+
+def program(name, *words):
+    return Process(interpreter(name), PROGRAMS / name, *words, "--again", "0.1")
+
+
+class Server:
+    def __init__(self, layout=LAYOUT):
+        self.port = free_port()
+        self.config = os.path.join(new_folder(), "layout.toml")
+        Path(self.config).write_text(layout.format(port=self.port))
+        self.start()
+
+    def start(self):
+        self.process = Process(SERVER, "serve", "--config", self.config)
+        until(lambda: connects(self.port), "the server listens")
+
+    def stop(self):
+        self.process.end(signal.SIGKILL)
+
+    def restart(self):
+        self.stop()
+        self.start()
+
+
+class Session:
+    def __init__(self, port, mode="COMMAND"):
+        self.stream = socket.create_connection(("127.0.0.1", port), WAIT).makefile("rw", encoding="latin-1", newline="\n")
+        self.stream.readline()
+        self.ask(f"SET CONNECTIONMODE SRCP {mode}")
+        self.id = self.ask("GO").split()[-1]
+
+    def ask(self, command):
+        print(command, file=self.stream, flush=True)
+        return self.stream.readline().rstrip("\n").partition(" ")[2]
+
+    def order(self, *commands):
+        for command in commands:
+            if (reply := self.ask(command)) != "200 OK":
+                raise AssertionError(f"{command}: {reply}")
+
+    def flood(self, commands):
+        """Sends many commands, 100 at once."""
+        for begin in range(0, len(commands), 100):
+            some = commands[begin:begin + 100]
+            print("\n".join(some), file=self.stream, flush=True)
+            for _ in some:
+                self.stream.readline()
+
+    def close(self):
+        self.stream.close()
+
+
+def rows(port):
+    """A snapshot: a panel that half-closes is sent its whole listing, and then the end. Lines without stamps."""
+    with socket.create_connection(("127.0.0.1", port), WAIT) as connection:
+        connection.sendall(b"SET CONNECTIONMODE SRCP INFO\nGO\n")
+        connection.shutdown(socket.SHUT_WR)
+        text = b""
+        while more := connection.recv(65536):
+            text += more
+    return [line.partition(" ")[2] for line in text.decode("latin-1").split("\n")[3:-1]]
+
+
+def parsed(lines):
+    """Rows by their keys, without stamps, and without sessions: of these the snapshot is one."""
+    import srcp
+    found = dict(srcp.parse("0 " + line) for line in lines)
+    return {key: row for key, row in found.items() if key[1] != "SESSION"}
+
+
+class Way:
+    """A way to the server that loses panels as an overrun does.
+
+    `cut` closes them in the middle of a line and holds new ones back until `free`. Command sessions are passed on as
+    they are. `listed`: so many bytes of a listing pass, and half a second later it is cut.
+    """
+
+    def __init__(self, server):
+        self.server, self.port, self.panels, self.open = server, free_port(), [], threading.Event()
+        self.listed, self.cuts = None, 0
+        self.open.set()
+        self.door = socket.create_server(("127.0.0.1", self.port))
+        threading.Thread(target=self.accept, daemon=True).start()
+
+    def accept(self):
+        while True:
+            try:
+                client = self.door.accept()[0]
+            except OSError:
+                return
+            threading.Thread(target=self.serve, args=(client,), daemon=True).start()
+
+    def serve(self, client):
+        try:
+            upstream = socket.create_connection(("127.0.0.1", self.server.port))
+        except OSError:
+            return client.close()
+        threading.Thread(target=self.up, args=(client, upstream), daemon=True).start()
+        try:
+            passed = 0
+            while more := upstream.recv(65536):
+                cuts = client in self.panels and self.listed is not None
+                more = more[:self.listed - passed] if cuts else more
+                client.sendall(more)
+                passed += len(more)
+                if cuts and passed >= self.listed:
+                    self.cuts += 1
+                    time.sleep(0.5)
+                    break
+        except OSError:
+            pass
+        self.close(client, upstream)
+
+    def up(self, client, upstream):
+        try:
+            while more := client.recv(65536):
+                if b"INFO" in more and b"MODE" in more:
+                    self.panels.append(client)
+                    self.open.wait()
+                upstream.sendall(more)
+        except OSError:
+            pass
+        self.close(client, upstream)
+
+    def close(self, *ends):
+        for end in ends:
+            try:
+                end.shutdown(socket.SHUT_RDWR)
+            except OSError:
+                pass
+
+    def cut(self):
+        self.open.clear()
+        for panel in self.panels:
+            try:
+                panel.sendall(b"1795358500.120 100 INFO 1 GL 3 1 9")  # no LF
+            except OSError:
+                pass
+            self.close(panel)
+        self.panels.clear()
+
+    def free(self):
+        self.open.set()
+
+    def end(self):
+        self.free()
+        self.close(self.door)
+
+
+class Case(unittest.TestCase):
+    """A test with a server of its own, a throttle at it, and a way between the server and the program."""
+    program = None  # the name that its cases have
+    layout = LAYOUT
+
+    def setUp(self):
+        self.server = Server(self.layout)
+        self.addCleanup(lambda: self.server.stop())
+        self.throttle, self.way = Session(self.server.port), Way(self.server)
+        self.addCleanup(self.way.end)
+
+    def starts(self, name, *words, port=None):
+        started = program(name, *words, "--port", port or self.server.port)
+        self.addCleanup(started.end, signal.SIGKILL)
+        return started
+
+    def has(self, *wanted):
+        """Waits until the server has rows that begin so."""
+        for begin in wanted:
+            until(lambda: any(row.startswith(begin) for row in rows(self.server.port)), begin)
+
+    def lacks(self, *unwanted):
+        for begin in unwanted:
+            until(lambda: not any(row.startswith(begin) for row in rows(self.server.port)), f"no {begin}")
+
+    def restart(self):
+        self.server.restart()
+        self.throttle = Session(self.server.port)
+
+    def overruns(self, started, *commands):
+        """Has a program sleep until the server has closed its panel, and then go on; the last commands come while it
+        sleeps. What comes before fills all that the system keeps for a panel that does not read."""
+        def panels():
+            return sum(" SESSION " in row and row.endswith(" INFO") for row in rows(self.server.port))
+
+        self.throttle.order("INIT 1 GL 9999 N 1 28 29")
+        before, joined = panels(), started.told().count("server: joined, as before")
+        started.send(signal.SIGSTOP)
+        busy = ["SET 1 GL 9999 1 5 28 " + " ".join("1" * 29)] * 20000
+        end = time.monotonic() + 2 * WAIT
+        while panels() == before and time.monotonic() < end:
+            self.throttle.flood(busy)
+        self.assertLess(panels(), before)
+        self.throttle.order(*commands, "TERM 1 GL 9999")
+        started.send(signal.SIGCONT)
+        until(lambda: started.told().count("server: joined, as before") > joined, "it has joined again")

@@ -1,0 +1,346 @@
+"""mqtt.py with the real mosquitto, where it is installed."""
+import json
+import os
+import shutil
+import signal
+import socket
+import threading
+import time
+import unittest
+from pathlib import Path
+
+from .common import WAIT, Case, Process, Session, connects, free_port, interpreter, new_folder, rows, until
+
+try:
+    import paho.mqtt.client as paho
+except ImportError:
+    paho = None
+MOSQUITTO = shutil.which("mosquitto", path=os.environ["PATH"] + ":/usr/sbin")
+IS_THERE = unittest.skipUnless(paho and MOSQUITTO and interpreter("mqtt.py"), "mosquitto or python3-paho-mqtt is not installed")
+
+
+class Broker:
+    def __init__(self, *more, port=None):
+        self.folder, self.port = new_folder(), port or free_port()
+        lines = [f"listener {self.port} 127.0.0.1", "allow_anonymous true", "log_type none", "user root", *more, ""]
+        Path(self.folder, "conf").write_text("\n".join(lines).format(folder=self.folder))
+        self.start()
+
+    def start(self):
+        self.process = Process(MOSQUITTO, "-c", os.path.join(self.folder, "conf"))
+        until(lambda: connects(self.port), "the broker listens")
+
+    def stop(self):
+        self.process.end(signal.SIGKILL)
+
+
+class Client:
+    """Follows topics; `topics` has what was retained or came since, `came` all payloads in order by topic."""
+
+    def __init__(self, port, *levels):
+        self.topics, self.came, self.levels = {}, {}, levels or ("srcp/#", "homeassistant/#")
+        version = [paho.CallbackAPIVersion.VERSION1] if hasattr(paho, "CallbackAPIVersion") else []
+        self.client = paho.Client(*version)
+        self.client.on_message = self.take
+        self.client.on_connect = lambda *_: self.client.subscribe([(level, 0) for level in self.levels])
+        self.client.reconnect_delay_set(0.1, 0.1)
+        self.client.connect("127.0.0.1", port)
+        self.client.loop_start()
+
+    def take(self, client, data, message):
+        payload = message.payload.decode(errors="replace")
+        self.came.setdefault(message.topic, []).append(payload)
+        if payload:
+            self.topics[message.topic] = payload
+        else:
+            self.topics.pop(message.topic, None)
+
+    def say(self, topic, payload, retain=False):
+        until(self.client.is_connected, "connected")
+        self.client.publish(topic, payload, qos=1, retain=retain).wait_for_publish(WAIT)
+
+    def close(self):
+        self.client.disconnect()
+        self.client.loop_stop()
+
+
+def retained(port):
+    """What a client that comes now is sent: a mark of its own tells where it ends."""
+    client = Client(port)
+    mark = f"srcp/mark/{id(client)}"
+    client.say(mark, "x")
+    until(lambda: mark in client.topics, "the mark")
+    client.close()
+    return {topic: payload for topic, payload in client.topics.items() if not topic.startswith("srcp/mark")}
+
+
+def registry(port):
+    """What the broker should retain, from a snapshot of the server; made here anew."""
+    wanted, snapshot = {}, rows(port)
+    snapshot.remove([row for row in snapshot if " SESSION " in row][-1])  # its own session
+    for row in snapshot:
+        code, _, bus, group, *words = row.split(" ")
+        n = words[0] if words else None
+        if group == "SESSION":
+            wanted[f"{bus}/SESSION/{n}"] = words[1]
+        elif group == "POWER":
+            wanted[f"{bus}/POWER"] = words[0]
+            if words[1:]:
+                wanted[f"{bus}/POWER/text"] = " ".join(words[1:])
+        elif group == "FB" or group == "GA" and code == "100":
+            wanted["/".join([bus, group, *words[:-1]])] = words[-1]
+        elif group == "GA":
+            wanted[f"{bus}/GA/{n}/is"] = words[1]
+        elif group == "LOCK":
+            wanted[f"{bus}/{n}/{words[1]}/lock"] = {"seconds": int(words[2]), "session": int(words[3])}
+        elif group == "GL" and code == "101":
+            members = ["protocol", "version", "steps", "functions"]
+            values = [words[1], *map(int, words[2:])]
+            wanted[f"{bus}/GL/{n}/is"] = dict(zip(members, values))
+        elif group == "GL":
+            mode, v, v_max, *functions = map(int, words[1:])
+            wanted[f"{bus}/GL/{n}"] = {"mode": mode, "v": v, "v_max": v_max, "functions": functions}
+    return {"srcp/" + topic: payload for topic, payload in wanted.items()}
+
+
+def loaded(topics):
+    """Payloads with the JSON among them as objects."""
+    return {topic: json.loads(payload) if payload.startswith("{") else payload for topic, payload in topics.items()}
+
+
+class Payloads(unittest.TestCase):
+    program = "mqtt"
+
+    def test_payloads(self):
+        import srcp
+        from topics import commands_for
+        table = {(1, "GL", 3, "is"): srcp.Locomotive(0, "N", 1, 28, 2), (1, "GL", 3, "does"): srcp.Drive(0, 0, 9, 0, (1, 0)),
+                 (1, "GA", 5, "is"): srcp.Accessory(0, "N"), (1, "GA", 5, 0): srcp.Port(1, 1), (1, "GA", 5, 1): srcp.Port(0, 0)}
+        for place, text, commands in [
+            ("1/POWER", "ON main line", ["SET 1 POWER ON main line"]), ("1/FB/7", "on", ["SET 1 FB 7 1"]),
+            ("1/GL/3", "12", ["SET 1 GL 3 0 12 28"]), ("1/GL/3", '{"mode": 1}', ["SET 1 GL 3 1 9 28"]),
+            ("1/GL/3", '{"functions": {"1": true}}', ["SET 1 GL 3 0 9 28 1 1"]),
+            ("1/GL/3", '{"functions": [0], "v": 0, "v_max": 5}', ["SET 1 GL 3 0 0 5 0"]),
+            ("1/GL/4/is", "N 1 28 5", ["INIT 1 GL 4 N 1 28 5"]), ("1/GL/4/is", "", ["TERM 1 GL 4"]),
+            ("1/GA/5/1", "OFF", ["SET 1 GA 5 1 0 -1"]), ("1/GA/5/1", "1 20", ["SET 1 GA 5 1 1 20"]),
+            ("1/GA/5/position", "1", ["SET 1 GA 5 0 0 -1", "SET 1 GA 5 1 1 250"]),
+        ]:
+            self.assertEqual(commands_for(table, place, text), commands)
+        for place, text in [("0/SESSION/4/is", ""), ("1/GL/x", "1"), ("1/GL/3", "["), ("1/GL/3/lock", "1"), ("1/SM/3", "1"),
+                            ("x/POWER", "ON"), ("1", "1"), ("1/GL/3", '{"v": Infinity}'), ("1/GL/3", "[" * 5000)]:
+            with self.assertRaises(Exception, msg=place):
+                commands_for(table, place, text)
+
+
+@IS_THERE
+class MqttCase(Case):
+    program = "mqtt"
+    broker_words, words = (), ()
+
+    def setUp(self):
+        super().setUp()
+        self.broker = Broker(*self.broker_words)
+        self.addCleanup(lambda: self.broker.stop())
+        self.throttle.order("SET 1 POWER ON main line", "INIT 1 GL 3 N 1 28 2", "SET 1 GL 3 1 9 28 1", "SET 1 LOCK GL 3 0",
+                            "INIT 1 GA 5 N", "SET 1 GA 5 1 1 20", "INIT 2 GA 7 N")
+        self.start()
+        self.client = Client(self.broker.port)
+        self.addCleanup(self.client.close)
+        self.equal("the first listing")
+
+    def start(self):
+        self.bridge = self.starts("mqtt.py", "--broker-port", self.broker.port, *self.words, port=self.way.port)
+        until(lambda: "broker: joined" in self.bridge.told() and "server: joined" in self.bridge.told(), "the bridge is there")
+
+    def shows(self):
+        """Whether the broker retains what the registry has, and nothing else."""
+        has_now = retained(self.broker.port)
+        topics = {topic: payload for topic, payload in has_now.items() if topic.startswith("srcp/")
+                  and not topic.endswith(("/position", "/online"))}
+        return loaded(topics) == registry(self.server.port) and has_now.get("srcp/online") == "online"
+
+    def equal(self, what):
+        until(self.shows, what)
+
+    def change(self):
+        self.throttle.order("TERM 1 GA 5", "INIT 1 GL 4 N 1 28 5", "SET 1 FB 4 1", "SET 1 GL 3 1 5 28 0")
+
+
+class Mqtt(MqttCase):
+    def test_follows(self):
+        self.assertEqual(self.client.topics["srcp/1/GA/5/position"], "1")
+        self.throttle.order("SET 1 GA 5 0 1 20", "INIT 1 GL 3 N 1 28 5", "SET 1 FB 4 1", "SET 1 POWER OFF", "TERM 2 GA 7")
+        until(lambda: self.client.topics.get("srcp/1/GA/5/position") == "0", "the turnout")
+        self.throttle.order("TERM 1 GA 5")
+        self.equal("changes and removals")
+        until(lambda: "srcp/1/GA/5/position" not in self.client.topics, "no position")
+        self.throttle.order(*["SET 1 FB 4 1"] * 10)
+        until(lambda: self.client.came["srcp/1/FB/4"][-10:] == ["1"] * 10, "equal SETs are changes")
+
+    def test_commands(self):
+        self.throttle.order("TERM 1 LOCK GL 3")
+        for topic, payload, row in [
+            ("1/GL/3", "14", "100 INFO 1 GL 3 1 14 28 1 0"), ("1/GL/3", '{"mode": 0, "functions": {"1": 1}}', "100 INFO 1 GL 3 0 14 28 1 1"),
+            ("1/POWER", "OFF", "100 INFO 1 POWER OFF"), ("1/FB/7", "ON", "100 INFO 1 FB 7 1"),
+            ("1/GL/8/is", "N 1 28 5", "101 INFO 1 GL 8 N 1 28 5"), ("2/GA/7/3", "1", "100 INFO 2 GA 7 3 1"),
+            ("1/GA/5/position", "0", "100 INFO 1 GA 5 0 1"), ("stop", "now", "100 INFO 1 GL 3 2 0 28 1 1"),
+        ]:
+            self.client.say(f"srcp/{topic}/set", payload)
+            self.has(row)
+        self.client.say("srcp/1/GL/8/is/set", "")
+        self.lacks("101 INFO 1 GL 8")
+        self.client.say("srcp/1/FB/9/set", "1", retain=True)
+        self.has("100 INFO 1 FB 9 1")
+        self.throttle.order("SET 1 FB 9 0")
+        self.bridge.end(signal.SIGKILL)
+        self.start()
+        time.sleep(0.3)
+        self.has("100 INFO 1 FB 9 0")
+        self.client.say("srcp/1/FB/9/set", "", retain=True)
+
+    def test_what_is_refused(self):
+        """Whatever is sent reaches no train, ends nothing, and is told; power is behind none of it."""
+        wrong = [("1/GL/99", "5"), ("1/GL/3", "{"), ("1/POWER", "ON\nSET 1 FB 1 1"), ("1/GL/x", "1"), ("1/GL/3", "[]"),
+                 ("1/GL/3", "null"), ("1/GL/3", '{"v": Infinity}'), ("1/GL/3", "[" * 900), ("1/GL/3", "x" * 10_000_000),
+                 ("0/SESSION/1/is", ""), ("1/GL/3", b"\xff\xfe"), ("x", "1"), ("1/GL/3", '{"functions": 5}'), ("1/GL/3", "-1"),
+                 ("1/GL/3 1 9 28", "1"), ("1/GL/3", '{"v": "9\\nSET 1 POWER OFF"}')]
+        for topic, payload in wrong:
+            self.client.say(f"srcp/{topic}/set", payload)
+        until(lambda: len(self.client.came.get("srcp/error", [])) == len(wrong), "what is refused is told")
+        self.has("100 INFO 1 POWER ON main line", "100 INFO 1 GL 3 1 9 28 1 0", "100 INFO 1 FB 1 0")
+        self.server.process.send(signal.SIGSTOP)
+        for n in range(3000):
+            self.client.client.publish("srcp/1/FB/9/set", str(n % 2), qos=0)
+        self.client.say("srcp/1/POWER/set", "OFF")
+        self.server.process.send(signal.SIGCONT)
+        self.has("100 INFO 1 POWER OFF")
+        until(lambda: "too many commands wait" in "".join(self.client.came["srcp/error"]), "too many are refused")
+        self.client.say("srcp/1/FB/8/set", "1")
+        self.has("100 INFO 1 FB 8 1")
+        self.assertIsNone(self.bridge.process.poll())
+
+    def test_killed_and_ended(self):
+        self.bridge.end(signal.SIGKILL)
+        until(lambda: self.client.topics["srcp/online"] == "offline", "the last will")
+        self.change()
+        self.client.say("srcp/1/GL/77", "stale", retain=True), self.client.say("srcp/no/such", "stale", retain=True)
+        self.start()
+        self.equal("a bridge again")
+        self.assertEqual(self.bridge.end(), 0)
+        until(lambda: self.client.topics["srcp/online"] == "offline", "offline")
+
+    def test_server(self):
+        self.server.stop()
+        until(lambda: self.client.topics["srcp/online"] == "offline", "offline")
+        self.server.start()
+        self.equal("a server that was started anew")
+        self.throttle = Session(self.server.port)
+        self.throttle.order("INIT 1 GL 9 N 1 28 5")
+        self.equal("and goes on")
+
+    def test_overrun(self):
+        self.way.cut()
+        self.change()
+        self.way.free()
+        self.equal("an overrun")
+
+    def test_a_real_overrun(self):
+        self.overruns(self.bridge, "TERM 1 GA 5", "INIT 1 GL 4 N 1 28 5", "SET 1 FB 4 1", "SET 1 GL 3 1 5 28 0")
+        self.equal("an overrun")
+
+    def test_broker(self):
+        self.broker.stop()
+        self.change()
+        time.sleep(0.3)
+        self.broker.start()
+        self.equal("a broker that lost all, or has what it had before")
+        self.client.say("srcp/1/FB/7/set", "1")
+        self.has("100 INFO 1 FB 7 1")
+
+    def test_many_topics(self):
+        """More than a broker's queue takes."""
+        self.throttle.flood([f"INIT 1 GA {n} N" for n in range(100, 900)])
+        self.equal("2,400 topics more")
+        self.bridge.end(signal.SIGKILL)
+        self.throttle.flood([f"TERM 1 GA {n}" for n in range(100, 900, 2)])
+        self.start()
+        self.equal("half of them gone while the bridge was away")
+
+
+class MqttWithPersistence(MqttCase):
+    broker_words = ("persistence true", "persistence_location {folder}/", "autosave_interval 1")
+
+    def test_a_broker_that_has_what_it_had_before(self):
+        time.sleep(1.3)  # something is saved
+        self.broker.stop()
+        self.change()
+        self.broker.start()
+        self.equal("the broker again")
+
+
+class MqttForHomeAssistant(MqttCase):
+    words = ("--home-assistant",)
+
+    def announced(self):
+        return {topic: json.loads(payload) for topic, payload in retained(self.broker.port).items() if topic.startswith("home")}
+
+    def test_what_it_learns(self):
+        self.throttle.order("TERM 1 LOCK GL 3")
+        until(lambda: len(self.announced()) == 1 + 1 + 1 + 1 + 32 + 16, "power, a locomotive, two accessories, and sensors")
+        found = self.announced()
+        for topic, words in found.items():
+            self.assertLessEqual({"name", "unique_id", "state_topic", "availability_topic"}, words.keys())
+            self.assertIn(words["state_topic"], self.client.topics | {"srcp/2/GA/7/position": ""})
+        self.assertEqual(found["homeassistant/select/srcp/2_GA_7/config"]["options"], ["0", "1", "2", "3"])
+        number = found["homeassistant/number/srcp/1_GL_3/config"]
+        self.client.say(number["command_topic"], number["command_template"].replace("{{ value | int }}", "50"))
+        self.has("100 INFO 1 GL 3 1 50 100")
+        switch = found["homeassistant/switch/srcp/1_POWER_0/config"]
+        self.client.say(switch["command_topic"], "OFF")
+        self.has("100 INFO 1 POWER OFF")
+        self.bridge.end(signal.SIGKILL)
+        self.client.say("homeassistant/switch/other/x/config", "{}", retain=True)
+        self.throttle.order("TERM 1 GL 3", "TERM 2 GA 7")
+        self.start()
+        until(lambda: len(self.announced()) == 50 + 1, "what went while it was away; others' stays")
+        self.throttle.order("TERM 1 GA 5")
+        until(lambda: len(self.announced()) == 49 + 1, "what goes")
+
+
+@unittest.skipUnless(paho and interpreter("mqtt.py"), "python3-paho-mqtt is not installed")
+class MqttWithAWrongBroker(Case):
+    program = "mqtt"
+
+    def serve(self, door):
+        """Accepts whoever comes, and sends what no broker sends: rubbish, or commands that nobody asked for."""
+        connected, granted = b"\x20\x02\0\0", b"\x90\x03\0\1\0"
+
+        def publish(topic, payload):
+            body = len(topic).to_bytes(2, "big") + topic + payload
+            return b"\x30" + bytes([len(body) % 128 + 128, len(body) // 128]) + body
+
+        unasked = [publish(topic, b"OFF") for topic in (b"1/POWER/set", b"POWER/set", b"\xff\xfe", b"", b"x", b"$SYS/1/POWER/set")]
+        for text in (os.urandom(5000), connected + os.urandom(5000), connected + b"\xff" * 5000, b"", connected + b"".join(unasked * 100),
+                     connected + granted + b"".join(unasked * 100) + publish(b"srcp/mark", b"read") + b"".join(unasked)):
+            try:
+                peer, _ = door.accept()
+                with peer:
+                    peer.settimeout(2)
+                    peer.recv(1000)
+                    peer.sendall(text)
+                    self.came += 1
+                    while peer.recv(1000):
+                        pass
+            except OSError:
+                pass
+        self.came = "all"
+
+    def test_what_nobody_asked_for(self):
+        self.came, broker = 0, socket.create_server(("127.0.0.1", free_port()))
+        self.addCleanup(broker.close)
+        self.throttle.order("SET 1 POWER ON")
+        threading.Thread(target=self.serve, args=(broker,), daemon=True).start()
+        bridge = self.starts("mqtt.py", "--broker-port", broker.getsockname()[1])
+        until(lambda: self.came == "all", "all was sent", 50)
+        self.has("100 INFO 1 POWER ON")
+        self.assertIsNone(bridge.process.poll())

@@ -1,0 +1,105 @@
+"""The commands of bridges/README.md, run as they stand there, and its units."""
+import os
+import re
+import shutil
+import unittest
+from contextlib import contextmanager
+from pathlib import Path
+
+import pages
+
+from . import common
+from .browser import CHROMIUM, Browser
+from .common import PACKAGES, PROGRAMS, free_port, new_folder, until
+from .test_mqtt import IS_THERE, Broker
+from .test_web import Events
+
+PAGE = "bridges/README.md"
+PORTS = ("8303", "8304", "12090", "1883")
+BROKER = "## Many displays"
+
+
+def at_the_page(port):
+    """What the page has its reader do in a browser: in Chromium, or, where there is none, as its script does."""
+    address = f"http://127.0.0.1:{port}/"
+    if not CHROMIUM:
+        page = Events(port)
+        page.order("INIT 1 GL 3 N 1 126 9", "SET 1 POWER ON", "SET 1 GL 3 1 60 126")
+        return lambda: page.post("", "/stop")
+    browser = Browser()
+    browser.opens(address)
+    card = "document.querySelector('li.card[data-key=\"1 GL 3\"] input')"
+    until(lambda: browser.run("document.querySelectorAll('#POWER button').length") == 2, "power of two buses")
+    browser.run("Object.assign(document.querySelector('#addGL [name=address]'), { value: 3 }).form.requestSubmit()")
+    until(lambda: browser.run(f"!!{card}"), "a throttle")
+    browser.run("document.querySelector('#POWER button').click()")
+    until(lambda: "on" in browser.run("document.querySelector('#POWER button').textContent.split(' ')"), "power")
+    browser.run(f"(s => {{ s.value = 60; s.oninput(); }})({card})")
+
+    def stops():
+        browser.run("document.getElementById('stop').click()")
+        until(lambda: "stand" in browser.run("document.getElementById('told').textContent"), "all stand")
+        browser.end()
+
+    return stops
+
+
+class Readme(unittest.TestCase):
+    program = "readme"
+
+    @contextmanager
+    def reader(self):
+        """One who has the repository with the program built, on a machine with other ports."""
+        with pages.reader_of_a_page(common.SERVER) as reader:
+            reader.ports |= {named: free_port() for named in PORTS}
+            shutil.copytree(PROGRAMS, reader.folder / "bridges", ignore=shutil.ignore_patterns("__pycache__"))
+            for file in (reader.folder / "bridges").glob("*.py"):
+                file.write_text(reader.at_ports(file.read_text()))
+            config = Path(new_folder())
+            for name in ("mosquitto_sub", "mosquitto_pub"):
+                (config / name).write_text(f"-p {reader.ports['1883']}\n")
+            reader.environment |= {"XDG_CONFIG_HOME": str(config), "PYTHONPATH": PACKAGES}
+            yield reader
+
+    def blocks(self):
+        """The blocks of the page before it comes to the broker, and those from there on."""
+        text = (common.TOP / PAGE).read_text()
+        parts = [[block.splitlines() for kind, block in pages.BLOCK.findall(part) if kind == "console"]
+                 for part in text.partition(BROKER)[::2]]
+        self.assertIsNone(pages.console_blocks(PAGE)[1])
+        return parts
+
+    def follows(self, reader, block):
+        self.assertIsNone(reader.follows(block))
+
+    def test_quarter_of_an_hour(self):
+        acts = [lambda: at_the_page(reader.ports["8303"])]
+        with self.reader() as reader:
+            for block in self.blocks()[0]:
+                is_running = not block[0].startswith("$ ")
+                if is_running:  # what was done in the browser in between
+                    acts.append(acts.pop(0)())
+                self.follows(reader, block)
+        self.assertEqual(len(acts), 1)
+
+    @IS_THERE
+    @unittest.skipUnless(shutil.which("mosquitto_sub"), "mosquitto-clients is not installed")
+    def test_broker(self):
+        with self.reader() as reader:
+            broker = Broker(port=reader.ports["1883"])
+            self.addCleanup(broker.stop)
+            serve, *blocks = self.blocks()[0][:1] + self.blocks()[1]
+            for block in [serve, *blocks]:
+                self.follows(reader, block)
+
+    def test_units(self):
+        """The units start programs that are there, and are as shut in as that of the server."""
+        unit = (PROGRAMS / "units" / "srcp_bridge@.service").read_text()
+        own = (common.TOP / "examples" / "srcp_server.service").read_text()
+        differ = {"RestrictAddressFamilies", "IPAddressAllow", "LimitNOFILE", "MemoryMax", "ExecStart"}
+        hard = {line for line in own.partition("[Service]")[2].splitlines() if "=" in line and not line.startswith("#")}
+        hard = {line for line in hard if line.partition("=")[0] not in differ}
+        self.assertEqual(hard - set(unit.splitlines()), set())
+        self.assertGreater(len(hard), 20)
+        for name in re.findall(r"`srcp_bridge@(\w+)`|srcp_bridge_(\w+)`", (common.TOP / PAGE).read_text()):
+            self.assertTrue((PROGRAMS / f"{''.join(name)}.py").exists(), name)
