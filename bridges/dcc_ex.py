@@ -24,7 +24,6 @@ AHEAD = 8  # commands that a station may have before it: then it is asked whethe
 TOP = 126  # the fastest step of a station
 UNSENT = 65536  # bytes that wait for a station that reads nothing; then its line is opened anew
 URGENT, STOPPING, DRIVING, LATER = range(4)
-STANDING = Drive(0, FORWARD, 0, 0, ())  # of a locomotive of which only the first of its two rows has come yet
 
 
 class Track:
@@ -57,7 +56,7 @@ class Track:
             if group == "POWER":
                 parts["power", 0] = (STOPPING, "1") if row.on else (URGENT, "0")
             elif (group, part) == ("GL", "is") and row.protocol in "NP":
-                drive = rows.get((self.bus, group, address, "does"), STANDING)
+                drive = rows.get((self.bus, group, address, "does"), Drive(0, FORWARD, 0, 0, ()))  # it comes second
                 parts["cab", address] = self.cab(address, drive, row.steps)
                 for number, value in enumerate(drive.functions):
                     if value or (number, address) in self.told:  # a station begins with all functions off

@@ -9,9 +9,10 @@ import socket
 import threading
 import time
 import unittest
+from pathlib import Path
 
 from .browser import CHROMIUM, Browser
-from .common import LAYOUT, WAIT, Case, connects, free_port, parsed, rows, until
+from .common import LAYOUT, WAIT, Case, connects, free_port, new_folder, parsed, rows, until
 
 
 class Events:
@@ -326,13 +327,23 @@ class WebWithAWord(WebCase):
 
 @unittest.skipUnless(CHROMIUM, "chromium is not installed")
 class WebInChromium(WebCase):
-    words = ("--silence", 5)
+    """With SRCP_PICTURES=FOLDER pictures of the page are put there; `panel.png` of them is the one in docs/."""
     layout = LAYOUT.replace("fb_ports = 32", "fb_ports = 500")
+    pictures = os.environ.get("SRCP_PICTURES")
 
     def setUp(self):
+        names = Path(new_folder(), "names.toml")
+        names.write_text('"1 GL 3" = "V 100"\n"1 GL 7" = "ICE 3"\n"1 GA 1" = "Yard west"\n"1 GA 2" = "Yard <b>east</b>"\n')
+        self.words = ("--silence", 5, "--names", names)
         super().setUp()
         self.browser = Browser()
         self.addCleanup(self.browser.end)
+
+    def picture(self, name, width, height, phone=False, dark=False):
+        self.browser.shows(width, height, phone, dark)
+        if self.pictures:
+            time.sleep(0.5)
+            self.browser.picture(f"{self.pictures}/{name}.png")
 
     def js(self, script):
         return self.browser.run(script)
@@ -391,6 +402,19 @@ class WebInChromium(WebCase):
         self.throttle.order("SET 1 POWER ON", "SET 1 GL 3 1 40 126 1 0 1", "SET 1 GL 7 0 22 126 1", "SET 1 GL 12 2 0 126",
                             "SET 1 LOCK GL 7 0")
 
+    def test_in_chromium_names(self):
+        self.throttle.order("SET 1 POWER ON", "INIT 1 GL 3 N 1 126 9", "SET 1 GL 3 1 40 126 1", "INIT 1 GL 7 N 1 126 5",
+                            "SET 1 GL 7 0 88 126 1 0 1", *[f"INIT 1 GA {n} N" for n in range(1, 5)], "SET 1 GA 1 1 1 -1",
+                            "SET 1 GA 2 0 1 -1", "SET 1 FB 3 1", "SET 1 FB 4 1")
+        self.browser.opens(f"http://127.0.0.1:{self.port}/")
+        until(lambda: self.has_card("1 GL 7") and self.has_card("1 GA 2"), "cards")
+        self.assertTrue(self.js(f"{self.card('1 GL 3')}.textContent").startswith("V 100 1 GL 3"))
+        self.assertTrue(self.js(f"{self.card('1 GA 2')}.textContent").startswith("Yard <b>east</b> 1 GA 2"))
+        self.picture("panel", 800, 600)
+        self.js("Object.assign(document.getElementById('find'), { value: 'ice' }).oninput()")
+        until(lambda: self.js(f"{self.card('1 GL 3')}.hidden && {self.card('1 GA 2')}.hidden"), "others are hidden")
+        self.assertFalse(self.js(f"{self.card('1 GL 7')}.hidden"))
+
     def test_in_chromium_a_large_layout(self):
         """Each control of a large layout has a name for a screen reader, is reached by Tab, and is seen well."""
         self.fill()
@@ -408,14 +432,10 @@ class WebInChromium(WebCase):
         for dark in (False, True):
             self.browser.shows(1280, 800, dark=dark)
             self.assertEqual(self.js(CONTRAST), [])
-        picture = os.environ.get("SRCP_PICTURES")
-        for name, width, height, phone, dark in [("wide", 1280, 800, False, False), ("phone", 390, 844, True, False),
-                                                 ("dark", 1280, 800, False, True), ("phone_dark", 390, 844, True, True)]:
-            self.browser.shows(width, height, phone, dark)
-            self.assertLessEqual(self.js("document.documentElement.scrollWidth - innerWidth"), 0, name)
-            if picture:
-                time.sleep(0.5)
-                self.browser.picture(f"{picture}/{name}.png")
+        for words in [("wide", 1280, 800), ("phone", 390, 844, True), ("dark", 1280, 800, False, True),
+                      ("phone_dark", 390, 844, True, True)]:
+            self.picture(*words)
+            self.assertLessEqual(self.js("document.documentElement.scrollWidth - innerWidth"), 0, words)
         self.assertEqual(self.browser.faults, [])
 
 
