@@ -1,0 +1,108 @@
+#!/usr/bin/env python3
+"""bench_bridges.py PROGRAM: measures the programs of bridges/ beside a built server, and prints a table.
+
+How long a command takes from a phone, and from a page, to a simulated station; how long a sensor takes from the station
+to a page; how long 200 subscribers (mosquitto_sub) wait for 5,000 changes; what each program costs while nothing
+happens, with one page, one phone and one display there. It needs mosquitto, mosquitto-clients and paho-mqtt.
+"""
+import os
+import re
+import signal
+import statistics
+import sys
+import time
+from pathlib import Path
+
+sys.path.insert(0, str(Path(__file__).resolve().parent.parent / "tests"))
+from bridge_tests import common, test_mqtt  # noqa: E402
+from bridge_tests.common import Process, until  # noqa: E402
+from soak_bridges import Evening  # noqa: E402
+
+TIMES, IDLE = 200, 20
+SUBSCRIBERS, CHANGES = 200, 5000
+
+
+def waited(act, true):
+    """Milliseconds until it is true."""
+    begun = time.perf_counter()
+    act()
+    while not true():
+        if time.perf_counter() > begun + 10:
+            raise AssertionError("not within 10 s")
+        time.sleep(0.0002)
+    return (time.perf_counter() - begun) * 1000
+
+
+def told(name, times):
+    print(f"| {name} | {statistics.median(times):.1f} ms; {max(times):.0f} ms at most, of {len(times)} |", flush=True)
+
+
+def cost(process):
+    """Seconds of processor that a process has used, and its MB of memory."""
+    ticks = Path(f"/proc/{process.pid}/stat").read_text().rpartition(")")[2].split()[11:13]
+    status = Path(f"/proc/{process.pid}/status").read_text()
+    return sum(map(int, ticks)) / os.sysconf("SC_CLK_TCK"), int(re.search(r"VmRSS:\s+(\d+)", status)[1]) / 1024
+
+
+def latencies(evening):
+    station, page = evening.station, evening.page
+    evening.phone.send("M0+S3<;>S3")
+    evening.throttle.order("INIT 1 GL 4 N 1 126 5")
+    until(lambda: 3 in station.cabs and 4 in station.cabs, "the station knows both")
+    told("phone to station", [waited(lambda: evening.phone.send(f"M0A*<;>V{v % 100 + 1}"), lambda: station.cabs[3][0] == v % 100 + 1)
+                              for v in range(TIMES)])
+    told("page to station", [waited(lambda: page.post(f"SET 1 GL 4 1 {v % 100 + 1} 126"), lambda: station.cabs[4][0] == v % 100 + 1)
+                             for v in range(TIMES)])
+    told("sensor to page", [waited(lambda: station.sensor(7, v % 2), lambda: page.rows[1, "FB", 7, "does"]["value"] == v % 2)
+                            for v in range(1, TIMES)])
+    told("STOP ALL to station", [waited(lambda: (page.post(f"SET 1 GL 4 1 {v + 1} 126"), page.post("", "/stop")),
+                                        lambda: station.cabs[4][0] == -1) for v in range(20)])
+
+
+def idle(evening):
+    processes = {"srcp_server": evening.server.process, "mosquitto": evening.broker.process} | {
+        name + ".py": process for name, process in evening.programs.items()}
+    before = {name: cost(process)[0] for name, process in processes.items()}
+    time.sleep(IDLE)
+    for name, process in processes.items():
+        seconds, memory = cost(process)
+        print(f"| `{name}` while nothing happens | {(seconds - before[name]) / IDLE:.2%} of a processor, {memory:.0f} MB |", flush=True)
+
+
+def many(evening):
+    """All subscribers get all changes, in order."""
+    words = ["mosquitto_sub", "-h", "127.0.0.1", "-p", evening.broker.port, "-t", "srcp/1/FB/+", "-F", "%r %t %p"]
+    subscribers = [Process(*words) for _ in range(SUBSCRIBERS)]
+    try:
+        until(lambda: all(process.told().count("\n") == 32 for process in subscribers), "what is retained", 60)
+        expected = [f"0 srcp/1/FB/{n % 32 + 1} {n // 32 % 2}" for n in range(CHANGES)]
+        size = os.path.getsize(subscribers[0].log) + sum(len(line) + 1 for line in expected)
+        begun = time.monotonic()
+        evening.throttle.flood([f"SET 1 FB {n % 32 + 1} {n // 32 % 2}" for n in range(CHANGES)])
+        made = time.monotonic() - begun
+        until(lambda: all(os.path.getsize(process.log) >= size for process in subscribers), "all have all", 180)
+        took = time.monotonic() - begun
+        wrong = sum([line for line in process.told().splitlines() if line.startswith("0 ")] != expected for process in subscribers)
+        print(f"| {CHANGES} changes, made in {made:.1f} s, to {SUBSCRIBERS} subscribers | {took:.1f} s until all have all; "
+              f"{wrong} have them otherwise |", flush=True)
+        for name, process in [("mqtt.py", evening.programs["mqtt"]), ("mosquitto", evening.broker.process)]:
+            print(f"| of this `{name}` | {cost(process)[0]:.1f} s of processor in all, {cost(process)[1]:.0f} MB |", flush=True)
+    finally:
+        for process in subscribers:
+            process.end(signal.SIGKILL)
+
+
+def main():
+    evening = Evening(os.path.abspath(sys.argv[1]))
+    try:
+        print("| What | Measured |\n|---|---|", flush=True)
+        time.sleep(2)
+        latencies(evening)
+        idle(evening)
+        many(evening)
+    finally:
+        evening.ends()
+
+
+if __name__ == "__main__":
+    main()
