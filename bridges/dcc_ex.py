@@ -230,8 +230,8 @@ def main():
     words = arguments(__doc__)
     words.add_argument("--station", required=True, help="a serial line (/dev/ttyACM0), or HOST:PORT in the network")
     words.add_argument("--bus", type=int, default=1, help="the bus that is put on the track (%(default)s)")
-    words.add_argument("--patience", type=float, default=3.0, metavar="S", help="without a server until all stand (3)")
-    words.add_argument("--silence", type=float, default=9.0, metavar="S", help="of a station until it is opened anew (9)")
+    words.add_argument("--patience", type=float, default=3.0, metavar="SECONDS", help="without a server: all stand")
+    words.add_argument("--silence", type=float, default=9.0, metavar="SECONDS", help="of a station: opened anew")
     run(drive(words.parse_args()))
 
 

@@ -1,8 +1,8 @@
 #!/usr/bin/env python3
 """A DCC-EX command station without hardware, on a pseudo-terminal, to try dcc_ex.py with.
 
-LINK is made to lead to its line, and goes as it ends. It prints each command that changes the track, and refuses what is
-not in its grammar. A number that is typed turns the sensor of that number.
+LINK is made to lead to its line, and goes as it ends. It prints each command that changes the track, and refuses what
+is not in its grammar. A number that is typed turns the sensor of that number.
 """
 import argparse
 import os
@@ -16,8 +16,8 @@ import time
 import tty
 
 NUMBER = r"(0|[1-9]\d*)"
-SYNTAX = {"power": r"([01])", "throttle": rf"t {NUMBER} (-1|{NUMBER}) ([01])", "function": rf"F {NUMBER} {NUMBER} ([01])",
-          "accessory": rf"a {NUMBER} ([01])", "sensors": "Q", "status": "s", "cabs": "#", "stop": "!"}
+SYNTAX = {"power": r"([01])", "throttle": rf"t {NUMBER} (-1|{NUMBER}) ([01])", "accessory": rf"a {NUMBER} ([01])",
+          "function": rf"F {NUMBER} {NUMBER} ([01])", "sensors": "Q", "status": "s", "cabs": "#", "stop": "!"}
 BANNER = "<iDCC-EX V-5.0.7 / MEGA / STANDARD_MOTOR_SHIELD G-sim>\r\n"
 
 
@@ -30,7 +30,7 @@ class Station:
         self.open()
 
     def open(self):
-        self.master, self.slave = pty.openpty()  # the slave stays open, so that the line is not hung up between two users
+        self.master, self.slave = pty.openpty()  # the slave stays open, so that the line is not hung up
         tty.setraw(self.slave)
         if os.path.islink(self.link):
             os.unlink(self.link)

@@ -22,7 +22,7 @@ from program import arguments, names, run, say
 from srcp import Mirror
 from stop import stop_all
 
-PATIENCE = 20.0  # seconds for a request, and for a page to take what it was sent
+PATIENCE = 20.0  # seconds for a request
 WRONG = 1.0  # seconds from one wrong word to the answer, one after the other
 LONGEST = 1000  # bytes of what a request brings
 AT_ONCE = 4  # pages of one browser: it has 6 connections, and STOP ALL needs one that is free
@@ -158,7 +158,7 @@ class Web:
                 writer.write("".join(page.events).encode())
                 page.events.clear()
                 page.more.clear()
-                async with asyncio.timeout(PATIENCE):
+                async with asyncio.timeout(self.asked.silence):
                     await writer.drain()
                 more = asyncio.create_task(page.more.wait())
                 await asyncio.wait([more, gone], timeout=beat - loop.time(), return_when=asyncio.FIRST_COMPLETED)

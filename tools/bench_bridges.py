@@ -49,12 +49,13 @@ def latencies(evening):
     evening.phone.send("M0+S3<;>S3")
     evening.throttle.order("INIT 1 GL 4 N 1 126 5")
     until(lambda: 3 in station.cabs and 4 in station.cabs, "the station knows both")
-    told("phone to station", [waited(lambda: evening.phone.send(f"M0A*<;>V{v % 100 + 1}"), lambda: station.cabs[3][0] == v % 100 + 1)
-                              for v in range(TIMES)])
-    told("page to station", [waited(lambda: page.post(f"SET 1 GL 4 1 {v % 100 + 1} 126"), lambda: station.cabs[4][0] == v % 100 + 1)
-                             for v in range(TIMES)])
-    told("sensor to page", [waited(lambda: station.sensor(7, v % 2), lambda: page.rows[1, "FB", 7, "does"]["value"] == v % 2)
-                            for v in range(1, TIMES)])
+    speeds = [n % 100 + 1 for n in range(TIMES)]
+    told("phone to station", [waited(lambda: evening.phone.send(f"M0A*<;>V{v}"), lambda: station.cabs[3][0] == v)
+                              for v in speeds])
+    told("page to station", [waited(lambda: page.post(f"SET 1 GL 4 1 {v} 126"), lambda: station.cabs[4][0] == v)
+                             for v in speeds])
+    told("sensor to page", [waited(lambda: station.sensor(7, v), lambda: page.rows[1, "FB", 7, "does"]["value"] == v)
+                            for v in [n % 2 for n in range(1, TIMES)]])
     told("STOP ALL to station", [waited(lambda: (page.post(f"SET 1 GL 4 1 {v + 1} 126"), page.post("", "/stop")),
                                         lambda: station.cabs[4][0] == -1) for v in range(20)])
 
@@ -66,7 +67,8 @@ def idle(evening):
     time.sleep(IDLE)
     for name, process in processes.items():
         seconds, memory = cost(process)
-        print(f"| `{name}` while nothing happens | {(seconds - before[name]) / IDLE:.2%} of a processor, {memory:.0f} MB |", flush=True)
+        share = (seconds - before[name]) / IDLE
+        print(f"| `{name}` while nothing happens | {share:.2%} of a processor, {memory:.0f} MB |", flush=True)
 
 
 def many(evening):
@@ -82,11 +84,12 @@ def many(evening):
         made = time.monotonic() - begun
         until(lambda: all(os.path.getsize(process.log) >= size for process in subscribers), "all have all", 180)
         took = time.monotonic() - begun
-        wrong = sum([line for line in process.told().splitlines() if line.startswith("0 ")] != expected for process in subscribers)
-        print(f"| {CHANGES} changes, made in {made:.1f} s, to {SUBSCRIBERS} subscribers | {took:.1f} s until all have all; "
-              f"{wrong} have them otherwise |", flush=True)
+        came = [[line for line in process.told().splitlines() if line.startswith("0 ")] for process in subscribers]
+        print(f"| {CHANGES} changes, made in {made:.1f} s, to {SUBSCRIBERS} subscribers | {took:.1f} s until all have "
+              f"all; {sum(lines != expected for lines in came)} have them in another order |", flush=True)
         for name, process in [("mqtt.py", evening.programs["mqtt"]), ("mosquitto", evening.broker.process)]:
-            print(f"| of this `{name}` | {cost(process)[0]:.1f} s of processor in all, {cost(process)[1]:.0f} MB |", flush=True)
+            seconds, memory = cost(process)
+            print(f"| `{name}` by then | {seconds:.1f} s of processor, {memory:.0f} MB |", flush=True)
     finally:
         for process in subscribers:
             process.end(signal.SIGKILL)

@@ -1,8 +1,8 @@
 #!/usr/bin/env python3
 """soak_bridges.py PROGRAM [SECONDS]: all programs of bridges/ beside one built server, for ten minutes or SECONDS.
 
-Throttles, a phone, a page, an MQTT client and the sensors of a simulated station change things at random. Now and then a
-program is killed, or sleeps until its panel is closed, and once the server is killed. At the end it says whether the
+Throttles, a phone, a page, an MQTT client and the sensors of a simulated station change things at random. Now and then
+a program is killed, or sleeps until its panel is closed, and once the server is killed. At the end it says whether the
 station, the page, the file of keep.py, the topics that the broker retains and examples/panel.py all say what a fresh
 panel is sent. It needs mosquitto and paho-mqtt.
 """
@@ -33,8 +33,8 @@ class Evening:
         self.server, self.broker, folder = common.Server(), test_mqtt.Broker(), common.new_folder()
         self.file, link = os.path.join(folder, "layout.srcp"), os.path.join(folder, "ttyACM0")
         self.station, self.web, self.phones = Station(link), common.free_port(), common.free_port()
-        self.words = {"dcc_ex": ["--station", link], "web": ["--web", self.web], "withrottle": ["--listen", self.phones],
-                      "keep": [self.file, "--power", "--rest", "0.2"], "guard": [],
+        self.words = {"dcc_ex": ["--station", link], "web": ["--web", self.web], "guard": [],
+                      "withrottle": ["--listen", self.phones], "keep": [self.file, "--power", "--rest", "0.2"],
                       "mqtt": ["--broker-port", self.broker.port, "--home-assistant"]}
         self.programs, self.count, self.troubles = {}, 0, []
         for name in self.words:
@@ -62,10 +62,10 @@ class Evening:
         draw, loco, turnout = self.draw, self.draw.choice(LOCOMOTIVES), self.draw.choice(TURNOUTS)
         functions = " ".join(draw.choice("01") for _ in range(draw.randint(0, 5)))
         commands = [f"INIT 1 GL {loco} N 1 {draw.choice([28, 126])} {draw.choice([5, 9])}",
-                    f"SET 1 GL {loco} {draw.choice([0, 1, 1, 2])} {draw.randint(0, 28)} {draw.choice([28, 100])} {functions}",
+                    f"SET 1 GL {loco} {draw.choice([0, 1, 1, 2])} {draw.randint(0, 28)} 28 {functions}",
                     f"TERM 1 GL {loco}", f"INIT 1 GA {turnout} N", f"SET 1 GA {turnout} {draw.randint(0, 1)} 1 50",
-                    f"TERM 1 GA {turnout}", f"SET 1 POWER {draw.choice(['ON', 'OFF'])} by hand", f"SET 1 FB {draw.randint(17, 32)} 1",
-                    f"SET 1 LOCK GL {loco} 1"]
+                    f"TERM 1 GA {turnout}", f"SET 1 POWER {draw.choice(['ON', 'OFF'])} by hand",
+                    f"SET 1 FB {draw.randint(17, 32)} 1", f"SET 1 LOCK GL {loco} 1"]
         weights = [3, 20, 1, 3, 10, 1, 1, 5, 1]
         command = draw.choices(commands, weights)[0].rstrip()
         who = draw.choices(["throttle", "page", "phone", "display", "station"], [10, 3, 3, 3, 2])[0]
@@ -75,8 +75,8 @@ class Evening:
             self.page.post(command)
         elif who == "phone":
             key = draw.choice(["S3", "S30", "L300"])
-            words = draw.choice([f"M0+{key}<;>{key}", f"M0A*<;>V{draw.randint(0, 126)}", f"M0A{key}<;>F1{draw.randint(0, 9)}",
-                                 f"M0-{key}<;>r", f"PTA2{turnout}"])
+            words = draw.choice([f"M0+{key}<;>{key}", f"M0A*<;>V{draw.randint(0, 126)}", f"M0-{key}<;>r",
+                                 f"M0A{key}<;>F1{draw.randint(0, 9)}", f"PTA2{turnout}"])
             self.phone.send(words)
         elif who == "display":
             self.display.client.publish(f"srcp/1/GL/{loco}/set", json.dumps({"v": draw.randint(0, 28), "v_max": 28}))
@@ -101,7 +101,8 @@ class Evening:
         self.clients()
 
     def run(self, seconds):
-        end, next_trouble, restarts = time.monotonic() + seconds, time.monotonic() + TROUBLE, time.monotonic() + seconds / 2
+        now = time.monotonic()
+        end, next_trouble, restarts = now + seconds, now + TROUBLE, now + seconds / 2
         while time.monotonic() < end:
             try:
                 self.change()
@@ -152,8 +153,8 @@ class Evening:
         station = self.station
         if (station.power, {key for key, on in station.functions.items() if on}) != (power, functions):
             yield f"the station's power or functions: {station.power} {power}"
-        if wrong := {cab: (station.cabs.get(cab), speed) for cab, speed in cabs.items() if station.cabs.get(cab, (0,))[0] != speed}:
-            yield f"the station's speeds: {wrong}"
+        if wrong := [cab for cab, speed in cabs.items() if station.cabs.get(cab, (0,))[0] != speed]:
+            yield f"the station's speeds: {[(cab, station.cabs.get(cab), cabs[cab]) for cab in wrong]}"
         if driving := {cab for cab, (speed, _) in station.cabs.items() if speed > 0 and cab not in cabs}:
             yield f"the station drives what is gone: {driving}"
         if wrong := {turnout for turnout, port in turnouts.items() if station.turnouts.get(turnout) != port}:

@@ -27,7 +27,8 @@ def case_of(kind, method):
 
 
 def cases_of(*kinds):
-    return tuple(case_of(kind, method) for kind in kinds for method in unittest.defaultTestLoader.getTestCaseNames(kind))
+    names = unittest.defaultTestLoader.getTestCaseNames
+    return tuple(case_of(kind, method) for kind in kinds for method in names(kind))
 
 
 from .test_dcc_ex import DccEx  # noqa: E402
@@ -40,5 +41,6 @@ from .test_srcp import Following, Parsing  # noqa: E402
 from .test_web import Web, WebInChromium, WebThatSleeps, WebWithAWord  # noqa: E402
 from .test_withrottle import WiThrottle  # noqa: E402
 
-BRIDGE_CASES = cases_of(Readme, Following, MqttWithAWrongBroker, Mqtt, MqttForHomeAssistant, MqttWithPersistence, Payloads,
-                        WebInChromium, Web, WebThatSleeps, WebWithAWord, WiThrottle, DccEx, Guard, Keep, Parsing)
+BRIDGE_CASES = cases_of(Readme, Following, MqttWithAWrongBroker, Mqtt, MqttForHomeAssistant, MqttWithPersistence,
+                        Payloads, WebInChromium, Web, WebThatSleeps, WebWithAWord, WiThrottle, DccEx, Guard, Keep,
+                        Parsing)

@@ -9,8 +9,9 @@ import subprocess
 from .common import WAIT, new_folder
 
 CHROMIUM = shutil.which("chromium")
-WORDS = ["--headless=new", "--no-sandbox", "--disable-gpu", "--disable-dev-shm-usage", "--no-first-run", "--hide-scrollbars",
-         "--disable-background-networking", "--disable-component-update", "--remote-debugging-pipe", "about:blank"]
+WORDS = ["--headless=new", "--no-sandbox", "--disable-gpu", "--disable-dev-shm-usage", "--no-first-run",
+         "--hide-scrollbars", "--disable-background-networking", "--disable-component-update",
+         "--remote-debugging-pipe", "about:blank"]
 
 
 class Browser:
@@ -32,7 +33,9 @@ class Browser:
     def call(self, method, **params):
         """Has the browser do something; returns the result."""
         self.count += 1
-        message = {"id": self.count, "method": method, "params": params} | ({"sessionId": self.session} if self.session else {})
+        message = {"id": self.count, "method": method, "params": params}
+        if self.session:
+            message["sessionId"] = self.session
         os.write(self.out, json.dumps(message).encode() + b"\0")
         while True:
             while b"\0" not in self.begun:
@@ -71,8 +74,8 @@ class Browser:
 
     def shows(self, width, height, phone=False, dark=False):
         """Sets how large its window is, and which colours its user likes."""
-        scale = 2 if phone else 1
-        self.call("Emulation.setDeviceMetricsOverride", width=width, height=height, deviceScaleFactor=scale, mobile=phone)
+        size = {"width": width, "height": height, "deviceScaleFactor": 2 if phone else 1, "mobile": phone}
+        self.call("Emulation.setDeviceMetricsOverride", **size)
         features = [{"name": "prefers-color-scheme", "value": "dark" if dark else "light"}]
         self.call("Emulation.setEmulatedMedia", features=features)
 

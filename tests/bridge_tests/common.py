@@ -1,4 +1,4 @@
-"""What the cases of bridges/ share: a server, the programs, a way between that can be cut, and waiting for what comes."""
+"""What the cases of bridges/ share: a server, the programs, a way between that can be cut, waiting for what comes."""
 import itertools
 import os
 import signal
@@ -29,7 +29,7 @@ ga_max = 12
 ga_ports = 4
 fb_ports = 16
 """
-WAIT = 20.0  # seconds that a busy machine may take
+WAIT = 30.0  # seconds that a busy machine may take
 folder = tempfile.TemporaryDirectory()  # gone at the end, with all that the tests write
 ports = itertools.count(12000 + os.getpid() % 100 * 200)  # below those that the system gives to connections
 choosing = threading.Lock()
@@ -127,7 +127,8 @@ class Server:
 
 class Session:
     def __init__(self, port, mode="COMMAND"):
-        self.stream = socket.create_connection(("127.0.0.1", port), WAIT).makefile("rw", encoding="latin-1", newline="\n")
+        connection = socket.create_connection(("127.0.0.1", port), WAIT)
+        self.stream = connection.makefile("rw", encoding="latin-1", newline="\n")
         self.stream.readline()
         self.ask(f"SET CONNECTIONMODE SRCP {mode}")
         self.id = self.ask("GO").split()[-1]

@@ -18,7 +18,7 @@ class DccEx(Case):
         self.station, self.babble = Station(self.link), False
         self.start()
         self.throttle.order("SET 1 POWER ON", "INIT 1 GL 3 N 1 28 5", "SET 1 GL 3 1 14 28 1 0 1")
-        self.track(lambda s: s.power == 1 and s.cabs.get(3) == (63, 1) and self.functions() == {(3, 0), (3, 2)}, "it drives")
+        self.track(lambda s: (s.power, s.cabs.get(3), self.functions()) == (1, (63, 1), {(3, 0), (3, 2)}), "it drives")
 
     def tearDown(self):
         self.assertEqual(self.station.faults, [])
@@ -39,8 +39,9 @@ class DccEx(Case):
             1, (63, 1), {(3, 0), (3, 2)}, {5: 1})
 
     def test_speeds_and_functions(self):
-        for command, cab in [("SET 1 GL 3 0 28 28", (126, 0)), ("SET 1 GL 3 0 1 1000", (1, 0)), ("SET 1 GL 3 0 28 0", (126, 0)),
-                             ("SET 1 GL 3 2 0 28", (-1, 0)), ("SET 1 GL 3 1 0 28 0 0 0", (0, 1)), ("SET 1 GL 3 1 14 28", (63, 1))]:
+        for command, cab in [("SET 1 GL 3 0 28 28", (126, 0)), ("SET 1 GL 3 0 1 1000", (1, 0)),
+                             ("SET 1 GL 3 0 28 0", (126, 0)), ("SET 1 GL 3 2 0 28", (-1, 0)),
+                             ("SET 1 GL 3 1 0 28 0 0 0", (0, 1)), ("SET 1 GL 3 1 14 28", (63, 1))]:
             self.throttle.order(command)
             self.track(lambda s: s.cabs[3] == cab, command)
         self.track(lambda s: self.functions() == set(), "functions off")
@@ -69,7 +70,8 @@ class DccEx(Case):
             self.throttle.order(*commands)
             self.track(lambda s: s.turnouts.get(5) == lies, commands)
             time.sleep(0.08)
-        self.assertEqual([text for _, text in self.station.log if text.startswith("a ")], ["a 5 1", "a 5 0", "a 5 1", "a 5 0"])
+        put = [text for _, text in self.station.log if text.startswith("a ")]
+        self.assertEqual(put, ["a 5 1", "a 5 0", "a 5 1", "a 5 0"])
         self.station.sensor(99, 1)  # the bus has no such sensor
         for value in (1, 0, 1):
             self.station.sensor(7, value)
@@ -151,7 +153,7 @@ class DccEx(Case):
         self.throttle.order("INIT 1 GL 4 N 1 28 5", "SET 1 GL 4 1 14 28")
         self.track(lambda s: s.cabs.get(4) == (63, 1), "both drive")
         self.overruns(self.driver, "TERM 1 GL 4", "SET 1 GL 3 1 28 28")
-        self.track(lambda s: s.cabs[4] == (0, 1) and s.cabs[3] == (126, 1) and s.cabs[9999] == (0, 1), "after the overrun")
+        self.track(lambda s: (s.cabs[4], s.cabs[3], s.cabs[9999]) == ((0, 1), (126, 1), (0, 1)), "after the overrun")
 
     def test_killed_and_ended(self):
         self.throttle.order("INIT 1 GL 9 N 1 28 5", "SET 1 GL 9 1 7 28")

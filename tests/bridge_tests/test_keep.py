@@ -116,7 +116,8 @@ class Keep(Case):
 
     def test_power_and_what_is_refused(self):
         with open(self.path, "wb") as file:
-            file.write(b"SET 1 POWER ON by hand \x85\nINIT 9 GL 1 P\n\nINIT 1 GL 3 P\nINIT 1 GL x\nTERM 0 SESSION\nwhat\n")
+            file.write(b"SET 1 POWER ON by hand \x85\nINIT 9 GL 1 P\n\nINIT 1 GL 3 P\nINIT 1 GL x\nTERM 0 SESSION\n"
+                       b"what\n")
         self.start("--power")
         self.has("100 INFO 1 POWER ON by hand \x85", "101 INFO 1 GL 3")
         until(lambda: os.path.exists(self.path + "~"), "what the server refuses is kept in FILE~")

@@ -1,4 +1,5 @@
 """mqtt.py with the real mosquitto, where it is installed."""
+import argparse
 import json
 import os
 import shutil
@@ -16,7 +17,8 @@ try:
 except ImportError:
     paho = None
 MOSQUITTO = shutil.which("mosquitto", path=os.environ["PATH"] + ":/usr/sbin")
-IS_THERE = unittest.skipUnless(paho and MOSQUITTO and interpreter("mqtt.py"), "mosquitto or python3-paho-mqtt is not installed")
+IS_THERE = unittest.skipUnless(paho and MOSQUITTO and interpreter("mqtt.py"),
+                               "mosquitto or python3-paho-mqtt is not installed")
 
 
 class Broker:
@@ -38,11 +40,14 @@ class Client:
     """Follows topics; `topics` has what was retained or came since, `came` all payloads in order by topic."""
 
     def __init__(self, port, *levels):
-        self.topics, self.came, self.levels = {}, {}, levels or ("srcp/#", "homeassistant/#")
+        self.topics, self.came, self.ready = {}, {}, threading.Event()
+        self.levels = levels or ("srcp/#", "homeassistant/#")
         version = [paho.CallbackAPIVersion.VERSION1] if hasattr(paho, "CallbackAPIVersion") else []
         self.client = paho.Client(*version)
         self.client.on_message = self.take
         self.client.on_connect = lambda *_: self.client.subscribe([(level, 0) for level in self.levels])
+        self.client.on_subscribe = lambda *_: self.ready.set()
+        self.client.on_disconnect = lambda *_: self.ready.clear()
         self.client.reconnect_delay_set(0.1, 0.1)
         self.client.connect("127.0.0.1", port)
         self.client.loop_start()
@@ -56,7 +61,7 @@ class Client:
             self.topics.pop(message.topic, None)
 
     def say(self, topic, payload, retain=False):
-        until(self.client.is_connected, "connected")
+        self.ready.wait(WAIT)
         self.client.publish(topic, payload, qos=1, retain=retain).wait_for_publish(WAIT)
 
     def close(self):
@@ -114,8 +119,9 @@ class Payloads(unittest.TestCase):
     def test_payloads(self):
         import srcp
         from topics import commands_for
-        table = {(1, "GL", 3, "is"): srcp.Locomotive(0, "N", 1, 28, 2), (1, "GL", 3, "does"): srcp.Drive(0, 0, 9, 0, (1, 0)),
-                 (1, "GA", 5, "is"): srcp.Accessory(0, "N"), (1, "GA", 5, 0): srcp.Port(1, 1), (1, "GA", 5, 1): srcp.Port(0, 0)}
+        table = {(1, "GL", 3, "is"): srcp.Locomotive(0, "N", 1, 28, 2),
+                 (1, "GL", 3, "does"): srcp.Drive(0, 0, 9, 0, (1, 0)), (1, "GA", 5, "is"): srcp.Accessory(0, "N"),
+                 (1, "GA", 5, 0): srcp.Port(1, 1), (1, "GA", 5, 1): srcp.Port(0, 0)}
         for place, text, commands in [
             ("1/POWER", "ON main line", ["SET 1 POWER ON main line"]), ("1/FB/7", "on", ["SET 1 FB 7 1"]),
             ("1/GL/3", "12", ["SET 1 GL 3 0 12 28"]), ("1/GL/3", '{"mode": 1}', ["SET 1 GL 3 1 9 28"]),
@@ -126,10 +132,22 @@ class Payloads(unittest.TestCase):
             ("1/GA/5/position", "1", ["SET 1 GA 5 0 0 -1", "SET 1 GA 5 1 1 250"]),
         ]:
             self.assertEqual(commands_for(table, place, text), commands)
-        for place, text in [("0/SESSION/4/is", ""), ("1/GL/x", "1"), ("1/GL/3", "["), ("1/GL/3/lock", "1"), ("1/SM/3", "1"),
-                            ("x/POWER", "ON"), ("1", "1"), ("1/GL/3", '{"v": Infinity}'), ("1/GL/3", "[" * 5000)]:
+        for place, text in [("0/SESSION/4/is", ""), ("1/GL/x", "1"), ("1/GL/3", "["), ("1/GL/3/lock", "1"),
+                            ("1/SM/3", "1"), ("x/POWER", "ON"), ("1", "1"), ("1/GL/3", '{"v": Infinity}'),
+                            ("1/GL/3", "[" * 5000)]:
             with self.assertRaises(Exception, msg=place):
                 commands_for(table, place, text)
+
+
+    @unittest.skipUnless(paho, "python3-paho-mqtt is not installed")
+    def test_power_and_stop_are_behind_nothing_else(self):
+        """Of what is sent while none is carried out, 1,000 commands wait, and these two in a line of their own."""
+        import mqtt
+        bridge = mqtt.Bridge(argparse.Namespace(host="", port=0, again=1, prefix="srcp", names=None, home_assistant=None))
+        for n in range(3000):
+            bridge.heard("srcp/1/FB/9/set", b"1", False)
+        bridge.heard("srcp/1/POWER/set", b"OFF", False), bridge.heard("srcp/stop/set", b"", False)
+        self.assertEqual((bridge.orders.qsize(), bridge.urgent.qsize()), (1000, 2))
 
 
 @IS_THERE
@@ -141,8 +159,8 @@ class MqttCase(Case):
         super().setUp()
         self.broker = Broker(*self.broker_words)
         self.addCleanup(lambda: self.broker.stop())
-        self.throttle.order("SET 1 POWER ON main line", "INIT 1 GL 3 N 1 28 2", "SET 1 GL 3 1 9 28 1", "SET 1 LOCK GL 3 0",
-                            "INIT 1 GA 5 N", "SET 1 GA 5 1 1 20", "INIT 2 GA 7 N")
+        self.throttle.order("SET 1 POWER ON main line", "INIT 1 GL 3 N 1 28 2", "SET 1 GL 3 1 9 28 1",
+                            "SET 1 LOCK GL 3 0", "INIT 1 GA 5 N", "SET 1 GA 5 1 1 20", "INIT 2 GA 7 N")
         self.start()
         self.client = Client(self.broker.port)
         self.addCleanup(self.client.close)
@@ -150,7 +168,8 @@ class MqttCase(Case):
 
     def start(self):
         self.bridge = self.starts("mqtt.py", "--broker-port", self.broker.port, *self.words, port=self.way.port)
-        until(lambda: "broker: joined" in self.bridge.told() and "server: joined" in self.bridge.told(), "the bridge is there")
+        for joined in ("broker: joined", "server: joined"):
+            until(lambda: joined in self.bridge.told(), joined)
 
     def shows(self):
         """Whether the broker retains what the registry has, and nothing else."""
@@ -169,7 +188,8 @@ class MqttCase(Case):
 class Mqtt(MqttCase):
     def test_follows(self):
         self.assertEqual(self.client.topics["srcp/1/GA/5/position"], "1")
-        self.throttle.order("SET 1 GA 5 0 1 20", "INIT 1 GL 3 N 1 28 5", "SET 1 FB 4 1", "SET 1 POWER OFF", "TERM 2 GA 7")
+        self.throttle.order("SET 1 GA 5 0 1 20", "INIT 1 GL 3 N 1 28 5", "SET 1 FB 4 1", "SET 1 POWER OFF",
+                            "TERM 2 GA 7")
         until(lambda: self.client.topics.get("srcp/1/GA/5/position") == "0", "the turnout")
         self.throttle.order("TERM 1 GA 5")
         self.equal("changes and removals")
@@ -180,7 +200,8 @@ class Mqtt(MqttCase):
     def test_commands(self):
         self.throttle.order("TERM 1 LOCK GL 3")
         for topic, payload, row in [
-            ("1/GL/3", "14", "100 INFO 1 GL 3 1 14 28 1 0"), ("1/GL/3", '{"mode": 0, "functions": {"1": 1}}', "100 INFO 1 GL 3 0 14 28 1 1"),
+            ("1/GL/3", "14", "100 INFO 1 GL 3 1 14 28 1 0"),
+            ("1/GL/3", '{"mode": 0, "functions": {"1": 1}}', "100 INFO 1 GL 3 0 14 28 1 1"),
             ("1/POWER", "OFF", "100 INFO 1 POWER OFF"), ("1/FB/7", "ON", "100 INFO 1 FB 7 1"),
             ("1/GL/8/is", "N 1 28 5", "101 INFO 1 GL 8 N 1 28 5"), ("2/GA/7/3", "1", "100 INFO 2 GA 7 3 1"),
             ("1/GA/5/position", "0", "100 INFO 1 GA 5 0 1"), ("stop", "now", "100 INFO 1 GL 3 2 0 28 1 1"),
@@ -199,24 +220,25 @@ class Mqtt(MqttCase):
         self.client.say("srcp/1/FB/9/set", "", retain=True)
 
     def test_what_is_refused(self):
-        """Whatever is sent reaches no train, ends nothing, and is told; power is behind none of it."""
+        """Whatever is sent reaches no train, ends nothing, and is told."""
         wrong = [("1/GL/99", "5"), ("1/GL/3", "{"), ("1/POWER", "ON\nSET 1 FB 1 1"), ("1/GL/x", "1"), ("1/GL/3", "[]"),
                  ("1/GL/3", "null"), ("1/GL/3", '{"v": Infinity}'), ("1/GL/3", "[" * 900), ("1/GL/3", "x" * 10_000_000),
-                 ("0/SESSION/1/is", ""), ("1/GL/3", b"\xff\xfe"), ("x", "1"), ("1/GL/3", '{"functions": 5}'), ("1/GL/3", "-1"),
+                 ("0/SESSION/1/is", ""), ("1/GL/3", b"\xff\xfe"), ("x", "1"), ("1/GL/3", '{"functions": 5}'),
+                 ("1/GL/3", "-1"),
                  ("1/GL/3 1 9 28", "1"), ("1/GL/3", '{"v": "9\\nSET 1 POWER OFF"}')]
         for topic, payload in wrong:
             self.client.say(f"srcp/{topic}/set", payload)
         until(lambda: len(self.client.came.get("srcp/error", [])) == len(wrong), "what is refused is told")
         self.has("100 INFO 1 POWER ON main line", "100 INFO 1 GL 3 1 9 28 1 0", "100 INFO 1 FB 1 0")
-        self.server.process.send(signal.SIGSTOP)
         for n in range(3000):
             self.client.client.publish("srcp/1/FB/9/set", str(n % 2), qos=0)
-        self.client.say("srcp/1/POWER/set", "OFF")
-        self.server.process.send(signal.SIGCONT)
-        self.has("100 INFO 1 POWER OFF")
-        until(lambda: "too many commands wait" in "".join(self.client.came["srcp/error"]), "too many are refused")
-        self.client.say("srcp/1/FB/8/set", "1")
-        self.has("100 INFO 1 FB 8 1")
+
+        def goes_on():
+            self.client.say("srcp/1/FB/8/set", "1")  # which is refused while too many wait
+            time.sleep(0.2)
+            return "100 INFO 1 FB 8 1" in rows(self.server.port)
+
+        until(goes_on, "it goes on")
         self.assertIsNone(self.bridge.process.poll())
 
     def test_killed_and_ended(self):
@@ -282,11 +304,12 @@ class MqttForHomeAssistant(MqttCase):
     words = ("--home-assistant",)
 
     def announced(self):
-        return {topic: json.loads(payload) for topic, payload in retained(self.broker.port).items() if topic.startswith("home")}
+        shown = retained(self.broker.port)
+        return {topic: json.loads(payload) for topic, payload in shown.items() if topic.startswith("home")}
 
     def test_what_it_learns(self):
         self.throttle.order("TERM 1 LOCK GL 3")
-        until(lambda: len(self.announced()) == 1 + 1 + 1 + 1 + 32 + 16, "power, a locomotive, two accessories, and sensors")
+        until(lambda: len(self.announced()) == 1 + 1 + 2 + 32 + 16, "power, a locomotive, two accessories, and sensors")
         found = self.announced()
         for topic, words in found.items():
             self.assertLessEqual({"name", "unique_id", "state_topic", "availability_topic"}, words.keys())
@@ -319,9 +342,11 @@ class MqttWithAWrongBroker(Case):
             body = len(topic).to_bytes(2, "big") + topic + payload
             return b"\x30" + bytes([len(body) % 128 + 128, len(body) // 128]) + body
 
-        unasked = [publish(topic, b"OFF") for topic in (b"1/POWER/set", b"POWER/set", b"\xff\xfe", b"", b"x", b"$SYS/1/POWER/set")]
-        for text in (os.urandom(5000), connected + os.urandom(5000), connected + b"\xff" * 5000, b"", connected + b"".join(unasked * 100),
-                     connected + granted + b"".join(unasked * 100) + publish(b"srcp/mark", b"read") + b"".join(unasked)):
+        topics = (b"1/POWER/set", b"POWER/set", b"\xff\xfe", b"", b"x", b"$SYS/1/POWER/set")
+        unasked = b"".join(publish(topic, b"OFF") for topic in topics)
+        for text in (os.urandom(5000), connected + os.urandom(5000), connected + b"\xff" * 5000, b"",
+                     connected + unasked * 100,
+                     connected + granted + unasked * 100 + publish(b"srcp/mark", b"read") + unasked):
             try:
                 peer, _ = door.accept()
                 with peer:

@@ -51,7 +51,7 @@ class Readme(unittest.TestCase):
     def reader(self):
         """One who has the repository with the program built, on a machine with other ports."""
         with pages.reader_of_a_page(common.SERVER) as reader:
-            reader.ports |= {named: free_port() for named in PORTS}
+            reader.ports |= {named: free_port() for named in PORTS} | {"0.0.0.0": "localhost"}
             shutil.copytree(PROGRAMS, reader.folder / "bridges", ignore=shutil.ignore_patterns("__pycache__"))
             for file in (reader.folder / "bridges").glob("*.py"):
                 file.write_text(reader.at_ports(file.read_text()))

@@ -150,7 +150,7 @@ class Following(Case):
         asyncio.run(main())
 
     def test_another_server_at_that_port(self):
-        """One that babbles without an end of line, one that does not speak SRCP: the program waits for the right one."""
+        """One that babbles without an end of line, and one that does not speak SRCP: the program waits."""
         port = free_port()
         guard = self.starts("guard.py", port=port)
         for text, fault in [(b"SSH-2.0-what\r\nProtocol mismatch.\n" * 3, "does not speak SRCP"),

@@ -67,7 +67,8 @@ class Events:
         connection = http.client.HTTPConnection("127.0.0.1", self.port, timeout=WAIT)
         try:
             headers = {"X-Page": self.key, **self.headers, **headers}
-            connection.request("POST", path, body, {name: value for name, value in headers.items() if value is not None})
+            headers = {name: value for name, value in headers.items() if value is not None}
+            connection.request("POST", path, body, headers)
             answer = connection.getresponse()
             text = answer.read()
             return json.loads(text)["reply"] if answer.status == 200 else str(answer.status)
@@ -121,8 +122,9 @@ class Web(WebCase):
     def test_rows_changes_and_locks(self):
         one, two = Events(self.port), Events(self.port)
         until(lambda: self.same(one, two), "all rows")
-        one.order("SET 1 POWER ON text", "INIT 1 GL 3 N 1 28 5", "SET 1 GL 3 1 14 28 1", "INIT 1 GA 5 N", "SET 1 GA 5 1 1 100",
-                  "SET 1 LOCK GL 3 0", "SET 1 FB 4 1", "INIT 1 GL 3 N 1 28 6", "INIT 2 GA 5 N", "TERM 1 GA 5")
+        one.order("SET 1 POWER ON text", "INIT 1 GL 3 N 1 28 5", "SET 1 GL 3 1 14 28 1", "INIT 1 GA 5 N",
+                  "SET 1 GA 5 1 1 100", "SET 1 LOCK GL 3 0", "SET 1 FB 4 1", "INIT 1 GL 3 N 1 28 6", "INIT 2 GA 5 N",
+                  "TERM 1 GA 5")
         until(lambda: self.same(one, two), "each change")
         one.order("SET 1 LOCK GL 3 0")
         self.assertEqual(two.post("SET 1 GL 3 1 1 28"), "414 ERROR device locked")
@@ -136,7 +138,8 @@ class Web(WebCase):
         page.order(*[f"INIT 1 GL {address} N 1 28 2" for address in range(3, 8)], "SET 1 LOCK GL 5 0")
         self.throttle.order("SET 1 GL 6 1 8 28")
         until(lambda: page.rows.get((1, "GL", 6, "does"), {}).get("v") == 8, "another drives 6")
-        page.order("set 01 gl 03 0 9 28", "SET 1 GL 4 1 9 28", "SET 1 GL 5 1 9 28", "SET 1 GL 6 1 8 28 1", "SET 1 GL 7 1 9 28")
+        page.order("set 01 gl 03 0 9 28", "SET 1 GL 4 1 9 28", "SET 1 GL 5 1 9 28", "SET 1 GL 6 1 8 28 1",
+                   "SET 1 GL 7 1 9 28")
         self.assertEqual(page.post("SET 1 GL 7 1 99 28"), "412 ERROR wrong value")  # what is refused changes nothing
         self.throttle.order("SET 1 GL 4 1 7 28")
         page.leaves()
@@ -181,7 +184,8 @@ class Web(WebCase):
         import web
 
         async def main():
-            asked = argparse.Namespace(host="127.0.0.1", port=self.server.port, again=0.1, names=None, bind="127.0.0.1", word=None)
+            asked = argparse.Namespace(host="127.0.0.1", port=self.server.port, again=0.1, names=None,
+                                       bind="127.0.0.1", word=None)
             site = web.Web(asked)
             following = asyncio.create_task(site.mirror.run())
             while not site.mirror.here:
@@ -206,9 +210,10 @@ class Web(WebCase):
         own = f"127.0.0.1:{self.port}"
         for want, headers in [
             ("403", {"Host": "evil.example"}), ("403", {"Host": f"evil.example:{self.port}"}), ("403", {"Host": ""}),
-            ("403", {"Origin": "http://evil.example"}), ("403", {"Origin": "null"}), ("403", {"Origin": f"https://{own}"}),
-            ("404", {"X-Page": "0"}), ("404", {"X-Page": None}),
-            ("200 OK", {"Origin": f"http://{own}"}), ("200 OK", {"Host": "localhost:1"}), ("200 OK", {"Host": "[::1]:80"}),
+            ("403", {"Origin": "http://evil.example"}), ("403", {"Origin": "null"}),
+            ("403", {"Origin": f"https://{own}"}), ("404", {"X-Page": "0"}), ("404", {"X-Page": None}),
+            ("200 OK", {"Origin": f"http://{own}"}), ("200 OK", {"Host": "localhost:1"}),
+            ("200 OK", {"Host": "[::1]:80"}),
         ]:
             self.assertEqual(page.post("SET 1 POWER ON", **headers), want, headers)
         self.throttle.order("SET 1 POWER OFF")
@@ -272,7 +277,8 @@ class Web(WebCase):
 
     def test_sigterm(self):
         page = Events(self.port)
-        page.order("INIT 1 GL 8 N 1 28 1", "SET 1 LOCK GL 8 0", "INIT 1 GL 9 N 1 28 1", "SET 1 GL 9 1 20 28", "SET 1 GL 8 1 20 28")
+        page.order("INIT 1 GL 8 N 1 28 1", "SET 1 LOCK GL 8 0", "INIT 1 GL 9 N 1 28 1", "SET 1 GL 9 1 20 28",
+                   "SET 1 GL 8 1 20 28")
         self.assertEqual(self.web.end(), 0)
         self.has("100 INFO 1 GL 8 1 0 28", "100 INFO 1 GL 9 1 0 28")
 
@@ -289,7 +295,7 @@ class WebThatSleeps(WebCase):
 
 
 class WebWithAWord(WebCase):
-    words = ("--bind", "0.0.0.0")
+    words = ("--bind", "localhost")  # a name, which may be that of any address
 
     def enters(self, word):
         connection = http.client.HTTPConnection("127.0.0.1", self.port, timeout=WAIT)
@@ -333,7 +339,8 @@ class WebInChromium(WebCase):
 
     def setUp(self):
         names = Path(new_folder(), "names.toml")
-        names.write_text('"1 GL 3" = "V 100"\n"1 GL 7" = "ICE 3"\n"1 GA 1" = "Yard west"\n"1 GA 2" = "Yard <b>east</b>"\n')
+        names.write_text('"1 GL 3" = "V 100"\n"1 GL 7" = "ICE 3"\n"1 GA 1" = "Yard west"\n'
+                         '"1 GA 2" = "Yard <b>east</b>"\n')
         self.words = ("--silence", 5, "--names", names)
         super().setUp()
         self.browser = Browser()
@@ -371,7 +378,8 @@ class WebInChromium(WebCase):
         self.press("1 GL 3", "▶"), self.has("100 INFO 1 GL 3 1 0 28 1 1")
         self.press("1 GA 5", "branch"), self.has("100 INFO 1 GA 5 1 1"), self.has("100 INFO 1 GA 5 1 0")
         pressed = "button[aria-pressed=true]"
-        until(lambda: self.js(f"{self.card('1 GA 5')}.querySelector('{pressed}')?.textContent") == "branch", "it lies to the branch")
+        lies = f"{self.card('1 GA 5')}.querySelector('{pressed}')?.textContent"
+        until(lambda: self.js(lies) == "branch", "it lies to the branch")
         self.press("2 GA 7", "2"), self.has("100 INFO 2 GA 7 2 1")
         self.js("document.querySelector('#POWER button').click()"), self.has("100 INFO 1 POWER ON")
         self.throttle.order("SET 1 FB 4 1", "TERM 1 GA 5")
@@ -399,13 +407,13 @@ class WebInChromium(WebCase):
         self.throttle.flood([f"INIT 1 GA {n} N" for n in range(1, 201)])
         self.throttle.flood([f"SET 1 GA {n} {n % 2} 1 -1" for n in range(1, 201)])
         self.throttle.flood([f"SET 1 FB {n} {int(n % 7 < 2)}" for n in range(1, 501)])
-        self.throttle.order("SET 1 POWER ON", "SET 1 GL 3 1 40 126 1 0 1", "SET 1 GL 7 0 22 126 1", "SET 1 GL 12 2 0 126",
-                            "SET 1 LOCK GL 7 0")
+        self.throttle.order("SET 1 POWER ON", "SET 1 GL 3 1 40 126 1 0 1", "SET 1 GL 7 0 22 126 1",
+                            "SET 1 GL 12 2 0 126", "SET 1 LOCK GL 7 0")
 
     def test_in_chromium_names(self):
         self.throttle.order("SET 1 POWER ON", "INIT 1 GL 3 N 1 126 9", "SET 1 GL 3 1 40 126 1", "INIT 1 GL 7 N 1 126 5",
-                            "SET 1 GL 7 0 88 126 1 0 1", *[f"INIT 1 GA {n} N" for n in range(1, 5)], "SET 1 GA 1 1 1 -1",
-                            "SET 1 GA 2 0 1 -1", "SET 1 FB 3 1", "SET 1 FB 4 1")
+                            "SET 1 GL 7 0 88 126 1 0 1", *[f"INIT 1 GA {n} N" for n in range(1, 5)],
+                            "SET 1 GA 1 1 1 -1", "SET 1 GA 2 0 1 -1", "SET 1 FB 3 1", "SET 1 FB 4 1")
         self.browser.opens(f"http://127.0.0.1:{self.port}/")
         until(lambda: self.has_card("1 GL 7") and self.has_card("1 GA 2"), "cards")
         self.assertTrue(self.js(f"{self.card('1 GL 3')}.textContent").startswith("V 100 1 GL 3"))
@@ -423,7 +431,8 @@ class WebInChromium(WebCase):
         self.js("['3', '7'].forEach(n => document.querySelector(`#roster li[data-key=\"1 GL ${n}\"] button`).click())")
         until(lambda: self.has_card("1 GL 7") and not self.js(f"{self.card('1 GL 7')}.hidden"), "throttles")
         tree = self.browser.call("Accessibility.getFullAXTree")["nodes"]
-        controls = [node for node in tree if node.get("role", {}).get("value") in ("button", "slider", "textbox", "searchbox", "spinbutton", "link")]
+        kinds = ("button", "slider", "textbox", "searchbox", "spinbutton", "link")
+        controls = [node for node in tree if node.get("role", {}).get("value") in kinds]
         self.assertGreater(len(controls), 400)
         self.assertEqual([node for node in controls if not node.get("name", {}).get("value")], [])
         self.browser.presses("Tab", windowsVirtualKeyCode=9)
@@ -441,7 +450,8 @@ class WebInChromium(WebCase):
 
 CONTRAST = """(() => {
   const numbers = colour => colour.match(/[\\d.]+/g).map(Number);
-  const light = colour => numbers(colour).slice(0, 3).map(c => (c /= 255) <= .03928 ? c / 12.92 : ((c + .055) / 1.055) ** 2.4)
+  const light = colour => numbers(colour).slice(0, 3)
+    .map(c => (c /= 255) <= .03928 ? c / 12.92 : ((c + .055) / 1.055) ** 2.4)
     .reduce((sum, c, n) => sum + c * [.2126, .7152, .0722][n], 0);
   const behind = element => {
     for (; element; element = element.parentElement) {
@@ -450,7 +460,9 @@ CONTRAST = """(() => {
     }
     return 'rgb(255, 255, 255)';
   };
-  return [...new Set([...document.querySelectorAll('button:enabled, h1, h2, h3, small, li, a, label, summary')].filter(e => e.offsetParent)
-    .map(e => [light(getComputedStyle(e).color), light(behind(e)), e]).map(([a, b, e]) => [(Math.max(a, b) + .05) / (Math.min(a, b) + .05), e])
+  const seen = [...document.querySelectorAll('button:enabled, h1, h2, h3, small, li, a, label, summary')]
+    .filter(e => e.offsetParent);
+  return [...new Set(seen.map(e => [light(getComputedStyle(e).color), light(behind(e)), e])
+    .map(([a, b, e]) => [(Math.max(a, b) + .05) / (Math.min(a, b) + .05), e])
     .filter(([ratio]) => ratio < 4.5).map(([ratio, e]) => `${e.tagName} ${e.className} ${ratio.toFixed(1)}`))];
 })()"""
