@@ -24,7 +24,7 @@ def commands_of(rows, power):
     for bus, group, address, part in sorted(wanted, key=lambda key: (key[0], GROUPS.index(key[1]), key[2])):
         row = rows[bus, group, address, part]
         if group == "POWER":
-            commands.append(f"SET {bus} POWER {'ON' if row.on else 'OFF'} {row.text}".rstrip())
+            commands.append(f"SET {bus} POWER {'ON' if row.on else 'OFF'} {row.text}".rstrip(" "))
             continue
         commands.append(f"INIT {bus} {group} {address} {' '.join(map(str, row[1:]))}")
         if drive := rows.get((bus, group, address, "does")):

@@ -296,4 +296,4 @@ class Case(unittest.TestCase):
         self.assertLess(panels(), before)
         self.throttle.order(*commands, "TERM 1 GL 9999")
         started.send(signal.SIGCONT)
-        until(lambda: started.told().count("server: joined, as before") > joined, "it has joined again")
+        until(lambda: started.told().count("server: joined, as before") > joined, "it has joined again", 4 * WAIT)

@@ -151,14 +151,14 @@ class Following(Case):
 
     def test_another_server_at_that_port(self):
         """One that babbles without an end of line, and one that does not speak SRCP: the program waits."""
-        port = free_port()
-        guard = self.starts("guard.py", port=port)
+        door = socket.create_server(("127.0.0.1", free_port()))
+        self.addCleanup(door.close)
+        guard = self.starts("guard.py", port=door.getsockname()[1])
         for text, fault in [(b"SSH-2.0-what\r\nProtocol mismatch.\n" * 3, "does not speak SRCP"),
                             (b"x" * 100000, "closed the connection")]:
-            with socket.create_server(("127.0.0.1", port)) as door:
-                peer, _ = door.accept()
-                threading.Thread(target=self.babbles, args=(peer, text), daemon=True).start()
-                until(lambda: fault in guard.told(), fault)
+            peer, _ = door.accept()
+            threading.Thread(target=self.babbles, args=(peer, text), daemon=True).start()
+            until(lambda: fault in guard.told(), fault)
         self.assertIsNone(guard.process.poll())
 
     def babbles(self, peer, text):
