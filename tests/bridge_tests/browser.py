@@ -2,6 +2,7 @@
 import base64
 import json
 import os
+import select
 import shutil
 import signal
 import subprocess
@@ -12,6 +13,18 @@ CHROMIUM = shutil.which("chromium")
 WORDS = ["--headless=new", "--no-sandbox", "--disable-gpu", "--disable-dev-shm-usage", "--no-first-run",
          "--hide-scrollbars", "--disable-background-networking", "--disable-component-update",
          "--remote-debugging-pipe", "about:blank"]
+
+
+def started():
+    """A browser, or None where Chromium is not installed or does not start."""
+    browser = Browser() if CHROMIUM else None
+    try:
+        if browser:
+            browser.begin()
+        return browser
+    except OSError:
+        browser.end()
+        return None
 
 
 class Browser:
@@ -25,6 +38,8 @@ class Browser:
                                         stdout=subprocess.DEVNULL, stderr=subprocess.DEVNULL)
         os.close(read), os.close(write)
         self.count, self.begun, self.faults, self.asked, self.session = 0, b"", [], set(), None
+
+    def begin(self):
         target = self.call("Target.createTarget", url="about:blank")["targetId"]
         self.session = self.call("Target.attachToTarget", targetId=target, flatten=True)["sessionId"]
         for domain in ("Page", "Runtime", "Log", "Network"):
@@ -39,8 +54,8 @@ class Browser:
         os.write(self.out, json.dumps(message).encode() + b"\0")
         while True:
             while b"\0" not in self.begun:
-                if not (more := os.read(self.read, 1 << 20)):
-                    raise EOFError("the browser has ended")
+                if not select.select([self.read], [], [], WAIT)[0] or not (more := os.read(self.read, 1 << 20)):
+                    raise OSError("the browser has ended, or does not answer")
                 self.begun += more
             text, _, self.begun = self.begun.partition(b"\0")
             answer = json.loads(text)

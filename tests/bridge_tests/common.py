@@ -237,7 +237,7 @@ class Way:
         self.open.clear()
         for panel in self.panels:
             try:
-                panel.sendall(b"1795358500.120 100 INFO 1 GL 3 1 9")  # no LF
+                panel.sendall(b"1795358500.120 100 INFO 1 GL 3 1 2 2")  # of 28: it has no LF
             except OSError:
                 pass
             self.close(panel)

@@ -9,7 +9,7 @@ from pathlib import Path
 import pages
 
 from . import common
-from .browser import CHROMIUM, Browser
+from .browser import started
 from .common import PACKAGES, PROGRAMS, free_port, new_folder, until
 from .test_mqtt import IS_THERE, Broker
 from .test_web import Events
@@ -22,11 +22,10 @@ BROKER = "## Many displays"
 def at_the_page(port):
     """What the page has its reader do in a browser: in Chromium, or, where there is none, as its script does."""
     address = f"http://127.0.0.1:{port}/"
-    if not CHROMIUM:
+    if not (browser := started()):
         page = Events(port)
         page.order("INIT 1 GL 3 N 1 126 9", "SET 1 POWER ON", "SET 1 GL 3 1 60 126")
         return lambda: page.post("", "/stop")
-    browser = Browser()
     browser.opens(address)
     card = "document.querySelector('li.card[data-key=\"1 GL 3\"] input')"
     until(lambda: browser.run("document.querySelectorAll('#POWER button').length") == 2, "power of two buses")

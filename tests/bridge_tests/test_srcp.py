@@ -82,15 +82,17 @@ class Following(Case):
         def steps():
             self.throttle.order("INIT 1 GL 3 N 1 28 5", "INIT 1 GL 4 N 1 28 5", "SET 1 LOCK GL 3 0", "INIT 1 GA 5 N")
             until(lambda: self.joins == [True] and self.same(), "the listing")
+            self.changes.clear()
             self.way.cut()
             self.throttle.order("TERM 1 GL 4", "TERM 1 LOCK GL 3", "SET 1 GL 3 1 9 28 1", "INIT 1 GA 6 N")
-            self.changes.clear()
             self.throttle.order(*["SET 1 GL 3 1 9 28 1"] * 50)
             self.way.free()
             until(self.same, "after the overrun")
             gone = [change.key for change in self.changes if not change.row and change.key[1] != "SESSION"]
             self.assertCountEqual(gone, [(1, "GL", 4, "is"), (1, "GL", 4, "does"), (1, "GL", 3, "lock")])
             self.assertEqual(self.joins, [True, False])
+            drives = [change.row[1:4] for change in self.changes if change.key == (1, "GL", 3, "does")]
+            self.assertEqual(drives, [(1, 9, 28)])  # and nothing of a line that was cut
             self.assertNotIn((1, "FB", 1, "does"), [change.key for change in self.changes])  # listed again as it was
         self.run_mirror(self.way.port, steps)
 

@@ -8,10 +8,9 @@ import re
 import socket
 import threading
 import time
-import unittest
 from pathlib import Path
 
-from .browser import CHROMIUM, Browser
+from .browser import started
 from .common import LAYOUT, WAIT, Case, connects, free_port, new_folder, parsed, rows, until
 
 
@@ -331,7 +330,6 @@ class WebWithAWord(WebCase):
         self.has("100 INFO 1 POWER ON")
 
 
-@unittest.skipUnless(CHROMIUM, "chromium is not installed")
 class WebInChromium(WebCase):
     """With SRCP_PICTURES=FOLDER pictures of the page are put there; `panel.png` of them is the one in docs/."""
     layout = LAYOUT.replace("fb_ports = 32", "fb_ports = 500")
@@ -342,9 +340,9 @@ class WebInChromium(WebCase):
         names.write_text('"1 GL 3" = "V 100"\n"1 GL 7" = "ICE 3"\n"1 GA 1" = "Yard west"\n'
                          '"1 GA 2" = "Yard <b>east</b>"\n')
         self.words = ("--silence", 5, "--names", names)
-        super().setUp()
-        self.browser = Browser()
+        self.browser = started() or self.skipTest("chromium is not installed, or does not start")
         self.addCleanup(self.browser.end)
+        super().setUp()
 
     def picture(self, name, width, height, phone=False, dark=False):
         self.browser.shows(width, height, phone, dark)
