@@ -24,7 +24,6 @@ BREAKS = [  # the file, whose cases, what is wrong, the text, what stands in its
     ("srcp", "srcp", "the reply to a cancelled question goes to the next", "            await asyncio.wait([reply], timeout=ANSWER)",
      "            try:\n                await asyncio.wait([reply], timeout=ANSWER)\n            except asyncio.CancelledError:\n"
      "                self.waiting.remove(reply)\n                raise"),
-    ("srcp", "srcp", "a reply of another protocol ends the program", "        except NOT_SRCP:\n            self.transport", "        except KeyError:\n            self.transport"),
     ("srcp", "srcp", "a line without an end is kept", "if len(self.begun) > LONGEST:", "if False:"),
     ("guard", "guard", "a lock that was given back counts", "if stamp == change.stamp or None in (stamp, change.stamp):", "if True:"),
     ("guard", "guard", "the direction is lost", "{drive.mode} 0", "1 0"),

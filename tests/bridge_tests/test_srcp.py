@@ -4,7 +4,6 @@ import asyncio
 import signal
 import socket
 import subprocess
-import threading
 import time
 import unittest
 
@@ -156,22 +155,14 @@ class Following(Case):
         door = socket.create_server(("127.0.0.1", free_port()))
         self.addCleanup(door.close)
         guard = self.starts("guard.py", port=door.getsockname()[1])
-        for text, fault in [(b"SSH-2.0-what\r\nProtocol mismatch.\n" * 3, "does not speak SRCP"),
-                            (b"x" * 100000, "closed the connection")]:
-            peer, _ = door.accept()
-            threading.Thread(target=self.babbles, args=(peer, text), daemon=True).start()
-            until(lambda: fault in guard.told(), fault)
+        with door.accept()[0] as peer:
+            peer.sendall(b"SSH-2.0-what\r\nProtocol mismatch.\n" * 3)
+            until(lambda: "does not speak SRCP" in guard.told(), "it is told")
+        with door.accept()[0] as peer, self.assertRaises(OSError):  # it is not read for long
+            for _ in range(1000):
+                peer.sendall(b"x" * 100000)
+        until(lambda: "closed the connection" in guard.told(), "it is told")
         self.assertIsNone(guard.process.poll())
-
-    def babbles(self, peer, text):
-        try:
-            with peer:
-                peer.sendall(text)
-                peer.settimeout(3)
-                while peer.recv(1000):
-                    pass
-        except OSError:
-            pass
 
     def test_ends_by_sigterm_and_says_what_is_wrong(self):
         guard = self.starts("guard.py")
