@@ -101,12 +101,14 @@ class Bridge:
         while True:
             place, text = await orders.get()
             try:
-                if not self.mirror.here:
+                if place == "stop":
+                    if faults := await stop_all(self.mirror):
+                        raise Refused("; ".join(faults))
+                elif not self.mirror.here:
                     raise Refused("the server is away")
-                if place == "stop" and (faults := await stop_all(self.mirror)):
-                    raise Refused("; ".join(faults))
-                for command in commands_for(self.mirror.rows, place, text) if place != "stop" else ():
-                    await self.mirror.session.ask(command)
+                else:
+                    for command in commands_for(self.mirror.rows, place, text):
+                        await self.mirror.session.ask(command)
             except Exception as fault:  # whatever was sent, this program goes on
                 self.refused(place, text, fault)
 

@@ -38,7 +38,7 @@ class Page:
         words = command.upper().split()
         if words[2:3] == ["SESSION"]:
             return "415 ERROR forbidden"  # that session is the one of all pages
-        if not self.mirror.here:
+        if not self.mirror.session or self.mirror.session.ended.done():
             return "the server is away"
         try:
             if words[2:3] == ["POWER"]:  # behind nothing else

@@ -18,6 +18,8 @@ async def stop_all(mirror, holders={}):
             if str(reply).startswith("414"):
                 await mirror.session.ask(f"SET {bus} POWER OFF")
 
+    if not mirror.session or mirror.session.ended.done():
+        return ["the server is away"]
     stops = {key: stop(key[0], key[2], row) for key, row in mirror.rows.items() if key[1:4:2] == ("GL", "does")}
     replies = await asyncio.gather(*stops.values(), return_exceptions=True)
     return [f"{bus} GL {address}: {reply}" for (bus, _, address, _), reply in zip(stops, replies) if reply]

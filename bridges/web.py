@@ -121,7 +121,7 @@ class Web:
         if path == "/stop":  # also of a page that is about to join again
             self.tell(event("stop", None))
             holders = {page.session.id: page.session for page in self.pages.values() if page.session}
-            faults = await stop_all(self.mirror, holders) if self.mirror.here else ["the server is away"]
+            faults = await stop_all(self.mirror, holders)
             return 200, "application/json", json.dumps({"reply": "; ".join(faults) or "200 OK"})
         if not page or path not in ("/command", "/alive"):
             return 404, TEXT, "no such page\n"
