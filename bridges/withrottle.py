@@ -17,7 +17,7 @@ from srcp import EMERGENCY_STOP, FORWARD, Mirror, Refused, position
 HORN = 2  # the function that is on for as long as it is pressed; a press of the others toggles
 PULSE = 250  # milliseconds for which the port of a turnout is on
 UNREAD = 1 << 20  # bytes that wait for a phone; one that is further behind is gone
-VANISHED = {socket.TCP_KEEPIDLE: 5, socket.TCP_KEEPINTVL: 2, socket.TCP_KEEPCNT: 3}  # of a phone without a network
+VANISHED = {socket.TCP_KEEPIDLE: 5, socket.TCP_KEEPINTVL: 2, socket.TCP_KEEPCNT: 3, socket.TCP_USER_TIMEOUT: 11000}
 UNKNOWN, CLOSED, THROWN = "1", "2", "4"
 KINDS = "PTT]\\[Turnouts}|{Turnout]\\[Closed}|{2]\\[Thrown}|{4]\\[Unknown}|{1"
 

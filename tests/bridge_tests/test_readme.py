@@ -91,8 +91,8 @@ class Readme(unittest.TestCase):
             for block in [serve, *blocks]:
                 self.follows(reader, block)
 
-    def test_units(self):
-        """The units start programs that are there, and are as shut in as that of the server."""
+    def test_units_and_links(self):
+        """The units start programs that are there, and are as shut in as that of the server. Links lead to files."""
         unit = (PROGRAMS / "units" / "srcp_bridge@.service").read_text()
         own = (common.TOP / "examples" / "srcp_server.service").read_text()
         differ = {"RestrictAddressFamilies", "IPAddressAllow", "LimitNOFILE", "MemoryMax", "ExecStart"}
@@ -100,5 +100,7 @@ class Readme(unittest.TestCase):
         hard = {line for line in hard if line.partition("=")[0] not in differ}
         self.assertEqual(hard - set(unit.splitlines()), set())
         self.assertGreater(len(hard), 20)
+        for path in re.findall(r"\]\((?!http)([^)#]+)", (common.TOP / PAGE).read_text()):
+            self.assertTrue((PROGRAMS / path).exists(), path)
         for name in re.findall(r"`srcp_bridge@(\w+)`|srcp_bridge_(\w+)`", (common.TOP / PAGE).read_text()):
             self.assertTrue((PROGRAMS / f"{''.join(name)}.py").exists(), name)
