@@ -20,18 +20,12 @@ JSON (`functions` as a list, or as {"2": 1}), and what is left out stays; to 1/G
 """
 import asyncio
 import json
-import os
-import sys
 
+from broker import connect, matches, publish
 from program import arguments, names, run, say
 from srcp import Mirror, Refused, keys_of
 from stop import stop_all
 from topics import announced, commands_for, device_of, node, shown
-
-try:
-    import paho.mqtt.client as paho
-except ImportError:
-    sys.exit("-- mqtt.py needs paho-mqtt: apt install python3-paho-mqtt")
 
 MOMENT = 0.3  # seconds until what the broker has and the registry has not is looked at again
 READING = 15.0  # seconds that the reading of what the broker has may take
@@ -40,12 +34,15 @@ WAITING = 1000  # commands that may wait
 
 
 class Bridge:
-    """`wanted` has what the broker is to show, `there` what it shows, as far as is known; both by topic."""
+    """`wanted` has what the broker is to show, `there` what it shows, as far as is known; both by topic.
+
+    `late` has the topics that the broker was too slow to take: they are shown in their last state.
+    """
 
     def __init__(self, asked):
         self.asked, self.prefix, self.wanted, self.there = asked, asked.prefix.strip("/") + "/", {}, {}
         self.node, self.names = node(self.prefix), names(asked.names)
-        self.client, self.following = None, False
+        self.client, self.following, self.late, self.behind = None, False, set(), asyncio.Event()
         self.orders, self.urgent = asyncio.Queue(WAITING), asyncio.Queue(WAITING)
         self.mirror = Mirror(asked, self.told, lambda anew: self.online(), self.online)
 
@@ -66,16 +63,27 @@ class Bridge:
     def put(self, topic):
         """Has the broker show what is wanted at a topic; an empty message takes out what is retained."""
         payload = self.wanted.get(topic, "")
-        if self.following and (payload or topic in self.there):
-            self.client.publish(topic, payload, qos=1, retain=True)
-            self.there[topic] = payload
-            if not payload:
-                del self.there[topic]
+        if not self.following or not payload and topic not in self.there:
+            return
+        if not publish(self.client, topic, payload):
+            self.late.add(topic)
+            self.behind.set()
+            return
+        self.late.discard(topic)
+        self.there[topic] = payload
+        if not payload:
+            del self.there[topic]
+
+    async def catch_up(self):
+        while True:
+            await self.behind.wait()
+            self.behind.clear()
+            await asyncio.sleep(MOMENT)
+            for topic in list(self.late):
+                self.put(topic)
 
     def online(self):
-        if self.following:
-            now = "online" if self.mirror.here else "offline"
-            return self.client.publish(self.prefix + "online", now, qos=1, retain=True)
+        self.want(self.prefix + "online", "online" if self.mirror.here else "offline", False)
 
     async def clear(self):
         """Takes out what the broker shows and the registry has not; of what is not listed (yet) the server is asked."""
@@ -118,7 +126,7 @@ class Bridge:
             self.client.publish(self.prefix + "error", json.dumps(words))
 
     def heard(self, topic, payload, retained):
-        if not any(paho.topic_matches_sub(levels, topic) for levels, _ in self.all_topics()):
+        if not any(matches(levels, topic) for levels, _ in self.all_topics()):
             return  # nobody asked for it
         text, place = payload.decode("utf-8", "replace").strip(), self.place(topic)
         if topic == self.prefix + "mark":
@@ -136,46 +144,24 @@ class Bridge:
             else:
                 orders.put_nowait((place, text))
 
-    def connect(self, loop, lost, joined):
-        """Connects a client. It runs in a thread of its own, and hands all that comes to this one."""
-        def came(client, data, message):
-            try:
-                loop.call_soon_threadsafe(self.heard, message.topic, message.payload, message.retain)
-            except UnicodeDecodeError:
-                pass  # no topic of ours
-
-        version = [paho.CallbackAPIVersion.VERSION1] if hasattr(paho, "CallbackAPIVersion") else []
-        client = paho.Client(*version, client_id=self.node + "-bridge", clean_session=True)
-        client.will_set(self.prefix + "online", "offline", qos=1, retain=True)
-        if self.asked.user:
-            client.username_pw_set(self.asked.user, os.environ.get("MQTT_PASSWORD"))
-        if self.asked.tls:
-            client.tls_set()
-        client.max_queued_messages_set(0)
-        client.on_message = came
-        client.on_connect = lambda _, __, ___, code: loop.call_soon_threadsafe(lost.set if code else joined.set)
-        client.on_disconnect = lambda *_: loop.call_soon_threadsafe(lost.set)
-        client.connect(self.asked.broker, self.asked.broker_port, keepalive=10)
-        client.loop_start()
-        return client
-
     async def follow(self):
         """One connection to the broker: reads what it shows, has it show what is wanted, until it is lost."""
         joined, self.lost, self.marked, self.there = asyncio.Event(), asyncio.Event(), asyncio.Event(), {}
-        client = self.client = await asyncio.to_thread(self.connect, asyncio.get_running_loop(), self.lost, joined)
-        clearing = None
+        words = self.node + "-bridge", self.prefix + "online", self.heard, joined, self.lost
+        client = self.client = await asyncio.to_thread(connect, self.asked, *words, asyncio.get_running_loop())
+        tasks = []
         try:
             await self.comes(joined)
             client.subscribe(self.all_topics())
             client.publish(self.prefix + "mark", "read")
             await self.comes(self.marked)
             self.begin(client)
-            clearing = asyncio.create_task(self.clear())
+            tasks = [asyncio.create_task(self.clear()), asyncio.create_task(self.catch_up())]
             await self.lost.wait()
             raise ConnectionError("closed the connection")
         finally:
-            if clearing:
-                clearing.cancel()
+            for task in tasks:
+                task.cancel()
             if self.following and not self.lost.is_set():  # this program is ended
                 client.publish(self.prefix + "online", "offline", qos=1, retain=True).wait_for_publish(1)
             self.following = False
@@ -203,7 +189,8 @@ class Bridge:
         sets = [f"{self.prefix}{levels}set" for levels in ("+/", "+/+/", "+/+/+/", "+/+/+/+/")]
         client.subscribe([(topic, 1) for topic in [*sets, self.prefix + "online"]])
         self.following = True
-        for topic, payload in self.wanted.items():
+        self.late.clear()
+        for topic, payload in list(self.wanted.items()):
             if self.there.get(topic) != payload:
                 self.put(topic)
         self.online()

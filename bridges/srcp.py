@@ -1,5 +1,6 @@
 """Sessions at an srcp_server, and a mirror of its registry, for programs that are one thread of asyncio."""
 import asyncio
+import socket
 from collections import deque, namedtuple
 
 from program import say
@@ -14,8 +15,7 @@ Power = namedtuple("Power", "stamp on text")
 Locomotive = namedtuple("Locomotive", "stamp protocol version steps functions")
 Drive = namedtuple("Drive", "stamp mode v v_max functions")
 Accessory = namedtuple("Accessory", "stamp protocol")
-Port = namedtuple("Port", "stamp value")
-Sensor = namedtuple("Sensor", "stamp value")
+Port = Sensor = namedtuple("Port", "stamp value")
 Lock = namedtuple("Lock", "stamp seconds session")
 Change = namedtuple("Change", "stamp key row before")  # row None: it is gone; stamp None: at a moment that nobody told
 KINDS = {("SESSION", "is"): Peer, ("GL", "is"): Locomotive, ("GA", "is"): Accessory, ("FB", "does"): Sensor}
@@ -55,9 +55,8 @@ def parse(line):
 
 def position(rows, bus, address):
     """Returns the port that an accessory was put to last: that which is 1, else that which changed last, else None."""
-    if not (made := rows.get((bus, "GA", address, "is"))):
-        return None
-    ports = {port: row for port in range(8) if (row := rows.get((bus, "GA", address, port)))}
+    made = rows.get((bus, "GA", address, "is"))
+    ports = {port: row for port in range(8) if made and (row := rows.get((bus, "GA", address, port)))}
     on = [port for port in ports if ports[port].value]
     moved = on if len(on) == 1 else [port for port in ports if ports[port].stamp > made.stamp]
     return max(moved, key=lambda port: ports[port].stamp, default=None)
@@ -95,7 +94,8 @@ class Session(asyncio.Protocol):
             raise ConnectionError("does not speak SRCP") if isinstance(fault, ValueError) else fault
 
     def connection_made(self, transport):
-        self.transport = transport
+        self.transport = transport  # which keeps little of what was told while this program sleeps
+        transport.get_extra_info("socket").setsockopt(socket.SOL_SOCKET, socket.SO_RCVBUF, 1 << 17)
 
     def data_received(self, data):
         *lines, self.begun = (self.begun + data).split(b"\n")  # a panel's last line may be cut: it stays here

@@ -38,9 +38,9 @@ from .test_mqtt import (Mqtt, MqttForHomeAssistant, MqttWithAWrongBroker, MqttWi
                         Payloads)
 from .test_readme import Readme  # noqa: E402
 from .test_srcp import Following, Parsing  # noqa: E402
-from .test_web import Web, WebInChromium, WebThatSleeps, WebWithAWord  # noqa: E402
+from .test_web import Web, WebInChromium, WebThatSleeps, WebWithAWord, WebWithSilentPages  # noqa: E402
 from .test_withrottle import WiThrottle  # noqa: E402
 
 BRIDGE_CASES = cases_of(Readme, Following, MqttWithAWrongBroker, Mqtt, MqttForHomeAssistant, MqttWithPersistence,
-                        Payloads, WebInChromium, Web, WebThatSleeps, WebWithAWord, WiThrottle, DccEx, Guard, Keep,
-                        Parsing)
+                        Payloads, WebInChromium, Web, WebThatSleeps, WebWithAWord, WebWithSilentPages, WiThrottle, DccEx,
+                        Guard, Keep, Parsing)

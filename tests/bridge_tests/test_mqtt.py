@@ -178,8 +178,8 @@ class MqttCase(Case):
                   and not topic.endswith(("/position", "/online"))}
         return loaded(topics) == registry(self.server.port) and has_now.get("srcp/online") == "online"
 
-    def equal(self, what):
-        until(self.shows, what)
+    def equal(self, what, seconds=WAIT):
+        until(self.shows, what, seconds)
 
     def change(self):
         self.throttle.order("TERM 1 GA 5", "INIT 1 GL 4 N 1 28 5", "SET 1 FB 4 1", "SET 1 GL 3 1 5 28 0")
@@ -268,7 +268,7 @@ class Mqtt(MqttCase):
 
     def test_a_real_overrun(self):
         self.overruns(self.bridge, "TERM 1 GA 5", "INIT 1 GL 4 N 1 28 5", "SET 1 FB 4 1", "SET 1 GL 3 1 5 28 0")
-        self.equal("an overrun")
+        self.equal("an overrun", 4 * WAIT)
 
     def test_broker(self):
         self.broker.stop()

@@ -109,8 +109,6 @@ class WebCase(Case):
 
 
 class Web(WebCase):
-    words = ("--silence", 3)
-
     def test_page(self):
         answer, text = self.get()
         self.assertTrue(answer.status == 200 and text.startswith("<!doctype html>") and "</html>" in text)
@@ -134,26 +132,17 @@ class Web(WebCase):
 
     def test_a_page_that_goes_leaves_no_train_of_its_driving(self):
         page = Events(self.port)
-        page.order(*[f"INIT 1 GL {address} N 1 28 2" for address in range(3, 8)], "SET 1 LOCK GL 5 0")
-        self.throttle.order("SET 1 GL 6 1 8 28")
+        page.order(*[f"INIT 1 GL {address} N 1 28 2" for address in range(3, 9)], "SET 1 LOCK GL 5 0")
+        self.throttle.order("SET 1 GL 8 1 8 28", "SET 1 GL 6 1 8 28")
         until(lambda: page.rows.get((1, "GL", 6, "does"), {}).get("v") == 8, "another drives 6")
         page.order("set 01 gl 03 0 9 28", "SET 1 GL 4 1 9 28", "SET 1 GL 5 1 9 28", "SET 1 GL 6 1 8 28 1",
                    "SET 1 GL 7 1 9 28")
         self.assertEqual(page.post("SET 1 GL 7 1 99 28"), "412 ERROR wrong value")  # what is refused changes nothing
         self.throttle.order("SET 1 GL 4 1 7 28")
+        page.order("SET 1 LOCK GL 8 0")  # it takes what another has driven
         page.leaves()
-        self.has("100 INFO 1 GL 3 0 0 28", "100 INFO 1 GL 5 1 0 28", "100 INFO 1 GL 7 1 0 28")
+        self.has("100 INFO 1 GL 3 0 0 28", "100 INFO 1 GL 5 1 0 28", "100 INFO 1 GL 7 1 0 28", "100 INFO 1 GL 8 1 0 28")
         self.has("100 INFO 1 GL 4 1 7 28", "100 INFO 1 GL 6 1 8 28 1")  # these, others drive
-
-    def test_a_page_that_is_silent(self):
-        page, other = Events(self.port, answers=False), Events(self.port)
-        page.order("INIT 1 GL 3 N 1 28 2", "SET 1 GL 3 1 9 28")
-        other.order("INIT 1 GL 4 N 1 28 2", "SET 1 GL 4 1 9 28")
-        self.has("100 INFO 1 GL 3 1 0 28")
-        until(lambda: "END" in page.events, "it is closed")
-        self.assertEqual(page.post("SET 1 GL 3 1 9 28"), "404")
-        self.assertNotIn("END", other.events)
-        self.has("100 INFO 1 GL 4 1 9 28")
 
     def test_stop_all(self):
         """What pages have locked stands too; if another session has one locked, its bus's power goes off."""
@@ -272,7 +261,7 @@ class Web(WebCase):
 
     def test_more_pages_than_the_server_has_places(self):
         pages = [Events(self.port) for _ in range(80)]
-        self.assertEqual({page.post("SET 1 POWER ON") for page in pages}, {"200 OK"})
+        self.assertEqual({page.post("SET 1 FB 4 1") for page in pages}, {"200 OK"})
         until(lambda: self.same(*pages), "all have all")
 
     def test_more_pages_than_a_browser_has_connections(self):
@@ -288,6 +277,20 @@ class Web(WebCase):
                    "SET 1 GL 8 1 20 28")
         self.assertEqual(self.web.end(), 0)
         self.has("100 INFO 1 GL 8 1 0 28", "100 INFO 1 GL 9 1 0 28")
+
+
+class WebWithSilentPages(WebCase):
+    words = ("--silence", 2)
+
+    def test_a_page_that_is_silent(self):
+        page, other = Events(self.port, answers=False), Events(self.port)
+        page.order("INIT 1 GL 3 N 1 28 2", "SET 1 GL 3 1 9 28")
+        other.order("INIT 1 GL 4 N 1 28 2", "SET 1 GL 4 1 9 28")
+        self.has("100 INFO 1 GL 3 1 0 28")
+        until(lambda: "END" in page.events, "it is closed")
+        self.assertEqual(page.post("SET 1 GL 3 1 9 28"), "404")
+        self.assertNotIn("END", other.events)
+        self.has("100 INFO 1 GL 4 1 9 28")
 
 
 class WebThatSleeps(WebCase):
