@@ -167,8 +167,9 @@ class Evening:
             yield "the file of keep.py"
         topics = {topic: payload for topic, payload in test_mqtt.retained(self.broker.port).items()
                   if topic.startswith("srcp/") and not topic.endswith(("/position", "/online"))}
-        if test_mqtt.loaded(topics) != test_mqtt.registry(self.server.port):
-            yield "the retained topics"
+        shown, wanted = test_mqtt.loaded(topics), test_mqtt.registry(self.server.port)
+        if wrong := [topic for topic in shown.keys() | wanted.keys() if shown.get(topic) != wanted.get(topic)]:
+            yield f"the retained topics: {[(topic, shown.get(topic), wanted.get(topic)) for topic in wrong][:5]}"
         yield from self.panel_differences(rows)
 
     def panel_differences(self, rows):
