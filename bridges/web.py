@@ -23,7 +23,7 @@ from srcp import Mirror
 from stop import stop_all
 
 PATIENCE = 20.0  # seconds for a request
-WRONG = 1.0  # seconds from one wrong word to the answer, one after the other
+WRONG = 1.0  # seconds from a wrong word to its answer, and to the next word that is looked at
 LONGEST = 1000  # bytes of what a request brings
 AT_ONCE = 4  # pages of one browser: it has 6 connections, and STOP ALL needs one that is free
 FOLDER = pathlib.Path(__file__).parent
@@ -103,13 +103,13 @@ class Web:
         return self.answer(writer, 404, TEXT, "no such page\n")
 
     async def enter(self, writer, body):
-        """Asks for the word. Wrong ones are answered one after the other, so that nobody tries many."""
-        word = urllib.parse.parse_qs(body or "").get("word", [""])[0]
-        if hmac.compare_digest(word.encode(), self.word.encode()):
-            return self.answer(writer, 303, TEXT, "", [f"srcp_word={self.token}"])
+        """Asks for the word. A wrong one keeps the next waiting, so that nobody tries many."""
         if body is not None:
-            say("page: a wrong word")
             async with self.guesses:
+                word = urllib.parse.parse_qs(body).get("word", [""])[0]
+                if hmac.compare_digest(word.encode(), self.word.encode()):
+                    return self.answer(writer, 303, TEXT, "", [f"srcp_word={self.token}"])
+                say("page: a wrong word")
                 await asyncio.sleep(WRONG)
         return self.answer(writer, 401, HTML, (FOLDER / "word.html").read_text("utf-8"))
 
@@ -130,8 +130,9 @@ class Web:
 
     def answer(self, writer, status, kind, body, cookies=()):
         """Sends an answer; returns whether the connection goes on."""
-        head = HEAD | {"Content-Type": kind, "Content-Length": len(body.encode()), "Location": "/"}
+        head = HEAD | {"Content-Type": kind, "Content-Length": len(body.encode())}
         lines = [f"HTTP/1.1 {status} {STATUS[status]}", *(f"{name}: {value}" for name, value in head.items())]
+        lines += ["Location: /"] * (status == 303)
         lines += [f"Set-Cookie: {cookie}; Max-Age=31536000; Path=/; HttpOnly; SameSite=Strict" for cookie in cookies]
         writer.write("\r\n".join([*lines, "", ""]).encode() + body.encode())
         return status in (200, 303)

@@ -332,7 +332,13 @@ class WebWithAWord(WebCase):
         for trial in trials:
             trial.join()
         self.assertGreater(time.monotonic() - begun, 2.9)  # one a second, however many try
+        trial = threading.Thread(target=self.enters, args=("x",))
+        trial.start()
+        until(lambda: self.web.told().count("a wrong word") == 4, "a wrong one is looked at")
+        begun = time.monotonic()
         status, cookie, _ = self.enters(word)
+        self.assertGreater(time.monotonic() - begun, 0.5)  # the right one has to wait too: its answer would tell it
+        trial.join()
         self.assertEqual(status, 303)
         self.assertTrue("HttpOnly" in cookie and "SameSite=Strict" in cookie and word not in cookie)
         page = Events(self.port, Cookie=cookie.partition(";")[0])
