@@ -196,7 +196,7 @@ class Station:
             try:
                 await self.serve()
             except (OSError, EOFError, asyncio.LimitOverrunError, termios.error) as fault:
-                say(f"station: {str(fault) or 'silent'}")
+                say(f"station: {'its line is closed' if isinstance(fault, EOFError) else str(fault) or 'silent'}")
             await asyncio.sleep(self.again)
 
     async def ask_sensors(self):

@@ -229,7 +229,7 @@ STREAM_CASES = (input_past_its_limit, input_at_its_limit, input_that_cannot_be_r
                 run_in_little_memory, full_bus_that_stalls_nobody)
 ALL_CASES = (STREAM_CASES + TABLE_CASES + INPUT_CASES + SERVING_CASES + DOOR_CASES + FAULT_CASES + CLIENT_CASES
              + PAGE_CASES + RUN_SCRIPT_CASES + BRIDGE_CASES)
-BESIDE = 10
+BESIDE = 10  # cases of bridges/ at once
 
 
 def cases_by_name():
