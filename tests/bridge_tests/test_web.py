@@ -433,7 +433,7 @@ class WebInChromium(WebCase):
         until(lambda: self.has_card("1 GL 7") and self.has_card("1 GA 2"), "cards")
         self.assertTrue(self.js(f"{self.card('1 GL 3')}.textContent").startswith("V 100 1 GL 3"))
         self.assertTrue(self.js(f"{self.card('1 GA 2')}.textContent").startswith("Yard <b>east</b> 1 GA 2"))
-        self.picture("panel", 800, 600)
+        self.picture("panel", 800, 690)
         self.js("Object.assign(document.getElementById('find'), { value: 'ice' }).oninput()")
         until(lambda: self.js(f"{self.card('1 GL 3')}.hidden && {self.card('1 GA 2')}.hidden"), "others are hidden")
         self.assertFalse(self.js(f"{self.card('1 GL 7')}.hidden"))
@@ -451,8 +451,8 @@ class WebInChromium(WebCase):
         self.assertGreater(len(controls), 400)
         self.assertEqual([node for node in controls if not node.get("name", {}).get("value")], [])
         self.browser.presses("Tab", windowsVirtualKeyCode=9)
-        outline = "getComputedStyle(document.activeElement).outlineStyle + document.activeElement.tagName"
-        self.assertEqual(self.js(outline), "solidBUTTON")
+        outline = "getComputedStyle(document.activeElement).outlineStyle + ' ' + document.activeElement.id"
+        self.assertEqual(self.js(outline), "solid stop")  # STOP ALL comes first
         for dark in (False, True):
             self.browser.shows(1280, 800, dark=dark)
             self.assertEqual(self.js(CONTRAST), [])
