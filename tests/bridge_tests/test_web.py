@@ -221,6 +221,7 @@ class Web(WebCase):
         self.assertEqual(self.get("/../srcp.py")[0].status, 404)
         self.assertEqual(page.post("SET 1 POWER OFF\nSET 1 POWER ON"), "more than one line")
         self.assertEqual(page.post("TERM 0 SESSION"), "415 ERROR forbidden")
+        self.assertEqual(page.post("SET 1 POWER ON " + "x" * 1000), "413")
         self.has("100 INFO 1 POWER OFF")
 
     def test_a_page_that_sends_10_megabytes(self):
@@ -433,7 +434,7 @@ class WebInChromium(WebCase):
         until(lambda: self.has_card("1 GL 7") and self.has_card("1 GA 2"), "cards")
         self.assertTrue(self.js(f"{self.card('1 GL 3')}.textContent").startswith("V 100 1 GL 3"))
         self.assertTrue(self.js(f"{self.card('1 GA 2')}.textContent").startswith("Yard <b>east</b> 1 GA 2"))
-        self.picture("panel", 800, 690)
+        self.picture("panel", 800, 600)
         self.js("Object.assign(document.getElementById('find'), { value: 'ice' }).oninput()")
         until(lambda: self.js(f"{self.card('1 GL 3')}.hidden && {self.card('1 GA 2')}.hidden"), "others are hidden")
         self.assertFalse(self.js(f"{self.card('1 GL 7')}.hidden"))
