@@ -75,7 +75,7 @@ class Track:
         return urgent, f"t {address} {speed} {self.way.setdefault(address, FORWARD)}"
 
     def gone(self, parts):
-        """Returns what was told of locomotives that are not there any more, or have fewer functions now."""
+        """Returns what puts to rest the locomotives that are gone, and the functions that they have no more."""
         old = {}
         for part, address in self.told.keys() - parts.keys():
             if part == "cab":

@@ -23,7 +23,7 @@ KINDS = "PTT]\\[Turnouts}|{Turnout]\\[Closed}|{2]\\[Thrown}|{4]\\[Unknown}|{1"
 
 
 class Layout:
-    """The rows of the bus, and the phones that are told of changes."""
+    """The rows of the bus, and the phones that follow them."""
 
     def __init__(self, asked):
         self.asked, self.bus, self.names, self.phones = asked, asked.bus, names(asked.names), set()

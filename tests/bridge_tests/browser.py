@@ -16,7 +16,7 @@ WORDS = ["--headless=new", "--no-sandbox", "--disable-gpu", "--disable-dev-shm-u
 
 
 def started():
-    """A browser, or None where Chromium is not installed or does not start."""
+    """A browser, or None if Chromium is not installed or does not start."""
     browser = Browser() if CHROMIUM else None
     try:
         if browser:
@@ -28,7 +28,7 @@ def started():
 
 
 class Browser:
-    """One page. `faults` has what its console was told of faults, and each address that it asked for."""
+    """One page. `faults` has the faults that its console shows, `asked` each address that it asked for."""
 
     def __init__(self):
         (read, self.out), (self.read, write) = os.pipe(), os.pipe()

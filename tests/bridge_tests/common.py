@@ -176,7 +176,7 @@ class Way:
     """A way to the server that loses panels as an overrun does.
 
     `cut` closes them in the middle of a line and holds new ones back until `free`. Command sessions are passed on as
-    they are. `listed`: so many bytes of a listing pass, and half a second later it is cut.
+    they are. `listed`: that number of bytes of a listing passes, and half a second later it is cut.
     """
 
     def __init__(self, server):

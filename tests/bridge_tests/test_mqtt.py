@@ -1,4 +1,4 @@
-"""mqtt.py with the real mosquitto, where it is installed."""
+"""mqtt.py with the real mosquitto, if it is installed."""
 import argparse
 import json
 import os

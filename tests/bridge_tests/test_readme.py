@@ -20,7 +20,7 @@ BROKER = "## Many displays"
 
 
 def at_the_page(port):
-    """What the page has its reader do in a browser: in Chromium, or, where there is none, as its script does."""
+    """What the page has its reader do in a browser: in Chromium, or, if there is none, as its script does."""
     address = f"http://127.0.0.1:{port}/"
     if not (browser := started()):
         page = Events(port)
