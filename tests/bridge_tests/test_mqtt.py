@@ -1,5 +1,6 @@
 """mqtt.py with the real mosquitto, if it is installed."""
 import argparse
+import asyncio
 import json
 import os
 import shutil
@@ -139,11 +140,40 @@ class Payloads(unittest.TestCase):
                 commands_for(table, place, text)
 
 
+    def bridge(self):
+        import mqtt
+        asked = argparse.Namespace(host="", port=0, again=1, prefix="srcp", names=None, home_assistant=None)
+        return mqtt.Bridge(asked)
+
+    @unittest.skipUnless(paho, "python3-paho-mqtt is not installed")
+    def test_a_broker_that_is_too_slow(self):
+        """What cannot be queued is shown later, in its last state; paho has numbers for 65,535 messages."""
+        import broker
+        bridge, limit = self.bridge(), broker.QUEUED
+        bridge.client, bridge.following = paho.Client(client_id="slow"), True
+        bridge.client.max_queued_messages_set(limit)
+        queued = bridge.client._out_messages  # it is not connected, so that all of them wait
+
+        async def main():
+            for n in range(limit + 500):
+                bridge.want("srcp/1/FB/1", str(n), False)
+            bridge.want("srcp/1/FB/2", "1", False), bridge.want("srcp/1/FB/2", None, False)
+            bridge.want("srcp/1/FB/3", "1", False)
+            self.assertEqual(len(queued), limit)
+            catching_up = asyncio.create_task(bridge.catch_up())
+            await asyncio.sleep(1)
+            queued.clear()
+            await asyncio.sleep(1)
+            catching_up.cancel()
+
+        asyncio.run(main())
+        shown = {message.topic: message.payload.decode() for message in queued.values()}
+        self.assertEqual(shown, {"srcp/1/FB/1": str(limit + 499), "srcp/1/FB/3": "1"})
+
     @unittest.skipUnless(paho, "python3-paho-mqtt is not installed")
     def test_power_and_stop_are_behind_nothing_else(self):
         """Of what is sent while none is carried out, 1,000 commands wait, and these two in a line of their own."""
-        import mqtt
-        bridge = mqtt.Bridge(argparse.Namespace(host="", port=0, again=1, prefix="srcp", names=None, home_assistant=None))
+        bridge = self.bridge()
         for n in range(3000):
             bridge.heard("srcp/1/FB/9/set", b"1", False)
         bridge.heard("srcp/1/POWER/set", b"OFF", False), bridge.heard("srcp/stop/set", b"", False)
