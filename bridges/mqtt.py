@@ -63,12 +63,12 @@ class Bridge:
     def put(self, topic):
         """Has the broker show what is wanted at a topic; an empty message takes out what is retained."""
         payload = self.wanted.get(topic, "")
+        self.late.discard(topic)
         if not self.following or not payload and topic not in self.there:
             return
         if not publish(self.client, topic, payload):
             self.behind.set()
             return
-        self.late.discard(topic)
         self.there[topic] = payload
         if not payload:
             del self.there[topic]
