@@ -38,7 +38,7 @@ def connect(asked, name, will, heard, joined, lost, loop):
 
 def publish(client, topic, payload):
     """Has the broker retain a payload. Returns whether the message could be queued."""
-    return client.publish(topic, payload, qos=1, retain=True).rc is not None
+    return client.publish(topic, payload, qos=1, retain=True).rc != paho.MQTT_ERR_QUEUE_SIZE
 
 
 def matches(levels, topic):

@@ -67,6 +67,7 @@ class Bridge:
         if not self.following or not payload and topic not in self.there:
             return
         if not publish(self.client, topic, payload):
+            self.late.add(topic)
             self.behind.set()
             return
         self.there[topic] = payload
