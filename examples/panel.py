@@ -9,22 +9,28 @@ import socket
 import time
 
 MOMENT = 0.5  # a listing has no end mark: after so many seconds without a line the panel holds all rows
+LONGEST = 3.0  # on a busy layout no such moment comes: it waits for it so many seconds at most
 
 
 def lines_of(connection):
-    """Yields each line that the server sends, and None after a moment without one, until the connection is closed."""
+    """Yields each line that the server sends, until it closes the connection, and None after a moment without a line, or
+    if no such moment came for too long. The last line before a close may be cut: what has no LF is dropped."""
     connection.settimeout(MOMENT)
-    begun = b""
+    begun, since = b"", time.monotonic()
     while True:
         try:
             more = connection.recv(65536)
         except TimeoutError:
+            since = time.monotonic()
             yield None
             continue
         if not more:
             return
         *lines, begun = (begun + more).split(b"\n")
         yield from (line.decode("latin-1") for line in lines)
+        if time.monotonic() - since > LONGEST:
+            since = time.monotonic()
+            yield None
 
 
 def apply(rows, line):

@@ -1,23 +1,30 @@
 """The clients of examples/, as a person runs them."""
+import re
+import signal
 import socket
 import subprocess
 import sys
+import threading
+import time
 from contextlib import contextmanager
 from pathlib import Path
 
-from serving import SECONDS, WELCOME, served
+from serving import SECONDS, WELCOME, Client, served
 
-EXAMPLES = Path(__file__).resolve().parent.parent / "examples"
+TOP = Path(__file__).resolve().parent.parent
+EXAMPLES = TOP / "examples"
 STEPS = ["faster", "light", "turn", "stop"]
-DRIVES = ["1 GL 3 1 4 28 0", "1 GL 3 1 4 28 1", "1 GL 3 0 0 28 1", "1 GL 3 2 0 28 1"]
+DRIVES = ["1 GL 12 1 4 28 0", "1 GL 12 1 4 28 1", "1 GL 12 0 0 28 1", "1 GL 12 2 0 0 1"]
 OPENING = ["0 SESSION 1 INFO", "1 POWER OFF", *(f"1 FB {sensor} 0" for sensor in range(1, 9))]
-DRIVEN = ["0 SESSION 2 COMMAND", "1 GL 3 N 1 28 1", "1 GL 3 1 0 0 0", *DRIVES, "0 SESSION 2"]
+DRIVEN = ["0 SESSION 2 COMMAND", "1 GL 12 N 1 28 1", "1 GL 12 1 0 0 0", *DRIVES, "0 SESSION 2"]
+BUSY_SECONDS = 7
 
 
 @contextmanager
 def panel_at(port):
     """The panel of examples/ at that port."""
-    panel = subprocess.Popen([sys.executable, EXAMPLES / "panel.py", "--port", str(port)], stdout=subprocess.PIPE, text=True)
+    panel = subprocess.Popen([sys.executable, EXAMPLES / "panel.py", "--port", str(port)], stdout=subprocess.PIPE,
+                             text=True)
     try:
         yield panel
     finally:
@@ -36,15 +43,35 @@ def printed_until(panel, end):
     return lines
 
 
+def drives_by(port, *words, typed=""):
+    """What the throttle of examples/ prints of the locomotive, given these words, or else these lines to read."""
+    done = subprocess.run([sys.executable, EXAMPLES / "throttle.py", "--port", str(port), *words], input=typed,
+                          capture_output=True, text=True, timeout=SECONDS)
+    return [line.partition(" INFO ")[2] or line for line in (done.stdout + done.stderr).splitlines()]
+
+
+@contextmanager
+def throttle_at(port, address):
+    """The throttle of examples/ with its keyboard, after it was told to go faster once; ended if it still runs."""
+    words = ["--port", str(port), "--address", str(address)]
+    throttle = subprocess.Popen([sys.executable, EXAMPLES / "throttle.py", *words], stdin=subprocess.PIPE,
+                                stdout=subprocess.PIPE, stderr=subprocess.STDOUT, text=True, bufsize=1)
+    try:
+        throttle.stdin.write("faster\n")
+        throttle.stdout.readline()
+        yield throttle
+    finally:
+        throttle.kill()
+        throttle.wait()
+
+
 def panel_that_watches_a_throttle(program):
     with served(program) as (port, _), panel_at(port) as panel:
         opening = printed_until(panel, " rows")
-        drive = subprocess.run([sys.executable, EXAMPLES / "throttle.py", "--port", str(port), *STEPS], capture_output=True,
-                               text=True, timeout=SECONDS)
+        drives = drives_by(port, *STEPS)
         driven = printed_until(panel, " rows")
-    drives = [line.partition(" INFO ")[2] for line in drive.stdout.splitlines()]
     got, want = (opening, drives, driven), ([*OPENING, "-- 10 rows"], DRIVES, [*DRIVEN, "-- 12 rows"])
-    return None if got == want else f"got {got!r}, want {want!r}; {drive.stderr[-300:]}"
+    return None if got == want else f"got {got!r}, want {want!r}"
 
 
 def panel_that_joins_again(program):
@@ -54,7 +81,8 @@ def panel_that_joins_again(program):
             peer, _ = server.accept()
             with peer, peer.makefile("rb") as lines:
                 asked = [lines.readline(), lines.readline()]
-                peer.sendall(WELCOME + b"0.000 202 OK CONNECTIONMODE\n0.000 200 OK GO 1\n0.000 100 INFO 1 FB %d 1\n" % sensor)
+                peer.sendall(WELCOME + b"0.000 202 OK CONNECTIONMODE\n0.000 200 OK GO 1\n")
+                peer.sendall(b"0.000 100 INFO 1 FB %d 1\n" % sensor)
             got = asked, printed_until(panel, "server")
             want = [b"SET CONNECTIONMODE SRCP INFO\n", b"GO\n"], [f"1 FB {sensor} 1", "-- closed by the server"]
             if got != want:
@@ -62,4 +90,105 @@ def panel_that_joins_again(program):
     return None
 
 
-CLIENT_CASES = (panel_that_watches_a_throttle, panel_that_joins_again)
+def panel_on_a_busy_layout(program):
+    """It counts its rows though no half second passes without a line."""
+    def changes_often(throttle, ended):
+        end = time.monotonic() + BUSY_SECONDS
+        while time.monotonic() < end and not ended.is_set():
+            throttle.asks("SET 1 FB 1 1")
+            time.sleep(0.1)
+
+    ended = threading.Event()
+    with served(program) as (port, _):
+        sender = threading.Thread(target=changes_often, args=(Client(port, "COMMAND"), ended))
+        sender.start()
+        with panel_at(port) as panel:
+            last = printed_until(panel, " rows")[-1]
+            in_time = sender.is_alive()
+        ended.set()
+        sender.join()
+    return None if (last, in_time) == ("-- 11 rows", True) else f"got {last!r}, while changes came: {in_time}"
+
+
+def throttle_of_a_train_that_runs(program):
+    """It neither makes it anew nor changes its functions or its top speed; if it drove it, it stops it at its end."""
+    with served(program) as (port, _):
+        other = Client(port, "COMMAND")
+        other.asks("INIT 1 GL 3 N 1 128 5", "SET 1 GL 3 0 63 126 1 0 1")
+        got = [drives_by(port, "--address", "3", "light"), other.asks("GET 1 GL 3"),
+               drives_by(port, "--address", "3", "faster"), other.asks("GET 1 GL 3")]
+    want = [["1 GL 3 0 63 126 0 0 1 0 0"], "100 INFO 1 GL 3 0 63 126 0 0 1 0 0",
+            ["1 GL 3 0 81 126 0 0 1 0 0", "1 GL 3 0 0 126 0 0 1 0 0"], "100 INFO 1 GL 3 0 0 126 0 0 1 0 0"]
+    return None if got == want else f"got {got!r}, want {want!r}"
+
+
+def throttle_with_any_number_of_functions(program):
+    with served(program) as (port, _):
+        other = Client(port, "COMMAND")
+        for address, functions in ((1, 0), (2, 29)):
+            other.asks(f"INIT 1 GL {address} N 1 28 {functions}", f"SET 1 GL {address} 1 70 0")
+            off, on = " 0" * functions, " 1" * (functions > 0) + " 0" * (functions - 1)
+            light = f"1 GL {address} 1 71 0{on}" if functions else "it has no function"
+            got = drives_by(port, "--address", str(address), "faster", "light", "turn")
+            want = [f"1 GL {address} 1 71 0{off}", light, f"1 GL {address} 0 0 0{on}"]
+            if got != want:
+                return f"got {got!r}, want {want!r}"
+    return None
+
+
+def throttle_that_ends_leaves_it_standing(program):
+    """By Ctrl-C, by the end of its input, by SIGTERM, and by the end of its terminal."""
+    with served(program) as (port, _):
+        other = Client(port, "COMMAND")
+        for address, end in enumerate((signal.SIGINT, None, signal.SIGTERM, signal.SIGHUP), 1):
+            with throttle_at(port, address) as throttle:
+                driven = other.asks(f"GET 1 GL {address}")
+                if end:
+                    throttle.send_signal(end)
+                told, _ = throttle.communicate(timeout=SECONDS)
+            got = driven, told.partition(" INFO ")[2], other.asks(f"GET 1 GL {address}"), throttle.returncode
+            stands = f"1 GL {address} 1 0 28 0"
+            want = f"100 INFO 1 GL {address} 1 4 28 0", f"{stands}\n", f"100 INFO {stands}", 0
+            if got != want:
+                return f"{end}: got {got!r}, want {want!r}; {told}"
+    return None
+
+
+def throttle_whose_train_another_took(program):
+    """It leaves it as the other drives it; and its light does not undo a stop of the other."""
+    with served(program) as (port, _):
+        other = Client(port, "COMMAND")
+        with throttle_at(port, 3) as throttle:
+            other.asks("SET 1 GL 3 2 0 0")
+            throttle.stdin.write("light\n")
+            lit = throttle.stdout.readline().partition(" INFO ")[2]
+            other.asks("SET 1 GL 3 0 20 28")
+            throttle.communicate(timeout=SECONDS)
+        got = lit, other.asks("GET 1 GL 3")
+    want = "1 GL 3 2 0 0 1\n", "100 INFO 1 GL 3 0 20 28 1"
+    return None if got == want else f"got {got!r}, want {want!r}"
+
+
+def throttle_by_itself_meets_no_train_of_the_readme(_):
+    """Its own address is none that the page drives, so that who tries it beside the page stops nothing."""
+    driven = set(re.findall(r"GL (\d+)|--address (\d+)", (TOP / "README.md").read_text()))
+    own = re.findall(r'"--address", type=int, default=(\d+)', (EXAMPLES / "throttle.py").read_text())
+    met = [address for pair in driven for address in pair if address in own]
+    return None if own and driven and not met else f"it drives {own}, the page {driven}"
+
+
+def clients_say_how_they_are_started(_):
+    """The first line of each tells all words that it takes, as its --help does."""
+    for client in sorted(EXAMPLES.glob("*.py")):
+        help = [sys.executable, client, "--help"]
+        told = subprocess.run(help, capture_output=True, text=True, timeout=SECONDS).stdout
+        first = client.read_text().splitlines()[1]
+        if missing := [word for word in re.findall(r"--\w+(?= [A-Z])", told) if word not in first]:
+            return f"{client.name} does not tell {missing} in its first line"
+    return None
+
+
+CLIENT_CASES = (panel_that_watches_a_throttle, panel_that_joins_again, panel_on_a_busy_layout,
+                throttle_of_a_train_that_runs, throttle_with_any_number_of_functions, throttle_that_ends_leaves_it_standing,
+                throttle_whose_train_another_took, throttle_by_itself_meets_no_train_of_the_readme,
+                clients_say_how_they_are_started)
