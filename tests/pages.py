@@ -22,8 +22,9 @@ from serving import SECONDS, Client, free_ports, served, wait_for
 TOP = Path(__file__).resolve().parent.parent
 STAND_INS = Path(__file__).resolve().parent / "stand_ins"
 # Programs that run until they are ended, and those of them that others then connect to.
-STAYS = ("./run serve", "nc ", "ssh ", "python3 examples/panel.py", "python3 bridges/", "mosquitto_sub ")
-LISTENS = {"./run serve": "4303", "ssh ": "5303"}
+STAYS = ("./run serve", "srcp_server serve", "nc ", "ssh ", "python3 examples/panel.py", "python3 bridges/",
+         "mosquitto_sub ")
+LISTENS = {"./run serve": "4303", "srcp_server serve": "4303", "ssh ": "5303"}
 BLOCK = re.compile(r"^```(\w*)\n(.*?)^```$", re.M | re.S)
 ENDED, SILENT = "(the end)", "(nothing more)"
 PAUSE = re.compile(r"-- \d+ rows$")  # what a panel prints after a pause, of which a busy machine may make more
@@ -161,21 +162,25 @@ class Reader:
 @contextmanager
 def reader_of_a_page(program):
     """One who has a copy of the repository with the program built, and a machine with other ports."""
-    ports = dict(zip(("4303", "5303"), free_ports(2)))
+    ports = dict(zip(("4303", "5303", "8303"), free_ports(3)))
     with tempfile.TemporaryDirectory() as folder, ExitStack() as stack:
         top = Path(folder)
-        shutil.copytree(TOP / "examples", top / "examples")
-        shutil.copy(TOP / "run", top / "run")
+        for name in ("examples", "bridges", "packaging", "docs"):
+            if (TOP / name).is_dir():
+                shutil.copytree(TOP / name, top / name, ignore=shutil.ignore_patterns("__pycache__"))
+        for script in ("run", "package"):
+            shutil.copy(TOP / script, top / script)
         built = top / "crates" / "srcp_server" / "out"
         built.mkdir(parents=True)
         (top / "crates.txt").write_text("")
         shutil.copyfile(program, built / "srcp_server")
         (built / "srcp_server").chmod(0o755)
-        for example in (top / "examples").iterdir():
-            if example.is_file():
-                example.write_text(example.read_text().replace("4303", str(ports["4303"])))
+        reader = Reader(top, os.environ, ports)
+        for file in [*(top / "examples").iterdir(), *top.glob("bridges/*.py")]:
+            if file.is_file():
+                file.write_text(reader.at_ports(file.read_text()))
         path = os.pathsep.join([str(STAND_INS), str(Path(sys.executable).parent), os.environ["PATH"]])
-        reader = Reader(top, os.environ | {"PATH": path, "ROOT": str(top / "root")}, ports)
+        reader.environment = os.environ | {"PATH": path, "ROOT": str(top / "root")}
         stack.callback(reader.leaves)
         yield reader
 
@@ -185,6 +190,9 @@ def follow(page, program):
     blocks, fault = console_blocks(page)
     if fault:
         return fault
+    if any("./package" in line for block in blocks for line in block) and not shutil.which("dpkg-deb"):
+        print(f"not tried, since there is no dpkg-deb here: the commands of {page}")
+        return None
     with reader_of_a_page(program) as reader:
         return next((fault for block in blocks if (fault := reader.follows(block))), None)
 
@@ -239,6 +247,18 @@ def commands_of_the_protocol_page(program):
     return follow("docs/protocol.md", program)
 
 
+def commands_of_the_replay_page(program):
+    return follow("docs/replay.md", program)
+
+
+def commands_of_the_install_page(program):
+    return follow("docs/install.md", program)
+
+
+def commands_of_the_configuration_page(program):
+    return follow("docs/configuration.md", program)
+
+
 def clauses_of_the_proofs_page(_):
     """Each name of the table of promises stands in the crate that it is said of."""
     table = (TOP / "docs" / "proofs.md").read_text().partition("| Promise |")[2].partition("\n\n")[0]
@@ -268,7 +288,7 @@ def anchors_of(page):
 
 def links_between_pages(_):
     """Each link of a page to a file of the repository reaches it, and its heading."""
-    for page in [TOP / "README.md", *(TOP / "docs").glob("*.md")]:
+    for page in [TOP / "README.md", *(TOP / "docs").glob("*.md"), *(TOP / "bridges").glob("*.md")]:
         for path, anchor in re.findall(r"\]\((?!http)([^)#]*)#?([^)]*)\)", page.read_text()):
             file = page.parent / path if path else page
             if not file.exists() or anchor and anchor not in anchors_of(file):
@@ -276,6 +296,7 @@ def links_between_pages(_):
     return None
 
 
-PAGE_CASES = (commands_of_the_readme, commands_of_the_protocol_page, choices_before_go, choices_in_a_session,
-              choices_that_cases_show, clauses_of_the_proofs_page, contracts_that_the_proofs_page_quotes,
-              links_between_pages)
+PAGE_CASES = (commands_of_the_readme, commands_of_the_protocol_page, commands_of_the_replay_page,
+              commands_of_the_install_page, commands_of_the_configuration_page, choices_before_go,
+              choices_in_a_session, choices_that_cases_show, clauses_of_the_proofs_page,
+              contracts_that_the_proofs_page_quotes, links_between_pages)

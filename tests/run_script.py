@@ -1,22 +1,42 @@
-"""What the script `run` prints beside the program: without the kit, while it builds, and on a terminal."""
+"""What the script `run` prints beside the program: without the kit, with another, as it builds, and on a terminal."""
 import os
 import pty
+import re
 import shutil
+import signal
 import subprocess
 import tempfile
+import time
 from contextlib import contextmanager
 from pathlib import Path
 
 from serving import SECONDS
 
 TOP = Path(__file__).resolve().parent.parent
-TOOLS = ("bash", "cat", "dirname", "env", "find", "grep", "mktemp", "rm", "sed", "touch")
+TOOLS = ("bash", "cat", "dirname", "env", "find", "grep", "mktemp", "nproc", "rm", "sed", "touch")
+KIT = re.search('^kit="(.*)"$', (TOP / "run").read_text(), re.M)[1]
+# Stands in for the kit: a crate takes half a second, and the log tells when each began and ended.
+RT = """#!/bin/sh
+[ "$1" != version ] || {{ echo '{kit}'; exit; }}
+crate=$(/bin/basename "$PWD")
+echo "begin $crate" >> '{log}'
+[ "$crate" != "$BAD" ] || {{ echo 'not proved'; exit 1; }}
+/bin/sleep "${{LONG:-0.5}}"
+[ ! -f src/main.rt ] || {{ /bin/mkdir -p out && /bin/cp '{program}' out/srcp_server; }}
+echo "end $crate" >> '{log}'
+"""
+CRATES = """low: toml
+left: low
+right: low clap
+srcp_server: left right
+low_tests: low
+"""
 HOW_LONG = "building the program and proving it: about 15 minutes the first time, on four processors\n"
 NO_ROWS = "rows 1\n0.000 100 INFO 1 POWER OFF\n"
 
 
 @contextmanager
-def repository_of_one_crate(program):
+def repository_of_one_crate(program, kit=KIT, crates="srcp_server: clap\n"):
     """A repository of one crate, as the name of its folder, with a PATH that has the tools alone. Its `rt`, which is not on
     the PATH yet, copies the built program."""
     with tempfile.TemporaryDirectory() as folder:
@@ -24,12 +44,14 @@ def repository_of_one_crate(program):
         crate, tools = top / "crates" / "srcp_server", top / "tools"
         (crate / "src").mkdir(parents=True)
         (crate / "src" / "main.rt").write_text("")
-        (top / "crates.txt").write_text("srcp_server: clap\n")
+        (top / "crates.txt").write_text(crates)
+        for name in re.findall(r"^\w+", crates, re.M):
+            (top / "crates" / name).mkdir(exist_ok=True)
         shutil.copy(TOP / "run", top / "run")
         tools.mkdir()
         for tool in TOOLS:
             (tools / tool).symlink_to(shutil.which(tool))
-        (top / "rt").write_text(f"#!/bin/sh\n/bin/mkdir -p out && /bin/cp '{program}' out/srcp_server\n")
+        (top / "rt").write_text(RT.format(kit=kit, program=program, log=top / "log"))
         (top / "rt").chmod(0o755)
         yield top, os.environ | {"PATH": str(tools)}
 
@@ -46,12 +68,87 @@ def run_without_the_kit(program):
     return None if is_told else f"got {(status, told, printed)!r}"
 
 
+def built_lines(told):
+    """The lines of a build that follow the first, without their seconds."""
+    return re.sub(r" in \d+ s,", " in N s,", told.removeprefix(HOW_LONG)).splitlines()
+
+
 def run_that_builds(program):
     with repository_of_one_crate(program) as (top, environment):
         (top / "rt").rename(top / "tools" / "rt")
         first, again = outcome_of_run(top, environment), outcome_of_run(top, environment)
-    want = (0, HOW_LONG + "building srcp_server (1 of 1)\n", NO_ROWS), (0, "", NO_ROWS)
-    return None if (first, again) == want else f"got {(first, again)!r}"
+    got = first[0], first[1].startswith(HOW_LONG), built_lines(first[1]), first[2]
+    want = 0, True, ["built srcp_server in N s, 0 left"], NO_ROWS
+    return None if (got, again) == (want, (0, "", NO_ROWS)) else f"got {(first, again)!r}"
+
+
+def run_with_another_kit(program):
+    """Of the same logic it does as well; of another it may not, and `run` says which one is wanted."""
+    other = "rattle-kit-99z logic 0123456789abcdef"
+    for kit, said in ((KIT.replace("kit-", "kit-9"), "does as well as"), (other, "They may fail: then use that kit")):
+        with repository_of_one_crate(program, kit) as (top, environment):
+            (top / "rt").rename(top / "tools" / "rt")
+            status, told, printed = outcome_of_run(top, environment)
+        is_told = told.startswith(f"./run: this is {kit}") and KIT in told and said in told
+        if (status, is_told, printed) != (0, True, NO_ROWS):
+            return f"got {(status, told, printed)!r}"
+    return None if KIT in (TOP / "README.md").read_text() else "README.md names another kit"
+
+
+def log_of_a_build(program, processors):
+    """What a build on so many processors begins and ends, in order, and the lines that it prints."""
+    with repository_of_one_crate(program, crates=CRATES) as (top, environment):
+        (top / "rt").rename(top / "tools" / "rt")
+        (top / "tools" / "nproc").unlink()
+        (top / "tools" / "nproc").write_text(f"#!/bin/sh\necho {processors}\n")
+        (top / "tools" / "nproc").chmod(0o755)
+        (top / "crates" / "right" / "lib.rt").write_text("// much to prove\n")
+        _, told, _ = outcome_of_run(top, environment)
+        return (top / "log").read_text().splitlines(), built_lines(told)
+
+
+def run_that_builds_side_by_side(program):
+    """Crates that do not need each other are begun together, if there are processors for it; those above wait for both.
+    On two processors they are built in turn, the dearest first."""
+    available = int(re.search(r"MemAvailable: *(\d+)", Path("/proc/meminfo").read_text())[1])
+    if available < 9_000_000:
+        print("not tried, since there is no memory for two provers here: run-that-builds-side-by-side")
+        return None
+    log, lines = log_of_a_build(program, 3)
+    got = log[:2], sorted(log[2:4]), sorted(log[4:6]), log[6:], lines[0], lines[-1], len(lines)
+    want = (["begin low", "end low"], ["begin left", "begin right"], ["end left", "end right"],
+            ["begin srcp_server", "end srcp_server"], "built low in N s, 3 left", "built srcp_server in N s, 0 left", 4)
+    if got != want:
+        return f"got {got}"
+    in_turn, _ = log_of_a_build(program, 2)
+    want = [f"{what} {crate}" for crate in ("low", "right", "left", "srcp_server") for what in ("begin", "end")]
+    return None if in_turn == want else f"on two processors: {in_turn}"
+
+
+def run_whose_build_fails(program):
+    """It tells what the prover said, builds nothing above, and ends with status 1."""
+    with repository_of_one_crate(program, crates=CRATES) as (top, environment):
+        (top / "rt").rename(top / "tools" / "rt")
+        status, told, printed = outcome_of_run(top, environment | {"BAD": "left"})
+        log = (top / "log").read_text()
+    is_told = status == 1 and printed == "" and told.endswith("not proved\nbuilding left failed\n")
+    return None if is_told and "srcp_server" not in log else f"got {(status, told, printed, log)!r}"
+
+
+def run_that_is_interrupted(program):
+    """Ctrl-C ends what was begun: no prover goes on."""
+    with repository_of_one_crate(program, crates=CRATES) as (top, environment):
+        (top / "rt").rename(top / "tools" / "rt")
+        build = subprocess.Popen([top / "run"], env=environment | {"LONG": "2"}, stdin=subprocess.DEVNULL,
+                                 stderr=subprocess.DEVNULL, start_new_session=True,
+                                 preexec_fn=lambda: signal.signal(signal.SIGINT, signal.SIG_DFL))
+        while not (top / "log").exists():
+            time.sleep(0.02)
+        os.killpg(build.pid, signal.SIGINT)
+        status = build.wait(SECONDS)
+        time.sleep(2.5)
+        log = (top / "log").read_text()
+    return None if (status, log) == (130, "begin low\n") else f"got {(status, log)!r}"
 
 
 def run_on_a_terminal(program):
@@ -67,4 +164,5 @@ def run_on_a_terminal(program):
     return None if is_told else f"got {(done.returncode, done.stderr, done.stdout)!r}"
 
 
-RUN_SCRIPT_CASES = (run_without_the_kit, run_that_builds, run_on_a_terminal)
+RUN_SCRIPT_CASES = (run_without_the_kit, run_that_builds, run_with_another_kit, run_that_builds_side_by_side,
+                    run_whose_build_fails, run_that_is_interrupted, run_on_a_terminal)

@@ -1,0 +1,59 @@
+#!/usr/bin/env python3
+"""status.py [--host HOST] [--port PORT] [--seconds SECONDS]: who is connected to the server, and what it holds.
+
+All comes from one snapshot, which takes a place at the server for a moment. The exit status is 1 if no server answers,
+so it serves as a health check.
+"""
+import argparse
+import socket
+import sys
+
+from panel import apply
+
+COUNTED = {"GL": "locomotives", "GA": "turnouts", "FB": "sensors"}
+
+
+def snapshot(host, port, seconds):
+    """Returns the lines that a panel is sent that shuts down its sending side: after the listing the connection ends."""
+    with socket.create_connection((host, port), seconds) as connection:
+        connection.sendall(b"SET CONNECTIONMODE SRCP INFO\nGO\n")
+        connection.shutdown(socket.SHUT_WR)
+        with connection.makefile(encoding="latin-1", newline="\n") as lines:
+            return lines.read().split("\n")[:-1]
+
+
+def summary(rows, own):
+    """Yields what there is to tell of the rows; the session `own` asks, and does not count."""
+    told = {device: line.split(" ") for (device, _, _), line in rows.items()}
+    sessions = [f"{device[2]} {words[-1]}" for device, words in told.items() if device[1] == "SESSION" and device[2] != own]
+    yield f"sessions: {', '.join(sessions) or 'none'}"
+    for bus in sorted({int(device[0]) for device in told} - {0}):
+        power = [f"power {' '.join(words[5:])}" for device, words in told.items() if device == (str(bus), "POWER")]
+        counts = [f"{sum(device[:2] == (str(bus), group) for device in told)} {name}" for group, name in COUNTED.items()]
+        yield f"bus {bus}: {', '.join(power + counts)}"
+    locks = [f"bus {device[0]} {device[2]} {device[3]} by session {words[-1]}" for device, words in told.items()
+             if device[1] == "LOCK"]
+    yield f"locks: {', '.join(locks) or 'none'}"
+
+
+def main():
+    words = argparse.ArgumentParser(description="Tells who is connected to a server, and what it holds.")
+    words.add_argument("--host", default="127.0.0.1")
+    words.add_argument("--port", type=int, default=4303)
+    words.add_argument("--seconds", type=float, default=5, help="how long it waits for an answer")
+    asked = words.parse_args()
+    try:
+        lines = snapshot(asked.host, asked.port, asked.seconds)
+        fault = "it closed the connection at once" if len(lines) < 3 else None
+    except OSError as met:
+        fault = met
+    if fault:
+        sys.exit(f"no server answers at {asked.host}, port {asked.port}: {fault}")
+    rows = {}
+    for line in lines[3:]:  # the welcome line and two replies come first, and the second has the session
+        apply(rows, line)
+    print("\n".join(summary(rows, own=lines[2].split(" ")[-1])))
+
+
+if __name__ == "__main__":
+    main()

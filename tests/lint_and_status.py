@@ -1,0 +1,139 @@
+"""The two programs of examples/ that look after a server: lint.py over configurations, and status.py."""
+import signal
+import socket
+import subprocess
+import sys
+import tempfile
+from contextlib import contextmanager
+from pathlib import Path
+
+from serving import SECONDS, Client, free_port, served
+from tables import CHECKED, REFUSED_DOCUMENTS
+
+EXAMPLES = Path(__file__).resolve().parent.parent / "examples"
+FAULTY = b"""prot = 5000
+port = %d
+[[bus]]
+number = 1
+groups = ["GL", "SM", 3, "POWER"]
+gl_max = 10240
+[[bus]]
+number = 1
+groups = ["GA"]
+ ga_ports = 9
+fb_ports = 3
+"""
+TOLD = """line 1: prot is not read: did you mean port?
+line 5, bus 1: unknown group: 'SM'
+line 5, bus 1: groups out of range: 3
+line 6, bus 1: gl_max out of range: not 1 to 10239
+line 8, bus 1: bus 1 twice
+line 7, bus 1: ga_max missing
+line 10, bus 1: ga_ports out of range: not 2 to 8
+line 11, bus 1: fb_ports is not read: did you mean ga_ports?
+srcp_server: config: unknown group
+"""
+
+
+def linted(document):
+    """The lines that lint.py prints of a document, and its status."""
+    with tempfile.NamedTemporaryFile() as file:
+        file.write(document)
+        file.flush()
+        done = subprocess.run([sys.executable, EXAMPLES / "lint.py", file.name], capture_output=True, text=True,
+                              timeout=SECONDS)
+    return done.stdout.splitlines() + done.stderr.splitlines(), done.returncode
+
+
+def lint_ends_with_what_check_says(program):
+    """Over all documents of the tables of check."""
+    for document in [*CHECKED, *REFUSED_DOCUMENTS]:
+        with tempfile.NamedTemporaryFile() as file:
+            file.write(document)
+            file.flush()
+            words = [program, "check", "--config", file.name]
+            check = subprocess.run(words, capture_output=True, text=True, timeout=SECONDS)
+        lines, status = linted(document)
+        want = check.stderr.strip() or "check accepts it", check.returncode
+        if (lines[-1], status) != want:
+            return f"{document}: got {lines[-1]!r} and {status}, want {want}"
+    return None
+
+
+def lint_tells_all_faults(_):
+    lines, status = linted(FAULTY % free_port())
+    return None if (lines, status) == (TOLD.splitlines(), 2) else f"got {status}, {lines}"
+
+
+def lint_tells_where_a_document_is_no_toml(_):
+    places = {b"port = 4303\n[[bus]\n": "line 2, column 6", b"bus = []\n# \xff\n": "line 2, column 3"}
+    for document, place in places.items():
+        lines, status = linted(document)
+        if place not in lines[0] or lines[1:] != ["srcp_server: config: not TOML"] or status != 2:
+            return f"{document}: got {status}, {lines}"
+    return None
+
+
+def lint_tells_a_port_that_is_taken(_):
+    with socket.create_server(("127.0.0.1", 0)) as taken:
+        port = taken.getsockname()[1]
+        busy = linted(b"bus = []\nport = %d\n" % port)
+    free = linted(b"bus = []\nport = %d\n" % port)
+    is_told = busy[0][0].startswith("the port cannot be had") and busy[0][-1] == "check accepts it" and busy[1] == 0
+    return None if is_told and free == (["check accepts it"], 0) else f"got {busy}, then {free}"
+
+
+def status_at(port, *words):
+    words = ["--port", str(port), *words]
+    done = subprocess.run([sys.executable, EXAMPLES / "status.py", *words], capture_output=True, text=True,
+                          timeout=SECONDS)
+    return done.returncode, done.stdout.splitlines(), done.stderr
+
+
+def status_tells_who_is_there_and_what_is_held(program):
+    with served(program) as (port, _):
+        before = status_at(port)
+        throttle, _panel = Client(port, "COMMAND"), Client(port, "INFO")
+        throttle.asks("SET 1 POWER ON main line", "INIT 1 GL 3 N 1 28 5", "INIT 1 GL 7 N 1 28 5", "INIT 1 GA 5 N",
+                      "SET 1 LOCK GL 3 0")
+        after = status_at(port)
+    want = ((0, ["sessions: none", "bus 1: power OFF, 0 locomotives, 0 turnouts, 8 sensors", "locks: none"], ""),
+            (0, ["sessions: 2 COMMAND, 3 INFO", "bus 1: power ON main line, 2 locomotives, 1 turnouts, 8 sensors",
+                 "locks: bus 1 GL 3 by session 2"], ""))
+    return None if (before, after) == want else f"got {(before, after)!r}"
+
+
+@contextmanager
+def silent_server():
+    """The port of a server that lets in and says nothing."""
+    with socket.create_server(("127.0.0.1", 0)) as listener:
+        yield listener.getsockname()[1]
+
+
+def status_of_no_server(program):
+    """Where nobody listens, where nobody answers, and where all places are taken, the status is 1."""
+    with silent_server() as port, served(program) as (full, _):
+        clients = [Client(full, "COMMAND") for _ in range(64)]
+        told = [status_at(free_port()), status_at(port, "--seconds", "0.2"), status_at(full)]
+        for client in clients:
+            client.close()
+    wrong = [one for one in told if one[0] != 1 or one[1] or not one[2].startswith("no server answers at ")]
+    return f"got {wrong}" if wrong else None
+
+
+def signals_that_end_the_server(program):
+    """Ctrl-C, SIGTERM, and the end of its terminal (SIGHUP), which a server that nohup starts ignores."""
+    for number in (signal.SIGINT, signal.SIGTERM, signal.SIGHUP):
+        with served(program) as (_, server):
+            server.send_signal(number)
+            if server.wait(SECONDS) != -number:
+                return f"{number!r} ends it with {server.returncode}"
+    with served(program, prepare=lambda: signal.signal(signal.SIGHUP, signal.SIG_IGN)) as (port, server):
+        server.send_signal(signal.SIGHUP)
+        reply = Client(port, "COMMAND").asks("GET 1 POWER")
+    return None if reply == "100 INFO 1 POWER OFF" else f"with SIGHUP ignored it answers {reply}"
+
+
+LOOKING_CASES = (lint_ends_with_what_check_says, lint_tells_all_faults, lint_tells_where_a_document_is_no_toml,
+                 lint_tells_a_port_that_is_taken, status_tells_who_is_there_and_what_is_held, status_of_no_server,
+                 signals_that_end_the_server)
