@@ -4,6 +4,7 @@ import re
 import shutil
 import subprocess
 import tempfile
+import time
 from contextlib import contextmanager
 from pathlib import Path
 
@@ -39,6 +40,7 @@ def package_of(program, count=1):
             if done.returncode:
                 raise RuntimeError(done.stderr)
             made.append(folder / done.stdout.strip())
+            time.sleep(1.1)
         yield made
 
 

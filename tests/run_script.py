@@ -136,19 +136,22 @@ def run_whose_build_fails(program):
 
 
 def run_that_is_interrupted(program):
-    """Ctrl-C ends what was begun: no prover goes on."""
-    with repository_of_one_crate(program, crates=CRATES) as (top, environment):
-        (top / "rt").rename(top / "tools" / "rt")
-        build = subprocess.Popen([top / "run"], env=environment | {"LONG": "2"}, stdin=subprocess.DEVNULL,
-                                 stderr=subprocess.DEVNULL, start_new_session=True,
-                                 preexec_fn=lambda: signal.signal(signal.SIGINT, signal.SIG_DFL))
-        while not (top / "log").exists():
-            time.sleep(0.02)
-        os.killpg(build.pid, signal.SIGINT)
-        status = build.wait(SECONDS)
-        time.sleep(2.5)
-        log = (top / "log").read_text()
-    return None if (status, log) == (130, "begin low\n") else f"got {(status, log)!r}"
+    """Ctrl-C, or SIGTERM to it alone, ends what was begun: no prover goes on."""
+    for end in (lambda pid: os.killpg(pid, signal.SIGINT), lambda pid: os.kill(pid, signal.SIGTERM)):
+        with repository_of_one_crate(program, crates=CRATES) as (top, environment):
+            (top / "rt").rename(top / "tools" / "rt")
+            build = subprocess.Popen([top / "run"], env=environment | {"LONG": "1.5"}, stdin=subprocess.DEVNULL,
+                                     stderr=subprocess.DEVNULL, start_new_session=True,
+                                     preexec_fn=lambda: signal.signal(signal.SIGINT, signal.SIG_DFL))
+            while not (top / "log").exists():
+                time.sleep(0.02)
+            end(build.pid)
+            status = build.wait(SECONDS)
+            time.sleep(2)
+            log = (top / "log").read_text()
+        if (status, log) != (130, "begin low\n"):
+            return f"got {(status, log)!r}"
+    return None
 
 
 def run_on_a_terminal(program):
