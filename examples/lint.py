@@ -45,7 +45,7 @@ def faults_of_bus(bus, before):
 
 
 def line_of(lines, place, key):
-    """The line of a key of the document or of the bus in that place; where the bus begins, if it finds no such key."""
+    """The line of a key of the document or of the bus in that place; that of the bus, if it finds no such key."""
     heads = [0, *(at for at, line in enumerate(lines) if re.match(r"\s*\[\[\s*bus\s*\]\]", line)), len(lines)]
     place, key = (place, key) if place + 1 < len(heads) else (0, "bus")
     found = (at for at in range(heads[place], heads[place + 1]) if re.match(rf"\W*{re.escape(key)}\W*=", lines[at]))

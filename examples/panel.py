@@ -9,7 +9,7 @@ import socket
 import time
 
 MOMENT = 0.5  # a listing has no end mark: after so many seconds without a line the panel holds all rows
-LONGEST = 3.0  # on a busy layout no such moment comes: it waits for it so many seconds at most
+LONGEST = 3.0  # on a busy layout no such moment comes: it waits for one this long at most
 
 
 def lines_of(connection):

@@ -7,6 +7,6 @@ complete -c srcp_server -n __fish_use_subcommand -a replay -d 'Run the script on
 complete -c srcp_server -n __fish_use_subcommand -a help -d 'Print the help of a command'
 complete -c srcp_server -n '__fish_seen_subcommand_from help' -a 'serve check mirror replay'
 complete -c srcp_server -n '__fish_seen_subcommand_from serve check replay' -l config -r -F -d 'The configuration'
-complete -c srcp_server -n '__fish_seen_subcommand_from serve' -l turns -x -d 'End after so many turns'
+complete -c srcp_server -n '__fish_seen_subcommand_from serve' -l turns -x -d 'End after N turns'
 complete -c srcp_server -l help -d 'Print the help'
 complete -c srcp_server -n __fish_use_subcommand -l version -d 'Print the version'

@@ -15,7 +15,7 @@ if (( CURRENT == 2 )); then
 	return
 fi
 case $words[2] in
-serve) shift words; (( CURRENT-- )); _arguments $config '--turns[ends after so many turns]:turns:' ;;
+serve) shift words; (( CURRENT-- )); _arguments $config '--turns[ends after N turns]:turns:' ;;
 check | replay) shift words; (( CURRENT-- )); _arguments $config ;;
 mirror) shift words; (( CURRENT-- )); _arguments '--help[prints the help]' ;;
 help) _describe command commands ;;

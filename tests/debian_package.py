@@ -16,7 +16,7 @@ CONF = "etc/srcp_server.toml"
 
 
 def with_dpkg_deb(case):
-    """The case, where dpkg-deb is there; elsewhere it says that it tried nothing."""
+    """The case if dpkg-deb is there; else it says that it tried nothing."""
     def tries(program):
         if shutil.which("dpkg-deb"):
             return case(program)
@@ -28,7 +28,7 @@ def with_dpkg_deb(case):
 
 @contextmanager
 def package_of(program, count=1):
-    """The packages that so many calls make around the program, each in a folder of its own."""
+    """The packages that `count` calls make around the program, each in a folder of its own."""
     with reader_of_a_page(program) as reader:
         made = []
         for number in range(count):

@@ -1,4 +1,6 @@
 """The two programs of examples/ that look after a server: lint.py over configurations, and status.py."""
+import os
+import re
 import signal
 import socket
 import subprocess
@@ -111,7 +113,7 @@ def silent_server():
 
 
 def status_of_no_server(program):
-    """Where nobody listens, where nobody answers, and where all places are taken, the status is 1."""
+    """If nobody listens, if nobody answers, and if all places are taken, the status is 1."""
     with silent_server() as port, served(program) as (full, _):
         clients = [Client(full, "COMMAND") for _ in range(64)]
         told = [status_at(free_port()), status_at(port, "--seconds", "0.2"), status_at(full)]
@@ -134,6 +136,39 @@ def signals_that_end_the_server(program):
     return None if reply == "100 INFO 1 POWER OFF" else f"with SIGHUP ignored it answers {reply}"
 
 
+def faults_met(program):
+    """Each fault text that the program can be brought to print, and the status with which it then ends."""
+    def ended(*words, **streams):
+        done = subprocess.run([program, *words], stderr=subprocess.PIPE, timeout=SECONDS, **streams)
+        return done.stderr.decode().removeprefix("srcp_server: ").strip(), done.returncode
+
+    with tempfile.TemporaryDirectory() as folder, open("/dev/full", "wb") as full, served(program) as (port, _):
+        empty, taken = Path(folder) / "empty.toml", Path(folder) / "taken.toml"
+        empty.write_text("")
+        taken.write_text(f"port = {port}\nbus = []\n")
+        unreadable = os.open("/", os.O_RDONLY)
+        met = [ended("serve", "--config", taken), ended("check", "--config", "/no/file"),
+               ended("check", "--config", empty), ended("replay", input=b"close\n"),
+               ended("mirror", input=b"none\n"), ended("mirror", input=b"\n" * 16_777_217),
+               ended("replay", stdin=unreadable), ended("replay", input=b"open\n", stdout=full)]
+        os.close(unreadable)
+    return dict(met)
+
+
+def statuses_of_the_readme(program):
+    """Each row of the table of faults has the status with which the program ends. (Without memory others try it.)"""
+    table = (EXAMPLES.parent / "README.md").read_text().partition("| Text | Status |")[2].partition("\n\n")[0]
+    rows = re.findall(r"^\| (`.*?`) \| (\d) \|", table, re.M)
+    listed = [(text, int(status)) for texts, status in rows for text in re.findall(r"`([^`]*)`", texts)]
+    met = faults_met(program)
+    for text, status in listed:
+        form = text.replace("<n>", r"\d+").replace("..", ".*")
+        statuses = {met[said] for said in met if re.fullmatch(form, said)}
+        if statuses != {status} and text != "out of memory":
+            return f"{text}: {status} in README.md, {statuses} here"
+    return None if len(listed) == len(met) + 1 else f"{listed}, and met {met}"
+
+
 LOOKING_CASES = (lint_ends_with_what_check_says, lint_tells_all_faults, lint_tells_where_a_document_is_no_toml,
                  lint_tells_a_port_that_is_taken, status_tells_who_is_there_and_what_is_held, status_of_no_server,
-                 signals_that_end_the_server)
+                 signals_that_end_the_server, statuses_of_the_readme)

@@ -96,7 +96,7 @@ def run_with_another_kit(program):
 
 
 def log_of_a_build(program, processors):
-    """What a build on so many processors begins and ends, in order, and the lines that it prints."""
+    """What a build on `processors` begins and ends, in order, and the lines that it prints."""
     with repository_of_one_crate(program, crates=CRATES) as (top, environment):
         (top / "rt").rename(top / "tools" / "rt")
         (top / "tools" / "nproc").unlink()

@@ -100,7 +100,7 @@ def light_that_undoes_a_stop(driver, other):
 
 
 def refused_command_is_told_to_nobody_else(program):
-    """A panel is told of what was carried out alone: neither of a refused stop nor of a CHECK."""
+    """A panel is sent what was carried out: neither what was refused nor a CHECK."""
     with served(program) as (port, _):
         driver, panel = Client(port, "COMMAND"), Client(port, "INFO")
         driver.asks("SET 1 FB 9 1", "CHECK 1 FB 1 1", "SET 1 FB 1 1")
