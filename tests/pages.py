@@ -16,6 +16,7 @@ import threading
 from contextlib import ExitStack, contextmanager
 from pathlib import Path
 from queue import Empty, Queue
+from urllib.request import urlopen
 
 from serving import SECONDS, Client, free_ports, served, wait_for
 
@@ -239,6 +240,21 @@ def choices_that_cases_show(_):
     return f"no such case: {missing}" if missing else None if named else "no case is named"
 
 
+def first_screen_of_the_readme(program):
+    """Its two commands serve the layout, and the page of it for a browser."""
+    if not (TOP / "bridges" / "web.py").exists():
+        print("not tried, since bridges/ is not here: first-screen-of-the-readme")
+        return None
+    kind, commands = BLOCK.findall((TOP / "README.md").read_text())[0]
+    with reader_of_a_page(program) as reader:
+        for command in commands.splitlines():
+            reader.steps(f"$ {reader.at_ports(command)}")
+        wait_for(reader.ports["8303"], reader.programs[-1].process)
+        with urlopen(f"http://127.0.0.1:{reader.ports['8303']}/", timeout=SECONDS) as page:
+            told = page.read().decode()
+    return None if kind == "sh" and "STOP ALL" in told else f"{kind}: the page is {told[:100]!r}"
+
+
 def commands_of_the_readme(program):
     return follow("README.md", program)
 
@@ -296,7 +312,7 @@ def links_between_pages(_):
     return None
 
 
-PAGE_CASES = (commands_of_the_readme, commands_of_the_protocol_page, commands_of_the_replay_page,
+PAGE_CASES = (first_screen_of_the_readme, commands_of_the_readme, commands_of_the_protocol_page, commands_of_the_replay_page,
               commands_of_the_install_page, commands_of_the_configuration_page, choices_before_go,
               choices_in_a_session, choices_that_cases_show, clauses_of_the_proofs_page,
               contracts_that_the_proofs_page_quotes, links_between_pages)
