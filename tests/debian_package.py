@@ -8,7 +8,7 @@ import time
 from contextlib import contextmanager
 from pathlib import Path
 
-from pages import TOP, reader_of_a_page
+from pages import TOP, reader_of_a_page, take_bridges
 from serving import SECONDS, WELCOME, Client, free_port, wait_for
 
 PACKAGING = TOP / "packaging"
@@ -30,6 +30,8 @@ def with_dpkg_deb(case):
 def package_of(program, count=1):
     """The packages that `count` calls make around the program, each in a folder of its own."""
     with reader_of_a_page(program) as reader:
+        if (TOP / "bridges").is_dir():
+            take_bridges(reader)
         made = []
         for number in range(count):
             folder = reader.folder / f"made{number}"

@@ -166,9 +166,8 @@ def reader_of_a_page(program):
     ports = dict(zip(("4303", "5303", "8303"), free_ports(3)))
     with tempfile.TemporaryDirectory() as folder, ExitStack() as stack:
         top = Path(folder)
-        for name in ("examples", "bridges", "packaging", "docs"):
-            if (TOP / name).is_dir():
-                shutil.copytree(TOP / name, top / name, ignore=shutil.ignore_patterns("__pycache__"))
+        for name in ("examples", "packaging", "docs"):
+            shutil.copytree(TOP / name, top / name, ignore=shutil.ignore_patterns("__pycache__"))
         for script in ("run", "package"):
             shutil.copy(TOP / script, top / script)
         built = top / "crates" / "srcp_server" / "out"
@@ -177,13 +176,19 @@ def reader_of_a_page(program):
         shutil.copyfile(program, built / "srcp_server")
         (built / "srcp_server").chmod(0o755)
         reader = Reader(top, os.environ, ports)
-        for file in [*(top / "examples").iterdir(), *top.glob("bridges/*.py")]:
-            if file.is_file():
-                file.write_text(reader.at_ports(file.read_text()))
+        for file in (top / "examples").iterdir():
+            file.write_text(reader.at_ports(file.read_text()))
         path = os.pathsep.join([str(STAND_INS), str(Path(sys.executable).parent), os.environ["PATH"]])
         reader.environment = os.environ | {"PATH": path, "ROOT": str(top / "root")}
         stack.callback(reader.leaves)
         yield reader
+
+
+def take_bridges(reader):
+    """Gives the reader the programs of bridges/ too, at the reader's ports."""
+    shutil.copytree(TOP / "bridges", reader.folder / "bridges", ignore=shutil.ignore_patterns("__pycache__"))
+    for file in (reader.folder / "bridges").glob("*.py"):
+        file.write_text(reader.at_ports(file.read_text()))
 
 
 def follow(page, program):
@@ -247,6 +252,7 @@ def first_screen_of_the_readme(program):
         return None
     kind, commands = BLOCK.findall((TOP / "README.md").read_text())[0]
     with reader_of_a_page(program) as reader:
+        take_bridges(reader)
         for command in commands.splitlines():
             reader.steps(f"$ {reader.at_ports(command)}")
         wait_for(reader.ports["8303"], reader.programs[-1].process)
@@ -312,7 +318,7 @@ def links_between_pages(_):
     return None
 
 
-PAGE_CASES = (first_screen_of_the_readme, commands_of_the_readme, commands_of_the_protocol_page, commands_of_the_replay_page,
-              commands_of_the_install_page, commands_of_the_configuration_page, choices_before_go,
-              choices_in_a_session, choices_that_cases_show, clauses_of_the_proofs_page,
+PAGE_CASES = (first_screen_of_the_readme, commands_of_the_readme, commands_of_the_protocol_page,
+              commands_of_the_replay_page, commands_of_the_install_page, commands_of_the_configuration_page,
+              choices_before_go, choices_in_a_session, choices_that_cases_show, clauses_of_the_proofs_page,
               contracts_that_the_proofs_page_quotes, links_between_pages)
