@@ -53,7 +53,7 @@ def line_of(lines, place, key):
 
 
 def main(content):
-    """Prints the faults of a document; returns what `check` says of it, or None if it accepts it."""
+    """Prints the faults of a document, whose numbers have 64 bits; returns what `check` says, None if it accepts."""
     try:
         document = tomllib.loads(re.sub("[\udc80-\udcff]", "\0", content))  # no UTF-8: refused as NUL is
         json.loads(json.dumps(document, default=str), parse_int=lambda text: range(-1 << 63, 1 << 63).index(int(text)))

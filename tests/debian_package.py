@@ -1,4 +1,5 @@
 """The Debian package that ./package makes, and the manual pages and completions in it."""
+import functools
 import os
 import re
 import shutil
@@ -17,12 +18,12 @@ CONF = "etc/srcp_server.toml"
 
 def with_dpkg_deb(case):
     """The case if dpkg-deb is there; else it says that it tried nothing."""
+    @functools.wraps(case)
     def tries(program):
         if shutil.which("dpkg-deb"):
             return case(program)
         print(f"not tried, since there is no dpkg-deb here: {case.__name__.replace('_', '-')}")
         return None
-    tries.__name__ = case.__name__
     return tries
 
 
