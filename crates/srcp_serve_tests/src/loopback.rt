@@ -2,10 +2,10 @@
 
 use srcp_core::Core;
 use srcp_rules::{Flat, Layout};
-use srcp_serve::{Door, ListenFault, Served, SocketDoor, serve};
+use srcp_serve::{Door, DoorFault, ListenFault, Served, SocketDoor, serve};
 use std::cell::Cell;
 use std::io;
-use std::io::{Read, Write};
+use std::io::{ErrorKind, Read, Write};
 use std::net::{Ipv4Addr, Net, OpenListener, SocketAddr, TcpListener, TcpStream};
 use std::test::Fail;
 use std::time::{Clock, Duration};
@@ -43,6 +43,20 @@ impl Clock for Hands {
     }
 }
 
+/// A clock that cannot be read.
+#[derive(Clone, Copy)]
+struct Broken;
+
+impl Clock for Broken {
+    fn monotonic(&self) -> io::Result<Duration> {
+        Err(io::Error::from(ErrorKind::Other))
+    }
+
+    fn since_1970(&self) -> io::Result<Duration> {
+        Err(io::Error::from(ErrorKind::Other))
+    }
+}
+
 /// A port that nobody listens at.
 fn free_port<N: Net>(net: &N) -> io::Result<u16> {
     let listener = TcpListener::bind(net, SocketAddr::from((Ipv4Addr::LOCALHOST, 0)))?;
@@ -77,6 +91,15 @@ fn refuses_a_port_that_is_taken(rt: HostRuntime) -> Result<(), Fail> {
     let _door = SocketDoor::listen(&rt, rt.alloc(), port, Still)?;
     let taken = SocketDoor::listen(&rt, rt.alloc(), port, Still);
     assert_eq!(rt; taken.err(), Some(ListenFault::Port));
+    Ok(())
+}
+
+#[test]
+fn listens_with_a_clock_that_cannot_be_read(rt: HostRuntime) -> Result<(), Fail> {
+    let mut door = SocketDoor::listen(&rt, rt.alloc(), free_port(&rt)?, Broken)?;
+    door.wait_at_most(0);
+    door.expect(None, None);
+    assert_eq!(rt; door.now(), Err(DoorFault::Now));
     Ok(())
 }
 
