@@ -1,6 +1,5 @@
 """The Debian package that ./package makes, and the manual pages and completions in it."""
 import functools
-import os
 import re
 import shutil
 import subprocess
@@ -148,16 +147,16 @@ def bash_completes_words(program):
 
 
 def commands_of_the_manual_page(program):
-    """The examples of srcp_server(1), run as the blocks of the other pages are."""
+    """The examples of srcp_server(1), run as the blocks of the other pages are, in the repository's copy."""
     blocks = re.findall(r"^\.Bd -literal.*\n((?:.*\n)*?)\.Ed", (PACKAGING / "srcp_server.1").read_text(), re.M)
+    there = {"$ srcp_server ": "$ ./run ", f"/{CONF}": "examples/layout.toml", " &\n": "\n"}
     with reader_of_a_page(program) as reader:
-        bin = reader.folder / "bin"
-        bin.mkdir()
-        (bin / "srcp_server").symlink_to(program)
-        reader.environment["PATH"] = os.pathsep.join([str(bin), reader.environment["PATH"]])
-        here = [block.replace(f"/{CONF}", "examples/layout.toml").replace(" &\n", "\n") for block in blocks]
-        faults = (reader.follows(block.splitlines()) for block in here)
-        return next(filter(None, faults), None if here else "no examples")
+        for block in blocks:
+            for installed, here in there.items():
+                block = block.replace(installed, here)
+            if fault := reader.follows(block.splitlines()):
+                return fault
+    return None if blocks else "no examples"
 
 
 def manual_of_the_configuration_is_the_page(_):

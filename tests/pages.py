@@ -23,9 +23,8 @@ from serving import SECONDS, Client, free_ports, served, wait_for
 TOP = Path(__file__).resolve().parent.parent
 STAND_INS = Path(__file__).resolve().parent / "stand_ins"
 # Programs that run until they are ended, and those of them that others then connect to.
-STAYS = ("./run serve", "srcp_server serve", "nc ", "ssh ", "python3 examples/panel.py", "python3 bridges/",
-         "mosquitto_sub ")
-LISTENS = {"./run serve": "4303", "srcp_server serve": "4303", "ssh ": "5303"}
+STAYS = ("./run serve", "nc ", "ssh ", "python3 examples/panel.py", "python3 bridges/", "mosquitto_sub ")
+LISTENS = {"./run serve": "4303", "ssh ": "5303"}
 BLOCK = re.compile(r"^```(\w*)\n(.*?)^```$", re.M | re.S)
 ENDED, SILENT = "(the end)", "(nothing more)"
 PAUSE = re.compile(r"-- \d+ rows$")  # what a panel prints after a pause, of which a busy machine may make more
