@@ -178,6 +178,10 @@ class Payloads(unittest.TestCase):
             bridge.heard("srcp/1/FB/9/set", b"1", False)
         bridge.heard("srcp/1/POWER/set", b"OFF", False), bridge.heard("srcp/stop/set", b"", False)
         self.assertEqual((bridge.orders.qsize(), bridge.urgent.qsize()), (1000, 2))
+        bridge = self.bridge()
+        for bridge.following in (False, True):
+            bridge.heard("srcp/1/FB/9/set", b"1", True)  # retained: of a time that is over
+        self.assertEqual(bridge.orders.qsize(), 0)
 
 
 @IS_THERE
@@ -398,4 +402,5 @@ class MqttWithAWrongBroker(Case):
         bridge = self.starts("mqtt.py", "--broker-port", broker.getsockname()[1])
         until(lambda: self.came == "all", "all was sent", 50)
         self.has("100 INFO 1 POWER ON")
+        self.assertNotIn("Traceback", bridge.told())
         self.assertIsNone(bridge.process.poll())
