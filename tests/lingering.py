@@ -124,6 +124,19 @@ def half_closed_session_that_does_not_read(program):
     return None if share < 0.2 else f"it takes {share:.0%} of a processor"
 
 
+def clients_at_all_places(port):
+    """64 sessions, as soon as their places are free."""
+    sessions, end = [], time.monotonic() + SECONDS
+    while len(sessions) < 64:
+        try:
+            sessions.append(Client(port, "COMMAND"))
+        except (EOFError, OSError):
+            if time.monotonic() > end:
+                raise
+            time.sleep(0.1)
+    return sessions
+
+
 def clients_that_are_turned_away_and_stay(program):
     """They are owed nothing, so no session that ended and reads late is given up for them."""
     with served(program) as (port, _):
@@ -132,7 +145,7 @@ def clients_that_are_turned_away_and_stay(program):
         for reader in readers:
             reader.sendall(COMMAND_SESSION + QUESTION * owed + b"TERM 0 SESSION\n")
         time.sleep(1)
-        sessions = [Client(port, "COMMAND") for _ in range(64)]
+        sessions = clients_at_all_places(port)
         turned_away = [socket.create_connection(("127.0.0.1", port), timeout=SECONDS) for _ in range(TURNED_AWAY)]
         if any(client.recv(100) for client in turned_away):
             return "a client is answered that finds no place"

@@ -1,5 +1,6 @@
 """What sessions that send without end do to panels that read, and to sessions that wait for a reply."""
 import os
+import signal
 import threading
 import time
 from contextlib import contextmanager
@@ -13,6 +14,7 @@ QUIET_BESIDE = 20
 LONGEST_REPLY = 2
 LOCKS = 150
 SETS = 1_000_000
+CLOSED = 1
 
 
 @contextmanager
@@ -35,17 +37,35 @@ def shut(clients):
             pass
 
 
-def reads_with_pauses(panel, ended, pause, every):
-    """Reads what a panel is told, and stands still for `pause` seconds each `every` seconds; notes it if it is closed."""
-    next_pause = time.monotonic() + every
+@contextmanager
+def panel_that_pauses(port, pause, every):
+    """A panel in a process of its own, which stands still for `pause` seconds each `every` seconds; it says at the end
+    whether it was closed."""
+    panel, closed = Client(port, "INFO", receives=4096), []
+    child = os.fork()
+    if child == 0:
+        try:
+            read_with_pauses(panel, pause, every)
+        finally:
+            os._exit(CLOSED)
     try:
-        while panel.socket.recv(1 << 16):
-            if time.monotonic() >= next_pause:
-                time.sleep(pause)
-                next_pause = time.monotonic() + every
-        ended.append(panel.session)
-    except OSError:
-        pass
+        yield closed
+    finally:
+        if os.waitpid(child, os.WNOHANG) != (0, 0):
+            closed.append(panel.session)
+        else:
+            os.kill(child, signal.SIGKILL)
+            os.waitpid(child, 0)
+        panel.close()
+
+
+def read_with_pauses(panel, pause, every):
+    """Reads what a panel is told until it is closed."""
+    next_pause = time.monotonic() + every
+    while panel.socket.recv(1 << 16):
+        if time.monotonic() >= next_pause:
+            time.sleep(pause)
+            next_pause = time.monotonic() + every
 
 
 def sessions_on_both_sides(program):
@@ -122,24 +142,19 @@ def told_until(panel, end):
 
 
 def panels_that_pause(program):
-    """One pauses for 150 ms once, one for 50 ms each half second, while sessions send without end: neither is closed."""
-    with served(program) as (port, _):
-        first = Client(port, "COMMAND")
-        first.asks(*(f"INIT 1 GL {address} N 1 28 5" for address in range(1, 33)))
-        for senders in (1, 32):
-            panels = [Client(port, "INFO", receives=4096) for _ in range(2)]
+    """One pauses for 150 ms, one for 50 ms each half second, while sessions send without end: neither is closed."""
+    for senders in (1, 32):
+        with served(program) as (port, _):
+            first = Client(port, "COMMAND")
+            first.asks(*(f"INIT 1 GL {address} N 1 28 5" for address in range(1, senders + 1)))
             throttles = [Client(port, "COMMAND") for _ in range(senders)]
-            ended, end = [], time.monotonic() + SECONDS_OF_LOAD
-            threads = [threading.Thread(target=reads_with_pauses, args=(panels[0], ended, 0.15, SECONDS_OF_LOAD / 2)),
-                       threading.Thread(target=reads_with_pauses, args=(panels[1], ended, 0.05, 0.5))]
-            with running(threads):
+            end = time.monotonic() + SECONDS_OF_LOAD
+            with panel_that_pauses(port, 0.15, SECONDS_OF_LOAD / 2) as once, panel_that_pauses(port, 0.05, 0.5) as often:
                 with running([threading.Thread(target=pipelines, args=(throttle, address, end))
                               for address, throttle in enumerate(throttles, 1)]):
                     pass
-                closed = list(ended)
-                shut(panels + throttles)
-            if closed:
-                return f"{len(closed)} of 2 panels that pause are closed beside {senders} sessions"
+        if once or often:
+            return f"beside {senders} sessions panels that pause are closed: {len(once)} for 150 ms, {len(often)} for 50 ms"
     return None
 
 
