@@ -181,7 +181,9 @@ class Payloads(unittest.TestCase):
         bridge = self.bridge()
         for bridge.following in (False, True):
             bridge.heard("srcp/1/FB/9/set", b"1", True)  # retained: of a time that is over
-        self.assertEqual(bridge.orders.qsize(), 0)
+            for topic in ("x", "other/topic", "1/POWER/set", "homeassistant/switch/other/x/config"):
+                bridge.heard(topic, b"OFF", True), bridge.heard(topic, b"OFF", False)  # nobody asked for them
+        self.assertEqual((bridge.orders.qsize(), bridge.urgent.qsize(), bridge.there), (0, 0, {}))
 
 
 @IS_THERE
