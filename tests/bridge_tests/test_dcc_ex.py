@@ -5,7 +5,7 @@ import socket
 import threading
 import time
 
-from .common import Case, free_port, new_folder, until
+from .common import WAIT, Case, free_port, new_folder, until
 
 
 class DccEx(Case):
@@ -28,7 +28,7 @@ class DccEx(Case):
         self.driver = self.starts("dcc_ex.py", "--station", station or self.link, "--patience", 0.5, "--silence", 1.5,
                                   port=self.way.port)
 
-    def track(self, true, what, seconds=20.0):
+    def track(self, true, what, seconds=WAIT):
         until(lambda: true(self.station), what, seconds)
 
     def functions(self):
@@ -138,7 +138,7 @@ class DccEx(Case):
         self.server.process.send(signal.SIGSTOP)
         begun = time.monotonic()
         self.track(lambda s: s.cabs[3] == (0, 1), "it stands")
-        self.assertLess(time.monotonic() - begun, 8)
+        self.assertLess(time.monotonic() - begun, 10)  # on a busy machine
         self.server.process.send(signal.SIGCONT)
         self.track(lambda s: s.cabs[3] == (63, 1), "it drives on")
 
