@@ -31,7 +31,7 @@ fb_ports = 16
 """
 WAIT = 30.0  # seconds that a busy machine may take
 folder = tempfile.TemporaryDirectory()  # gone at the end, with all that the tests write
-ports = itertools.count(12000 + os.getpid() % 100 * 200)  # below those that the system gives to connections
+ports = itertools.count(10000 + os.getpid() % 60 * 350)  # below those that the system gives to connections
 choosing = threading.Lock()
 sys.path[:0] = [str(PROGRAMS)]
 sys.path.append(PACKAGES)
@@ -46,6 +46,15 @@ def free_port():
                 return port
             except OSError:
                 pass
+
+
+def listener():
+    """A socket that listens at a free port; if another process has taken it meanwhile, at the next."""
+    while True:
+        try:
+            return socket.create_server(("127.0.0.1", free_port()))
+        except OSError:
+            pass
 
 
 def new_folder():
@@ -108,14 +117,15 @@ def program(name, *words):
 
 class Server:
     def __init__(self, layout=LAYOUT):
-        self.port = free_port()
-        self.config = os.path.join(new_folder(), "layout.toml")
-        Path(self.config).write_text(layout.format(port=self.port))
-        self.start()
+        self.config, self.process = os.path.join(new_folder(), "layout.toml"), None
+        while not self.process or self.process.process.poll() is not None:  # another process has taken the port
+            self.port = free_port()
+            Path(self.config).write_text(layout.format(port=self.port))
+            self.start()
 
     def start(self):
         self.process = Process(SERVER, "serve", "--config", self.config)
-        until(lambda: connects(self.port), "the server listens")
+        until(lambda: connects(self.port) or self.process.process.poll() is not None, "the server listens")
 
     def stop(self):
         self.process.end(signal.SIGKILL)
@@ -180,10 +190,9 @@ class Way:
     """
 
     def __init__(self, server):
-        self.server, self.port, self.panels, self.open = server, free_port(), [], threading.Event()
-        self.listed, self.cuts = None, 0
+        self.server, self.door, self.panels, self.open = server, listener(), [], threading.Event()
+        self.port, self.listed, self.cuts = self.door.getsockname()[1], None, 0
         self.open.set()
-        self.door = socket.create_server(("127.0.0.1", self.port))
         threading.Thread(target=self.accept, daemon=True).start()
 
     def accept(self):

@@ -1,11 +1,10 @@
 """dcc_ex.py, with a simulated station on a pseudo-terminal that is strict about its grammar."""
 import os
 import signal
-import socket
 import threading
 import time
 
-from .common import WAIT, Case, free_port, new_folder, until
+from .common import WAIT, Case, listener, new_folder, until
 
 
 class DccEx(Case):
@@ -170,7 +169,7 @@ class DccEx(Case):
 
     def test_a_station_in_the_network(self):
         self.driver.end()
-        door = socket.create_server(("127.0.0.1", free_port()))
+        door = listener()
         self.addCleanup(door.close)
         self.start(f"127.0.0.1:{door.getsockname()[1]}")
         client, line = door.accept()[0], os.open(self.link, os.O_RDWR | os.O_NOCTTY)

@@ -5,13 +5,13 @@ import json
 import os
 import shutil
 import signal
-import socket
 import threading
 import time
 import unittest
 from pathlib import Path
 
-from .common import WAIT, Case, Process, Session, connects, free_port, interpreter, new_folder, rows, until
+from .common import (WAIT, Case, Process, Session, connects, free_port, interpreter, listener, new_folder, rows,
+                     until)
 
 try:
     import paho.mqtt.client as paho
@@ -397,7 +397,7 @@ class MqttWithAWrongBroker(Case):
         self.came = "all"
 
     def test_what_nobody_asked_for(self):
-        self.came, broker = 0, socket.create_server(("127.0.0.1", free_port()))
+        self.came, broker = 0, listener()
         self.addCleanup(broker.close)
         self.throttle.order("SET 1 POWER ON")
         threading.Thread(target=self.serve, args=(broker,), daemon=True).start()

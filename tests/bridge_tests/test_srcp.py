@@ -2,12 +2,11 @@
 import argparse
 import asyncio
 import signal
-import socket
 import subprocess
 import time
 import unittest
 
-from .common import PROGRAMS, Case, free_port, interpreter, parsed, program, rows, until
+from .common import PROGRAMS, Case, interpreter, listener, parsed, program, rows, until
 
 
 class Parsing(unittest.TestCase):
@@ -152,7 +151,7 @@ class Following(Case):
 
     def test_another_server_at_that_port(self):
         """One that babbles without an end of line, and one that does not speak SRCP: the program waits."""
-        door = socket.create_server(("127.0.0.1", free_port()))
+        door = listener()
         self.addCleanup(door.close)
         guard = self.starts("guard.py", port=door.getsockname()[1])
         with door.accept()[0] as peer:

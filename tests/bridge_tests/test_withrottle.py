@@ -51,10 +51,18 @@ class WiThrottle(Case):
     def phone(self, **more):
         return Phone(self.listen, **more)
 
+    def greeted(self, line):
+        """A phone that is greeted with this line: the bridge knows what was told before."""
+        while True:
+            phone = self.phone()
+            until(lambda: any(told.startswith("*") for told in phone.lines), "the greeting")
+            if line in phone.lines:
+                return phone
+            phone.send("Q")
+
     def test_greeting(self):
         self.throttle.order("INIT 1 GL 341 N 2 126 9", "INIT 1 GL 3 N 1 28 5", "INIT 1 GA 5 N", "SET 1 GA 5 1 1 10")
-        time.sleep(0.2)
-        phone = self.phone()
+        phone = self.greeted("PTL]\\[5}|{Yard  west}|{4")
         phone.got("VN2.0", "HTsrcp", "RL2]\\[V 100}|{3}|{S]\\[341}|{341}|{L", "PPA0", KINDS,
                   "PTL]\\[5}|{Yard  west}|{4", "*1")
         phone.send("Q")
@@ -106,13 +114,13 @@ class WiThrottle(Case):
 
     def test_turnouts(self):
         self.throttle.order("INIT 1 GA 5 N")
-        time.sleep(0.2)
-        phone = self.phone()
-        phone.got("PTL]\\[5}|{Yard  west}|{1")
+        phone = self.greeted("PTL]\\[5}|{Yard  west}|{1")
         self.throttle.order("SET 1 GA 5 0 1 10")
         phone.got("PTA25")
-        phone.send("PTA25", "PTAT77", "PTATxyz")
-        phone.got("PTA45", "PTA477", "HMturnouts are numbers here, not xyz")
+        phone.send("PTA25", "PTAT77")
+        phone.got("PTA45", "PTA477")
+        phone.send("PTATxyz")
+        phone.got("HMturnouts are numbers here, not xyz")
         phone.send("PTAC77")
         phone.got("PTA277")
         self.lacks("100 INFO 1 GA 77 0 1", "100 INFO 1 GA 77 1 1")
