@@ -112,7 +112,7 @@ class Station:
                 return False
             self.turnouts[int(words[0])] = int(words[1])
         elif name == "sensors":
-            for number, on in list(self.ids.items()):
+            for number, on in self.ids.copy().items():
                 self.say(f"<{'Q' if on else 'q'} {number}>\r\n")
         elif name == "status":
             self.say(f"<p{self.power}>\r\n" + BANNER)

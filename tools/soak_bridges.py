@@ -151,7 +151,7 @@ class Evening:
         rows = self.stamped()
         power, cabs, functions, turnouts = self.track(rows)
         station = self.station
-        if (station.power, {key for key, on in station.functions.items() if on}) != (power, functions):
+        if (station.power, {key for key, on in station.functions.copy().items() if on}) != (power, functions):
             yield f"the station's power or functions: {station.power} {power}"
         if wrong := [cab for cab, speed in cabs.items() if station.cabs.get(cab, (0,))[0] != speed]:
             yield f"the station's speeds: {[(cab, station.cabs.get(cab), cabs[cab]) for cab in wrong]}"

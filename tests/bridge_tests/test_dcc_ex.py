@@ -31,7 +31,7 @@ class DccEx(Case):
         until(lambda: true(self.station), what, seconds)
 
     def functions(self):
-        return {key for key, value in list(self.station.functions.items()) if value}
+        return {key for key, value in self.station.functions.copy().items() if value}
 
     def whole(self, station):
         return (station.power, station.cabs.get(3), self.functions(), station.turnouts) == (

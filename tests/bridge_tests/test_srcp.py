@@ -62,7 +62,7 @@ class Following(Case):
 
     def same(self):
         """Whether the mirror holds what the server does; the sessions aside, of which the snapshot is one."""
-        ours = {key: row._replace(stamp=0) for key, row in list(self.mirror.rows.items()) if key[1] != "SESSION"}
+        ours = {key: row._replace(stamp=0) for key, row in self.mirror.rows.copy().items() if key[1] != "SESSION"}
         return ours == parsed(rows(self.server.port))
 
     def test_joins_follows_and_tells_a_restart(self):

@@ -104,7 +104,7 @@ class WebCase(Case):
     def same(self, *pages):
         """Whether the pages have the rows of the server; the sessions aside, of which the snapshot is one."""
         theirs = {key: json.loads(json.dumps(row._asdict())) for key, row in parsed(rows(self.server.port)).items()}
-        return all({key: {**row, "stamp": 0} for key, row in list(page.rows.items()) if key[1] != "SESSION"} == theirs
+        return all({key: {**row, "stamp": 0} for key, row in page.rows.copy().items() if key[1] != "SESSION"} == theirs
                    for page in pages)
 
 
