@@ -146,12 +146,18 @@ def calls_that_are_interrupted(program):
 
 @asks_the_system
 def wait_that_fails(program):
-    """Where the system refuses to wait, the server rests and tries again."""
+    """If the system refuses to wait, or ends each wait at once, the server rests and tries again."""
+    faults = (waits_in_vain(program, refusal) for refusal in (errno.EBADF, errno.EINTR))
+    return next((fault for fault in faults if fault), None)
+
+
+def waits_in_vain(program, refusal):
+    """What is wrong with a server whose waits end by that error for a second, or None."""
     calls, refuses = Counter(), threading.Event()
 
     def fault_of(call):
         calls[call] += 1
-        return errno.EBADF if refuses.is_set() else 0
+        return refusal if refuses.is_set() else 0
 
     with served_with_faults(program, (WAIT,), fault_of) as (port, server):
         throttle = Client(port, "COMMAND")
@@ -165,7 +171,7 @@ def wait_that_fails(program):
         throttle.line()
         reply = throttle.asks("GET 1 POWER")
     if share > 0.2 or not 0 < tries < 500:
-        return f"it waits {tries} times a second, and takes {share:.0%} of a processor"
+        return f"{errno.errorcode[refusal]}: it waits {tries} times a second, and takes {share:.0%} of a processor"
     return None if reply == "100 INFO 1 POWER OFF" else f"then a command is answered {reply}"
 
 

@@ -1,4 +1,5 @@
-"""How the door over sockets serves peers that are hard to serve: that send urgent data, that end and read late, that stay."""
+"""How the door over sockets serves peers that are hard to serve: that send urgent data, that end and read late, that stay;
+and a server that stood still."""
 import os
 import signal
 import socket
@@ -47,6 +48,33 @@ def urgent_data_stalls_nobody(program):
         except TimeoutError:
             return f"{replies - 1} of 2 commands are answered"
     return None
+
+
+def pulse_sent_to_a_server_that_stood_still(program):
+    """Other ports fall back meanwhile. The pulse is on for its time all the same, as a panel hears it."""
+    with served(program) as (port, server):
+        throttle, panel = Client(port, "COMMAND"), Client(port, "INFO")
+        throttle.asks(*(f"INIT 1 GA {address} N" for address in (4, 5, 6)), "SET 1 GA 4 0 1 100", "SET 1 GA 5 0 1 150")
+        with stopped(server):
+            time.sleep(0.4)
+            throttle.socket.sendall(b"SET 1 GA 6 0 1 200\n")
+        panel.hears_until(b" GA 6 0 1\n")
+        begun = time.monotonic()
+        panel.hears_until(b" GA 6 0 0\n")
+        took = time.monotonic() - begun
+    return None if took > 0.15 else f"a pulse of 0.2 s is on for {took:.3f} s"
+
+
+def fall_after_a_long_wait(program):
+    """The system ends the waits of a process of low priority late by a two-hundredth: a pulse of 10 s ends in time."""
+    with served(program, prepare=lambda: os.nice(10)) as (port, _):
+        throttle, panel = Client(port, "COMMAND"), Client(port, "INFO")
+        throttle.asks("INIT 1 GA 5 N", "SET 1 GA 5 0 1 10000")
+        panel.hears_until(b" GA 5 0 1\n")
+        due = float(panel.lines[-1].split()[0]) + 10
+        panel.hears_until(b" GA 5 0 0\n")
+        late = time.time() - due
+    return None if late < 0.03 else f"it ends {late * 1000:.0f} ms late"
 
 
 def kept_by_the_system(port, client):
@@ -180,5 +208,6 @@ def clients_at_64_places(program):
     return None if share < 0.2 and reply == "100 INFO 1 POWER OFF" else f"{share:.0%} of a processor, and a reply: {reply}"
 
 
-LINGERING_CASES = (urgent_data_stalls_nobody, leaver_that_reads_late, half_closed_session_that_does_not_read,
-                   clients_that_are_turned_away_and_stay, end_of_a_session_with_much_behind_it, clients_at_64_places)
+LINGERING_CASES = (urgent_data_stalls_nobody, pulse_sent_to_a_server_that_stood_still, fall_after_a_long_wait,
+                   leaver_that_reads_late, half_closed_session_that_does_not_read, clients_that_are_turned_away_and_stay,
+                   end_of_a_session_with_much_behind_it, clients_at_64_places)
