@@ -59,10 +59,10 @@ class Keep(Case):
 
     def test_a_locomotive_that_a_throttle_made_first_drives_on(self):
         self.start_with_all()
-        self.way.cut()  # the keeper comes later
+        self.keep.send(signal.SIGSTOP)  # the keeper comes later
         self.restart()
         self.throttle.order("INIT 1 GL 3 N 1 28 2", "SET 1 GL 3 1 9 28")
-        self.way.free()
+        self.keep.send(signal.SIGCONT)
         self.has("101 INFO 1 GL 10239", "100 INFO 1 GL 3 1 9 28 0 0")
 
     def test_what_is_taken_out_stays_out_also_over_an_overrun(self):
