@@ -231,7 +231,7 @@ class Mqtt(MqttCase):
         self.equal("changes and removals")
         until(lambda: "srcp/1/GA/5/position" not in self.client.topics, "no position")
         self.throttle.order(*["SET 1 FB 4 1"] * 10)
-        until(lambda: self.client.came["srcp/1/FB/4"][-10:] == ["1"] * 10, "equal SETs are changes")
+        until(lambda: self.client.came.get("srcp/1/FB/4", [])[-10:] == ["1"] * 10, "equal SETs are changes")
 
     def test_commands(self):
         self.throttle.order("TERM 1 LOCK GL 3")
@@ -279,17 +279,17 @@ class Mqtt(MqttCase):
 
     def test_killed_and_ended(self):
         self.bridge.end(signal.SIGKILL)
-        until(lambda: self.client.topics["srcp/online"] == "offline", "the last will")
+        until(lambda: self.client.topics.get("srcp/online") == "offline", "the last will")
         self.change()
         self.client.say("srcp/1/GL/77", "stale", retain=True), self.client.say("srcp/no/such", "stale", retain=True)
         self.start()
         self.equal("a bridge again")
         self.assertEqual(self.bridge.end(), 0)
-        until(lambda: self.client.topics["srcp/online"] == "offline", "offline")
+        until(lambda: self.client.topics.get("srcp/online") == "offline", "offline")
 
     def test_server(self):
         self.server.stop()
-        until(lambda: self.client.topics["srcp/online"] == "offline", "offline")
+        until(lambda: self.client.topics.get("srcp/online") == "offline", "offline")
         self.server.start()
         self.equal("a server that was started anew")
         self.throttle = Session(self.server.port)
