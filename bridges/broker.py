@@ -1,6 +1,7 @@
 """A connection to an MQTT broker by paho-mqtt. It has a thread of its own, and hands what comes to that of asyncio."""
 import os
 import sys
+import threading
 
 try:
     import paho.mqtt.client as paho
@@ -31,6 +32,7 @@ def connect(asked, name, will, heard, joined, lost, loop):
     client.on_message = came
     client.on_connect = lambda _, __, ___, code: loop.call_soon_threadsafe(lost.set if code else joined.set)
     client.on_disconnect = lambda *_: loop.call_soon_threadsafe(lost.set)
+    threading.excepthook = lambda _: loop.call_soon_threadsafe(lost.set)  # some packets end paho's thread
     client.connect(asked.broker, asked.broker_port, keepalive=10)
     client.loop_start()
     return client

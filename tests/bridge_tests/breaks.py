@@ -117,6 +117,7 @@ BREAKS = [  # the file, whose cases, what is wrong, the text, what stands in its
      "topic.endswith(\"/set\") and not retained:", "topic.endswith(\"/set\"):"),
     ("broker", "mqtt", "no last will", "    client.will_set(will, \"offline\", qos=1, retain=True)\n", ""),
     ("mqtt", "mqtt", "what the broker was too slow to take is lost", "            self.late.add(topic)\n", ""),
+    ("broker", "mqtt", "that paho's thread has ended is not noticed", "    threading.excepthook =", "    _ ="),
     ("broker", "mqtt", "what paho drops counts as sent", ".rc != paho.MQTT_ERR_QUEUE_SIZE", ".rc is not None"),
     ("mqtt", "mqtt", "equal SETs are not told", "if not once or self", "if self"),
     ("mqtt", "mqtt", "what nobody asked for is carried out",

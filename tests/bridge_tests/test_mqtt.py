@@ -223,7 +223,7 @@ class MqttCase(Case):
 
 class Mqtt(MqttCase):
     def test_follows(self):
-        self.assertEqual(self.client.topics["srcp/1/GA/5/position"], "1")
+        until(lambda: self.client.topics.get("srcp/1/GA/5/position") == "1", "the position")
         self.throttle.order("SET 1 GA 5 0 1 20", "INIT 1 GL 3 N 1 28 5", "SET 1 FB 4 1", "SET 1 POWER OFF",
                             "TERM 2 GA 7")
         until(lambda: self.client.topics.get("srcp/1/GA/5/position") == "0", "the turnout")
@@ -381,7 +381,7 @@ class MqttWithAWrongBroker(Case):
         topics = (b"1/POWER/set", b"POWER/set", b"\xff\xfe", b"", b"x", b"$SYS/1/POWER/set")
         unasked = b"".join(publish(topic, b"OFF") for topic in topics)
         for text in (os.urandom(5000), connected + os.urandom(5000), connected + b"\xff" * 5000, b"",
-                     connected + unasked * 100,
+                     connected + unasked * 100, connected + granted + publish(b"srcp/mark", b"read") + b"\x90\1\0",
                      connected + granted + unasked * 100 + publish(b"srcp/mark", b"read") + unasked):
             try:
                 peer, _ = door.accept()
