@@ -42,5 +42,5 @@ from .test_web import Web, WebInChromium, WebThatSleeps, WebWithAWord, WebWithSi
 from .test_withrottle import WiThrottle  # noqa: E402
 
 BRIDGE_CASES = cases_of(Readme, Following, MqttWithAWrongBroker, Mqtt, MqttForHomeAssistant, MqttWithPersistence,
-                        Payloads, WebInChromium, Web, WebThatSleeps, WebWithAWord, WebWithSilentPages, WiThrottle, DccEx,
-                        Guard, Keep, Parsing)
+                        Payloads, WebInChromium, Web, WebThatSleeps, WebWithAWord, WebWithSilentPages, WiThrottle,
+                        DccEx, Guard, Keep, Parsing)

@@ -79,7 +79,7 @@ class DccEx(Case):
         self.has("100 INFO 1 FB 7 1")
 
     def test_a_slow_line_has_the_urgent_first(self):
-        """20 commands a second are taken, 100 a second are asked for; then functions that take 4 seconds, and a stop."""
+        """20 commands a second are taken and 100 asked for; then functions that take 4 seconds, and a stop."""
         self.station.rate = 20
         for v in range(200):
             self.throttle.order(f"SET 1 GL 3 1 {v % 100} 100")
