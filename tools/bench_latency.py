@@ -2,7 +2,7 @@
 """bench_latency.py PROGRAM [SECONDS]: how long a lone command waits beside a panel that stops reading, and how late a fall is.
 
 One session sends without end, and one panel reads nothing, until the server closes it. A third session sends one command at
-a time the whole time: it prints the median, the 99th percentile and the greatest of its waits, and when the panel was closed.
+a time meanwhile and for a second more: it prints the median, the 99th percentile and the greatest of its waits.
 Then a port is set for SECONDS, 60 if not given, and it prints how late a panel is told of its fall.
 """
 import sys
@@ -17,22 +17,18 @@ from serving import Client, served  # noqa: E402
 SECONDS_AT_MOST = 60
 
 
-def has_ended(panel: Client) -> bool:
-    """Whether the server closed the connection: the state of its socket is CLOSE_WAIT then, though its bytes are unread."""
-    mine = f":{panel.socket.getsockname()[1]:04X}"
-    rows = [line.split() for line in Path("/proc/net/tcp").read_text().splitlines()[1:]]
-    return any(row[1].endswith(mine) and row[3] == "08" for row in rows)
-
-
 def waits_beside(port: int, panel: Client) -> tuple[list[float], float]:
-    """How long each command of a lone session waits for its reply, until the panel was closed, and when that was."""
-    lone, waits, begun = Client(port, "COMMAND"), [], time.monotonic()
-    while not has_ended(panel) and time.monotonic() < begun + SECONDS_AT_MOST:
-        for _ in range(100):
-            sent = time.monotonic()
-            lone.asks("GET 1 POWER")
-            waits.append(time.monotonic() - sent)
-    return waits, time.monotonic() - begun
+    """How long each command of a lone session waits for its reply, until a second after the panel's session has ended, and
+    when that was."""
+    lone, waits, begun, closed = Client(port, "COMMAND"), [], time.monotonic(), 0.0
+    while not closed or time.monotonic() < begun + closed + 1:
+        sent = time.monotonic()
+        reply = lone.asks(f"GET 0 SESSION {panel.session}")
+        waits.append(time.monotonic() - sent)
+        if reply.startswith("416") and not closed:
+            closed = sent - begun
+        assert sent < begun + SECONDS_AT_MOST, "the panel is not closed"
+    return waits, closed
 
 
 def panel_that_stops(program: str):
