@@ -1,0 +1,11 @@
+pub mod QueueLaws
+pub mod States
+pub mod Resting
+pub mod Keeping
+pub mod Naming
+pub mod Lists
+pub mod Standing
+pub mod Tellings
+pub mod Pasts
+pub mod Followed
+pub mod Timing

@@ -1,0 +1,110 @@
+-- All peers of a door, when a step changes one of them.
+use Rattle.std.proofs.Common.{◌≡◌, ◌∙◌, ℕ, ◌<◌, ◌≤◌, ◌+◌, List, length, refl, ap, sym, subst, arith, ⊎_elim, get_or, set, get_or-set_other, get_or-set_same, Option, Some}
+use Rattle.std.specs.Prelude.{◌≢◌, All, Bool, false, true, fold, slice_index_or, take}
+use Rattle.std.proofs.lemmas.Bool.{cases_eq}
+use Rattle.std.proofs.lemmas.List.{get_or_default, length-set}
+use Rattle.srcp_sockets.specs.declared.peer.Peer.{Peer}
+use Rattle.srcp_sockets.specs.declared.system.Ready.{Ready}
+use Rattle.srcp_sockets.specs.Steps.{Step, Tells, Waits}
+use Rattle.srcp_sockets.specs.Accounts.{Account, account, is_short}
+use Rattle.srcp_sockets.specs.Peers.{Agrees, IsKept, Spares, after_wake, is_resting}
+use Rattle.srcp_sockets.specs.Doors.{AreApart, AreKept, AreThose, AreWithin, IsAbsent}
+use Rattle.srcp_sockets.proofs.Keeping.{all_number, kept_waited}
+
+-- a peer of which nothing is told stays what its account says
+pub kept_spared : (old new : Option (List Step)) (p : Peer) → Spares p.number old new → IsKept old p → IsKept new p
+kept_spared old new p spares kept later is =
+    let s = spares later is in
+    subst (λ (a : Account). Agrees a p) (sym s.2) (kept s.0 s.1)
+
+-- all peers, after a step that changed one of them and told nothing of the others
+pub set_kept : (old new : Option (List Step)) (peers : List Peer) (i : ℕ) (p q : Peer) → i < length peers
+    → AreApart peers → AreKept old peers → IsKept new q
+    → ((other : ℕ) → other ≢ (get_or peers i p).number → Spares other old new) → AreKept new (set peers i q)
+set_kept old new peers i p q within apart kept after spares k d lt =
+    let low : k < length peers = omega (arith, lt, length-set peers i q) in
+    ⊎_elim
+    (λ (e : k ≡ i). subst (IsKept new) (sym (ap (λ n. get_or (set peers i q) n d) e ∙ get_or-set_same peers i q d within)) after)
+    (λ (ne : k ≡ i → ⊥).
+    let differ : (get_or peers k d).number ≢ (get_or peers i p).number = λ (same : (get_or peers k d).number ≡ (get_or peers i p).number).
+    apart k i d low within ne (same ∙ ap (λ (x : Peer). x.number) (get_or_default peers i p d within)) in
+    subst (IsKept new) (sym (get_or-set_other peers i k q d ne))
+    (kept_spared old new (get_or peers k d) (spares (get_or peers k d).number differ) (kept k d low)))
+    (cases_eq k i)
+
+-- the sockets stay apart where the one keeps its number
+pub set_apart : (peers : List Peer) (i : ℕ) (p q : Peer) → i < length peers → q.number ≡ (get_or peers i p).number
+    → AreApart peers → AreApart (set peers i q)
+set_apart peers i p q within same apart j k d lj lk differ e =
+    let low_j : j < length peers = omega (arith, lj, length-set peers i q) in
+    let low_k : k < length peers = omega (arith, lk, length-set peers i q) in
+    apart j k d low_j low_k differ (sym (numbers j low_j) ∙ e ∙ numbers k low_k)
+  where
+    numbers : (n : ℕ) → n < length peers → (get_or (set peers i q) n d).number ≡ (get_or peers n d).number
+    numbers n low = ⊎_elim
+        (λ (e : n ≡ i). ap (λ (x : Peer). x.number) (ap (λ m. get_or (set peers i q) m d) e ∙ get_or-set_same peers i q d within) ∙ same
+        ∙ ap (λ (x : Peer). x.number) (get_or_default peers i p d within ∙ ap (λ m. get_or peers m d) (sym e)))
+        (λ (ne : n ≡ i → ⊥). ap (λ (x : Peer). x.number) (get_or-set_other peers i n q d ne))
+        (cases_eq n i)
+
+-- the same peers, where one keeps its number
+pub set_those : (first peers : List Peer) (i : ℕ) (p q : Peer) → i < length peers → length peers ≡ length first
+    → q.number ≡ (get_or peers i p).number → AreThose first peers → AreThose first (set peers i q)
+set_those first peers i p q within long same those k d lt = numbers k (omega (arith, long)) ∙ those k d lt
+  where
+    numbers : (n : ℕ) → n < length peers → (get_or (set peers i q) n d).number ≡ (get_or peers n d).number
+    numbers n low = ⊎_elim
+        (λ (e : n ≡ i). ap (λ (x : Peer). x.number) (ap (λ m. get_or (set peers i q) m d) e ∙ get_or-set_same peers i q d within) ∙ same
+        ∙ ap (λ (x : Peer). x.number) (get_or_default peers i p d within ∙ ap (λ m. get_or peers m d) (sym e)))
+        (λ (ne : n ≡ i → ⊥). ap (λ (x : Peer). x.number) (get_or-set_other peers i n q d ne))
+        (cases_eq n i)
+
+-- who has none of these sockets has none of them later
+pub absent_there : (other : ℕ) (first peers : List Peer) (i : ℕ) (p : Peer) → i < length peers → length peers ≡ length first
+    → AreThose first peers → IsAbsent other first → other ≢ (get_or peers i p).number
+absent_there other first peers i p within long those absent e =
+    let low : i < length first = omega (arith, long) in
+    absent i p low (sym (those i p low) ∙ sym e)
+
+pub absent_later : (other : ℕ) (first peers : List Peer) → length peers ≡ length first → AreThose first peers → IsAbsent other first → IsAbsent other peers
+absent_later other first peers long those absent k d lt e =
+    let low : k < length first = omega (arith, lt, long) in
+    absent k d low (sym (those k d low) ∙ e)
+
+pub absent_before : (other : ℕ) (first peers : List Peer) → length peers ≡ length first → AreThose first peers → IsAbsent other peers → IsAbsent other first
+absent_before other first peers long those absent k d lt e =
+    let low : k < length peers = omega (arith, lt, long) in
+    absent k d low (those k d lt ∙ e)
+
+pub apart_later : (first peers : List Peer) → length peers ≡ length first → AreThose first peers → AreApart first → AreApart peers
+apart_later first peers long those apart j k d lj lk differ e =
+    let lj' : j < length first = omega (arith, lj, long) in
+    let lk' : k < length first = omega (arith, lk, long) in
+    apart j k d lj' lk' differ (sym (those j d lj') ∙ e ∙ those k d lk')
+
+pub within_later : (last : ℕ) (first peers : List Peer) → length peers ≡ length first → AreThose first peers → AreWithin last first → AreWithin last peers
+within_later last first peers long those within k d lt =
+    let low : k < length first = omega (arith, lt, long) in
+    let w = within k d low in
+    (subst (λ (n : ℕ). 0 < n) (sym (those k d low)) w.0, subst (λ (n : ℕ). n ≤ last) (sym (those k d low)) w.1)
+
+-- all peers after a wait, which is long only where all rest
+pub waited_all : (old new : Option (List Step)) (peers later : List Peer) (most : Option ℕ) (count : ℕ) (ready : List Ready)
+    → (is_short most ≡ false → All (λ peer. is_resting peer ≡ true) peers) → Tells old (Waits most count ready) new
+    → length later ≡ length peers
+    → ((k : ℕ) (d : Peer) → k < length peers → slice_index_or later k d ≡ fold after_wake (slice_index_or peers k d) (take count ready))
+    → AreKept old peers → AreKept new later
+waited_all old new peers later most count ready rest tells long woken kept k d lt =
+    let low : k < length peers = omega (arith, long) in
+    subst (IsKept new) (sym (woken k d low))
+    (kept_waited old new (slice_index_or peers k d) most count ready (λ e. rest e k d low) tells (kept k d low))
+
+pub waited_apart : (peers later : List Peer) (ready : List Ready) → length later ≡ length peers
+    → ((k : ℕ) (d : Peer) → k < length peers → slice_index_or later k d ≡ fold after_wake (slice_index_or peers k d) ready)
+    → AreApart peers → AreApart later
+waited_apart peers later ready long woken apart j k d lj lk differ e =
+    let low_j : j < length peers = omega (arith, long) in
+    let low_k : k < length peers = omega (arith, long) in
+    let nj = ap (λ (x : Peer). x.number) (woken j d low_j) ∙ all_number (slice_index_or peers j d) ready in
+    let nk = ap (λ (x : Peer). x.number) (woken k d low_k) ∙ all_number (slice_index_or peers k d) ready in
+    apart j k d low_j low_k differ (sym nj ∙ e ∙ nk)

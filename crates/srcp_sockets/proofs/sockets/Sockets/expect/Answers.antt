@@ -1,0 +1,23 @@
+use Rattle.std.proofs.Common.{refl}
+use Rattle.srcp_serve.specs.Calls.{ExpectCall}
+use Rattle.srcp_sockets.specs.Steps.{Told}
+use Rattle.srcp_sockets.proofs.Keeping.{says_call}
+use Rattle.srcp_sockets.proofs.Naming.{named_call}
+use Rattle.srcp_sockets.proofs.Standing.{stands_step}
+use Rattle.srcp_sockets.proofs.Timing.{timed_expect}
+use Rattle.srcp_sockets.proofs.sockets.Sockets.expect.Goals as goal
+
+pub invariant_of-self : goal.invariant_of-self
+invariant_of-self g c =
+    let old = g.S.System.told c.args.self.now.system in
+    let new = g.S.System.told c.told_expect.new.self in
+    let call = ExpectCall c.args.due c.args.slack in
+    record {
+      stands = stands_step old new c.args.self.now.peers.items c.args.self.now.listening c.args.self.now.last (Told call) (λ s a. refl) c.told_expect.ensures
+          c.args.self.now.stands;
+      named = named_call old new c.args.self.now.last call (says_call old new call c.told_expect.ensures) refl c.args.self.now.named;
+      timed = timed_expect old new c.args.self.now.turn c.expect.new.self c.args.due c.args.slack c.expect.ensures c.told_expect.ensures c.args.self.now.timed;
+    }
+
+pub returns : goal.returns
+returns g c = says_call (g.S.System.told c.args.self.now.system) (g.S.System.told c.told_expect.new.self) (ExpectCall c.args.due c.args.slack) c.told_expect.ensures

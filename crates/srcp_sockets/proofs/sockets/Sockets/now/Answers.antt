@@ -1,0 +1,33 @@
+use Rattle.std.proofs.Common.{refl}
+use Rattle.srcp_serve.specs.Calls.{NowCall}
+use Rattle.srcp_sockets.specs.Steps.{Clocks, Told}
+use Rattle.srcp_sockets.proofs.Keeping.{says_after, says_call, says_step}
+use Rattle.srcp_sockets.proofs.Naming.{named_call, named_silent}
+use Rattle.srcp_sockets.proofs.Standing.{stands_step}
+use Rattle.srcp_sockets.proofs.Timing.{timed_moment}
+use Rattle.srcp_sockets.proofs.sockets.Sockets.now.Goals as goal
+
+pub invariant_of-self : goal.invariant_of-self
+invariant_of-self g c =
+    let old = g.S.System.told c.args.self.now.system in
+    let mid = g.S.System.told c.clock-shown.new.self in
+    let new = g.S.System.told c.told_now.new.self in
+    let answer = c.next_moment-answer.result in
+    record {
+      stands = stands_step mid new c.args.self.now.peers.items c.args.self.now.listening c.args.self.now.last (Told (NowCall answer)) (λ s a. refl) c.told_now.ensures
+          (stands_step old mid c.args.self.now.peers.items c.args.self.now.listening c.args.self.now.last (Clocks c.clock-shown.result) (λ s a. refl) c.clock-shown.ensures
+          c.args.self.now.stands);
+      named = named_call mid new c.args.self.now.last (NowCall answer) (says_call mid new (NowCall answer) c.told_now.ensures) refl
+          (named_silent old mid c.args.self.now.last (says_step old mid (Clocks c.clock-shown.result) c.clock-shown.ensures refl) c.args.self.now.named);
+      timed = timed_moment old mid new c.args.self.now.turn c.tell.new.self c.clock-shown.result answer c.tell.ensures c.next_moment-answer.ensures.moment
+          c.clock-shown.ensures c.told_now.ensures c.args.self.now.timed;
+    }
+
+pub returns-clause-told : goal.returns-clause-told
+returns-clause-told g c =
+    let old = g.S.System.told c.args.self.now.system in
+    let mid = g.S.System.told c.clock-shown.new.self in
+    let new = g.S.System.told c.told_now.new.self in
+    let answer = c.next_moment-answer.result in
+    says_after old mid new (NowCall answer) (says_step old mid (Clocks c.clock-shown.result) c.clock-shown.ensures refl)
+    (says_call mid new (NowCall answer) c.told_now.ensures)

@@ -1,0 +1,89 @@
+-- What holds of all sockets of a door.
+use Rattle.std.specs.Prelude.{⊤, ◌≡◌, ◌≢◌, ℕ, ◌<◌, ◌≤◌, Bool, true, false, List, [], length, slice_index_or, Option, Some}
+use Rattle.std.specs.Io.{StartsWith}
+use Rattle.srcp_sockets.specs.declared.peer.Peer.{Peer}
+use Rattle.srcp_sockets.specs.declared.waiting.Listening.{Listening}
+use Rattle.srcp_sockets.specs.declared.waiting.Listening.TheVariants as listening
+use Rattle.srcp_sockets.specs.Steps.{Step}
+use Rattle.srcp_sockets.specs.Accounts.{Account, account}
+use Rattle.srcp_sockets.specs.Peers.{IsKept}
+
+-- ---- the peers that are there
+
+-- each is what its account says
+abbrev pub AreKept : Option (List Step) → List Peer → Type 0
+AreKept told peers = (k : ℕ) (d : Peer) → k < length peers → IsKept told (slice_index_or peers k d)
+
+-- no two have one socket
+abbrev pub AreApart : List Peer → Type 0
+AreApart peers = (j k : ℕ) (d : Peer) → j < length peers → k < length peers → j ≢ k
+    → (slice_index_or peers j d).number ≢ (slice_index_or peers k d).number
+
+-- their sockets are numbered from 1 on
+abbrev pub AreWithin : ℕ → List Peer → Type 0
+AreWithin last peers = (k : ℕ) (d : Peer) → k < length peers → (0 < (slice_index_or peers k d).number) × ((slice_index_or peers k d).number ≤ last)
+
+-- none has this socket
+abbrev pub IsAbsent : ℕ → List Peer → Type 0
+IsAbsent socket peers = (k : ℕ) (d : Peer) → k < length peers → (slice_index_or peers k d).number ≢ socket
+
+-- they are the same peers
+abbrev pub AreThose : List Peer → List Peer → Type 0
+AreThose old new = (k : ℕ) (d : Peer) → k < length old → (slice_index_or new k d).number ≡ (slice_index_or old k d).number
+
+-- ---- each socket that ever was
+
+-- what is to hold of a socket: it took a prefix of what the door told to have taken for it; what the door handed out is a
+-- prefix of what it gave; its end was told only after a read had found it; and each long wait found it at rest
+pub record Sound (a : Account) : Type 0 where
+  pub took : StartsWith a.sent.written a.sent.took
+  pub handed : StartsWith a.received.gave a.received.handed
+  pub honest : a.honest ≡ true
+  pub rested : a.rested ≡ true
+
+abbrev pub AreSound : Option (List Step) → Type 0
+AreSound told = (log : List Step) → told ≡ Some log → (socket : ℕ) → Sound (account socket log)
+
+-- nothing was given to it or came of it
+pub record Fresh (a : Account) : Type 0 where
+  pub written : a.sent.written ≡ []
+  pub took : a.sent.took ≡ []
+  pub gave : a.received.gave ≡ []
+  pub handed : a.received.handed ≡ []
+
+-- so it is for all numbers that no socket had
+abbrev pub AreFresh : Option (List Step) → ℕ → Type 0
+AreFresh told last = (log : List Step) → told ≡ Some log → (socket : ℕ) → last < socket → Fresh (account socket log)
+
+-- who is not there is not open
+abbrev pub AreClosed : Option (List Step) → List Peer → Type 0
+AreClosed told peers = (log : List Step) → told ≡ Some log → (socket : ℕ) → IsAbsent socket peers → (account socket log).watched ≡ false
+
+-- ---- the listener
+
+abbrev pub HeardAs : Bool → Listening → Type 0
+HeardAs quiet listening.Ready = ⊤
+HeardAs quiet listening.Refused = ⊤
+HeardAs quiet listening.Quiet = quiet ≡ true
+
+pub record Hears (a : Account) (listening : Listening) : Type 0 where
+  pub fresh : Fresh a
+  pub lost : a.sent.lost ≡ false
+  pub cut : a.sent.cut ≡ false
+  pub ended : a.received.ended ≡ false
+  pub failed : a.received.failed ≡ false
+  pub heard : HeardAs a.received.quiet listening
+
+abbrev pub IsHeard : Option (List Step) → Listening → Type 0
+IsHeard told listening = (log : List Step) → told ≡ Some log → Hears (account 0 log) listening
+
+-- ---- a door
+
+pub record Stands (told : Option (List Step)) (peers : List Peer) (listening : Listening) (last : ℕ) : Type 0 where
+  pub kept : AreKept told peers
+  pub apart : AreApart peers
+  pub within : AreWithin last peers
+  pub sound : AreSound told
+  pub fresh : AreFresh told last
+  pub closed : AreClosed told peers
+  pub heard : IsHeard told listening

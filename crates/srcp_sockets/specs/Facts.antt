@@ -1,0 +1,34 @@
+-- What a door is has one proof at most.
+use Rattle.std.specs.Prelude.{◌≡◌, ℕ, Bool, List, Option}
+use Rattle.std.proofs.Props.{props}
+use Rattle.srcp_sockets.specs.declared.peer.Peer.{Peer}
+use Rattle.srcp_sockets.specs.declared.peer.Reading.{Reading}
+use Rattle.srcp_sockets.specs.declared.peer.Reading.TheVariants as input
+use Rattle.srcp_sockets.specs.declared.peer.Writing.{Writing}
+use Rattle.srcp_sockets.specs.declared.peer.Writing.TheVariants as output
+use Rattle.srcp_sockets.specs.declared.waiting.Listening.{Listening}
+use Rattle.srcp_sockets.specs.declared.waiting.Listening.TheVariants as listening
+use Rattle.srcp_sockets.specs.Steps.{Step}
+use Rattle.srcp_sockets.specs.Accounts.{Account, Received, Sent}
+use Rattle.srcp_sockets.specs.Peers.{Agrees, ReadsAs, WritesAs}
+use Rattle.srcp_sockets.specs.Doors.{HeardAs, Stands}
+
+ReadsAs-prop : (received : Received) (incoming : List ℕ) (state : Reading) → IsProp (ReadsAs received incoming state)
+ReadsAs-prop received incoming input.Ready = hlevel props
+ReadsAs-prop received incoming input.Closing = hlevel props
+ReadsAs-prop received incoming input.Quiet = hlevel props
+ReadsAs-prop received incoming input.Ended = hlevel props
+ReadsAs-prop received incoming input.Failed = hlevel props
+
+WritesAs-prop : (sent : Sent) (outgoing : List ℕ) (state : Writing) → IsProp (WritesAs sent outgoing state)
+WritesAs-prop sent outgoing output.Open = hlevel props
+WritesAs-prop sent outgoing output.Full = hlevel props
+WritesAs-prop sent outgoing output.Lost = hlevel props
+
+HeardAs-prop : (quiet : Bool) (state : Listening) → IsProp (HeardAs quiet state)
+HeardAs-prop quiet listening.Ready = hlevel props
+HeardAs-prop quiet listening.Refused = hlevel props
+HeardAs-prop quiet listening.Quiet = hlevel props
+
+pub Stands-prop : (told : Option (List Step)) (peers : List Peer) (l : Listening) (last : ℕ) → IsProp (Stands told peers l last)
+Stands-prop told peers l last = hlevel (props, ReadsAs-prop, WritesAs-prop, HeardAs-prop)

@@ -1,0 +1,29 @@
+-- What the sockets took of what the course sends their peers.
+use Rattle.std.specs.Prelude.{◌≡◌, ℕ, ◌<◌, List, [], map, length, slice_index_or, Option, Some}
+use Rattle.std.specs.Io.{StartsWith}
+use Rattle.srcp_rules.specs.declared.layout.Bus.{Bus}
+use Rattle.srcp_rules.specs.Layout.{IsLayout}
+use Rattle.srcp_core.specs.Connection.{Connection, sent}
+use Rattle.srcp_core.specs.Course.{course}
+use Rattle.srcp_core.specs.Held.{Held}
+use Rattle.srcp_core.specs.Stands.{StandsFor}
+use Rattle.srcp_serve.specs.Given.{Call, told_call}
+use Rattle.srcp_serve.specs.Serving.{events_of, stand_after}
+use Rattle.srcp_serve.specs.Places.{IsOfCourse}
+use Rattle.srcp_sockets.specs.Streams.{took}
+use Rattle.srcp_sockets.specs.Steps.{Step, calls}
+
+-- the door's calls are those of the course, and the socket of each peer took a prefix of what the course sends it
+pub record IsFollowed (buses : List Bus) (count opens : ℕ) (log : List Step) (new : Held) : Type 0 where
+  pub told : List Call
+  pub are : map told_call told ≡ calls log
+  pub served : IsOfCourse buses count opens told new
+  pub sockets : (k : ℕ) (conn : Connection) (guest : ℕ) → k < length (course buses (events_of buses told)).connections
+      → StartsWith (sent (slice_index_or (course buses (events_of buses told)).connections k conn))
+      (took (slice_index_or (stand_after buses told).guests k guest) log)
+
+-- so it is for a core that stands for no events, over system that told nothing before
+abbrev pub Follows : (count opens : ℕ) (old : Held) (told_old : Option (List Step)) (new : Held) (told_new : Option (List Step)) → Type 0
+Follows count opens old told_old new told_new = (buses : List Bus) (log : List Step) → IsLayout buses
+    → StandsFor buses [] old (course buses []) → told_old ≡ Some [] → told_new ≡ Some log
+    → IsFollowed buses count opens log new

@@ -1,0 +1,12 @@
+pub mod Accounts
+pub mod Doors
+pub mod Facts
+pub mod Follows
+pub mod Listeners
+pub mod Names
+pub mod Peers
+pub mod Streams
+pub mod Steps
+pub mod Times
+pub mod Turns
+pub mod Waiting

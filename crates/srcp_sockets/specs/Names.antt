@@ -1,0 +1,18 @@
+-- The numbers that the door gave its peers.
+use Rattle.std.specs.Prelude.{◌≡◌, ℕ, ◌<◌, ◌≤◌, ◌==◌, List, length, filter_map, slice_index, Option, Some}
+use Rattle.std.specs.List.{IsDistinct}
+use Rattle.std.proofs.Props.{props}
+use Rattle.std.proofs.lemmas.Map.Keys.{IsDistinct-prop}
+use Rattle.srcp_serve.specs.Calls.{peer_of}
+use Rattle.srcp_sockets.specs.Steps.{Step, calls}
+
+-- no number was given twice, and none is above the last
+pub record Named (numbers : List ℕ) (last : ℕ) : Type 0 where
+  pub differ : IsDistinct (λ a b. a == b) numbers
+  pub within : (k : ℕ) → k < length numbers → slice_index numbers k ≤ last
+
+abbrev pub IsNamed : Option (List Step) → ℕ → Type 0
+IsNamed told last = (log : List Step) → told ≡ Some log → Named (filter_map peer_of (calls log)) last
+
+pub IsNamed-prop : (told : Option (List Step)) (last : ℕ) → IsProp (IsNamed told last)
+IsNamed-prop told last = hlevel (props, IsDistinct-prop)

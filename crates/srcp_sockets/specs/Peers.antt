@@ -1,0 +1,145 @@
+-- What a peer's states mean.
+use Rattle.std.specs.Prelude.{◌≡◌, ℕ, ◌<◌, ◌≤◌, ◌==◌, ◌&&◌, ◌||◌, nat_lt, Bool, true, false, not, if◌then◌else◌, cond, List, [], ◌++◌, length, take, drop, Option, Some, None, Result, Ok, Err}
+use Rattle.std.specs.Io.{StartsWith}
+use Rattle.std.specs.declared.io.ErrorKind.{ErrorKind}
+use Rattle.srcp_sockets.specs.declared.system.Ready.{Ready}
+use Rattle.srcp_sockets.specs.declared.system.Refusal.{Refusal}
+use Rattle.srcp_sockets.specs.declared.system.Refusal.TheVariants.{Later, Again, Fault}
+use Rattle.srcp_sockets.specs.declared.peer.Reading.{Reading}
+use Rattle.srcp_sockets.specs.declared.peer.Reading.TheVariants as input
+use Rattle.srcp_sockets.specs.declared.peer.Writing.{Writing}
+use Rattle.srcp_sockets.specs.declared.peer.Writing.TheVariants as output
+use Rattle.srcp_sockets.specs.declared.peer.Peer.{Peer}
+use Rattle.srcp_serve.specs.declared.door.DoorFault.{DoorFault}
+use Rattle.srcp_serve.specs.declared.door.Got.{Got}
+use Rattle.srcp_serve.specs.declared.door.Got.TheVariants as got
+use Rattle.srcp_sockets.specs.Steps.{Step, refusal_told}
+use Rattle.srcp_sockets.specs.Accounts.{Account, Sent, Received, account}
+
+-- what a state of the input means, where so much is held of it
+abbrev pub ReadsAs : Received → List ℕ → Reading → Type 0
+ReadsAs received incoming input.Ready = (received.gave ≡ received.handed ++ incoming) × (received.failed ≡ false) × (received.ended ≡ false) × (received.closing ≡ false)
+ReadsAs received incoming input.Closing = (received.gave ≡ received.handed ++ incoming) × (received.failed ≡ false) × (received.ended ≡ false)
+ReadsAs received incoming input.Quiet = (received.gave ≡ received.handed ++ incoming) × (received.failed ≡ false) × (received.ended ≡ false) × (received.closing ≡ false) × (received.quiet ≡ true)
+ReadsAs received incoming input.Ended = (received.gave ≡ received.handed ++ incoming) × (received.failed ≡ false) × (received.ended ≡ true)
+ReadsAs received incoming input.Failed = (received.gave ≡ received.handed ++ incoming) × (received.failed ≡ true)
+
+-- what a state of the output means, where so much is queued for it
+abbrev pub WritesAs : Sent → List ℕ → Writing → Type 0
+WritesAs sent outgoing output.Open = (sent.written ≡ sent.took ++ outgoing) × (sent.lost ≡ false)
+WritesAs sent outgoing output.Full = (sent.written ≡ sent.took ++ outgoing) × (sent.lost ≡ false) × (sent.full ≡ true)
+WritesAs sent outgoing output.Lost = StartsWith sent.written sent.took × (sent.lost ≡ true)
+
+-- a peer is what its account says
+pub record Agrees (a : Account) (p : Peer) : Type 0 where
+  pub reads : ReadsAs a.received p.incoming p.input
+  pub writes : WritesAs a.sent p.outgoing p.output
+  pub cut : a.sent.cut ≡ p.cut
+  pub honest : a.honest ≡ true
+  pub rested : a.rested ≡ true
+
+-- so it is after all steps
+abbrev pub IsKept : Option (List Step) → Peer → Type 0
+IsKept told p = (log : List Step) → told ≡ Some log → Agrees (account p.number log) p
+
+-- the steps that came say nothing of this socket
+abbrev pub Spares : ℕ → Option (List Step) → Option (List Step) → Type 0
+Spares socket old new = (later : List Step) → new ≡ Some later
+    → (log : List Step) × (old ≡ Some log) × (account socket later ≡ account socket log)
+
+-- ---- what answers make of a peer
+
+abbrev pub refused : Writing → Refusal → Writing
+refused state Later = output.Full
+refused state Again = state
+refused state Fault = output.Lost
+
+-- a write that took so many of so many bytes
+abbrev pub taken : ℕ → ℕ → Writing
+taken count all = if count == 0 then output.Lost else if nat_lt count all then output.Full else output.Open
+
+abbrev pub after_write : Peer → Result ℕ ErrorKind → Peer
+after_write p (Ok count) = record p { outgoing = drop count p.outgoing; output = taken count (length p.outgoing) }
+after_write p (Err fault) = record p { output = refused p.output (refusal_told fault) }
+
+-- more is queued, unless the socket takes no more
+abbrev pub queued_more : Writing → List ℕ → List ℕ → List ℕ
+queued_more output.Open outgoing bytes = outgoing ++ bytes
+queued_more output.Full outgoing bytes = outgoing ++ bytes
+queued_more output.Lost outgoing bytes = outgoing
+
+-- the bytes that a read of the door handed out
+abbrev pub got_bytes : Result Got DoorFault → List ℕ → List ℕ
+got_bytes (Ok (got.Bytes count)) buffer = take count buffer
+got_bytes (Ok got.Nothing) buffer = []
+got_bytes (Ok got.Ended) buffer = []
+got_bytes (Err fault) buffer = []
+
+-- a read may find something
+abbrev pub may_have : Reading → Bool
+may_have input.Ready = true
+may_have input.Closing = true
+may_have input.Quiet = false
+may_have input.Ended = false
+may_have input.Failed = false
+
+-- a read that gave so many bytes, where there was room for so many
+abbrev pub given_some : Reading → Bool → Reading
+given_some input.Ready true = input.Quiet
+given_some input.Ready false = input.Ready
+given_some input.Closing left = input.Closing
+given_some input.Quiet left = input.Quiet
+given_some input.Ended left = input.Ended
+given_some input.Failed left = input.Failed
+
+abbrev pub given : Reading → ℕ → ℕ → Reading
+given state count room = if count == 0 then input.Ended else given_some state (nat_lt count room)
+
+abbrev pub missed : Reading → Refusal → Reading
+missed state Later = input.Quiet
+missed state Again = state
+missed state Fault = input.Failed
+
+abbrev pub after_read : Peer → List ℕ → Result ℕ ErrorKind → Peer
+after_read p buffer (Ok count) = record p { incoming = p.incoming ++ take count buffer; input = given p.input count (length buffer) }
+after_read p buffer (Err fault) = record p { input = missed p.input (refusal_told fault) }
+
+-- its socket was found ready
+abbrev pub woken_input : Reading → (readable closed : Bool) → Reading
+woken_input input.Ready readable closed = cond closed input.Closing input.Ready
+woken_input input.Closing readable closed = input.Closing
+woken_input input.Quiet readable closed = cond closed input.Closing (cond readable input.Ready input.Quiet)
+woken_input input.Ended readable closed = input.Ended
+woken_input input.Failed readable closed = input.Failed
+
+abbrev pub woken_output : Writing → Bool → Writing
+woken_output output.Open writable = output.Open
+woken_output output.Full writable = cond writable output.Open output.Full
+woken_output output.Lost writable = output.Lost
+
+abbrev pub after_wake : Peer → Ready → Peer
+after_wake p ready = if ready.socket == p.number then record p {
+  input = woken_input p.input ready.readable ready.closed;
+  output = woken_output p.output ready.writable;
+} else p
+
+-- ---- what a peer may wait for
+
+-- nothing is queued that its socket may take
+abbrev pub rests_writing : List ℕ → Writing → Bool
+rests_writing outgoing output.Open = length outgoing == 0
+rests_writing outgoing output.Full = true
+rests_writing outgoing output.Lost = false
+
+-- no input of it is held or may come without a word of its socket, and its end is not to be told
+abbrev pub rests_reading : List ℕ → Reading → Bool
+rests_reading outgoing input.Ready = false
+rests_reading outgoing input.Closing = false
+rests_reading outgoing input.Quiet = true
+rests_reading outgoing input.Ended = not (length outgoing == 0)
+rests_reading outgoing input.Failed = false
+
+-- it may be waited for
+abbrev pub is_resting : Peer → Bool
+is_resting p = rests_writing p.outgoing p.output
+    && cond p.cut (length p.outgoing == 40960) ((length p.incoming == 0) && rests_reading p.outgoing p.input)

@@ -1,0 +1,113 @@
+//! The door over the system's sockets.
+
+ghost use Rattle.std.specs.Prelude.{◌≡◌, ◌⊎◌, ℕ, Option, Some, None, [], IfOk, OnOk, OnErr};
+ghost use Rattle.srcp_serve.specs.Calls.{one_more};
+
+use crate::sockets::Sockets;
+use crate::system::{Ready, System};
+use srcp_serve::{Door, DoorFault, Got};
+use std::alloc::{AllocError, Global};
+use std::vec::Vec;
+
+/// How many peers there are at most.
+const MOST_PEERS: usize = 64;
+
+/// How many sockets may be found ready at once.
+const MOST_READY: usize = 128;
+
+/// A door over the system's sockets.
+#[derive(Drop)]
+pub struct SocketDoor<S: System + Drop> {
+    pub(crate) sockets: Sockets<S>,
+    alloc: Global,
+    ready: Vec<Ready>,
+    faults: u64,
+}
+
+impl<S: System + Drop> SocketDoor<S> {
+    /// Opens a door over a system that told nothing.
+    ///
+    /// # Errors
+    /// Where memory is refused.
+    pub fn open(system: S, alloc: Global) -> Result<SocketDoor<S>, AllocError>
+        requires { S.told system ≡ Some [] ⊎ S.told system ≡ None }
+        ensures { IfOk result (λ door. door.faults ≡ 0) }
+    {
+        let nothing = Ready {
+            socket: 0,
+            readable: false,
+            closed: false,
+            writable: false,
+        };
+        let mut ready = Vec::new(alloc);
+        ready.resize(MOST_READY, nothing)?;
+        Ok(SocketDoor {
+            sockets: Sockets::new(system, alloc, MOST_PEERS)?,
+            alloc,
+            ready,
+            faults: 0,
+        })
+    }
+
+    /// Counts a call that failed.
+    fn failed(&mut self)
+        ensures counted { self.new.faults ≡ one_more self.old.faults }
+        ensures sockets { self.new.sockets ≡ self.old.sockets }
+    {
+        self.faults = self.faults.saturating_add(1);
+    }
+}
+
+impl<S: System + Drop> Door for SocketDoor<S> {
+    ghost use Rattle.std.specs.Prelude.{option_map};
+    ghost use Rattle.srcp_sockets.specs.Steps.{calls};
+
+    ghost faults = { λ d. d.faults };
+
+    ghost told = { λ d. option_map calls (S.told d.sockets.system) };
+
+    fn expect(&mut self, due: Option<u64>, slack: Option<usize>) {
+        self.sockets.expect(due, slack);
+    }
+
+    fn now(&mut self) -> Result<u64, DoorFault> {
+        self.sockets.begin_turn(self.ready.as_mut_slice());
+        let answer = self.sockets.now();
+        if answer.is_err() {
+            self.failed();
+        }
+        answer
+    }
+
+    fn accept(&mut self) -> Result<Option<u32>, DoorFault> {
+        let answer = self.sockets.accept(self.alloc);
+        if answer.is_err() {
+            self.failed();
+        }
+        answer
+    }
+
+    fn read(&mut self, peer: u32, buf: &mut [u8]) -> Result<Got, DoorFault> {
+        let answer = self.sockets.read(peer, buf);
+        if answer.is_err() {
+            self.failed();
+        }
+        answer
+    }
+
+    fn write(&mut self, peer: u32, bytes: &[u8]) -> Result<usize, DoorFault> {
+        let answer = self.sockets.write(peer, bytes);
+        if answer.is_err() {
+            self.failed();
+        }
+        answer
+    }
+
+    fn close(&mut self, peer: u32) -> Result<(), DoorFault> {
+        let answer = self.sockets.close(peer);
+        if answer.is_err() {
+            self.failed();
+        }
+        answer
+    }
+}

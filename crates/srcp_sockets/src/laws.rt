@@ -1,0 +1,63 @@
+//! What holds of every door over a system, whatever the system answered. Each function does nothing: what it ensures is a law.
+
+ghost use Rattle.std.specs.Prelude.{◌≡◌, ◌++◌, ◌∷◌, ◌==◌, ◌||◌, ◌<◌, ◌⊎◌, ℕ, List, length, slice_index_or, Option, Some, Ok, true, false};
+ghost use Rattle.std.specs.Io.{StartsWith};
+ghost use Rattle.srcp_sockets.specs.declared.peer.Peer.{Peer};
+ghost use Rattle.srcp_serve.specs.declared.door.Got.{Got};
+ghost use Rattle.srcp_sockets.specs.declared.system.Ready.{Ready};
+ghost use Rattle.srcp_serve.specs.Calls.{ReadCall};
+ghost use Rattle.srcp_sockets.specs.Accounts.{account, is_at_rest, is_short};
+ghost use Rattle.srcp_sockets.specs.Steps.{Step, Told, Waits};
+ghost use Rattle.srcp_sockets.specs.Times.{times};
+ghost use Rattle.srcp_sockets.specs.Streams.{gave, handed, taken, took};
+
+use crate::door::SocketDoor;
+use crate::system::System;
+
+/// What each socket took is a prefix of what the door told to have taken for its peer; what the door handed out of a peer is a
+/// prefix of what its socket gave.
+pub fn sockets_follow<S: System + Drop>(door: &SocketDoor<S>)
+    ensures took { (log : List Step) → S.told door.now.sockets.system ≡ Some log → (socket : ℕ) → StartsWith (taken socket log) (took socket log) }
+    ensures handed { (log : List Step) → S.told door.now.sockets.system ≡ Some log → (socket : ℕ) → StartsWith (gave socket log) (handed socket log) }
+{
+    let _hall = &door.sockets;
+}
+
+/// What a socket did not take of what the door told to have taken for its peer is held, while the peer is there, in order;
+/// unless a write found that the socket takes no more.
+pub fn untaken_is_held<S: System + Drop>(door: &SocketDoor<S>)
+    ensures { (log : List Step) → S.told door.now.sockets.system ≡ Some log → (k : ℕ) (d : Peer) → k < length door.now.sockets.peers.items
+        → (let peer = slice_index_or door.now.sockets.peers.items k d in
+        ((account peer.number log).sent.lost ≡ true) ⊎ (taken peer.number log ≡ took peer.number log ++ peer.outgoing)) }
+{
+    let _hall = &door.sockets;
+}
+
+/// An end was told of a peer only after a read of its socket had found it.
+pub fn ends_are_true<S: System + Drop>(door: &SocketDoor<S>)
+    ensures { (before after : List Step) (socket : ℕ) (buffer : List ℕ)
+        → S.told door.now.sockets.system ≡ Some (before ++ Told (ReadCall socket (Ok Got.Ended) buffer) ∷ after) → (account socket before).received.ended ≡ true }
+{
+    let _hall = &door.sockets;
+}
+
+/// A wait longer than the pause found at rest each peer that was there, and the listener, which is socket 0.
+pub fn waits_are_safe<S: System + Drop>(door: &SocketDoor<S>)
+    ensures { (before after : List Step) (most : Option ℕ) (count : ℕ) (ready : List Ready)
+        → S.told door.now.sockets.system ≡ Some (before ++ Waits most count ready ∷ after) → is_short most ≡ false
+        → (socket : ℕ) → ((account socket before).watched || (socket == 0)) ≡ true
+        → is_at_rest (account socket before).sent (account socket before).received ≡ true }
+{
+    let _hall = &door.sockets;
+}
+
+/// No moment was before the one that was told last, nor past it and what the clock showed last. No wait ended past the moment
+/// at which something fell due next, as the door was told, counted from the moment that was told last. A wait longer than the
+/// pause came after a turn in which nothing happened, unless there was no panel.
+pub fn times_are_kept<S: System + Drop>(door: &SocketDoor<S>)
+    ensures moments { (log : List Step) → S.told door.now.sockets.system ≡ Some log → (times log).fair ≡ true }
+    ensures waits { (log : List Step) → S.told door.now.sockets.system ≡ Some log → (times log).punctual ≡ true }
+    ensures panels { (log : List Step) → S.told door.now.sockets.system ≡ Some log → (times log).patient ≡ true }
+{
+    let _sockets = &door.sockets;
+}

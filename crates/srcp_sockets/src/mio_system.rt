@@ -1,0 +1,148 @@
+//! The system as it is: mio's sockets and a clock. It tells nothing, and only makes the calls.
+
+use crate::system::{Ready, System};
+use mio::net::{TcpListener, TcpStream};
+use mio::{Events, Interest, Poll, Token};
+use srcp_serve::{DoorFault, Got};
+use std::alloc::Global;
+use std::io;
+use std::io::{ErrorKind, Read, Write};
+use std::time::{Clock, Duration};
+use std::vec::Vec;
+
+/// The listener's token; a socket's is its number.
+const LISTENER: Token = Token(0);
+
+/// How long a wait rests that fails, in milliseconds.
+const REST: u64 = 8;
+
+/// A socket with its number.
+#[derive(Drop)]
+struct Socket {
+    number: u32,
+    stream: TcpStream,
+}
+
+/// The sockets of the system, and a clock.
+#[derive(Drop)]
+pub struct MioSystem<C: Clock + Drop> {
+    listener: TcpListener,
+    poll: Poll,
+    events: Events<Global>,
+    clock: C,
+    // By rising numbers.
+    sockets: Vec<Socket>,
+}
+
+impl<C: Clock + Drop> MioSystem<C> {
+    /// Returns the system with a listener.
+    ///
+    /// # Errors
+    /// Those of the system, or where memory is refused.
+    pub fn new(
+        alloc: Global,
+        mut listener: TcpListener,
+        poll: Poll,
+        clock: C,
+        most: usize,
+    ) -> io::Result<MioSystem<C>> {
+        poll.registry()
+            .register(&mut listener, LISTENER, Interest::READABLE)?;
+        Ok(MioSystem {
+            listener,
+            poll,
+            events: Events::with_capacity(alloc, most)?,
+            clock,
+            sockets: Vec::new(alloc),
+        })
+    }
+
+    fn welcome(&mut self, number: u32) -> io::Result<()> {
+        let (mut stream, _) = self.listener.accept()?;
+        self.poll.registry().register(
+            &mut stream,
+            Token(number as usize),
+            Interest::READABLE | Interest::WRITABLE,
+        )?;
+        stream.set_nodelay(true)?;
+        self.sockets.push(Socket { number, stream })?;
+        Ok(())
+    }
+
+    fn socket(&mut self, number: u32) -> Result<&mut Socket, ErrorKind> {
+        match self
+            .sockets
+            .binary_search_by_key(&number, |socket| socket.number)
+        {
+            Ok(place) => Ok(&mut self.sockets[place]),
+            Err(_) => Err(ErrorKind::NotFound),
+        }
+    }
+}
+
+impl<C: Clock + Drop> System for MioSystem<C> {
+    fn accept(&mut self, number: u32) -> Result<(), ErrorKind> {
+        match self.welcome(number) {
+            Ok(()) => Ok(()),
+            Err(fault) => Err(fault.kind()),
+        }
+    }
+
+    fn read(&mut self, socket: u32, buffer: &mut [u8]) -> Result<usize, ErrorKind> {
+        let socket = self.socket(socket)?;
+        match socket.stream.read(buffer) {
+            Ok(count) => Ok(count),
+            Err(fault) => Err(fault.kind()),
+        }
+    }
+
+    fn write(&mut self, socket: u32, bytes: &[u8]) -> Result<usize, ErrorKind> {
+        let socket = self.socket(socket)?;
+        match socket.stream.write(bytes) {
+            Ok(count) => Ok(count),
+            Err(fault) => Err(fault.kind()),
+        }
+    }
+
+    fn wait(&mut self, most: Option<u64>, ready: &mut [Ready]) -> usize {
+        let most = most.map(Duration::from_millis);
+        if self.poll.poll(&mut self.events, most).is_err() {
+            self.clock.sleep(Duration::from_millis(REST));
+            return 0;
+        }
+        let mut count = 0;
+        for event in &self.events {
+            if count >= ready.len() {
+                break;
+            }
+            let Token(token) = event.token();
+            ready[count] = Ready {
+                socket: u32::try_from(token).unwrap_or(u32::MAX),
+                readable: event.is_readable(),
+                closed: event.is_read_closed() || event.is_error(),
+                writable: event.is_writable() || event.is_error(),
+            };
+            count += 1;
+        }
+        count
+    }
+
+    fn clock(&mut self) -> Option<u64> {
+        let time = self.clock.monotonic().ok()?;
+        Some(u64::try_from(time.as_millis()).unwrap_or(u64::MAX))
+    }
+
+    fn told_expect(&mut self, _due: Option<u64>, _slack: Option<usize>) {}
+
+    fn told_now(&mut self, _answer: Result<u64, DoorFault>) {}
+
+    fn told_accept(&mut self, _answer: Result<Option<u32>, DoorFault>) {}
+
+    fn told_read(&mut self, _peer: u32, _answer: Result<Got, DoorFault>, _buffer: &[u8]) {}
+
+    fn told_write(&mut self, _peer: u32, _bytes: &[u8], _answer: Result<usize, DoorFault>) {}
+
+    fn told_close(&mut self, peer: u32, _answer: Result<(), DoorFault>) {
+        self.sockets.retain(|socket| socket.number != peer);
+    }
+}

@@ -1,0 +1,196 @@
+//! The system's sockets, with their peers.
+
+ghost use Rattle.std.specs.Prelude.{◌≡◌, ◌<◌, ◌≤◌, ◌-◌, max, ℕ, ◌⊎◌, Option, Some, None, Ok, Result, IfErr, IfNone, IfOk, IfSome, List, [], length, slice_index_or, vec_capacity};
+ghost use Rattle.srcp_sockets.specs.declared.peer.Peer.{Peer};
+ghost use Rattle.srcp_sockets.specs.Facts.{Stands-prop};
+ghost use Rattle.std.specs.Option.{option_map};
+ghost use Rattle.srcp_sockets.specs.Names.{IsNamed, IsNamed-prop};
+ghost use Rattle.srcp_sockets.specs.Times.{IsTimed, IsTimed-prop};
+ghost use Rattle.srcp_serve.specs.Calls.{ExpectCall, NowCall, AcceptCall, ReadCall, WriteCall, CloseCall};
+ghost use Rattle.srcp_sockets.specs.Steps.{Accepts, SaysNothing, SaysOne, Step, Tells};
+ghost use Rattle.srcp_sockets.specs.Listeners.{refused_listening};
+ghost use Rattle.srcp_sockets.specs.Doors.{IsAbsent, Stands};
+
+use crate::peer::Peer;
+use crate::peers::begin_turn;
+use crate::queue::MOST_PIECE;
+use crate::system::{Ready, Refusal, System, refusal_of};
+use crate::turn::{Turn, next_moment};
+use crate::waiting::Listening;
+use srcp_serve::{DoorFault, Got};
+use std::alloc::{AllocError, Global};
+use std::vec::Vec;
+
+/// The system's sockets, with their peers.
+#[derive(Drop)]
+pub(crate) struct Sockets<S: System + Drop> {
+    pub system: S,
+    pub peers: Vec<Peer>,
+    listening: Listening,
+    // The number of the peer that came last.
+    last: u32,
+    turn: Turn,
+    ghost stands: { Stands (S.told system) peers.items listening last } by { Stands-prop (S.told system) peers.items listening last },
+    ghost named: { IsNamed (S.told system) last } by { IsNamed-prop (S.told system) last },
+    ghost timed: { IsTimed (S.told system) turn } by { IsTimed-prop (S.told system) turn },
+}
+
+impl<S: System + Drop> Sockets<S> {
+    /// Notes what falls due next, and how much the panels can still take.
+    pub(crate) fn expect(&mut self, due: Option<u64>, slack: Option<usize>)
+        ensures { SaysOne (S.told self.old.system) (ExpectCall due slack) (S.told self.new.system) }
+    {
+        self.system.told_expect(due, slack);
+        self.turn.expect(due, slack);
+    }
+
+    /// Begins a turn: flushes each peer, waits, and fills each peer.
+    pub(crate) fn begin_turn(&mut self, ready: &mut [Ready])
+        ensures { SaysNothing (S.told self.old.system) (S.told self.new.system) }
+    {
+        self.listening = begin_turn(
+            &mut self.system,
+            self.peers.as_mut_slice(),
+            self.listening,
+            self.last,
+            self.turn,
+            ready,
+        );
+        self.turn.wait();
+    }
+
+    /// Returns sockets with nobody in it, over a system that told nothing.
+    ///
+    /// # Errors
+    /// Where memory is refused.
+    pub(crate) fn new(system: S, alloc: Global, most: usize) -> Result<Sockets<S>, AllocError>
+        requires { S.told system ≡ Some [] ⊎ S.told system ≡ None }
+        ensures { IfOk result (λ sockets. sockets.system ≡ system) }
+    {
+        Ok(Sockets {
+            system,
+            peers: Vec::with_capacity(alloc, most)?,
+            listening: Listening::Ready,
+            last: 0,
+            turn: Turn::first(),
+        })
+    }
+
+    /// Lets in the next peer that wants in, if one does. Its number is above those of all peers before it.
+    pub(crate) fn accept(&mut self, alloc: Global) -> Result<Option<u32>, DoorFault>
+        ensures told { SaysOne (S.told self.old.system) (AcceptCall result) (S.told self.new.system) }
+        ensures fault { IfErr result (λ fault. fault ≡ DoorFault.Accept) }
+    {
+        let answer = self.let_in(alloc);
+        self.system.told_accept(answer);
+        self.turn.note_accept(answer);
+        answer
+    }
+
+    fn let_in(&mut self, alloc: Global) -> Result<Option<u32>, DoorFault>
+        ensures calls { SaysNothing (S.told self.old.system) (S.told self.new.system) }
+        ensures numbered { IfOk result (λ peer. IfSome peer (λ number. (self.old.last < number) × (self.new.last ≡ number))) }
+        ensures fault { IfErr result (λ fault. fault ≡ DoorFault.Accept) }
+    {
+        if self.listening.is_quiet() {
+            return Ok(None);
+        }
+        if self.peers.len() >= self.peers.capacity() {
+            return Err(DoorFault::Accept);
+        }
+        let Some(number) = self.last.checked_add(1) else {
+            return Err(DoorFault::Accept);
+        };
+        let Ok(peer) = Peer::new(alloc, number) else {
+            return Err(DoorFault::Accept);
+        };
+        match self.system.accept(number) {
+            Ok(()) => {
+                self.peers.push(peer).unwrap();
+                self.last = number;
+                Ok(Some(number))
+            }
+            Err(fault) => {
+                let said = refusal_of(fault);
+                self.listening = Listening::refused(said);
+                match said {
+                    Refusal::Later | Refusal::Again => Ok(None),
+                    Refusal::Fault => Err(DoorFault::Accept),
+                }
+            }
+        }
+    }
+
+    /// Closes the socket of a peer.
+    pub(crate) fn close(&mut self, number: u32) -> Result<(), DoorFault>
+        ensures told { SaysOne (S.told self.old.system) (CloseCall number result) (S.told self.new.system) }
+        ensures fault { IfErr result (λ fault. fault ≡ DoorFault.Close) }
+    {
+        let Some(place) = self.place(number) else {
+            self.system.told_close(number, Err(DoorFault::Close));
+            self.turn.note_close(Err(DoorFault::Close));
+            return Err(DoorFault::Close);
+        };
+        self.peers.remove(place);
+        self.system.told_close(number, Ok(()));
+        self.turn.note_close(Ok(()));
+        Ok(())
+    }
+
+    /// Returns the moment that the clock shows, and not before the last one.
+    pub(crate) fn now(&mut self) -> Result<u64, DoorFault>
+        ensures told { SaysOne (S.told self.old.system) (NowCall result) (S.told self.new.system) }
+        ensures fault { IfErr result (λ fault. fault ≡ DoorFault.Now) }
+    {
+        let shown = self.system.clock();
+        let answer = next_moment(self.turn.moment, shown);
+        self.system.told_now(answer);
+        self.turn.tell(answer);
+        answer
+    }
+
+    /// Returns the place of the peer with that number, if one has it.
+    fn place(&self, number: u32) -> Option<usize>
+        ensures found { IfSome result (λ place. (place < length self.now.peers.items) × ((d : Peer) → (slice_index_or self.now.peers.items place d).number ≡ number)) }
+        ensures absent { IfNone result (IsAbsent number self.now.peers.items) }
+    {
+        for place in 0..self.peers.len() {
+            if self.peers[place].number == number {
+                return Some(place);
+            }
+        }
+        None
+    }
+
+    /// Reads what has come from a peer.
+    pub(crate) fn read(&mut self, number: u32, buffer: &mut [u8]) -> Result<Got, DoorFault>
+        ensures told { SaysOne (S.told self.old.system) (ReadCall number result buffer.new) (S.told self.new.system) }
+        ensures count { (n : ℕ) → result ≡ Ok (Got.Bytes n) → (0 < n) × (n ≤ length buffer.old) }
+        ensures fault { IfErr result (λ fault. fault ≡ DoorFault.Read) }
+    {
+        let Some(place) = self.place(number) else {
+            self.system.told_read(number, Err(DoorFault::Read), buffer);
+            self.turn.note_read(Err(DoorFault::Read));
+            return Err(DoorFault::Read);
+        };
+        let answer = self.peers[place].read(&mut self.system, buffer, MOST_PIECE);
+        self.turn.note_read(answer);
+        answer
+    }
+
+    /// Takes bytes for a peer.
+    pub(crate) fn write(&mut self, number: u32, bytes: &[u8]) -> Result<usize, DoorFault>
+        ensures told { SaysOne (S.told self.old.system) (WriteCall number bytes.now result) (S.told self.new.system) }
+        ensures count { IfOk result (λ n. n ≤ length bytes.now) }
+        ensures fault { IfErr result (λ fault. fault ≡ DoorFault.Write) }
+    {
+        let Some(place) = self.place(number) else {
+            self.system.told_write(number, bytes, Err(DoorFault::Write));
+            self.turn.note_write(Err(DoorFault::Write));
+            return Err(DoorFault::Write);
+        };
+        let count = self.peers[place].write(&mut self.system, bytes);
+        self.turn.note_write(Ok(count));
+        Ok(count)
+    }
+}

@@ -1,0 +1,73 @@
+//! How long a turn may wait.
+
+ghost use Rattle.std.specs.Prelude.{◌≡◌, ◌≤◌, ◌-◌, ℕ, Some, None, true, false, All};
+ghost use Rattle.srcp_sockets.specs.Accounts.{is_short};
+ghost use Rattle.srcp_sockets.specs.Peers.{is_resting};
+ghost use Rattle.srcp_sockets.specs.Listeners.{refused_listening};
+ghost use Rattle.srcp_sockets.specs.Times.{is_pending};
+ghost use Rattle.srcp_sockets.specs.Waiting.{IsWithin};
+
+use crate::peer::Peer;
+use crate::system::Refusal;
+use crate::turn::Turn;
+
+/// How long a turn waits at most in milliseconds where a call of the system is to be made again.
+pub const PAUSE: u64 = 8;
+
+/// How long a turn waits at most for what falls due, in milliseconds: an hour.
+const LONGEST_WAIT: u64 = 3_600_000;
+
+/// Whether somebody may want in.
+#[derive(Clone, Copy)]
+pub enum Listening {
+    /// Somebody may.
+    Ready,
+    /// Somebody may, but the system refused the one that did.
+    Refused,
+    /// Nobody does, until the listener is found ready.
+    Quiet,
+}
+
+impl Listening {
+    /// Returns whether nobody wants in.
+    pub(crate) fn is_quiet(self) -> bool {
+        matches!(self, Listening::Quiet)
+    }
+
+    /// Returns what follows an accept that failed.
+    pub(crate) fn refused(said: Refusal) -> Listening
+        ensures { result ≡ refused_listening said }
+    {
+        match said {
+            Refusal::Later => Listening::Quiet,
+            Refusal::Again => Listening::Ready,
+            Refusal::Fault => Listening::Refused,
+        }
+    }
+}
+
+/// Returns how many milliseconds a turn waits at most; `None` if only a socket ends the wait. It does not wait while a peer or
+/// the listener may have something, or a panel may have something coming, nor past the moment at which something falls due.
+pub fn longest_wait(peers: &[Peer], listening: Listening, turn: Turn) -> Option<u64>
+    ensures rest { is_short result ≡ false → All (λ peer. is_resting peer ≡ true) peers.now }
+    ensures newcomers { is_short result ≡ false → listening ≡ Listening.Quiet }
+    ensures panels { is_short result ≡ false → is_pending turn.slack turn.busy ≡ false }
+    ensures due { (due : ℕ) → turn.due ≡ Some due → IsWithin (due - turn.moment) result }
+{
+    if turn.is_pending() || !are_resting(peers) {
+        return Some(0);
+    }
+    let left = turn.left().map(|left| left.min(LONGEST_WAIT));
+    match listening {
+        Listening::Ready => Some(0),
+        Listening::Refused => Some(left.map_or(PAUSE, |left| left.min(PAUSE))),
+        Listening::Quiet => left,
+    }
+}
+
+/// Returns whether nothing happens to them unless a socket is found ready.
+fn are_resting(peers: &[Peer]) -> bool
+    ensures { result ≡ true → All (λ peer. is_resting peer ≡ true) peers.now }
+{
+    peers.iter().all(|peer| peer.is_resting())
+}
