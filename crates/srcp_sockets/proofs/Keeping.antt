@@ -213,14 +213,14 @@ woken_agrees a p ready h = by (ready.socket == p.number)
   where
     by : (b : Bool) → Agrees (if b then record a {
       sent = woken_sent a.sent ready.writable;
-      received = woken_came a.received ready.readable ready.closed;
+      received = woken_came a.received ready.readable (ready.closed || ready.urgent);
     } else a) (if b then record p {
-      input = woken_input p.input ready.readable ready.closed;
+      input = woken_input p.input ready.readable (ready.closed || ready.urgent);
       output = woken_output p.output ready.writable;
     } else p)
     by true = record {
       cut = h.cut;
-      reads = woken_reads a.received p.incoming p.input ready.readable ready.closed h.reads;
+      reads = woken_reads a.received p.incoming p.input ready.readable (ready.closed || ready.urgent) h.reads;
       writes = woken_writes a.sent p.outgoing p.output ready.writable h.writes;
       honest = h.honest;
       rested = h.rested;
@@ -231,7 +231,7 @@ pub woken_number : (p : Peer) (ready : Ready) → (after_wake p ready).number �
 woken_number p ready = by (ready.socket == p.number)
   where
     by : (b : Bool) → (if b then record p {
-      input = woken_input p.input ready.readable ready.closed;
+      input = woken_input p.input ready.readable (ready.closed || ready.urgent);
       output = woken_output p.output ready.writable;
     } else p).number ≡ p.number
     by true = refl

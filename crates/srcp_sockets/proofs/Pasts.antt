@@ -24,7 +24,7 @@ woken_marks socket a [] = refl
 woken_marks socket a (one ∷ more) = woken_marks socket (woken socket a one) more
     ∙ if_same marks (one.socket == socket) (record a {
       sent = woken_sent a.sent one.writable;
-      received = woken_came a.received one.readable one.closed;
+      received = woken_came a.received one.readable (one.closed || one.urgent);
     }) a refl
 
 accept_marks : (socket number : ℕ) (a : Account) (answer : Result Unit ErrorKind) → marks (account_step socket a (Accepts number answer)) ≡ marks a

@@ -56,7 +56,7 @@ silent_as received incoming outgoing state owed o h r =
   where
     by : (s : Reading) → ReadsAs received incoming s → rests_reading outgoing s ≡ true → (length incoming == 0) ≡ true → is_silent received owed ≡ true
     by input.Ready h r none = absurd (true≢false (sym r))
-    by input.Closing h r none = absurd (true≢false (sym r))
+    by input.Draining h r none = absurd (true≢false (sym r))
     by input.Quiet h r none = silent_quiet (is_held received) received.quiet received.ended received.failed owed (held_is received incoming h.0 ∙ ap not none) h.4 h.2 h.1
     by input.Ended h r none = silent_ended (is_held received) received.quiet received.ended received.failed owed (held_is received incoming h.0 ∙ ap not none) h.2 (o ∙ r)
     by input.Failed h r none = absurd (true≢false (sym r))

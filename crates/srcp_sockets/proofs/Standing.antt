@@ -71,7 +71,7 @@ sound_of a p h = record {
 
     handed : (i : Reading) → ReadsAs a.received p.incoming i → StartsWith a.received.gave a.received.handed
     handed input.Ready r = starts a.received.gave a.received.handed p.incoming r.0
-    handed input.Closing r = starts a.received.gave a.received.handed p.incoming r.0
+    handed input.Draining r = starts a.received.gave a.received.handed p.incoming r.0
     handed input.Quiet r = starts a.received.gave a.received.handed p.incoming r.0
     handed input.Ended r = starts a.received.gave a.received.handed p.incoming r.0
     handed input.Failed r = starts a.received.gave a.received.handed p.incoming r.0
@@ -137,7 +137,7 @@ woken_sound socket a (one ∷ more) h = woken_sound socket (woken socket a one) 
   where
     by : (b : Bool) → Sound (if b then record a {
       sent = woken_sent a.sent one.writable;
-      received = woken_came a.received one.readable one.closed;
+      received = woken_came a.received one.readable (one.closed || one.urgent);
     } else a)
     by true = record { took = h.took; handed = h.handed; honest = h.honest; rested = h.rested }
     by false = h
@@ -148,7 +148,7 @@ woken_fresh socket a (one ∷ more) h = woken_fresh socket (woken socket a one) 
   where
     by : (b : Bool) → Fresh (if b then record a {
       sent = woken_sent a.sent one.writable;
-      received = woken_came a.received one.readable one.closed;
+      received = woken_came a.received one.readable (one.closed || one.urgent);
     } else a)
     by true = record { written = h.written; took = h.took; gave = h.gave; handed = h.handed }
     by false = h
@@ -159,7 +159,7 @@ woken_closed socket a (one ∷ more) h = woken_closed socket (woken socket a one
   where
     by : (b : Bool) → (if b then record a {
       sent = woken_sent a.sent one.writable;
-      received = woken_came a.received one.readable one.closed;
+      received = woken_came a.received one.readable (one.closed || one.urgent);
     } else a).watched ≡ false
     by true = h
     by false = h
@@ -171,11 +171,11 @@ still_heard quiet listening.Refused h = tt
 still_heard quiet listening.Quiet h = ap (λ b. b && true) h
 
 woken_hears : (a : Account) (l : Listening) (one : Ready) → Hears a l → Hears (woken 0 a one) (woken_listening l one)
-woken_hears a l one h = by (one.socket == 0) (one.readable || one.closed)
+woken_hears a l one h = by (one.socket == 0) (one.readable || (one.closed || one.urgent))
   where
     by : (b c : Bool) → Hears (if b then record a {
       sent = woken_sent a.sent one.writable;
-      received = record a.received { quiet = a.received.quiet && not c; closing = a.received.closing || one.closed };
+      received = record a.received { quiet = a.received.quiet && not c; draining = a.received.draining || (one.closed || one.urgent) };
     } else a) (if b && c then listening.Ready else l)
     by true true = record {
       fresh = record { written = h.fresh.written; took = h.fresh.took; gave = h.fresh.gave; handed = h.fresh.handed };
@@ -201,14 +201,14 @@ all_heard a l (one ∷ more) h = all_heard (woken 0 a one) (woken_listening l on
 
 -- a listener that is quiet is at rest
 rest_of_none : (cut lost full quiet ended failed : Bool) (written took gave handed : List ℕ) → written ≡ [] → took ≡ [] → gave ≡ [] → handed ≡ []
-    → cut ≡ false → lost ≡ false → quiet ≡ true → ended ≡ false → failed ≡ false → (closing : Bool)
+    → cut ≡ false → lost ≡ false → quiet ≡ true → ended ≡ false → failed ≡ false → (draining : Bool)
     → is_at_rest (record { written = written; took = took; full = full; lost = lost; cut = cut })
-    (record { gave = gave; handed = handed; quiet = quiet; closing = closing; ended = ended; failed = failed }) ≡ true
-rest_of_none cut lost full quiet ended failed written took gave handed w t g d c l q e f closing = rw (w, t, g, d, c, l, q, e, f) refl
+    (record { gave = gave; handed = handed; quiet = quiet; draining = draining; ended = ended; failed = failed }) ≡ true
+rest_of_none cut lost full quiet ended failed written took gave handed w t g d c l q e f draining = rw (w, t, g, d, c, l, q, e, f) refl
 
 listener_rests : (a : Account) → Hears a listening.Quiet → is_at_rest a.sent a.received ≡ true
 listener_rests a h = rest_of_none a.sent.cut a.sent.lost a.sent.full a.received.quiet a.received.ended a.received.failed a.sent.written a.sent.took a.received.gave a.received.handed
-    h.fresh.written h.fresh.took h.fresh.gave h.fresh.handed h.cut h.lost h.heard h.ended h.failed a.received.closing
+    h.fresh.written h.fresh.took h.fresh.gave h.fresh.handed h.cut h.lost h.heard h.ended h.failed a.received.draining
 
 -- an account as a wait begins
 waited_sound : (socket : ℕ) (a : Account) (most : Option ℕ) → Sound a
@@ -477,8 +477,8 @@ stands_refused old new peers l last number fault tells stands = record {
 
 -- ---- one that is let go
 
-closing : (number socket : ℕ) (a : Account) → Account
-closing number socket a = if number == socket then record a { watched = false } else a
+closed_one : (number socket : ℕ) (a : Account) → Account
+closed_one number socket a = if number == socket then record a { watched = false } else a
 
 close_sound : (b : Bool) (a : Account) → Sound a → Sound (if b then record a { watched = false } else a)
 close_sound true a h = record { took = h.took; handed = h.handed; honest = h.honest; rested = h.rested }

@@ -80,14 +80,14 @@ came_more received incoming bytes is = ap (λ g. g ++ bytes) is ∙ append_assoc
 
 given_as : (received : Received) (incoming bytes : List ℕ) (state : Reading) (zero short : Bool) → may_have state ≡ true
     → ReadsAs received incoming state
-    → ReadsAs (record received { gave = received.gave ++ bytes; quiet = not received.closing && short; ended = received.ended || zero })
+    → ReadsAs (record received { gave = received.gave ++ bytes; quiet = not received.draining && short; ended = received.ended || zero })
     (incoming ++ bytes) (if zero then input.Ended else given_some state short)
 given_as received incoming bytes input.Ready true short e h = (came_more received incoming bytes h.0, h.1, ap (λ b. b || true) h.2)
 given_as received incoming bytes input.Ready false true e h =
     (came_more received incoming bytes h.0, h.1, ap (λ b. b || false) h.2, h.3, ap (λ b. not b && true) h.3)
 given_as received incoming bytes input.Ready false false e h = (came_more received incoming bytes h.0, h.1, ap (λ b. b || false) h.2, h.3)
-given_as received incoming bytes input.Closing true short e h = (came_more received incoming bytes h.0, h.1, ap (λ b. b || true) h.2)
-given_as received incoming bytes input.Closing false short e h = (came_more received incoming bytes h.0, h.1, ap (λ b. b || false) h.2)
+given_as received incoming bytes input.Draining true short e h = (came_more received incoming bytes h.0, h.1, ap (λ b. b || true) h.2)
+given_as received incoming bytes input.Draining false short e h = (came_more received incoming bytes h.0, h.1, ap (λ b. b || false) h.2)
 given_as received incoming bytes input.Quiet zero short e h = absurd (true≢false (sym e))
 given_as received incoming bytes input.Ended zero short e h = absurd (true≢false (sym e))
 given_as received incoming bytes input.Failed zero short e h = absurd (true≢false (sym e))
@@ -97,9 +97,9 @@ missed_as : (received : Received) (incoming : List ℕ) (state : Reading) (said 
 missed_as received incoming input.Ready Later e h = (h.0, h.1, h.2, refl, refl)
 missed_as received incoming input.Ready Again e h = h
 missed_as received incoming input.Ready Fault e h = (h.0, refl)
-missed_as received incoming input.Closing Later e h = (h.0, h.1, h.2, refl, refl)
-missed_as received incoming input.Closing Again e h = h
-missed_as received incoming input.Closing Fault e h = (h.0, refl)
+missed_as received incoming input.Draining Later e h = (h.0, h.1, h.2, refl, refl)
+missed_as received incoming input.Draining Again e h = h
+missed_as received incoming input.Draining Fault e h = (h.0, refl)
 missed_as received incoming input.Quiet said e h = absurd (true≢false (sym e))
 missed_as received incoming input.Ended said e h = absurd (true≢false (sym e))
 missed_as received incoming input.Failed said e h = absurd (true≢false (sym e))
@@ -122,7 +122,7 @@ handed_more received bytes rest is = is ∙ sym (append_assoc received.handed by
 pub handed_as : (received : Received) (bytes rest : List ℕ) (state : Reading) → ReadsAs received (bytes ++ rest) state
     → ReadsAs (record received { handed = received.handed ++ bytes }) rest state
 handed_as received bytes rest input.Ready h = (handed_more received bytes rest h.0, h.1, h.2, h.3)
-handed_as received bytes rest input.Closing h = (handed_more received bytes rest h.0, h.1, h.2)
+handed_as received bytes rest input.Draining h = (handed_more received bytes rest h.0, h.1, h.2)
 handed_as received bytes rest input.Quiet h = (handed_more received bytes rest h.0, h.1, h.2, h.3, h.4)
 handed_as received bytes rest input.Ended h = (handed_more received bytes rest h.0, h.1, h.2)
 handed_as received bytes rest input.Failed h = (handed_more received bytes rest h.0, h.1)
@@ -132,7 +132,7 @@ pub woken_reads : (received : Received) (incoming : List ℕ) (state : Reading) 
     → ReadsAs (woken_came received readable closed) incoming (woken_input state readable closed)
 woken_reads received incoming input.Ready readable true h = (h.0, h.1, h.2)
 woken_reads received incoming input.Ready readable false h = (h.0, h.1, h.2, ap (λ b. b || false) h.3)
-woken_reads received incoming input.Closing readable closed h = h
+woken_reads received incoming input.Draining readable closed h = h
 woken_reads received incoming input.Quiet readable true h = (h.0, h.1, h.2)
 woken_reads received incoming input.Quiet true false h = (h.0, h.1, h.2, ap (λ b. b || false) h.3)
 woken_reads received incoming input.Quiet false false h = (h.0, h.1, h.2, ap (λ b. b || false) h.3, ap (λ b. b && true) h.4)

@@ -1,6 +1,6 @@
 -- An account of a socket is what a reader is told of it.
 use Rattle.std.proofs.Common.{◌≡◌, ◌∙◌, ℕ, Bool, true, false, List, [], ◌∷◌, ◌++◌, length, take, refl, ap, sym, subst, ◌==◌, if◌then◌else◌, Option, Some, None, Ok, Err, append-nil, append_assoc}
-use Rattle.std.specs.Prelude.{nat_lt, Result, flat_map, filter_map, fold}
+use Rattle.std.specs.Prelude.{◌||◌, nat_lt, Result, flat_map, filter_map, fold}
 use Rattle.std.specs.declared.io.ErrorKind.{ErrorKind}
 use Rattle.srcp_serve.specs.declared.door.DoorFault.{DoorFault}
 use Rattle.srcp_serve.specs.declared.door.Got.{Got}
@@ -59,7 +59,7 @@ woken_lists socket a [] = refl
 woken_lists socket a (one ∷ more) = woken_lists socket (woken socket a one) more
     ∙ if_same lists (one.socket == socket) (record a {
       sent = woken_sent a.sent one.writable;
-      received = woken_came a.received one.readable one.closed;
+      received = woken_came a.received one.readable (one.closed || one.urgent);
     }) a refl
 
 heard_lists : (a : Account) (said : Refusal) → lists (record a { received = heard_refusal a.received said }) ≡ lists a

@@ -21,7 +21,7 @@ pub record Received : Type 0 where
   pub gave : List ℕ  -- what the socket gave
   pub handed : List ℕ  -- what the door handed out of it
   pub quiet : Bool  -- a read found nothing or left space, and since then it was not found ready
-  pub closing : Bool  -- it was found to be closed, and no read found nothing since
+  pub draining : Bool  -- it was found closed or with urgent data, and since then no read found nothing
   pub ended : Bool  -- a read found its end
   pub failed : Bool  -- a read failed
 
@@ -36,7 +36,7 @@ pub record Account : Type 0 where
 abbrev pub untouched : Account
 untouched = record {
   sent = record { written = []; took = []; full = false; lost = false; cut = false };
-  received = record { gave = []; handed = []; quiet = false; closing = false; ended = false; failed = false };
+  received = record { gave = []; handed = []; quiet = false; draining = false; ended = false; failed = false };
   watched = false;
   honest = true;
   rested = true;
@@ -87,14 +87,14 @@ wrote sent bytes (Ok count) = record sent {
 wrote sent bytes (Err fault) = refused_write sent (refusal_told fault)
 
 abbrev pub refused_read : Received → Refusal → Received
-refused_read received Later = record received { quiet = true; closing = false }
+refused_read received Later = record received { quiet = true; draining = false }
 refused_read received Again = received
 refused_read received Fault = record received { failed = true }
 
 abbrev pub read_in : Received → List ℕ → Result ℕ ErrorKind → Received
 read_in received buffer (Ok count) = record received {
   gave = received.gave ++ take count buffer;
-  quiet = not received.closing && nat_lt count (length buffer);
+  quiet = not received.draining && nat_lt count (length buffer);
   ended = received.ended || (count == 0);
 }
 read_in received buffer (Err fault) = refused_read received (refusal_told fault)
@@ -105,13 +105,13 @@ woken_sent sent writable = record sent { full = sent.full && not writable }
 abbrev pub woken_came : Received → (readable closed : Bool) → Received
 woken_came received readable closed = record received {
   quiet = received.quiet && not (readable || closed);
-  closing = received.closing || closed;
+  draining = received.draining || closed;
 }
 
 abbrev pub woken : ℕ → Account → Ready → Account
 woken socket a ready = if ready.socket == socket then record a {
   sent = woken_sent a.sent ready.writable;
-  received = woken_came a.received ready.readable ready.closed;
+  received = woken_came a.received ready.readable (ready.closed || ready.urgent);
 } else a
 
 -- a wait begins: a long one is for peers at rest. The listener, which is socket 0, is always open
@@ -124,7 +124,7 @@ waited socket a most = record a {
 abbrev pub accepted : Account → Result Unit ErrorKind → Account
 accepted a (Ok done) = record a {
   sent = record a.sent { full = false; lost = false; cut = false };
-  received = record a.received { quiet = false; closing = false; ended = false; failed = false };
+  received = record a.received { quiet = false; draining = false; ended = false; failed = false };
   watched = true;
 }
 accepted a (Err fault) = a

@@ -15,7 +15,7 @@ use Rattle.srcp_sockets.specs.Doors.{HeardAs, Stands}
 
 ReadsAs-prop : (received : Received) (incoming : List ℕ) (state : Reading) → IsProp (ReadsAs received incoming state)
 ReadsAs-prop received incoming input.Ready = hlevel props
-ReadsAs-prop received incoming input.Closing = hlevel props
+ReadsAs-prop received incoming input.Draining = hlevel props
 ReadsAs-prop received incoming input.Quiet = hlevel props
 ReadsAs-prop received incoming input.Ended = hlevel props
 ReadsAs-prop received incoming input.Failed = hlevel props

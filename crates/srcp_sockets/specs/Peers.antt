@@ -18,9 +18,9 @@ use Rattle.srcp_sockets.specs.Accounts.{Account, Sent, Received, account}
 
 -- what a state of the input means, where so much is held of it
 abbrev pub ReadsAs : Received → List ℕ → Reading → Type 0
-ReadsAs received incoming input.Ready = (received.gave ≡ received.handed ++ incoming) × (received.failed ≡ false) × (received.ended ≡ false) × (received.closing ≡ false)
-ReadsAs received incoming input.Closing = (received.gave ≡ received.handed ++ incoming) × (received.failed ≡ false) × (received.ended ≡ false)
-ReadsAs received incoming input.Quiet = (received.gave ≡ received.handed ++ incoming) × (received.failed ≡ false) × (received.ended ≡ false) × (received.closing ≡ false) × (received.quiet ≡ true)
+ReadsAs received incoming input.Ready = (received.gave ≡ received.handed ++ incoming) × (received.failed ≡ false) × (received.ended ≡ false) × (received.draining ≡ false)
+ReadsAs received incoming input.Draining = (received.gave ≡ received.handed ++ incoming) × (received.failed ≡ false) × (received.ended ≡ false)
+ReadsAs received incoming input.Quiet = (received.gave ≡ received.handed ++ incoming) × (received.failed ≡ false) × (received.ended ≡ false) × (received.draining ≡ false) × (received.quiet ≡ true)
 ReadsAs received incoming input.Ended = (received.gave ≡ received.handed ++ incoming) × (received.failed ≡ false) × (received.ended ≡ true)
 ReadsAs received incoming input.Failed = (received.gave ≡ received.handed ++ incoming) × (received.failed ≡ true)
 
@@ -78,7 +78,7 @@ got_bytes (Err fault) buffer = []
 -- a read may find something
 abbrev pub may_have : Reading → Bool
 may_have input.Ready = true
-may_have input.Closing = true
+may_have input.Draining = true
 may_have input.Quiet = false
 may_have input.Ended = false
 may_have input.Failed = false
@@ -87,7 +87,7 @@ may_have input.Failed = false
 abbrev pub given_some : Reading → Bool → Reading
 given_some input.Ready true = input.Quiet
 given_some input.Ready false = input.Ready
-given_some input.Closing left = input.Closing
+given_some input.Draining left = input.Draining
 given_some input.Quiet left = input.Quiet
 given_some input.Ended left = input.Ended
 given_some input.Failed left = input.Failed
@@ -106,9 +106,9 @@ after_read p buffer (Err fault) = record p { input = missed p.input (refusal_tol
 
 -- its socket was found ready
 abbrev pub woken_input : Reading → (readable closed : Bool) → Reading
-woken_input input.Ready readable closed = cond closed input.Closing input.Ready
-woken_input input.Closing readable closed = input.Closing
-woken_input input.Quiet readable closed = cond closed input.Closing (cond readable input.Ready input.Quiet)
+woken_input input.Ready readable closed = cond closed input.Draining input.Ready
+woken_input input.Draining readable closed = input.Draining
+woken_input input.Quiet readable closed = cond closed input.Draining (cond readable input.Ready input.Quiet)
 woken_input input.Ended readable closed = input.Ended
 woken_input input.Failed readable closed = input.Failed
 
@@ -119,7 +119,7 @@ woken_output output.Lost writable = output.Lost
 
 abbrev pub after_wake : Peer → Ready → Peer
 after_wake p ready = if ready.socket == p.number then record p {
-  input = woken_input p.input ready.readable ready.closed;
+  input = woken_input p.input ready.readable (ready.closed || ready.urgent);
   output = woken_output p.output ready.writable;
 } else p
 
@@ -134,7 +134,7 @@ rests_writing outgoing output.Lost = false
 -- no input of it is held or may come without a word of its socket, and its end is not to be told
 abbrev pub rests_reading : List ℕ → Reading → Bool
 rests_reading outgoing input.Ready = false
-rests_reading outgoing input.Closing = false
+rests_reading outgoing input.Draining = false
 rests_reading outgoing input.Quiet = true
 rests_reading outgoing input.Ended = not (length outgoing == 0)
 rests_reading outgoing input.Failed = false

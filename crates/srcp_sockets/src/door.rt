@@ -2,9 +2,11 @@
 
 ghost use Rattle.std.specs.Prelude.{◌≡◌, ◌⊎◌, ℕ, Option, Some, None, [], IfOk, OnOk, OnErr};
 ghost use Rattle.srcp_serve.specs.Calls.{one_more};
+ghost use Rattle.srcp_sockets.specs.Turns.{first_turn};
 
 use crate::sockets::Sockets;
 use crate::system::{Ready, System};
+use crate::turn::Turn;
 use srcp_serve::{Door, DoorFault, Got};
 use std::alloc::{AllocError, Global};
 use std::vec::Vec;
@@ -25,24 +27,32 @@ pub struct SocketDoor<S: System + Drop> {
 }
 
 impl<S: System + Drop> SocketDoor<S> {
-    /// Opens a door over a system that told nothing.
+    /// Opens a door over a system that told nothing. Its moments begin with the wall clock at the start, and go on with the clock
+    /// that is never set, which showed `start` then; both in milliseconds.
     ///
     /// # Errors
     /// Where memory is refused.
-    pub fn open(system: S, alloc: Global) -> Result<SocketDoor<S>, AllocError>
+    pub fn open(
+        system: S,
+        alloc: Global,
+        wall: u64,
+        start: u64,
+    ) -> Result<SocketDoor<S>, AllocError>
         requires { S.told system ≡ Some [] ⊎ S.told system ≡ None }
-        ensures { IfOk result (λ door. door.faults ≡ 0) }
+        ensures faults { IfOk result (λ door. door.faults ≡ 0) }
+        ensures turn { IfOk result (λ door. door.sockets.turn ≡ first_turn wall start) }
     {
         let nothing = Ready {
             socket: 0,
             readable: false,
             closed: false,
+            urgent: false,
             writable: false,
         };
         let mut ready = Vec::new(alloc);
         ready.resize(MOST_READY, nothing)?;
         Ok(SocketDoor {
-            sockets: Sockets::new(system, alloc, MOST_PEERS)?,
+            sockets: Sockets::new(system, alloc, MOST_PEERS, Turn::first(wall, start))?,
             alloc,
             ready,
             faults: 0,
@@ -88,6 +98,9 @@ impl<S: System + Drop> Door for SocketDoor<S> {
     }
 
     fn read(&mut self, peer: u32, buf: &mut [u8]) -> Result<Got, DoorFault> {
+        if self.sockets.is_late() {
+            return self.sockets.hold_back(peer, buf);
+        }
         let answer = self.sockets.read(peer, buf);
         if answer.is_err() {
             self.failed();

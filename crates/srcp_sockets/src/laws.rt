@@ -8,7 +8,7 @@ ghost use Rattle.srcp_sockets.specs.declared.system.Ready.{Ready};
 ghost use Rattle.srcp_serve.specs.Calls.{ReadCall};
 ghost use Rattle.srcp_sockets.specs.Accounts.{account, is_at_rest, is_short};
 ghost use Rattle.srcp_sockets.specs.Steps.{Step, Told, Waits};
-ghost use Rattle.srcp_sockets.specs.Times.{times};
+ghost use Rattle.srcp_sockets.specs.Times.{AreKeptTimes, times};
 ghost use Rattle.srcp_sockets.specs.Streams.{gave, handed, taken, took};
 
 use crate::door::SocketDoor;
@@ -51,13 +51,12 @@ pub fn waits_are_safe<S: System + Drop>(door: &SocketDoor<S>)
     let _hall = &door.sockets;
 }
 
-/// No moment was before the one that was told last, nor past it and what the clock showed last. No wait ended past the moment
-/// at which something fell due next, as the door was told, counted from the moment that was told last. A wait longer than the
-/// pause came after a turn in which nothing happened, unless there was no panel.
+/// Each moment was the one that was to be told by the clock that was read. No wait ended past what falls due, as the door was
+/// told; no wait began in a turn that was late. A wait longer than the pause came after a turn in which nothing happened, unless
+/// there was no panel. No input was handed out in a turn that was late.
 pub fn times_are_kept<S: System + Drop>(door: &SocketDoor<S>)
-    ensures moments { (log : List Step) → S.told door.now.sockets.system ≡ Some log → (times log).fair ≡ true }
-    ensures waits { (log : List Step) → S.told door.now.sockets.system ≡ Some log → (times log).punctual ≡ true }
-    ensures panels { (log : List Step) → S.told door.now.sockets.system ≡ Some log → (times log).patient ≡ true }
+    ensures { (log : List Step) → S.told door.now.sockets.system ≡ Some log
+        → AreKeptTimes (times door.now.sockets.turn.timekeeper.wall door.now.sockets.turn.timekeeper.start log) }
 {
     let _sockets = &door.sockets;
 }

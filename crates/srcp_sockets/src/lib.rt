@@ -3,8 +3,8 @@
 //!
 //! `System` is the small trait of system calls, `MioSystem` makes them, and `SocketDoor` is the door over any of them.
 //!
-//! It is not the server's door yet: lines are not paced, a peer that is closed loses what is queued for it, each turn flushes
-//! and polls, and moments are those of the clock.
+//! It is not the server's door yet: lines are not paced, a peer that is closed loses what is queued for it, and each turn
+//! flushes and polls.
 #![tactic(auto)]
 
 mod course;

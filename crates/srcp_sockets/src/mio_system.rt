@@ -62,7 +62,7 @@ impl<C: Clock + Drop> MioSystem<C> {
         self.poll.registry().register(
             &mut stream,
             Token(number as usize),
-            Interest::READABLE | Interest::WRITABLE,
+            Interest::READABLE | Interest::WRITABLE | Interest::PRIORITY,
         )?;
         stream.set_nodelay(true)?;
         self.sockets.push(Socket { number, stream })?;
@@ -120,6 +120,7 @@ impl<C: Clock + Drop> System for MioSystem<C> {
                 socket: u32::try_from(token).unwrap_or(u32::MAX),
                 readable: event.is_readable(),
                 closed: event.is_read_closed() || event.is_error(),
+                urgent: event.is_priority(),
                 writable: event.is_writable() || event.is_error(),
             };
             count += 1;

@@ -16,8 +16,8 @@ use std::alloc::{AllocError, Global};
 pub enum Reading {
     /// Something, for all that is known.
     Ready,
-    /// Something, or the end, which no word of the socket tells again: a read that leaves space does not change that.
-    Closing,
+    /// Something behind urgent data, or the end, which no event tells again: it is read until nothing comes.
+    Draining,
     /// Nothing, until the socket is found ready.
     Quiet,
     /// A read found the end.
@@ -43,7 +43,7 @@ impl Reading {
         ensures { result ≡ may_have self }
     {
         match self {
-            Reading::Ready | Reading::Closing => true,
+            Reading::Ready | Reading::Draining => true,
             Reading::Quiet | Reading::Ended | Reading::Failed => false,
         }
     }
@@ -58,7 +58,7 @@ impl Reading {
         match self {
             Reading::Ready if count < room => Reading::Quiet,
             Reading::Ready => Reading::Ready,
-            Reading::Closing => Reading::Closing,
+            Reading::Draining => Reading::Draining,
             Reading::Quiet => Reading::Quiet,
             Reading::Ended => Reading::Ended,
             Reading::Failed => Reading::Failed,
@@ -77,11 +77,11 @@ impl Reading {
     }
 
     /// Returns what follows a socket that was found ready.
-    fn woken(self, readable: bool, closed: bool) -> Reading
-        ensures { result ≡ woken_input self readable closed }
+    fn woken(self, readable: bool, drains: bool) -> Reading
+        ensures { result ≡ woken_input self readable drains }
     {
         match self {
-            Reading::Ready | Reading::Quiet if closed => Reading::Closing,
+            Reading::Ready | Reading::Quiet if drains => Reading::Draining,
             Reading::Quiet if readable => Reading::Ready,
             state => state,
         }
@@ -92,7 +92,7 @@ impl Reading {
         ensures { result ≡ rests_reading outgoing.now self }
     {
         match self {
-            Reading::Ready | Reading::Closing | Reading::Failed => false,
+            Reading::Ready | Reading::Draining | Reading::Failed => false,
             Reading::Quiet => true,
             Reading::Ended => !outgoing.is_empty(),
         }
@@ -207,7 +207,9 @@ impl Peer {
         ensures { self.new ≡ after_wake self.old ready }
     {
         if ready.socket == self.number {
-            self.input = self.input.woken(ready.readable, ready.closed);
+            self.input = self
+                .input
+                .woken(ready.readable, ready.closed || ready.urgent);
             self.output = self.output.woken(ready.writable);
         }
     }

@@ -20,14 +20,14 @@ pub(crate) fn begin_turn<S: System>(
     peers: &mut [Peer],
     listening: Listening,
     last: u32,
-    turn: Turn,
+    turn: &Turn,
     ready: &mut [Ready],
 ) -> Listening
     requires stands { Stands (S.told system.old) peers.old listening last }
-    requires timed { IsTimed (S.told system.old) turn }
+    requires timed { IsTimed (S.told system.old) turn.now }
     ensures stands { Stands (S.told system.new) peers.new result last }
     ensures calls { SaysNothing (S.told system.old) (S.told system.new) }
-    ensures timed { IsTimed (S.told system.new) (after_wait turn) }
+    ensures timed { IsTimed (S.told system.new) (after_wait turn.now) }
 {
     flush(system, peers);
     let listening = wait(system, peers, listening, last, turn, ready);
@@ -71,14 +71,14 @@ fn wait<S: System>(
     peers: &mut [Peer],
     listening: Listening,
     last: u32,
-    turn: Turn,
+    turn: &Turn,
     ready: &mut [Ready],
 ) -> Listening
     requires stands { Stands (S.told system.old) peers.old listening last }
-    requires timed { IsTimed (S.told system.old) turn }
+    requires timed { IsTimed (S.told system.old) turn.now }
     ensures stands { Stands (S.told system.new) peers.new result last }
     ensures calls { SaysNothing (S.told system.old) (S.told system.new) }
-    ensures timed { IsTimed (S.told system.new) (after_wait turn) }
+    ensures timed { IsTimed (S.told system.new) (after_wait turn.now) }
 {
     let most = longest_wait(peers, listening, turn);
     let count = system.wait(most, ready);
@@ -109,7 +109,7 @@ fn listen(listening: Listening, ready: &[Ready]) -> Listening
 fn heard_more(listening: Listening, ready: Ready) -> Listening
     ensures { result ≡ woken_listening listening ready }
 {
-    if ready.socket == 0 && (ready.readable || ready.closed) {
+    if ready.socket == 0 && (ready.readable || ready.closed || ready.urgent) {
         Listening::Ready
     } else {
         listening

@@ -1,11 +1,12 @@
 //! The system's sockets, with their peers.
 
-ghost use Rattle.std.specs.Prelude.{◌≡◌, ◌<◌, ◌≤◌, ◌-◌, max, ℕ, ◌⊎◌, Option, Some, None, Ok, Result, IfErr, IfNone, IfOk, IfSome, List, [], length, slice_index_or, vec_capacity};
+ghost use Rattle.std.specs.Prelude.{false, ◌≡◌, ◌<◌, ◌≤◌, ◌-◌, max, ℕ, ◌⊎◌, Option, Some, None, Ok, Result, IfErr, IfNone, IfOk, IfSome, List, [], length, slice_index_or, vec_capacity};
 ghost use Rattle.srcp_sockets.specs.declared.peer.Peer.{Peer};
 ghost use Rattle.srcp_sockets.specs.Facts.{Stands-prop};
 ghost use Rattle.std.specs.Option.{option_map};
 ghost use Rattle.srcp_sockets.specs.Names.{IsNamed, IsNamed-prop};
 ghost use Rattle.srcp_sockets.specs.Times.{IsTimed, IsTimed-prop};
+ghost use Rattle.srcp_sockets.specs.Turns.{first_turn};
 ghost use Rattle.srcp_serve.specs.Calls.{ExpectCall, NowCall, AcceptCall, ReadCall, WriteCall, CloseCall};
 ghost use Rattle.srcp_sockets.specs.Steps.{Accepts, SaysNothing, SaysOne, Step, Tells};
 ghost use Rattle.srcp_sockets.specs.Listeners.{refused_listening};
@@ -15,7 +16,7 @@ use crate::peer::Peer;
 use crate::peers::begin_turn;
 use crate::queue::MOST_PIECE;
 use crate::system::{Ready, Refusal, System, refusal_of};
-use crate::turn::{Turn, next_moment};
+use crate::turn::Turn;
 use crate::waiting::Listening;
 use srcp_serve::{DoorFault, Got};
 use std::alloc::{AllocError, Global};
@@ -53,7 +54,7 @@ impl<S: System + Drop> Sockets<S> {
             self.peers.as_mut_slice(),
             self.listening,
             self.last,
-            self.turn,
+            &self.turn,
             ready,
         );
         self.turn.wait();
@@ -63,16 +64,22 @@ impl<S: System + Drop> Sockets<S> {
     ///
     /// # Errors
     /// Where memory is refused.
-    pub(crate) fn new(system: S, alloc: Global, most: usize) -> Result<Sockets<S>, AllocError>
-        requires { S.told system ≡ Some [] ⊎ S.told system ≡ None }
-        ensures { IfOk result (λ sockets. sockets.system ≡ system) }
+    pub(crate) fn new(
+        system: S,
+        alloc: Global,
+        most: usize,
+        turn: Turn,
+    ) -> Result<Sockets<S>, AllocError>
+        requires told { S.told system ≡ Some [] ⊎ S.told system ≡ None }
+        requires turn { turn ≡ first_turn turn.timekeeper.wall turn.timekeeper.start }
+        ensures { IfOk result (λ sockets. (sockets.system ≡ system) × (sockets.turn ≡ turn)) }
     {
         Ok(Sockets {
             system,
             peers: Vec::with_capacity(alloc, most)?,
             listening: Listening::Ready,
             last: 0,
-            turn: Turn::first(),
+            turn,
         })
     }
 
@@ -137,15 +144,17 @@ impl<S: System + Drop> Sockets<S> {
         Ok(())
     }
 
-    /// Returns the moment that the clock shows, and not before the last one.
+    /// Returns the moment that is to be told.
+    ///
+    /// # Errors
+    /// `Now` if the clock cannot be read.
     pub(crate) fn now(&mut self) -> Result<u64, DoorFault>
         ensures told { SaysOne (S.told self.old.system) (NowCall result) (S.told self.new.system) }
         ensures fault { IfErr result (λ fault. fault ≡ DoorFault.Now) }
     {
         let shown = self.system.clock();
-        let answer = next_moment(self.turn.moment, shown);
+        let answer = self.turn.tell(shown);
         self.system.told_now(answer);
-        self.turn.tell(answer);
         answer
     }
 
@@ -162,8 +171,30 @@ impl<S: System + Drop> Sockets<S> {
         None
     }
 
+    /// Returns whether the turn is late: what fell due comes first, and no input is handed out.
+    pub(crate) fn is_late(&self) -> bool
+        ensures { result ≡ self.now.turn.late }
+    {
+        self.turn.late
+    }
+
+    /// Hands out nothing of a peer.
+    pub(crate) fn hold_back(&mut self, number: u32, buffer: &[u8]) -> Result<Got, DoorFault>
+        ensures told { SaysOne (S.told self.old.system) (ReadCall number result buffer.now) (S.told self.new.system) }
+        ensures nothing { result ≡ Ok Got.Nothing }
+    {
+        let answer = Ok(Got::Nothing);
+        self.system.told_read(number, answer, buffer);
+        self.turn.note_read(answer);
+        answer
+    }
+
     /// Reads what has come from a peer.
+    ///
+    /// # Errors
+    /// `Read` if the peer is lost, or is not there.
     pub(crate) fn read(&mut self, number: u32, buffer: &mut [u8]) -> Result<Got, DoorFault>
+        requires { self.old.turn.late ≡ false }
         ensures told { SaysOne (S.told self.old.system) (ReadCall number result buffer.new) (S.told self.new.system) }
         ensures count { (n : ℕ) → result ≡ Ok (Got.Bytes n) → (0 < n) × (n ≤ length buffer.old) }
         ensures fault { IfErr result (λ fault. fault ≡ DoorFault.Read) }

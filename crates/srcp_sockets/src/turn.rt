@@ -1,52 +1,61 @@
 //! What a door knows of the turn that it is in.
 
-ghost use Rattle.std.specs.Prelude.{◌≡◌, ◌-◌, ◌≤◌, ◌||◌, ℕ, List, Some, None, Ok, IfErr, true, max};
-ghost use Rattle.std.specs.Option.{option_map};
-ghost use Rattle.srcp_serve.specs.Calls.{ExpectCall, NowCall, AcceptCall, ReadCall, WriteCall, CloseCall};
-ghost use Rattle.srcp_sockets.specs.Times.{is_pending};
-ghost use Rattle.srcp_sockets.specs.Turns.{after_call, after_wait};
+ghost use Rattle.std.specs.Prelude.{◌≡◌, ◌-◌, ◌/◌, ◌||◌, ℕ, List, Some, None, Ok, Err, IfErr};
+ghost use Rattle.srcp_serve.specs.Calls.{ExpectCall, AcceptCall, ReadCall, WriteCall, CloseCall};
+ghost use Rattle.srcp_sockets.specs.Turns.{after_call, after_wait, earlier, first_turn, is_pending, moment_at, time_left, told_at};
 
+use srcp_door::Timekeeper;
 use srcp_serve::{DoorFault, Got};
 
+/// A wait for what falls due ends so much earlier than it, as a part of the wait: the system may end a wait late by a
+/// thousandth of it, or a two-hundredth for a process of low priority. The turns behind it wait for the rest.
+const EARLIER: u64 = 128;
+
 /// What a door knows of its turn.
-#[derive(Clone, Copy)]
+#[derive(Drop)]
 pub struct Turn {
-    /// The moment that was told last, in milliseconds since 1970.
-    pub moment: u64,
+    /// The clocks at the start, and the moment that was told last.
+    pub timekeeper: Timekeeper,
     /// The moment at which something falls due next, if anything does.
     pub due: Option<u64>,
     /// How many more changes may come upon each panel, if there is one.
     pub slack: Option<usize>,
     /// Whether something happened since the last wait.
     pub busy: bool,
+    /// Whether the moment that was told last is behind the time.
+    pub late: bool,
 }
 
 impl Turn {
-    /// Returns the turn that follows nothing.
-    pub(crate) fn first() -> Turn
-        ensures { result ≡ record { moment = 0; due = None; slack = None; busy = true } }
+    /// Returns the turn that follows nothing, by the wall clock and the clock that is never set, in milliseconds.
+    pub(crate) fn first(wall: u64, start: u64) -> Turn
+        ensures { result ≡ first_turn wall start }
     {
         Turn {
-            moment: 0,
+            timekeeper: Timekeeper::new(wall, start),
             due: None,
             slack: None,
             busy: true,
+            late: false,
         }
     }
 
-    /// Returns how many milliseconds are left until something falls due, if anything does.
-    pub(crate) fn left(self) -> Option<u64>
-        ensures { result ≡ option_map (λ due. due - self.moment) self.due }
+    /// Returns how many milliseconds the next wait may take, if anything falls due.
+    pub(crate) fn left(&self) -> Option<u64>
+        ensures { result ≡ time_left self.now }
     {
+        if self.late {
+            return Some(0);
+        }
         match self.due {
-            Some(due) => Some(due.saturating_sub(self.moment)),
+            Some(due) => Some(earlier(self.timekeeper.left_until(due))),
             None => None,
         }
     }
 
     /// Returns whether a panel may have something coming.
-    pub(crate) fn is_pending(self) -> bool
-        ensures { result ≡ is_pending self.slack self.busy }
+    pub(crate) fn is_pending(&self) -> bool
+        ensures { result ≡ is_pending self.now.slack self.now.busy }
     {
         match self.slack {
             Some(_) => self.busy,
@@ -69,13 +78,23 @@ impl Turn {
         self.busy = false;
     }
 
-    /// Notes a moment that was told.
-    pub(crate) fn tell(&mut self, answer: Result<u64, DoorFault>)
-        ensures { self.new ≡ after_call self.old (NowCall answer) }
+    /// Returns the moment that is to be told, if the clock that is never set shows a time. Moments never go back. After a
+    /// stall they catch up in steps of 10 milliseconds, from the moment on at which something falls due.
+    ///
+    /// # Errors
+    /// `Now` if the clock cannot be read.
+    pub(crate) fn tell(&mut self, shown: Option<u64>) -> Result<u64, DoorFault>
+        ensures none { shown ≡ None → (result ≡ Err DoorFault.Now) × (self.new ≡ self.old) }
+        ensures some { (time : ℕ) → shown ≡ Some time → (result ≡ Ok (moment_at self.old time)) × (self.new ≡ told_at self.old time (moment_at self.old time)) }
+        ensures fault { IfErr result (λ fault. fault ≡ DoorFault.Now) }
     {
-        if let Ok(moment) = answer {
-            self.moment = moment;
-        }
+        let Some(time) = shown else {
+            return Err(DoorFault::Now);
+        };
+        self.timekeeper.pass(time, self.due);
+        let moment = self.timekeeper.tell(time);
+        self.late = self.timekeeper.is_late(time);
+        Ok(moment)
     }
 
     /// Notes who came in.
@@ -115,13 +134,9 @@ impl Turn {
     }
 }
 
-/// Returns the moment that follows the last one, where a clock shows that.
-pub(crate) fn next_moment(last: u64, shown: Option<u64>) -> Result<u64, DoorFault>
-    ensures moment { (moment : ℕ) → result ≡ Ok moment → (last ≤ moment) × ((time : ℕ) → shown ≡ Some time → moment ≤ max last time) × (shown ≡ None → moment ≤ last) }
-    ensures fault { IfErr result (λ fault. fault ≡ DoorFault.Now) }
+/// Returns how long to wait for what falls due after so many milliseconds.
+fn earlier(left: u64) -> u64
+    ensures { result ≡ earlier left }
 {
-    match shown {
-        Some(time) => Ok(last.max(time)),
-        None => Err(DoorFault::Now),
-    }
+    left - left / EARLIER
 }

@@ -1,10 +1,10 @@
 //! How long a turn may wait.
 
-ghost use Rattle.std.specs.Prelude.{◌≡◌, ◌≤◌, ◌-◌, ℕ, Some, None, true, false, All};
+ghost use Rattle.std.specs.Prelude.{◌≡◌, ◌≤◌, ℕ, Some, None, true, false, All};
 ghost use Rattle.srcp_sockets.specs.Accounts.{is_short};
 ghost use Rattle.srcp_sockets.specs.Peers.{is_resting};
 ghost use Rattle.srcp_sockets.specs.Listeners.{refused_listening};
-ghost use Rattle.srcp_sockets.specs.Times.{is_pending};
+ghost use Rattle.srcp_sockets.specs.Turns.{is_pending, time_left};
 ghost use Rattle.srcp_sockets.specs.Waiting.{IsWithin};
 
 use crate::peer::Peer;
@@ -48,11 +48,11 @@ impl Listening {
 
 /// Returns how many milliseconds a turn waits at most; `None` if only a socket ends the wait. It does not wait while a peer or
 /// the listener may have something, or a panel may have something coming, nor past the moment at which something falls due.
-pub fn longest_wait(peers: &[Peer], listening: Listening, turn: Turn) -> Option<u64>
+pub fn longest_wait(peers: &[Peer], listening: Listening, turn: &Turn) -> Option<u64>
     ensures rest { is_short result ≡ false → All (λ peer. is_resting peer ≡ true) peers.now }
     ensures newcomers { is_short result ≡ false → listening ≡ Listening.Quiet }
-    ensures panels { is_short result ≡ false → is_pending turn.slack turn.busy ≡ false }
-    ensures due { (due : ℕ) → turn.due ≡ Some due → IsWithin (due - turn.moment) result }
+    ensures panels { is_short result ≡ false → is_pending turn.now.slack turn.now.busy ≡ false }
+    ensures due { (left : ℕ) → time_left turn.now ≡ Some left → IsWithin left result }
 {
     if turn.is_pending() || !are_resting(peers) {
         return Some(0);

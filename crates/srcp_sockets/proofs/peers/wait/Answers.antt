@@ -3,7 +3,6 @@ use Rattle.std.specs.Prelude.{take}
 use Rattle.srcp_sockets.specs.declared.waiting.Listening.{Listening}
 use Rattle.srcp_sockets.specs.Steps.{Waits}
 use Rattle.srcp_sockets.specs.Doors.{Stands}
-use Rattle.srcp_sockets.specs.Turns.{after_wait}
 use Rattle.srcp_sockets.proofs.Keeping.{says_step}
 use Rattle.srcp_sockets.proofs.Timing.{timed_wait}
 use Rattle.srcp_sockets.proofs.Standing.{stands_waited}
@@ -20,6 +19,6 @@ returns-clause-calls g c = says_step (g.S.System.told c.args.system.now) (g.S.Sy
     (Waits c.longest_wait-most.result c.wait-count.result c.wait-count.new.ready) c.wait-count.ensures.told refl
 
 pub returns-clause-timed : goal.returns-clause-timed
-returns-clause-timed g c = timed_wait (g.S.System.told c.args.system.now) (g.S.System.told c.wait-count.new.self) c.args.turn (after_wait c.args.turn)
-    c.longest_wait-most.result c.wait-count.result c.wait-count.new.ready c.longest_wait-most.ensures.due c.longest_wait-most.ensures.panels refl
+returns-clause-timed g c = timed_wait (g.S.System.told c.args.system.now) (g.S.System.told c.wait-count.new.self) c.args.turn.now
+    c.longest_wait-most.result c.wait-count.result c.wait-count.new.ready c.longest_wait-most.ensures.due c.longest_wait-most.ensures.panels
     c.wait-count.ensures.told c.requires.timed

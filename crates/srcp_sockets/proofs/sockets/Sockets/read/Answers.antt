@@ -1,4 +1,4 @@
-use Rattle.std.proofs.Common.{◌≡◌, ◌∙◌, ℕ, ap, refl, sym, subst, Err}
+use Rattle.std.proofs.Common.{◌≡◌, ◌∙◌, ℕ, ap, refl, sym, subst, true≢false, Err}
 use Rattle.srcp_sockets.specs.declared.peer.Peer.{Peer}
 use Rattle.srcp_serve.specs.declared.door.DoorFault.TheVariants.{Read}
 use Rattle.srcp_serve.specs.Calls.{ReadCall}
@@ -24,7 +24,7 @@ invariant_of-self-2 g c =
       named = named_call (g.S.System.told c.args.self.now.system) (g.S.System.told c.read-answer.new.system) c.args.self.now.last (ReadCall x.number c.read-answer.result c.read-answer.new.buffer)
           (says_call (g.S.System.told c.args.self.now.system) (g.S.System.told c.read-answer.new.system) (ReadCall x.number c.read-answer.result c.read-answer.new.buffer) c.read-answer.ensures.told) refl c.args.self.now.named;
       timed = timed_read (g.S.System.told c.args.self.now.system) (g.S.System.told c.read-answer.new.system) c.args.self.now.turn c.note_read-2.new.self
-          x.number c.read-answer.result c.read-answer.new.buffer c.note_read-2.ensures c.read-answer.ensures.told c.args.self.now.timed;
+          x.number c.read-answer.result c.read-answer.new.buffer c.note_read-2.ensures (λ e. absurd (true≢false (sym e ∙ c.requires))) c.read-answer.ensures.told c.args.self.now.timed;
     }
 
 pub returns-clause-told : goal.returns-clause-told
@@ -40,4 +40,4 @@ invariant_of-self-clause-named g c = named_call (g.S.System.told c.args.self.now
 
 pub invariant_of-self-clause-timed : goal.invariant_of-self-clause-timed
 invariant_of-self-clause-timed g c = timed_read (g.S.System.told c.args.self.now.system) (g.S.System.told c.told_read.new.self) c.args.self.now.turn
-    c.note_read.new.self c.args.number (Err Read) c.args.buffer.now c.note_read.ensures c.told_read.ensures c.args.self.now.timed
+    c.note_read.new.self c.args.number (Err Read) c.args.buffer.now c.note_read.ensures (λ e. refl) c.told_read.ensures c.args.self.now.timed
