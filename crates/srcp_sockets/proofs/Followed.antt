@@ -28,7 +28,8 @@ taken_told peer (ExpectCall due slack ∷ told) = taken_told peer told
 taken_told peer (NowCall answer ∷ told) = taken_told peer told
 taken_told peer (AcceptCall answer granted ∷ told) = taken_told peer told
 taken_told peer (ReadCall who answer buffer grants ∷ told) = taken_told peer told
-taken_told peer (WriteCall who bytes (Ok count) ∷ told) = ap (λ xs. (if who == peer then take count bytes else []) ++ xs) (taken_told peer told)
+taken_told peer (WriteCall who bytes (Ok count) ∷ told) = ap (λ xs. (if who == peer then take count bytes else []) ++ xs)
+    (taken_told peer told)
 taken_told peer (WriteCall who bytes (Err fault) ∷ told) = taken_told peer told
 taken_told peer (CloseCall who answer ∷ told) = taken_told peer told
 

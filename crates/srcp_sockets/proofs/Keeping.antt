@@ -24,7 +24,8 @@ use Rattle.srcp_sockets.proofs.States.{handed_as, read_as, unread_as, unwritten_
 use Rattle.srcp_sockets.proofs.Resting.{resting}
 
 -- an account after one more step
-pub account_more : (socket : ℕ) (log : List Step) (step : Step) → account socket (log ++ step ∷ []) ≡ account_step socket (account socket log) step
+pub account_more : (socket : ℕ) (log : List Step) (step : Step) → account socket (log ++ step ∷ []) ≡ account_step socket
+    (account socket log) step
 account_more socket log step = fold-append (account_step socket) untouched log (step ∷ [])
 
 -- a peer is what its account says after a step, if so it was before
@@ -34,7 +35,8 @@ kept_after old new step p q tells same follows kept later is =
     let t = tells later is in
     let before : Agrees (account p.number t.0) p = kept t.0 t.1 in
     let after : Agrees (account_step p.number (account p.number t.0) step) q = follows (account p.number t.0) before in
-    let more : account p.number later ≡ account_step p.number (account p.number t.0) step = ap (account p.number) t.2 ∙ account_more p.number t.0 step in
+    let more : account p.number later ≡ account_step p.number (account p.number t.0) step = ap (account p.number) t.2
+    ∙ account_more p.number t.0 step in
     subst (λ (n : ℕ). Agrees (account n later) q) (sym same) (subst (λ (a : Account). Agrees a q) (sym more) after)
 
 -- the account of another socket stays
@@ -108,10 +110,12 @@ pub kept_refused : (old new : Option (List Step)) (p : Peer) (fault : ErrorKind)
 kept_refused old new p fault is_open tells kept =
     let q : Peer = record p { output = refused p.output (refusal_told fault) } in
     kept_after old new (Writes p.number p.outgoing (Err fault)) p q tells refl
-    (λ (a : Account) (h : Agrees a p). agrees_own (p.number == p.number) (record a { sent = wrote a.sent p.outgoing (Err fault) }) a q (own p.number) (record {
+    (λ (a : Account) (h : Agrees a p). agrees_own (p.number == p.number) (record a { sent = wrote a.sent p.outgoing (Err fault) }) a q
+    (own p.number) (record {
       cut = refused_cut a.sent (refusal_told fault) ∙ h.cut;
       reads = h.reads;
-      writes = subst (λ (s : Writing). WritesAs (wrote a.sent p.outgoing (Err fault)) p.outgoing (refused s (refusal_told fault))) (sym is_open)
+      writes = subst (λ (s : Writing). WritesAs (wrote a.sent p.outgoing (Err fault)) p.outgoing (refused s (refusal_told fault)))
+          (sym is_open)
           (unwritten_as a.sent p.outgoing fault (subst (WritesAs a.sent p.outgoing) is_open h.writes));
       honest = h.honest;
       rested = h.rested;
@@ -279,19 +283,24 @@ pub wrote_peer : (old new : Option (List Step)) (p : Peer) (count all : ℕ) (fr
     → front ≡ p.outgoing → left ≡ drop count p.outgoing → all ≡ length p.outgoing → out ≡ taken count all
     → Tells old (Writes p.number front (Ok count)) new → IsKept old p → IsKept new (record p { outgoing = left; output = out })
 wrote_peer old new p count all front left out is_open fronted lefted alled outed tells kept =
-    let told : Tells old (Writes p.number p.outgoing (Ok count)) new = subst (λ (f : List ℕ). Tells old (Writes p.number f (Ok count)) new) fronted tells in
+    let told : Tells old (Writes p.number p.outgoing (Ok count)) new = subst
+    (λ (f : List ℕ). Tells old (Writes p.number f (Ok count)) new) fronted tells in
     let k = kept_write old new p count is_open told kept in
     subst (λ (o : Writing). IsKept new (record p { outgoing = left; output = o })) (sym (outed ∙ ap (taken count) alled))
     (subst (λ (l : List ℕ). IsKept new (record p { outgoing = l; output = taken count (length p.outgoing) })) (sym lefted) k)
 
-pub refused_peer : (old new : Option (List Step)) (p : Peer) (fault : ErrorKind) (front : List ℕ) (said : Refusal) (out : Writing) → p.output ≡ output.Open
+pub refused_peer : (old new : Option (List Step)) (p : Peer) (fault : ErrorKind) (front : List ℕ) (said : Refusal) (out : Writing)
+    → p.output ≡ output.Open
     → front ≡ p.outgoing → said ≡ refusal_told fault → out ≡ refused p.output said
     → Tells old (Writes p.number front (Err fault)) new → IsKept old p → IsKept new (record p { output = out })
 refused_peer old new p fault front said out is_open fronted is outed tells kept =
-    let told : Tells old (Writes p.number p.outgoing (Err fault)) new = subst (λ (f : List ℕ). Tells old (Writes p.number f (Err fault)) new) fronted tells in
-    subst (λ (o : Writing). IsKept new (record p { output = o })) (sym (outed ∙ ap (refused p.output) is)) (kept_refused old new p fault is_open told kept)
+    let told : Tells old (Writes p.number p.outgoing (Err fault)) new = subst
+    (λ (f : List ℕ). Tells old (Writes p.number f (Err fault)) new) fronted tells in
+    subst (λ (o : Writing). IsKept new (record p { output = o })) (sym (outed ∙ ap (refused p.output) is))
+    (kept_refused old new p fault is_open told kept)
 
-pub read_peer : (old new : Option (List Step)) (p : Peer) (buffer after : List ℕ) (count room : ℕ) (state : Reading) → may_have p.input ≡ true
+pub read_peer : (old new : Option (List Step)) (p : Peer) (buffer after : List ℕ) (count room : ℕ) (state : Reading)
+    → may_have p.input ≡ true
     → after ≡ p.incoming ++ take count buffer → room ≡ length buffer → state ≡ given p.input count room
     → Tells old (Reads p.number buffer (Ok count)) new → IsKept old p → IsKept new (record p { incoming = after; input = state })
 read_peer old new p buffer after count room state ready aftered roomed stated tells kept =
@@ -299,7 +308,8 @@ read_peer old new p buffer after count room state ready aftered roomed stated te
     (subst (λ (a : List ℕ). IsKept new (record p { incoming = a; input = given p.input count (length buffer) })) (sym aftered)
     (kept_read old new p buffer count ready tells kept))
 
-pub missed_peer : (old new : Option (List Step)) (p : Peer) (buffer after : List ℕ) (fault : ErrorKind) (said : Refusal) (state : Reading) → may_have p.input ≡ true
+pub missed_peer : (old new : Option (List Step)) (p : Peer) (buffer after : List ℕ) (fault : ErrorKind) (said : Refusal) (state : Reading)
+    → may_have p.input ≡ true
     → after ≡ p.incoming → said ≡ refusal_told fault → state ≡ missed p.input said
     → Tells old (Reads p.number buffer (Err fault)) new → IsKept old p → IsKept new (record p { incoming = after; input = state })
 missed_peer old new p buffer after fault said state ready aftered is stated tells kept =
@@ -345,7 +355,8 @@ says_after old mid new call first second later is =
     (f.0, f.1, s.2 ∙ ap (λ c. c ++ call ∷ []) f.2)
 
 -- a call about one socket spares the others
-told_other : (n other : ℕ) (a : Account) (answer : Result Got DoorFault) (buffer : List ℕ) → other ≢ n → told_step other a (ReadCall n answer buffer) ≡ a
+told_other : (n other : ℕ) (a : Account) (answer : Result Got DoorFault) (buffer : List ℕ) → other ≢ n → told_step other a
+    (ReadCall n answer buffer) ≡ a
 told_other n other a (Ok (got.Bytes count)) buffer differ = skips (n == other) _ a (alien n other differ)
 told_other n other a (Ok got.Nothing) buffer differ = refl
 told_other n other a (Ok got.Ended) buffer differ = skips (n == other) _ a (alien n other differ)

@@ -66,12 +66,14 @@ absent_there other first peers i p within long those absent e =
     let low : i < length first = omega (arith, long) in
     absent i p low (sym (those i p low) ∙ sym e)
 
-pub absent_later : (other : ℕ) (first peers : List Peer) → length peers ≡ length first → AreThose first peers → IsAbsent other first → IsAbsent other peers
+pub absent_later : (other : ℕ) (first peers : List Peer) → length peers ≡ length first → AreThose first peers → IsAbsent other first
+    → IsAbsent other peers
 absent_later other first peers long those absent k d lt e =
     let low : k < length first = omega (arith, lt, long) in
     absent k d low (sym (those k d low) ∙ e)
 
-pub absent_before : (other : ℕ) (first peers : List Peer) → length peers ≡ length first → AreThose first peers → IsAbsent other peers → IsAbsent other first
+pub absent_before : (other : ℕ) (first peers : List Peer) → length peers ≡ length first → AreThose first peers → IsAbsent other peers
+    → IsAbsent other first
 absent_before other first peers long those absent k d lt e =
     let low : k < length peers = omega (arith, lt, long) in
     absent k d low (those k d lt ∙ e)
@@ -82,7 +84,8 @@ apart_later first peers long those apart j k d lj lk differ e =
     let lk' : k < length first = omega (arith, lk, long) in
     apart j k d lj' lk' differ (sym (those j d lj') ∙ e ∙ those k d lk')
 
-pub within_later : (last : ℕ) (first peers : List Peer) → length peers ≡ length first → AreThose first peers → AreWithin last first → AreWithin last peers
+pub within_later : (last : ℕ) (first peers : List Peer) → length peers ≡ length first → AreThose first peers → AreWithin last first
+    → AreWithin last peers
 within_later last first peers long those within k d lt =
     let low : k < length first = omega (arith, lt, long) in
     let w = within k d low in

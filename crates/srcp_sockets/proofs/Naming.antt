@@ -12,7 +12,8 @@ use Rattle.srcp_sockets.specs.Names.{IsNamed, Named}
 use Rattle.srcp_sockets.specs.Steps.{SaysNothing, SaysOne, Step, Tells, Told, calls}
 use Rattle.srcp_sockets.proofs.Keeping.{says_call}
 
-unequal_push : (x n : ℕ) (xs : List ℕ) → x < n → AllByRecursion (λ y. (x == y) ≡ false) xs → AllByRecursion (λ y. (x == y) ≡ false) (xs ++ n ∷ [])
+unequal_push : (x n : ℕ) (xs : List ℕ) → x < n → AllByRecursion (λ y. (x == y) ≡ false) xs → AllByRecursion (λ y. (x == y) ≡ false)
+    (xs ++ n ∷ [])
 unequal_push x n [] below h = (grind (arith, nat_tests), tt)
 unequal_push x n (y ∷ ys) below h = (h.0, unequal_push x n ys below h.1)
 
@@ -31,7 +32,8 @@ named_push xs last n below h = record {
       let e : slice_index (xs ++ n ∷ []) k ≡ slice_index xs k = get_or_append_left xs (n ∷ []) 0 k low in
       let w = h.within k low in omega (arith, e, w, below))
       (λ (high : length xs ≤ k).
-      let e : slice_index (xs ++ n ∷ []) k ≡ n = get_or_push xs n 0 k (omega (arith, lt, high, length-append xs (n ∷ []))) in omega (arith, e))
+      let e : slice_index (xs ++ n ∷ []) k ≡ n = get_or_push xs n 0 k (omega (arith, lt, high, length-append xs (n ∷ []))) in omega
+      (arith, e))
       (cases_lt k (length xs));
 }
 
@@ -54,7 +56,8 @@ named_call old new last call says none named later is =
     ∙ append-nil (filter_map peer_of (calls s.0)) in
     subst (λ (xs : List ℕ). Named xs last) (sym more) (named s.0 s.1)
 
-named_come : (old new : Option (List Step)) (last n : ℕ) → last < n → SaysOne old (AcceptCall (Ok (Some n))) new → IsNamed old last → IsNamed new n
+named_come : (old new : Option (List Step)) (last n : ℕ) → last < n → SaysOne old (AcceptCall (Ok (Some n))) new → IsNamed old last
+    → IsNamed new n
 named_come old new last n below says named later is =
     let s = says later is in
     let more : filter_map peer_of (calls later) ≡ filter_map peer_of (calls s.0) ++ n ∷ [] =

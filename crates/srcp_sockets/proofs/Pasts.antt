@@ -27,29 +27,35 @@ woken_marks socket a (one ∷ more) = woken_marks socket (woken socket a one) mo
       received = woken_came a.received one.readable (one.closed || one.urgent);
     }) a refl
 
-accept_marks : (socket number : ℕ) (a : Account) (answer : Result Unit ErrorKind) → marks (account_step socket a (Accepts number answer)) ≡ marks a
+accept_marks : (socket number : ℕ) (a : Account) (answer : Result Unit ErrorKind) → marks
+    (account_step socket a (Accepts number answer)) ≡ marks a
 accept_marks socket number a (Ok done) = by (socket == 0)
   where
-    by : (b : Bool) → marks (if b then record a { received = heard a.received (Ok done) } else if number == socket then accepted a (Ok done) else a) ≡ marks a
+    by : (b : Bool) → marks (if b then record a { received = heard a.received (Ok done) } else if number == socket then accepted a
+        (Ok done) else a) ≡ marks a
     by true = refl
     by false = if_same marks (number == socket) (accepted a (Ok done)) a refl
 accept_marks socket number a (Err fault) = by (socket == 0)
   where
-    by : (b : Bool) → marks (if b then record a { received = heard a.received (Err fault) } else if number == socket then accepted a (Err fault) else a) ≡ marks a
+    by : (b : Bool) → marks (if b then record a { received = heard a.received (Err fault) } else if number == socket then accepted a
+        (Err fault) else a) ≡ marks a
     by true = refl
     by false = if_same marks (number == socket) (accepted a (Err fault)) a refl
 
 -- a judgement that failed once fails for ever
 honest_before : (socket : ℕ) (a : Account) (step : Step) → (account_step socket a step).honest ≡ true → a.honest ≡ true
 honest_before socket a (Accepts number answer) h = sym (ap (λ m. m.0) (accept_marks socket number a answer)) ∙ h
-honest_before socket a (Reads who buffer answer) h = sym (if_same (λ (x : Account). x.honest) (who == socket) (record a { received = read_in a.received buffer answer }) a refl) ∙ h
-honest_before socket a (Writes who bytes answer) h = sym (if_same (λ (x : Account). x.honest) (who == socket) (record a { sent = wrote a.sent bytes answer }) a refl) ∙ h
+honest_before socket a (Reads who buffer answer) h = sym (if_same (λ (x : Account). x.honest) (who == socket)
+    (record a { received = read_in a.received buffer answer }) a refl) ∙ h
+honest_before socket a (Writes who bytes answer) h = sym (if_same (λ (x : Account). x.honest) (who == socket)
+    (record a { sent = wrote a.sent bytes answer }) a refl) ∙ h
 honest_before socket a (Waits most count ready) h = sym (ap (λ m. m.0) (woken_marks socket (waited socket a most) (take count ready))) ∙ h
 honest_before socket a (Clocks answer) h = h
 honest_before socket a (Told (ExpectCall due slack)) h = h
 honest_before socket a (Told (NowCall answer)) h = h
 honest_before socket a (Told (AcceptCall answer)) h = h
-honest_before socket a (Told (ReadCall who (Ok (got.Bytes count)) buffer)) h = sym (if_same (λ (x : Account). x.honest) (who == socket) _ a refl) ∙ h
+honest_before socket a (Told (ReadCall who (Ok (got.Bytes count)) buffer)) h = sym
+    (if_same (λ (x : Account). x.honest) (who == socket) _ a refl) ∙ h
 honest_before socket a (Told (ReadCall who (Ok got.Ended) buffer)) h = by (who == socket) h
   where
     by : (b : Bool) → (if b then record a { honest = a.honest && a.received.ended } else a).honest ≡ true → a.honest ≡ true
@@ -63,16 +69,21 @@ honest_before socket a (Told (CloseCall who answer)) h = sym (if_same (λ (x : A
 
 rested_before : (socket : ℕ) (a : Account) (step : Step) → (account_step socket a step).rested ≡ true → a.rested ≡ true
 rested_before socket a (Accepts number answer) h = sym (ap (λ m. m.1) (accept_marks socket number a answer)) ∙ h
-rested_before socket a (Reads who buffer answer) h = sym (if_same (λ (x : Account). x.rested) (who == socket) (record a { received = read_in a.received buffer answer }) a refl) ∙ h
-rested_before socket a (Writes who bytes answer) h = sym (if_same (λ (x : Account). x.rested) (who == socket) (record a { sent = wrote a.sent bytes answer }) a refl) ∙ h
-rested_before socket a (Waits most count ready) h = and_left a.rested (not (a.watched || (socket == 0)) || (is_short most || is_at_rest a.sent a.received))
+rested_before socket a (Reads who buffer answer) h = sym (if_same (λ (x : Account). x.rested) (who == socket)
+    (record a { received = read_in a.received buffer answer }) a refl) ∙ h
+rested_before socket a (Writes who bytes answer) h = sym (if_same (λ (x : Account). x.rested) (who == socket)
+    (record a { sent = wrote a.sent bytes answer }) a refl) ∙ h
+rested_before socket a (Waits most count ready) h = and_left a.rested
+    (not (a.watched || (socket == 0)) || (is_short most || is_at_rest a.sent a.received))
     (sym (ap (λ m. m.1) (woken_marks socket (waited socket a most) (take count ready))) ∙ h)
 rested_before socket a (Clocks answer) h = h
 rested_before socket a (Told (ExpectCall due slack)) h = h
 rested_before socket a (Told (NowCall answer)) h = h
 rested_before socket a (Told (AcceptCall answer)) h = h
-rested_before socket a (Told (ReadCall who (Ok (got.Bytes count)) buffer)) h = sym (if_same (λ (x : Account). x.rested) (who == socket) _ a refl) ∙ h
-rested_before socket a (Told (ReadCall who (Ok got.Ended) buffer)) h = sym (if_same (λ (x : Account). x.rested) (who == socket) _ a refl) ∙ h
+rested_before socket a (Told (ReadCall who (Ok (got.Bytes count)) buffer)) h = sym
+    (if_same (λ (x : Account). x.rested) (who == socket) _ a refl) ∙ h
+rested_before socket a (Told (ReadCall who (Ok got.Ended) buffer)) h = sym (if_same (λ (x : Account). x.rested) (who == socket) _ a refl)
+    ∙ h
 rested_before socket a (Told (ReadCall who (Ok got.Nothing) buffer)) h = h
 rested_before socket a (Told (ReadCall who (Err fault) buffer)) h = h
 rested_before socket a (Told (WriteCall who bytes (Ok count))) h = sym (if_same (λ (x : Account). x.rested) (who == socket) _ a refl) ∙ h
@@ -92,18 +103,22 @@ at_step pr socket back before after step h = at_first pr socket back (account_st
 
 -- an end that was told had been found
 pub ended_before : (socket : ℕ) (before after : List Step) (buffer : List ℕ)
-    → (account socket (before ++ Told (ReadCall socket (Ok got.Ended) buffer) ∷ after)).honest ≡ true → (account socket before).received.ended ≡ true
+    → (account socket (before ++ Told (ReadCall socket (Ok got.Ended) buffer) ∷ after)).honest ≡ true
+    → (account socket before).received.ended ≡ true
 ended_before socket before after buffer h =
-    by (socket == socket) (own socket) (at_step (λ (a : Account). a.honest) socket (honest_before socket) before after (Told (ReadCall socket (Ok got.Ended) buffer)) h)
+    by (socket == socket) (own socket) (at_step (λ (a : Account). a.honest) socket (honest_before socket) before after
+    (Told (ReadCall socket (Ok got.Ended) buffer)) h)
   where
     by : (b : Bool) → b ≡ true
-        → (if b then record (account socket before) { honest = (account socket before).honest && (account socket before).received.ended } else account socket before).honest ≡ true
+        → (if b then record (account socket before) { honest = (account socket before).honest && (account socket before).received.ended }
+        else account socket before).honest ≡ true
         → (account socket before).received.ended ≡ true
     by true e t = and_right (account socket before).honest (account socket before).received.ended t
     by false e t = absurd (true≢false (sym e))
 
 -- a long wait found at rest whom it was to find so
-long_rests : (watched listener short rests : Bool) → (watched || listener) ≡ true → short ≡ false → (not (watched || listener) || (short || rests)) ≡ true → rests ≡ true
+long_rests : (watched listener short rests : Bool) → (watched || listener) ≡ true → short ≡ false
+    → (not (watched || listener) || (short || rests)) ≡ true → rests ≡ true
 long_rests true listener false rests w s h = h
 long_rests false true false rests w s h = h
 long_rests false false false rests w s h = absurd (true≢false (sym w))
@@ -112,7 +127,8 @@ long_rests false listener true rests w s h = absurd (true≢false s)
 
 pub rested_then : (socket : ℕ) (before after : List Step) (most : Option ℕ) (count : ℕ) (ready : List Ready)
     → (account socket (before ++ Waits most count ready ∷ after)).rested ≡ true → is_short most ≡ false
-    → ((account socket before).watched || (socket == 0)) ≡ true → is_at_rest (account socket before).sent (account socket before).received ≡ true
+    → ((account socket before).watched || (socket == 0)) ≡ true → is_at_rest (account socket before).sent
+    (account socket before).received ≡ true
 rested_then socket before after most count ready h long there =
     let a = account socket before in
     let step = at_step (λ (x : Account). x.rested) socket (rested_before socket) before after (Waits most count ready) h in

@@ -18,13 +18,17 @@ as_long : (front all n most : ℕ) → all ≡ front + n → (front + most == al
 as_long front all n most is = grind (arith, nat_tests)
 
 owed_is : (sent : Sent) (outgoing : List ℕ) → sent.written ≡ sent.took ++ outgoing → is_owed sent ≡ not (length outgoing == 0)
-owed_is sent outgoing is = longer (length sent.took) (length sent.written) (length outgoing) (ap length is ∙ length-append sent.took outgoing)
+owed_is sent outgoing is = longer (length sent.took) (length sent.written) (length outgoing)
+    (ap length is ∙ length-append sent.took outgoing)
 
 brimful_is : (sent : Sent) (outgoing : List ℕ) → sent.written ≡ sent.took ++ outgoing → is_full sent ≡ (length outgoing == 40960)
-brimful_is sent outgoing is = as_long (length sent.took) (length sent.written) (length outgoing) 40960 (ap length is ∙ length-append sent.took outgoing)
+brimful_is sent outgoing is = as_long (length sent.took) (length sent.written) (length outgoing) 40960
+    (ap length is ∙ length-append sent.took outgoing)
 
-held_is : (received : Received) (incoming : List ℕ) → received.gave ≡ received.handed ++ incoming → is_held received ≡ not (length incoming == 0)
-held_is received incoming is = longer (length received.handed) (length received.gave) (length incoming) (ap length is ∙ length-append received.handed incoming)
+held_is : (received : Received) (incoming : List ℕ) → received.gave ≡ received.handed ++ incoming → is_held received ≡ not
+    (length incoming == 0)
+held_is received incoming is = longer (length received.handed) (length received.gave) (length incoming)
+    (ap length is ∙ length-append received.handed incoming)
 
 pub and_left : (a b : Bool) → (a && b) ≡ true → a ≡ true
 and_left true b h = refl
@@ -52,13 +56,17 @@ silent_ended held false ended failed owed h e o = rw (h, e, o) refl
 silent_as : (received : Received) (incoming outgoing : List ℕ) (state : Reading) (owed : Bool) → owed ≡ not (length outgoing == 0)
     → ReadsAs received incoming state → ((length incoming == 0) && rests_reading outgoing state) ≡ true → is_silent received owed ≡ true
 silent_as received incoming outgoing state owed o h r =
-    by state h (and_right (length incoming == 0) (rests_reading outgoing state) r) (and_left (length incoming == 0) (rests_reading outgoing state) r)
+    by state h (and_right (length incoming == 0) (rests_reading outgoing state) r)
+    (and_left (length incoming == 0) (rests_reading outgoing state) r)
   where
-    by : (s : Reading) → ReadsAs received incoming s → rests_reading outgoing s ≡ true → (length incoming == 0) ≡ true → is_silent received owed ≡ true
+    by : (s : Reading) → ReadsAs received incoming s → rests_reading outgoing s ≡ true → (length incoming == 0) ≡ true
+        → is_silent received owed ≡ true
     by input.Ready h r none = absurd (true≢false (sym r))
     by input.Draining h r none = absurd (true≢false (sym r))
-    by input.Quiet h r none = silent_quiet (is_held received) received.quiet received.ended received.failed owed (held_is received incoming h.0 ∙ ap not none) h.4 h.2 h.1
-    by input.Ended h r none = silent_ended (is_held received) received.quiet received.ended received.failed owed (held_is received incoming h.0 ∙ ap not none) h.2 (o ∙ r)
+    by input.Quiet h r none = silent_quiet (is_held received) received.quiet received.ended received.failed owed
+        (held_is received incoming h.0 ∙ ap not none) h.4 h.2 h.1
+    by input.Ended h r none = silent_ended (is_held received) received.quiet received.ended received.failed owed
+        (held_is received incoming h.0 ∙ ap not none) h.2 (o ∙ r)
     by input.Failed h r none = absurd (true≢false (sym r))
 
 at_rest : (lost owed full either : Bool) → lost ≡ false → (not owed || full) ≡ true → either ≡ true
@@ -74,7 +82,8 @@ all_full false full f = refl
 
 pub rests_as : (sent : Sent) (received : Received) (outgoing incoming : List ℕ) (reading : Reading) (writing : Writing) (cut : Bool)
     → WritesAs sent outgoing writing → ReadsAs received incoming reading → sent.cut ≡ cut
-    → (rests_writing outgoing writing && cond cut (length outgoing == 40960) ((length incoming == 0) && rests_reading outgoing reading)) ≡ true
+    → (rests_writing outgoing writing && cond cut (length outgoing == 40960) ((length incoming == 0) && rests_reading outgoing reading))
+    ≡ true
     → is_at_rest sent received ≡ true
 rests_as sent received outgoing incoming state out is_cut w h c r =
     let e = cond is_cut (length outgoing == 40960) ((length incoming == 0) && rests_reading outgoing state) in
@@ -88,10 +97,13 @@ rests_as sent received outgoing incoming state out is_cut w h c r =
         ∙ silent_as received incoming outgoing state (is_owed sent) (owed_is sent outgoing is) h e
 
     by : (o : Writing) → WritesAs sent outgoing o → rests_writing outgoing o ≡ true
-        → cond is_cut (length outgoing == 40960) ((length incoming == 0) && rests_reading outgoing state) ≡ true → is_at_rest sent received ≡ true
-    by output.Open w out e = at_rest sent.lost (is_owed sent) sent.full (cond sent.cut (is_full sent) (is_silent received (is_owed sent))) w.1
+        → cond is_cut (length outgoing == 40960) ((length incoming == 0) && rests_reading outgoing state) ≡ true
+        → is_at_rest sent received ≡ true
+    by output.Open w out e = at_rest sent.lost (is_owed sent) sent.full
+        (cond sent.cut (is_full sent) (is_silent received (is_owed sent))) w.1
         (none_owed (is_owed sent) sent.full (length outgoing == 0) (owed_is sent outgoing w.0) out) (either w.0 is_cut c e)
-    by output.Full w out e = at_rest sent.lost (is_owed sent) sent.full (cond sent.cut (is_full sent) (is_silent received (is_owed sent))) w.1
+    by output.Full w out e = at_rest sent.lost (is_owed sent) sent.full
+        (cond sent.cut (is_full sent) (is_silent received (is_owed sent))) w.1
         (all_full (is_owed sent) sent.full w.2) (either w.0 is_cut c e)
     by output.Lost w out e = absurd (true≢false (sym out))
 

@@ -45,7 +45,12 @@ find socket [] = inr (λ k d lt. absurd (omega (arith, lt)))
 find socket (p ∷ more) = ⊎_elim
     (λ (e : p.number ≡ socket). inl (record { place = 0; within = omega arith; same = λ d. e }))
     (λ (ne : p.number ≡ socket → ⊥). ⊎_elim
-    (λ (there : IsThere socket more). inl (record { place = suc there.place; within = omega (arith, there.within); same = λ d. there.same d }))
+    (λ (there : IsThere socket more). inl (record {
+      place = suc there.place;
+      within = omega
+          (arith, there.within);
+      same = λ d. there.same d;
+    }))
     (λ (absent : IsAbsent socket more). inr (by ne absent))
     (find socket more))
     (cases_eq p.number socket)
@@ -118,9 +123,11 @@ stands_turned old new before after listening last long kept those others stands 
   apart = apart_later before after long those stands.apart;
   within = within_later last before after long those stands.within;
   sound = λ log is. all_sound new after log is kept (λ socket absent.
-      spared Sound socket old new (others socket (absent_before socket before after long those absent)) (λ l e. stands.sound l e socket) log is);
+      spared Sound socket old new (others socket (absent_before socket before after long those absent))
+      (λ l e. stands.sound l e socket) log is);
   fresh = λ log is socket above.
-      spared Fresh socket old new (others socket (absent_above last socket before stands.within above)) (λ l e. stands.fresh l e socket above) log is;
+      spared Fresh socket old new (others socket (absent_above last socket before stands.within above))
+      (λ l e. stands.fresh l e socket above) log is;
   closed = λ log is socket absent.
       let there = absent_before socket before after long those absent in
       spared (λ (a : Account). a.watched ≡ false) socket old new (others socket there) (λ l e. stands.closed l e socket there) log is;
@@ -200,14 +207,16 @@ all_heard a l [] h = h
 all_heard a l (one ∷ more) h = all_heard (woken 0 a one) (woken_listening l one) more (woken_hears a l one h)
 
 -- a listener that is quiet is at rest
-rest_of_none : (cut lost full quiet ended failed : Bool) (written took gave handed : List ℕ) → written ≡ [] → took ≡ [] → gave ≡ [] → handed ≡ []
+rest_of_none : (cut lost full quiet ended failed : Bool) (written took gave handed : List ℕ) → written ≡ [] → took ≡ [] → gave ≡ []
+    → handed ≡ []
     → cut ≡ false → lost ≡ false → quiet ≡ true → ended ≡ false → failed ≡ false → (draining : Bool)
     → is_at_rest (record { written = written; took = took; full = full; lost = lost; cut = cut })
     (record { gave = gave; handed = handed; quiet = quiet; draining = draining; ended = ended; failed = failed }) ≡ true
 rest_of_none cut lost full quiet ended failed written took gave handed w t g d c l q e f draining = rw (w, t, g, d, c, l, q, e, f) refl
 
 listener_rests : (a : Account) → Hears a listening.Quiet → is_at_rest a.sent a.received ≡ true
-listener_rests a h = rest_of_none a.sent.cut a.sent.lost a.sent.full a.received.quiet a.received.ended a.received.failed a.sent.written a.sent.took a.received.gave a.received.handed
+listener_rests a h = rest_of_none a.sent.cut a.sent.lost a.sent.full a.received.quiet a.received.ended a.received.failed a.sent.written
+    a.sent.took a.received.gave a.received.handed
     h.fresh.written h.fresh.took h.fresh.gave h.fresh.handed h.cut h.lost h.heard h.ended h.failed a.received.draining
 
 -- an account as a wait begins
@@ -275,7 +284,8 @@ stands_waited old new before after most count ready l last rest quiet tells long
         || (is_short most || is_at_rest (account socket (tells log is).0).sent (account socket (tells log is).0).received)) ≡ true
     rests socket log is absent = ⊎_elim
         (λ (e : socket ≡ 0). or_so (not ((account socket (tells log is).0).watched || (socket == 0))) _
-        (unless_long (is_short most) _ (λ long. subst (λ (n : ℕ). is_at_rest (account n (tells log is).0).sent (account n (tells log is).0).received ≡ true) (sym e)
+        (unless_long (is_short most) _ (λ long. subst (λ (n : ℕ). is_at_rest (account n (tells log is).0).sent
+        (account n (tells log is).0).received ≡ true) (sym e)
         (listener_rests (account 0 (tells log is).0)
         (subst (λ (x : Listening). Hears (account 0 (tells log is).0) x) (quiet long) (stands.heard (tells log is).0 (tells log is).1))))))
         (λ (ne : socket ≡ 0 → ⊥). unwatched (account socket (tells log is).0).watched (socket == 0) _
@@ -314,13 +324,15 @@ abbrev pub newcomer : ℕ → Peer
 newcomer number = record { number = number; outgoing = []; incoming = []; input = input.Ready; output = output.Open; cut = false }
 
 -- what an accept says of the sockets
-accept_new : (socket : ℕ) (a : Account) (answer : Result Unit ErrorKind) → (socket ≡ 0 → ⊥) → account_step socket a (Accepts socket answer) ≡ accepted a answer
+accept_new : (socket : ℕ) (a : Account) (answer : Result Unit ErrorKind) → (socket ≡ 0 → ⊥) → account_step socket a
+    (Accepts socket answer) ≡ accepted a answer
 accept_new socket a answer ne = skips (socket == 0) (record a { received = heard a.received answer }) _ (not_listener socket ne)
     ∙ picks (socket == socket) (accepted a answer) a (own socket)
 
 accept_other : (socket number : ℕ) (a : Account) (answer : Result Unit ErrorKind) → (socket ≡ 0 → ⊥) → socket ≢ number
     → account_step socket a (Accepts number answer) ≡ a
-accept_other socket number a answer ne differ = skips (socket == 0) (record a { received = heard a.received answer }) _ (not_listener socket ne)
+accept_other socket number a answer ne differ = skips (socket == 0) (record a { received = heard a.received answer }) _
+    (not_listener socket ne)
     ∙ skips (number == socket) (accepted a answer) a (alien number socket differ)
 
 -- one that comes in leaves the others as they are
@@ -367,8 +379,10 @@ push_apart peers p apart absent j k d lj lk differ e = ⊎_elim
 
 absent_push : (socket : ℕ) (peers : List Peer) (p : Peer) → IsAbsent socket (peers ++ p ∷ []) → IsAbsent socket peers × (socket ≢ p.number)
 absent_push socket peers p absent = (
-  λ k d lt e. absent k d (omega (arith, lt, length-append peers (p ∷ []))) (ap (λ (x : Peer). x.number) (get_or_append_left peers (p ∷ []) d k lt) ∙ e),
-  λ e. absent (length peers) p (omega (arith, length-append peers (p ∷ []))) (ap (λ (x : Peer). x.number) (get_or_push peers p p (length peers) refl) ∙ sym e),
+  λ k d lt e. absent k d (omega (arith, lt, length-append peers (p ∷ [])))
+      (ap (λ (x : Peer). x.number) (get_or_append_left peers (p ∷ []) d k lt) ∙ e),
+  λ e. absent (length peers) p (omega (arith, length-append peers (p ∷ [])))
+      (ap (λ (x : Peer). x.number) (get_or_push peers p p (length peers) refl) ∙ sym e),
 )
 
 pub stands_come : (old new : Option (List Step)) (peers : List Peer) (l : Listening) (last : ℕ) (done : Unit {0})
@@ -390,7 +404,8 @@ stands_come old new peers l last done tells stands = record {
       spared (λ (a : Account). a.watched ≡ false) socket old new (spares_come old new (last + 1) done socket there.1 tells)
       (λ lg e. stands.closed lg e socket there.0) log is;
   heard = λ log is.
-      spared (λ (a : Account). Hears a l) 0 old new (spares_come old new (last + 1) done 0 (λ e. omega (arith, e)) tells) stands.heard log is;
+      spared (λ (a : Account). Hears a l) 0 old new (spares_come old new (last + 1) done 0 (λ e. omega (arith, e)) tells) stands.heard log
+      is;
 }
   where
     old_kept : (k : ℕ) (d : Peer) → k < length peers → IsKept new (slice_index_or peers k d)
@@ -407,7 +422,8 @@ stands_come old new peers l last done tells stands = record {
         ap (account (last + 1)) t.2 ∙ account_more (last + 1) t.0 (Accepts (last + 1) (Ok done))
         ∙ accept_new (last + 1) (account (last + 1) t.0) (Ok done) (λ e. omega (arith, e)) in
         subst (λ (a : Account). Agrees a (newcomer (last + 1))) (sym more)
-        (fresh_agrees (last + 1) (account (last + 1) t.0) done (stands.fresh t.0 t.1 (last + 1) (omega arith)) (stands.sound t.0 t.1 (last + 1)))
+        (fresh_agrees (last + 1) (account (last + 1) t.0) done (stands.fresh t.0 t.1 (last + 1) (omega arith))
+        (stands.sound t.0 t.1 (last + 1)))
 
     kept : AreKept new (peers ++ newcomer (last + 1) ∷ [])
     kept = at_push (IsKept new) peers (newcomer (last + 1)) old_kept one_kept
@@ -456,15 +472,20 @@ stands_refused old new peers l last number fault tells stands = record {
   within = stands.within;
   sound = λ log is socket. ⊎_elim
       (λ (e : socket ≡ 0). subst (λ (n : ℕ). Sound (account n log)) (sym e)
-      (subst Sound (sym (more log is)) (refused_sound (account 0 (tells log is).0) (refusal_told fault) (stands.sound (tells log is).0 (tells log is).1 0))))
-      (λ (ne : socket ≡ 0 → ⊥). spared Sound socket old new (spares_refused old new number fault socket ne tells) (λ lg e. stands.sound lg e socket) log is)
+      (subst Sound (sym (more log is)) (refused_sound (account 0 (tells log is).0) (refusal_told fault)
+      (stands.sound (tells log is).0 (tells log is).1 0))))
+      (λ (ne : socket ≡ 0 → ⊥). spared Sound socket old new (spares_refused old new number fault socket ne tells)
+      (λ lg e. stands.sound lg e socket) log is)
       (cases_eq socket 0);
   fresh = λ log is socket above.
-      spared Fresh socket old new (spares_refused old new number fault socket (λ e. omega (arith, above, e)) tells) (λ lg e. stands.fresh lg e socket above) log is;
+      spared Fresh socket old new (spares_refused old new number fault socket (λ e. omega (arith, above, e)) tells)
+      (λ lg e. stands.fresh lg e socket above) log is;
   closed = λ log is socket absent. ⊎_elim
       (λ (e : socket ≡ 0). subst (λ (n : ℕ). (account n log).watched ≡ false) (sym e)
-      (ap (λ (a : Account). a.watched) (more log is) ∙ stands.closed (tells log is).0 (tells log is).1 0 (subst (λ (n : ℕ). IsAbsent n peers) e absent)))
-      (λ (ne : socket ≡ 0 → ⊥). spared (λ (a : Account). a.watched ≡ false) socket old new (spares_refused old new number fault socket ne tells)
+      (ap (λ (a : Account). a.watched) (more log is) ∙ stands.closed (tells log is).0 (tells log is).1 0
+      (subst (λ (n : ℕ). IsAbsent n peers) e absent)))
+      (λ (ne : socket ≡ 0 → ⊥). spared (λ (a : Account). a.watched ≡ false) socket old new
+      (spares_refused old new number fault socket ne tells)
       (λ lg e. stands.closed lg e socket absent) log is)
       (cases_eq socket 0);
   heard = λ log is. subst (λ (a : Account). Hears a (refused_listening (refusal_told fault))) (sym (more log is))
@@ -472,7 +493,10 @@ stands_refused old new peers l last number fault tells stands = record {
 }
   where
     more : (log : List Step) (is : new ≡ Some log)
-        → account 0 log ≡ record (account 0 (tells log is).0) { received = heard_refusal (account 0 (tells log is).0).received (refusal_told fault) }
+        → account 0 log ≡ record (account 0 (tells log is).0) {
+          received = heard_refusal (account 0 (tells log is).0).received
+              (refusal_told fault);
+        }
     more log is = ap (account 0) (tells log is).2 ∙ account_more 0 (tells log is).0 (Accepts number (Err fault))
 
 -- ---- one that is let go
@@ -510,7 +534,8 @@ pub record Leaves (number : ℕ) (before after : List Peer) : Type 0 where
   pub apart : AreApart after
   pub others : (other : ℕ) → other ≢ number → IsAbsent other after → IsAbsent other before
 
-pub stands_left : (old new : Option (List Step)) (before after : List Peer) (l : Listening) (last number : ℕ) (answer : Result Unit DoorFault)
+pub stands_left : (old new : Option (List Step)) (before after : List Peer) (l : Listening) (last number : ℕ)
+    (answer : Result Unit DoorFault)
     → Tells old (Told (CloseCall number answer)) new → Leaves number before after → Stands old before l last → Stands new after l last
 stands_left old new before after l last number answer tells leaves stands = record {
   kept = λ k d lt.
@@ -518,7 +543,8 @@ stands_left old new before after l last number answer tells leaves stands = reco
       let is_kept : IsKept old (slice_index_or after k d) = subst (IsKept old) (sym f.2) (stands.kept f.0 d f.1) in
       kept_spared old new (slice_index_or after k d)
       (spares_after (slice_index_or after k d).number old new (Told (CloseCall number answer)) tells
-      (λ a. skips (number == (slice_index_or after k d).number) _ a (alien number (slice_index_or after k d).number (leaves.absent k d lt)))) is_kept;
+      (λ a. skips (number == (slice_index_or after k d).number) _ a
+      (alien number (slice_index_or after k d).number (leaves.absent k d lt)))) is_kept;
   apart = leaves.apart;
   within = λ k d lt.
       let f = leaves.from k d lt in

@@ -75,7 +75,8 @@ woken_writes sent outgoing output.Lost writable h = h
 -- ---- the input
 
 -- a read that gave some
-came_more : (received : Received) (incoming bytes : List ℕ) → received.gave ≡ received.handed ++ incoming → received.gave ++ bytes ≡ received.handed ++ (incoming ++ bytes)
+came_more : (received : Received) (incoming bytes : List ℕ) → received.gave ≡ received.handed ++ incoming
+    → received.gave ++ bytes ≡ received.handed ++ (incoming ++ bytes)
 came_more received incoming bytes is = ap (λ g. g ++ bytes) is ∙ append_assoc received.handed incoming bytes
 
 given_as : (received : Received) (incoming bytes : List ℕ) (state : Reading) (zero short : Bool) → may_have state ≡ true
@@ -108,7 +109,8 @@ missed_as received incoming input.Failed said e h = absurd (true≢false (sym e)
 pub read_as : (received : Received) (incoming buffer : List ℕ) (count : ℕ) (state : Reading) → may_have state ≡ true
     → ReadsAs received incoming state
     → ReadsAs (read_in received buffer (Ok count)) (incoming ++ take count buffer) (given state count (length buffer))
-read_as received incoming buffer count state e h = given_as received incoming (take count buffer) state (count == 0) (nat_lt count (length buffer)) e h
+read_as received incoming buffer count state e h = given_as received incoming (take count buffer) state (count == 0)
+    (nat_lt count (length buffer)) e h
 
 pub unread_as : (received : Received) (incoming buffer : List ℕ) (fault : ErrorKind) (state : Reading) → may_have state ≡ true
     → ReadsAs received incoming state
@@ -116,7 +118,8 @@ pub unread_as : (received : Received) (incoming buffer : List ℕ) (fault : Erro
 unread_as received incoming buffer fault state e h = missed_as received incoming state (refusal_told fault) e h
 
 -- bytes were handed out
-handed_more : (received : Received) (bytes rest : List ℕ) → received.gave ≡ received.handed ++ (bytes ++ rest) → received.gave ≡ (received.handed ++ bytes) ++ rest
+handed_more : (received : Received) (bytes rest : List ℕ) → received.gave ≡ received.handed ++ (bytes ++ rest)
+    → received.gave ≡ (received.handed ++ bytes) ++ rest
 handed_more received bytes rest is = is ∙ sym (append_assoc received.handed bytes rest)
 
 pub handed_as : (received : Received) (bytes rest : List ℕ) (state : Reading) → ReadsAs received (bytes ++ rest) state

@@ -50,7 +50,8 @@ pub if_same : {X : Type 0} (pr : Account → X) (b : Bool) (x a : Account) → p
 if_same pr true x a e = e
 if_same pr false x a e = refl
 
-if_more : (pr : Account → List ℕ) (b : Bool) (x a : Account) (more : List ℕ) → pr x ≡ pr a ++ more → pr (if b then x else a) ≡ pr a ++ (if b then more else [])
+if_more : (pr : Account → List ℕ) (b : Bool) (x a : Account) (more : List ℕ) → pr x ≡ pr a ++ more → pr
+    (if b then x else a) ≡ pr a ++ (if b then more else [])
 if_more pr true x a more e = e
 if_more pr false x a more e = sym (append-nil (pr a))
 
@@ -67,15 +68,18 @@ heard_lists a Later = refl
 heard_lists a Again = refl
 heard_lists a Fault = refl
 
-accept_lists : (socket number : ℕ) (a : Account) (answer : Result Unit ErrorKind) → lists (account_step socket a (Accepts number answer)) ≡ lists a
+accept_lists : (socket number : ℕ) (a : Account) (answer : Result Unit ErrorKind) → lists
+    (account_step socket a (Accepts number answer)) ≡ lists a
 accept_lists socket number a (Ok done) = by (socket == 0)
   where
-    by : (b : Bool) → lists (if b then record a { received = heard a.received (Ok done) } else if number == socket then accepted a (Ok done) else a) ≡ lists a
+    by : (b : Bool) → lists (if b then record a { received = heard a.received (Ok done) } else if number == socket then accepted a
+        (Ok done) else a) ≡ lists a
     by true = refl
     by false = if_same lists (number == socket) (accepted a (Ok done)) a refl
 accept_lists socket number a (Err fault) = by (socket == 0)
   where
-    by : (b : Bool) → lists (if b then record a { received = heard a.received (Err fault) } else if number == socket then accepted a (Err fault) else a) ≡ lists a
+    by : (b : Bool) → lists (if b then record a { received = heard a.received (Err fault) } else if number == socket then accepted a
+        (Err fault) else a) ≡ lists a
     by true = heard_lists a (refusal_told fault)
     by false = if_same lists (number == socket) (accepted a (Err fault)) a refl
 
@@ -93,81 +97,113 @@ refused_read_lists a Fault = refl
 
 took_step : (socket : ℕ) (a : Account) (step : Step) → (account_step socket a step).sent.took ≡ a.sent.took ++ took_in socket step
 took_step socket a (Accepts number answer) = same_more _ a.sent.took (ap (λ l. l.0.1) (accept_lists socket number a answer))
-took_step socket a (Reads who buffer answer) = same_more _ a.sent.took (if_same (λ (x : Account). x.sent.took) (who == socket) (record a { received = read_in a.received buffer answer }) a refl)
-took_step socket a (Writes who bytes (Ok count)) = if_more (λ (x : Account). x.sent.took) (who == socket) (record a { sent = wrote a.sent bytes (Ok count) }) a (take count bytes) refl
-took_step socket a (Writes who bytes (Err fault)) = same_more _ a.sent.took (if_same (λ (x : Account). x.sent.took) (who == socket) (record a { sent = wrote a.sent bytes (Err fault) }) a
+took_step socket a (Reads who buffer answer) = same_more _ a.sent.took
+    (if_same (λ (x : Account). x.sent.took) (who == socket) (record a { received = read_in a.received buffer answer }) a refl)
+took_step socket a (Writes who bytes (Ok count)) = if_more (λ (x : Account). x.sent.took) (who == socket)
+    (record a { sent = wrote a.sent bytes (Ok count) }) a (take count bytes) refl
+took_step socket a (Writes who bytes (Err fault)) = same_more _ a.sent.took
+    (if_same (λ (x : Account). x.sent.took) (who == socket) (record a { sent = wrote a.sent bytes (Err fault) }) a
     (ap (λ l. l.0.1) (refused_write_lists a (refusal_told fault))))
-took_step socket a (Waits most count ready) = same_more _ a.sent.took (ap (λ l. l.0.1) (woken_lists socket (waited socket a most) (take count ready)))
+took_step socket a (Waits most count ready) = same_more _ a.sent.took
+    (ap (λ l. l.0.1) (woken_lists socket (waited socket a most) (take count ready)))
 took_step socket a (Clocks answer) = sym (append-nil a.sent.took)
 took_step socket a (Told (ExpectCall due slack)) = sym (append-nil a.sent.took)
 took_step socket a (Told (NowCall answer)) = sym (append-nil a.sent.took)
 took_step socket a (Told (AcceptCall answer)) = sym (append-nil a.sent.took)
-took_step socket a (Told (ReadCall who (Ok (got.Bytes count)) buffer)) = same_more _ a.sent.took (if_same (λ (x : Account). x.sent.took) (who == socket) _ a refl)
-took_step socket a (Told (ReadCall who (Ok got.Ended) buffer)) = same_more _ a.sent.took (if_same (λ (x : Account). x.sent.took) (who == socket) _ a refl)
+took_step socket a (Told (ReadCall who (Ok (got.Bytes count)) buffer)) = same_more _ a.sent.took
+    (if_same (λ (x : Account). x.sent.took) (who == socket) _ a refl)
+took_step socket a (Told (ReadCall who (Ok got.Ended) buffer)) = same_more _ a.sent.took
+    (if_same (λ (x : Account). x.sent.took) (who == socket) _ a refl)
 took_step socket a (Told (ReadCall who (Ok got.Nothing) buffer)) = sym (append-nil a.sent.took)
 took_step socket a (Told (ReadCall who (Err fault) buffer)) = sym (append-nil a.sent.took)
-took_step socket a (Told (WriteCall who bytes (Ok count))) = same_more _ a.sent.took (if_same (λ (x : Account). x.sent.took) (who == socket) _ a refl)
+took_step socket a (Told (WriteCall who bytes (Ok count))) = same_more _ a.sent.took
+    (if_same (λ (x : Account). x.sent.took) (who == socket) _ a refl)
 took_step socket a (Told (WriteCall who bytes (Err fault))) = sym (append-nil a.sent.took)
 took_step socket a (Told (CloseCall who answer)) = same_more _ a.sent.took (if_same (λ (x : Account). x.sent.took) (who == socket) _ a refl)
 
 gave_step : (socket : ℕ) (a : Account) (step : Step) → (account_step socket a step).received.gave ≡ a.received.gave ++ gave_in socket step
 gave_step socket a (Accepts number answer) = same_more _ a.received.gave (ap (λ l. l.1.0) (accept_lists socket number a answer))
-gave_step socket a (Writes who bytes answer) = same_more _ a.received.gave (if_same (λ (x : Account). x.received.gave) (who == socket) (record a { sent = wrote a.sent bytes answer }) a refl)
-gave_step socket a (Reads who buffer (Ok count)) = if_more (λ (x : Account). x.received.gave) (who == socket) (record a { received = read_in a.received buffer (Ok count) }) a (take count buffer) refl
-gave_step socket a (Reads who buffer (Err fault)) = same_more _ a.received.gave (if_same (λ (x : Account). x.received.gave) (who == socket) (record a { received = read_in a.received buffer (Err fault) }) a
+gave_step socket a (Writes who bytes answer) = same_more _ a.received.gave
+    (if_same (λ (x : Account). x.received.gave) (who == socket) (record a { sent = wrote a.sent bytes answer }) a refl)
+gave_step socket a (Reads who buffer (Ok count)) = if_more (λ (x : Account). x.received.gave) (who == socket)
+    (record a { received = read_in a.received buffer (Ok count) }) a (take count buffer) refl
+gave_step socket a (Reads who buffer (Err fault)) = same_more _ a.received.gave
+    (if_same (λ (x : Account). x.received.gave) (who == socket) (record a { received = read_in a.received buffer (Err fault) }) a
     (ap (λ l. l.1.0) (refused_read_lists a (refusal_told fault))))
-gave_step socket a (Waits most count ready) = same_more _ a.received.gave (ap (λ l. l.1.0) (woken_lists socket (waited socket a most) (take count ready)))
+gave_step socket a (Waits most count ready) = same_more _ a.received.gave
+    (ap (λ l. l.1.0) (woken_lists socket (waited socket a most) (take count ready)))
 gave_step socket a (Clocks answer) = sym (append-nil a.received.gave)
 gave_step socket a (Told (ExpectCall due slack)) = sym (append-nil a.received.gave)
 gave_step socket a (Told (NowCall answer)) = sym (append-nil a.received.gave)
 gave_step socket a (Told (AcceptCall answer)) = sym (append-nil a.received.gave)
-gave_step socket a (Told (ReadCall who (Ok (got.Bytes count)) buffer)) = same_more _ a.received.gave (if_same (λ (x : Account). x.received.gave) (who == socket) _ a refl)
-gave_step socket a (Told (ReadCall who (Ok got.Ended) buffer)) = same_more _ a.received.gave (if_same (λ (x : Account). x.received.gave) (who == socket) _ a refl)
+gave_step socket a (Told (ReadCall who (Ok (got.Bytes count)) buffer)) = same_more _ a.received.gave
+    (if_same (λ (x : Account). x.received.gave) (who == socket) _ a refl)
+gave_step socket a (Told (ReadCall who (Ok got.Ended) buffer)) = same_more _ a.received.gave
+    (if_same (λ (x : Account). x.received.gave) (who == socket) _ a refl)
 gave_step socket a (Told (ReadCall who (Ok got.Nothing) buffer)) = sym (append-nil a.received.gave)
 gave_step socket a (Told (ReadCall who (Err fault) buffer)) = sym (append-nil a.received.gave)
-gave_step socket a (Told (WriteCall who bytes (Ok count))) = same_more _ a.received.gave (if_same (λ (x : Account). x.received.gave) (who == socket) _ a refl)
+gave_step socket a (Told (WriteCall who bytes (Ok count))) = same_more _ a.received.gave
+    (if_same (λ (x : Account). x.received.gave) (who == socket) _ a refl)
 gave_step socket a (Told (WriteCall who bytes (Err fault))) = sym (append-nil a.received.gave)
-gave_step socket a (Told (CloseCall who answer)) = same_more _ a.received.gave (if_same (λ (x : Account). x.received.gave) (who == socket) _ a refl)
+gave_step socket a (Told (CloseCall who answer)) = same_more _ a.received.gave
+    (if_same (λ (x : Account). x.received.gave) (who == socket) _ a refl)
 
-written_step : (socket : ℕ) (a : Account) (step : Step) → (account_step socket a step).sent.written ≡ a.sent.written ++ in_call (taken_in socket) step
+written_step : (socket : ℕ) (a : Account) (step : Step) → (account_step socket a step).sent.written ≡ a.sent.written ++ in_call
+    (taken_in socket) step
 written_step socket a (Accepts number answer) = same_more _ a.sent.written (ap (λ l. l.0.0) (accept_lists socket number a answer))
-written_step socket a (Reads who buffer answer) = same_more _ a.sent.written (if_same (λ (x : Account). x.sent.written) (who == socket) (record a { received = read_in a.received buffer answer }) a refl)
-written_step socket a (Writes who bytes (Ok count)) = same_more _ a.sent.written (if_same (λ (x : Account). x.sent.written) (who == socket) (record a { sent = wrote a.sent bytes (Ok count) }) a refl)
-written_step socket a (Writes who bytes (Err fault)) = same_more _ a.sent.written (if_same (λ (x : Account). x.sent.written) (who == socket) (record a { sent = wrote a.sent bytes (Err fault) }) a
+written_step socket a (Reads who buffer answer) = same_more _ a.sent.written
+    (if_same (λ (x : Account). x.sent.written) (who == socket) (record a { received = read_in a.received buffer answer }) a refl)
+written_step socket a (Writes who bytes (Ok count)) = same_more _ a.sent.written
+    (if_same (λ (x : Account). x.sent.written) (who == socket) (record a { sent = wrote a.sent bytes (Ok count) }) a refl)
+written_step socket a (Writes who bytes (Err fault)) = same_more _ a.sent.written
+    (if_same (λ (x : Account). x.sent.written) (who == socket) (record a { sent = wrote a.sent bytes (Err fault) }) a
     (ap (λ l. l.0.0) (refused_write_lists a (refusal_told fault))))
-written_step socket a (Waits most count ready) = same_more _ a.sent.written (ap (λ l. l.0.0) (woken_lists socket (waited socket a most) (take count ready)))
+written_step socket a (Waits most count ready) = same_more _ a.sent.written
+    (ap (λ l. l.0.0) (woken_lists socket (waited socket a most) (take count ready)))
 written_step socket a (Clocks answer) = sym (append-nil a.sent.written)
 written_step socket a (Told (ExpectCall due slack)) = sym (append-nil a.sent.written)
 written_step socket a (Told (NowCall answer)) = sym (append-nil a.sent.written)
 written_step socket a (Told (AcceptCall answer)) = sym (append-nil a.sent.written)
-written_step socket a (Told (ReadCall who (Ok (got.Bytes count)) buffer)) = same_more _ a.sent.written (if_same (λ (x : Account). x.sent.written) (who == socket) _ a refl)
-written_step socket a (Told (ReadCall who (Ok got.Ended) buffer)) = same_more _ a.sent.written (if_same (λ (x : Account). x.sent.written) (who == socket) _ a refl)
+written_step socket a (Told (ReadCall who (Ok (got.Bytes count)) buffer)) = same_more _ a.sent.written
+    (if_same (λ (x : Account). x.sent.written) (who == socket) _ a refl)
+written_step socket a (Told (ReadCall who (Ok got.Ended) buffer)) = same_more _ a.sent.written
+    (if_same (λ (x : Account). x.sent.written) (who == socket) _ a refl)
 written_step socket a (Told (ReadCall who (Ok got.Nothing) buffer)) = sym (append-nil a.sent.written)
 written_step socket a (Told (ReadCall who (Err fault) buffer)) = sym (append-nil a.sent.written)
 written_step socket a (Told (WriteCall who bytes (Ok count))) = if_more (λ (x : Account). x.sent.written) (who == socket)
-    (record a { sent = record a.sent { written = a.sent.written ++ take count bytes; cut = nat_lt count (length bytes) } }) a (take count bytes) refl
+    (record a { sent = record a.sent { written = a.sent.written ++ take count bytes; cut = nat_lt count (length bytes) } }) a
+    (take count bytes) refl
 written_step socket a (Told (WriteCall who bytes (Err fault))) = sym (append-nil a.sent.written)
-written_step socket a (Told (CloseCall who answer)) = same_more _ a.sent.written (if_same (λ (x : Account). x.sent.written) (who == socket) _ a refl)
+written_step socket a (Told (CloseCall who answer)) = same_more _ a.sent.written
+    (if_same (λ (x : Account). x.sent.written) (who == socket) _ a refl)
 
-handed_step : (socket : ℕ) (a : Account) (step : Step) → (account_step socket a step).received.handed ≡ a.received.handed ++ in_call (handed_in socket) step
+handed_step : (socket : ℕ) (a : Account) (step : Step) → (account_step socket a step).received.handed ≡ a.received.handed ++ in_call
+    (handed_in socket) step
 handed_step socket a (Accepts number answer) = same_more _ a.received.handed (ap (λ l. l.1.1) (accept_lists socket number a answer))
-handed_step socket a (Writes who bytes answer) = same_more _ a.received.handed (if_same (λ (x : Account). x.received.handed) (who == socket) (record a { sent = wrote a.sent bytes answer }) a refl)
-handed_step socket a (Reads who buffer (Ok count)) = same_more _ a.received.handed (if_same (λ (x : Account). x.received.handed) (who == socket) (record a { received = read_in a.received buffer (Ok count) }) a refl)
-handed_step socket a (Reads who buffer (Err fault)) = same_more _ a.received.handed (if_same (λ (x : Account). x.received.handed) (who == socket) (record a { received = read_in a.received buffer (Err fault) }) a
+handed_step socket a (Writes who bytes answer) = same_more _ a.received.handed
+    (if_same (λ (x : Account). x.received.handed) (who == socket) (record a { sent = wrote a.sent bytes answer }) a refl)
+handed_step socket a (Reads who buffer (Ok count)) = same_more _ a.received.handed
+    (if_same (λ (x : Account). x.received.handed) (who == socket) (record a { received = read_in a.received buffer (Ok count) }) a refl)
+handed_step socket a (Reads who buffer (Err fault)) = same_more _ a.received.handed
+    (if_same (λ (x : Account). x.received.handed) (who == socket) (record a { received = read_in a.received buffer (Err fault) }) a
     (ap (λ l. l.1.1) (refused_read_lists a (refusal_told fault))))
-handed_step socket a (Waits most count ready) = same_more _ a.received.handed (ap (λ l. l.1.1) (woken_lists socket (waited socket a most) (take count ready)))
+handed_step socket a (Waits most count ready) = same_more _ a.received.handed
+    (ap (λ l. l.1.1) (woken_lists socket (waited socket a most) (take count ready)))
 handed_step socket a (Clocks answer) = sym (append-nil a.received.handed)
 handed_step socket a (Told (ExpectCall due slack)) = sym (append-nil a.received.handed)
 handed_step socket a (Told (NowCall answer)) = sym (append-nil a.received.handed)
 handed_step socket a (Told (AcceptCall answer)) = sym (append-nil a.received.handed)
 handed_step socket a (Told (ReadCall who (Ok (got.Bytes count)) buffer)) = if_more (λ (x : Account). x.received.handed) (who == socket)
     (record a { received = record a.received { handed = a.received.handed ++ take count buffer } }) a (take count buffer) refl
-handed_step socket a (Told (ReadCall who (Ok got.Ended) buffer)) = same_more _ a.received.handed (if_same (λ (x : Account). x.received.handed) (who == socket) _ a refl)
+handed_step socket a (Told (ReadCall who (Ok got.Ended) buffer)) = same_more _ a.received.handed
+    (if_same (λ (x : Account). x.received.handed) (who == socket) _ a refl)
 handed_step socket a (Told (ReadCall who (Ok got.Nothing) buffer)) = sym (append-nil a.received.handed)
 handed_step socket a (Told (ReadCall who (Err fault) buffer)) = sym (append-nil a.received.handed)
-handed_step socket a (Told (WriteCall who bytes (Ok count))) = same_more _ a.received.handed (if_same (λ (x : Account). x.received.handed) (who == socket) _ a refl)
+handed_step socket a (Told (WriteCall who bytes (Ok count))) = same_more _ a.received.handed
+    (if_same (λ (x : Account). x.received.handed) (who == socket) _ a refl)
 handed_step socket a (Told (WriteCall who bytes (Err fault))) = sym (append-nil a.received.handed)
-handed_step socket a (Told (CloseCall who answer)) = same_more _ a.received.handed (if_same (λ (x : Account). x.received.handed) (who == socket) _ a refl)
+handed_step socket a (Told (CloseCall who answer)) = same_more _ a.received.handed
+    (if_same (λ (x : Account). x.received.handed) (who == socket) _ a refl)
 
 -- ---- all of them
 

@@ -27,7 +27,8 @@ keeps_then old mid new first second later is =
     let f = first s.0 s.1 in
     (f.0, f.1, λ wall start. s.2 wall start ∙ f.2 wall start)
 
-pub keeps_step : (old new : Option (List Step)) (step : Step) → Tells old step new → ((t : Times) → times_step t step ≡ t) → KeepsTimes old new
+pub keeps_step : (old new : Option (List Step)) (step : Step) → Tells old step new → ((t : Times) → times_step t step ≡ t)
+    → KeepsTimes old new
 keeps_step old new step tells same later is =
     let t = tells later is in
     (t.0, t.1, λ wall start. ap (times wall start) t.2 ∙ times_more wall start t.0 step ∙ same (times wall start t.0))
@@ -39,7 +40,8 @@ timed_kept old new turn keeps timed later is =
 
 -- a step after which the times say another turn
 timed_step : (wall start : ℕ) (old new : Option (List Step)) (step : Step) (before after : Turn) → Tells old step new
-    → ((t : Times) → Timed t before → Timed (times_step t step) after) → IsTimedFrom wall start old before → IsTimedFrom wall start new after
+    → ((t : Times) → Timed t before → Timed (times_step t step) after) → IsTimedFrom wall start old before
+    → IsTimedFrom wall start new after
 timed_step wall start old new step before after tells follows timed later is =
     let t = tells later is in
     subst (λ (x : Times). Timed x after) (sym (ap (times wall start) t.2 ∙ times_more wall start t.0 step))
@@ -68,26 +70,32 @@ called t before call late h = record {
   };
 }
 
-pub timed_expect : (old new : Option (List Step)) (before after : Turn) (due slack : Option ℕ) → after ≡ after_call before (ExpectCall due slack)
+pub timed_expect : (old new : Option (List Step)) (before after : Turn) (due slack : Option ℕ) → after ≡ after_call before
+    (ExpectCall due slack)
     → Tells old (Told (ExpectCall due slack)) new → IsTimed old before → IsTimed new after
 timed_expect old new before after due slack is tells timed =
     let call : Call = ExpectCall due slack in
-    subst (IsTimed new) (sym is) (timed_step before.timekeeper.wall before.timekeeper.start old new (Told call) before (after_call before call) tells
+    subst (IsTimed new) (sym is) (timed_step before.timekeeper.wall before.timekeeper.start old new (Told call) before
+    (after_call before call) tells
     (λ t h. called t before call (λ e. refl) h) timed)
 
-pub timed_accept : (old new : Option (List Step)) (before after : Turn) (answer : Result (Option ℕ) DoorFault) → after ≡ after_call before (AcceptCall answer)
+pub timed_accept : (old new : Option (List Step)) (before after : Turn) (answer : Result (Option ℕ) DoorFault) → after ≡ after_call before
+    (AcceptCall answer)
     → Tells old (Told (AcceptCall answer)) new → IsTimed old before → IsTimed new after
 timed_accept old new before after answer is tells timed =
     let call : Call = AcceptCall answer in
-    subst (IsTimed new) (sym is) (timed_step before.timekeeper.wall before.timekeeper.start old new (Told call) before (after_call before call) tells
+    subst (IsTimed new) (sym is) (timed_step before.timekeeper.wall before.timekeeper.start old new (Told call) before
+    (after_call before call) tells
     (λ t h. called t before call (λ e. refl) h) timed)
 
 pub timed_read : (old new : Option (List Step)) (before after : Turn) (peer : ℕ) (answer : Result Got DoorFault) (buffer : List ℕ)
-    → ((p : ℕ) (bytes : List ℕ) → after ≡ after_call before (ReadCall p answer bytes)) → (before.late ≡ true → hands_out (ReadCall peer answer buffer) ≡ false)
+    → ((p : ℕ) (bytes : List ℕ) → after ≡ after_call before (ReadCall p answer bytes))
+    → (before.late ≡ true → hands_out (ReadCall peer answer buffer) ≡ false)
     → Tells old (Told (ReadCall peer answer buffer)) new → IsTimed old before → IsTimed new after
 timed_read old new before after peer answer buffer is late tells timed =
     let call : Call = ReadCall peer answer buffer in
-    subst (IsTimed new) (sym (is peer buffer)) (timed_step before.timekeeper.wall before.timekeeper.start old new (Told call) before (after_call before call) tells
+    subst (IsTimed new) (sym (is peer buffer)) (timed_step before.timekeeper.wall before.timekeeper.start old new (Told call) before
+    (after_call before call) tells
     (λ t h. called t before call late h) timed)
 
 pub timed_write : (old new : Option (List Step)) (before after : Turn) (peer : ℕ) (bytes : List ℕ) (answer : Result ℕ DoorFault)
@@ -95,7 +103,8 @@ pub timed_write : (old new : Option (List Step)) (before after : Turn) (peer : �
     → Tells old (Told (WriteCall peer bytes answer)) new → IsTimed old before → IsTimed new after
 timed_write old new before after peer bytes answer is tells timed =
     let call : Call = WriteCall peer bytes answer in
-    subst (IsTimed new) (sym (is peer bytes)) (timed_step before.timekeeper.wall before.timekeeper.start old new (Told call) before (after_call before call) tells
+    subst (IsTimed new) (sym (is peer bytes)) (timed_step before.timekeeper.wall before.timekeeper.start old new (Told call) before
+    (after_call before call) tells
     (λ t h. called t before call (λ e. refl) h) timed)
 
 pub timed_close : (old new : Option (List Step)) (before after : Turn) (peer : ℕ) (answer : Result Unit DoorFault)
@@ -103,7 +112,8 @@ pub timed_close : (old new : Option (List Step)) (before after : Turn) (peer : �
     → Tells old (Told (CloseCall peer answer)) new → IsTimed old before → IsTimed new after
 timed_close old new before after peer answer is tells timed =
     let call : Call = CloseCall peer answer in
-    subst (IsTimed new) (sym (is peer)) (timed_step before.timekeeper.wall before.timekeeper.start old new (Told call) before (after_call before call) tells
+    subst (IsTimed new) (sym (is peer)) (timed_step before.timekeeper.wall before.timekeeper.start old new (Told call) before
+    (after_call before call) tells
     (λ t h. called t before call (λ e. refl) h) timed)
 
 -- ---- a wait
@@ -165,7 +175,8 @@ told_rightly t turn time h = record {
 
 clocks_then : (wall start : ℕ) (old mid new : Option (List Step)) (before after : Turn) (shown : Option ℕ) (answer : Result ℕ DoorFault)
     → ((t : Times) → Timed t before → Timed (told_moment (clocked t shown) answer) after)
-    → Tells old (Clocks shown) mid → Tells mid (Told (NowCall answer)) new → IsTimedFrom wall start old before → IsTimedFrom wall start new after
+    → Tells old (Clocks shown) mid → Tells mid (Told (NowCall answer)) new → IsTimedFrom wall start old before
+    → IsTimedFrom wall start new after
 clocks_then wall start old mid new before after shown answer follows clocks tells timed later e =
     let t = tells later e in
     let k = clocks t.0 t.1 in
@@ -182,12 +193,15 @@ timed_moment old mid new before after None answer none some clocks tells timed =
     let n = none refl in
     subst (IsTimed new) (sym n.1)
     (clocks_then before.timekeeper.wall before.timekeeper.start old mid new before before None answer
-    (λ t h. subst (λ (a : Result ℕ DoorFault). Timed (told_moment (clocked t None) a) before) (sym n.0) (untold t before h)) clocks tells timed)
+    (λ t h. subst (λ (a : Result ℕ DoorFault). Timed (told_moment (clocked t None) a) before) (sym n.0) (untold t before h)) clocks tells
+    timed)
 timed_moment old mid new before after (Some time) answer none some clocks tells timed =
     let s = some time refl in
     subst (IsTimed new) (sym s.1)
-    (clocks_then before.timekeeper.wall before.timekeeper.start old mid new before (told_at before time (moment_at before time)) (Some time) answer
-    (λ t h. subst (λ (a : Result ℕ DoorFault). Timed (told_moment (clocked t (Some time)) a) (told_at before time (moment_at before time))) (sym s.0)
+    (clocks_then before.timekeeper.wall before.timekeeper.start old mid new before (told_at before time (moment_at before time))
+    (Some time) answer
+    (λ t h. subst (λ (a : Result ℕ DoorFault). Timed (told_moment (clocked t (Some time)) a) (told_at before time (moment_at before time)))
+    (sym s.0)
     (told_rightly t before time h)) clocks tells timed)
 
 -- ---- nothing was told yet

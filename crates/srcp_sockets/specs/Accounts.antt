@@ -58,13 +58,15 @@ is_held received = nat_lt (length received.handed) (length received.gave)
 
 -- nothing is to be handed out or told of it, and its socket has none: its end is told once all is taken
 abbrev pub is_silent : Received → (owed : Bool) → Bool
-is_silent received owed = not (is_held received) && ((received.quiet && (not received.ended && not received.failed)) || (received.ended && owed))
+is_silent received owed = not (is_held received) && ((received.quiet && (not received.ended && not received.failed))
+    || (received.ended && owed))
 
 -- nothing happens to it unless its socket is found ready: all that was taken for it was taken by the socket, or that
 -- was found to refuse it since; and where the core has more for it, so that it takes nothing of it, there is no room for more,
 -- and else there is nothing of it
 abbrev pub is_at_rest : Sent → Received → Bool
-is_at_rest sent received = not sent.lost && ((not (is_owed sent) || sent.full) && cond sent.cut (is_full sent) (is_silent received (is_owed sent)))
+is_at_rest sent received = not sent.lost && ((not (is_owed sent) || sent.full) && cond sent.cut (is_full sent)
+    (is_silent received (is_owed sent)))
 
 -- a wait that ends by itself, and soon: in 8 milliseconds
 abbrev pub is_short : Option ℕ → Bool
@@ -142,12 +144,17 @@ heard received (Err fault) = heard_refusal received (refusal_told fault)
 -- what a call of the door says
 abbrev pub told_step : ℕ → Account → Call → Account
 told_step socket a (ReadCall who (Ok (got.Bytes count)) buffer) =
-    if who == socket then record a { received = record a.received { handed = a.received.handed ++ take count buffer } } else a
-told_step socket a (ReadCall who (Ok got.Ended) buffer) = if who == socket then record a { honest = a.honest && a.received.ended } else a
+    if who == socket then record a {
+      received = record a.received { handed = a.received.handed ++ take count buffer };
+    } else a
+told_step socket a (ReadCall who (Ok got.Ended) buffer) = if who == socket
+    then record a { honest = a.honest && a.received.ended } else a
 told_step socket a (ReadCall who (Ok got.Nothing) buffer) = a
 told_step socket a (ReadCall who (Err fault) buffer) = a
 told_step socket a (WriteCall who bytes (Ok count)) =
-    if who == socket then record a { sent = record a.sent { written = a.sent.written ++ take count bytes; cut = nat_lt count (length bytes) } } else a
+    if who == socket then record a {
+      sent = record a.sent { written = a.sent.written ++ take count bytes; cut = nat_lt count (length bytes) };
+    } else a
 told_step socket a (WriteCall who bytes (Err fault)) = a
 told_step socket a (CloseCall who answer) = if who == socket then record a { watched = false } else a
 told_step socket a (ExpectCall due slack) = a
@@ -156,9 +163,12 @@ told_step socket a (AcceptCall answer) = a
 
 abbrev pub account_step : ℕ → Account → Step → Account
 account_step socket a (Accepts number answer) =
-    if socket == 0 then record a { received = heard a.received answer } else if number == socket then accepted a answer else a
-account_step socket a (Reads who buffer answer) = if who == socket then record a { received = read_in a.received buffer answer } else a
-account_step socket a (Writes who bytes answer) = if who == socket then record a { sent = wrote a.sent bytes answer } else a
+    if socket == 0 then record a { received = heard a.received answer } else if number == socket then accepted a answer
+    else a
+account_step socket a (Reads who buffer answer) = if who == socket
+    then record a { received = read_in a.received buffer answer } else a
+account_step socket a (Writes who bytes answer) = if who == socket then record a { sent = wrote a.sent bytes answer }
+    else a
 account_step socket a (Waits most count ready) = fold (woken socket) (waited socket a most) (take count ready)
 account_step socket a (Clocks answer) = a
 account_step socket a (Told call) = told_step socket a call

@@ -21,7 +21,8 @@ AreApart peers = (j k : ℕ) (d : Peer) → j < length peers → k < length peer
 
 -- their sockets are numbered from 1 on
 abbrev pub AreWithin : ℕ → List Peer → Type 0
-AreWithin last peers = (k : ℕ) (d : Peer) → k < length peers → (0 < (slice_index_or peers k d).number) × ((slice_index_or peers k d).number ≤ last)
+AreWithin last peers = (k : ℕ) (d : Peer) → k < length peers → (0 < (slice_index_or peers k d).number)
+    × ((slice_index_or peers k d).number ≤ last)
 
 -- none has this socket
 abbrev pub IsAbsent : ℕ → List Peer → Type 0
@@ -29,12 +30,13 @@ IsAbsent socket peers = (k : ℕ) (d : Peer) → k < length peers → (slice_ind
 
 -- they are the same peers
 abbrev pub AreThose : List Peer → List Peer → Type 0
-AreThose old new = (k : ℕ) (d : Peer) → k < length old → (slice_index_or new k d).number ≡ (slice_index_or old k d).number
+AreThose old new = (k : ℕ) (d : Peer) → k < length old → (slice_index_or new k d).number
+    ≡ (slice_index_or old k d).number
 
 -- ---- each socket that ever was
 
--- what is to hold of a socket: it took a prefix of what the door told to have taken for it; what the door handed out is a
--- prefix of what it gave; its end was told only after a read had found it; and each long wait found it at rest
+-- what is to hold of a socket: it took a prefix of what the door told to have taken for it; what the door handed out
+-- is a prefix of what it gave; its end was told only after a read had found it; and each long wait found it at rest
 pub record Sound (a : Account) : Type 0 where
   pub took : StartsWith a.sent.written a.sent.took
   pub handed : StartsWith a.received.gave a.received.handed
@@ -57,7 +59,8 @@ AreFresh told last = (log : List Step) → told ≡ Some log → (socket : ℕ) 
 
 -- who is not there is not open
 abbrev pub AreClosed : Option (List Step) → List Peer → Type 0
-AreClosed told peers = (log : List Step) → told ≡ Some log → (socket : ℕ) → IsAbsent socket peers → (account socket log).watched ≡ false
+AreClosed told peers = (log : List Step) → told ≡ Some log → (socket : ℕ) → IsAbsent socket peers
+    → (account socket log).watched ≡ false
 
 -- ---- the listener
 

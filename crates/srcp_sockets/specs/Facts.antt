@@ -30,5 +30,6 @@ HeardAs-prop quiet listening.Ready = hlevel props
 HeardAs-prop quiet listening.Refused = hlevel props
 HeardAs-prop quiet listening.Quiet = hlevel props
 
-pub Stands-prop : (told : Option (List Step)) (peers : List Peer) (l : Listening) (last : ℕ) → IsProp (Stands told peers l last)
+pub Stands-prop : (told : Option (List Step)) (peers : List Peer) (l : Listening) (last : ℕ) → IsProp
+    (Stands told peers l last)
 Stands-prop told peers l last = hlevel (props, ReadsAs-prop, WritesAs-prop, HeardAs-prop)

@@ -23,7 +23,8 @@ pub record IsFollowed (buses : List Bus) (count opens : ℕ) (log : List Step) (
       (took (slice_index_or (stand_after buses told).guests k guest) log)
 
 -- so it is for a core that stands for no events, over system that told nothing before
-abbrev pub Follows : (count opens : ℕ) (old : Held) (told_old : Option (List Step)) (new : Held) (told_new : Option (List Step)) → Type 0
+abbrev pub Follows : (count opens : ℕ) (old : Held) (told_old : Option (List Step)) (new : Held)
+    (told_new : Option (List Step)) → Type 0
 Follows count opens old told_old new told_new = (buses : List Bus) (log : List Step) → IsLayout buses
     → StandsFor buses [] old (course buses []) → told_old ≡ Some [] → told_new ≡ Some log
     → IsFollowed buses count opens log new

@@ -1,6 +1,7 @@
 pub mod Accounts
 pub mod Doors
 pub mod Facts
+pub mod Faults
 pub mod Follows
 pub mod Listeners
 pub mod Names

@@ -8,7 +8,8 @@ use Rattle.srcp_sockets.specs.declared.system.Refusal.TheVariants.{Later, Again,
 
 -- after a socket was found ready
 abbrev pub woken_listening : Listening → Ready → Listening
-woken_listening before ready = if (ready.socket == 0) && (ready.readable || (ready.closed || ready.urgent)) then listening.Ready else before
+woken_listening before ready = if (ready.socket == 0) && (ready.readable || (ready.closed || ready.urgent))
+    then listening.Ready else before
 
 -- after an accept that failed
 abbrev pub refused_listening : Refusal → Listening

@@ -13,15 +13,19 @@ use Rattle.srcp_sockets.specs.declared.peer.Peer.{Peer}
 use Rattle.srcp_serve.specs.declared.door.DoorFault.{DoorFault}
 use Rattle.srcp_serve.specs.declared.door.Got.{Got}
 use Rattle.srcp_serve.specs.declared.door.Got.TheVariants as got
-use Rattle.srcp_sockets.specs.Steps.{Step, refusal_told}
+use Rattle.srcp_sockets.specs.Steps.{Step, Reads, Tells, Writes, refusal_told}
 use Rattle.srcp_sockets.specs.Accounts.{Account, Sent, Received, account}
 
 -- what a state of the input means, where so much is held of it
 abbrev pub ReadsAs : Received → List ℕ → Reading → Type 0
-ReadsAs received incoming input.Ready = (received.gave ≡ received.handed ++ incoming) × (received.failed ≡ false) × (received.ended ≡ false) × (received.draining ≡ false)
-ReadsAs received incoming input.Draining = (received.gave ≡ received.handed ++ incoming) × (received.failed ≡ false) × (received.ended ≡ false)
-ReadsAs received incoming input.Quiet = (received.gave ≡ received.handed ++ incoming) × (received.failed ≡ false) × (received.ended ≡ false) × (received.draining ≡ false) × (received.quiet ≡ true)
-ReadsAs received incoming input.Ended = (received.gave ≡ received.handed ++ incoming) × (received.failed ≡ false) × (received.ended ≡ true)
+ReadsAs received incoming input.Ready = (received.gave ≡ received.handed ++ incoming) × (received.failed ≡ false)
+    × (received.ended ≡ false) × (received.draining ≡ false)
+ReadsAs received incoming input.Draining = (received.gave ≡ received.handed ++ incoming) × (received.failed ≡ false)
+    × (received.ended ≡ false)
+ReadsAs received incoming input.Quiet = (received.gave ≡ received.handed ++ incoming) × (received.failed ≡ false)
+    × (received.ended ≡ false) × (received.draining ≡ false) × (received.quiet ≡ true)
+ReadsAs received incoming input.Ended = (received.gave ≡ received.handed ++ incoming) × (received.failed ≡ false)
+    × (received.ended ≡ true)
 ReadsAs received incoming input.Failed = (received.gave ≡ received.handed ++ incoming) × (received.failed ≡ true)
 
 -- what a state of the output means, where so much is queued for it
@@ -46,6 +50,14 @@ IsKept told p = (log : List Step) → told ≡ Some log → Agrees (account p.nu
 abbrev pub Spares : ℕ → Option (List Step) → Option (List Step) → Type 0
 Spares socket old new = (later : List Step) → new ≡ Some later
     → (log : List Step) × (old ≡ Some log) × (account socket later ≡ account socket log)
+
+-- the step that came is a read of this socket
+abbrev pub Asks : ℕ → Option (List Step) → Option (List Step) → Type 0
+Asks socket old new = (buffer : List ℕ) × (answer : Result ℕ ErrorKind) × Tells old (Reads socket buffer answer) new
+
+-- the step that came is a write of these bytes to this socket
+abbrev pub Offers : ℕ → List ℕ → Option (List Step) → Option (List Step) → Type 0
+Offers socket bytes old new = (answer : Result ℕ ErrorKind) × Tells old (Writes socket bytes answer) new
 
 -- ---- what answers make of a peer
 
@@ -101,7 +113,10 @@ missed state Again = state
 missed state Fault = input.Failed
 
 abbrev pub after_read : Peer → List ℕ → Result ℕ ErrorKind → Peer
-after_read p buffer (Ok count) = record p { incoming = p.incoming ++ take count buffer; input = given p.input count (length buffer) }
+after_read p buffer (Ok count) = record p {
+  incoming = p.incoming ++ take count buffer;
+  input = given p.input count (length buffer);
+}
 after_read p buffer (Err fault) = record p { input = missed p.input (refusal_told fault) }
 
 -- its socket was found ready

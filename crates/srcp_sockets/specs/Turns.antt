@@ -17,7 +17,7 @@ first_turn wall start = record {
   late = false;
 }
 
--- a call of the door after which a panel may have something coming: a peer came, was read from, was written to or was closed
+-- a call of the door after which a panel may have something coming: a peer came, was read, was written to or was closed
 abbrev pub stirs : Call → Bool
 stirs (ExpectCall due slack) = false
 stirs (NowCall answer) = false
@@ -44,11 +44,12 @@ after_wait turn = record turn { busy = false }
 
 -- ---- the moment
 
--- the moment that is to be told, where the clock that is never set shows this time: the time that this stands for, or a step of
--- 10 milliseconds where something falls due meanwhile; at most 10 minutes are made up in such steps
+-- the moment that is to be told, where the clock that is never set shows this time: what this stands for, or a step of 10
+-- milliseconds where something falls due meanwhile; at most 10 minutes are made up in such steps
 abbrev pub moment_at : Turn → (time : ℕ) → ℕ
 moment_at turn time =
-    next_moment 10 600000 (passed turn.timekeeper.last (target turn.timekeeper time) turn.due) (target turn.timekeeper time)
+    next_moment 10 600000 (passed turn.timekeeper.last (target turn.timekeeper time) turn.due)
+    (target turn.timekeeper time)
 
 -- after a moment was told; the turn is late if the moment is behind the time
 abbrev pub told_at : Turn → (time moment : ℕ) → Turn

@@ -9,14 +9,15 @@ use srcp_core::Core;
 use srcp_rules::Rows;
 use srcp_serve::{Served, serve};
 
-/// Serves the peers of a door for so many turns. Whatever the system answers, the socket of each peer took a prefix of what
-/// the course sends it.
+/// Serves the peers of a door for so many turns. Whatever the system answers, the socket of each peer took a prefix of
+/// what the course sends it.
 pub fn serve_sockets<R: Rows, S: System + Drop>(
     core: &mut Core<'_, R>,
     door: &mut SocketDoor<S>,
     turns: u64,
 ) -> Served
-    ensures { Follows turns result.opened core.old (S.told door.old.sockets.system) core.new (S.told door.new.sockets.system) }
+    ensures { Follows turns result.opened core.old (S.told door.old.sockets.system)
+        core.new (S.told door.new.sockets.system) }
 {
     serve(core, door, turns)
 }

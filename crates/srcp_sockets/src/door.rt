@@ -11,11 +11,11 @@ use srcp_serve::{Door, DoorFault, Got};
 use std::alloc::{AllocError, Global};
 use std::vec::Vec;
 
-/// How many peers there are at most.
-const MOST_PEERS: usize = 64;
+/// How many peers there are at most: the 64 that the core seats, and one that it turns away.
+const MOST_PEERS: usize = 65;
 
 /// How many sockets may be found ready at once.
-const MOST_READY: usize = 128;
+pub(crate) const MOST_READY: usize = 128;
 
 /// A door over the system's sockets.
 #[derive(Drop)]
@@ -27,8 +27,8 @@ pub struct SocketDoor<S: System + Drop> {
 }
 
 impl<S: System + Drop> SocketDoor<S> {
-    /// Opens a door over a system that told nothing. Its moments begin with the wall clock at the start, and go on with the clock
-    /// that is never set, which showed `start` then; both in milliseconds.
+    /// Opens a door over a system that told nothing. Its moments begin with the wall clock at the start, and go on with
+    /// the clock that is never set, which showed `start` then; both in milliseconds.
     ///
     /// # Errors
     /// Where memory is refused.
@@ -40,6 +40,7 @@ impl<S: System + Drop> SocketDoor<S> {
     ) -> Result<SocketDoor<S>, AllocError>
         requires { S.told system ≡ Some [] ⊎ S.told system ≡ None }
         ensures faults { IfOk result (λ door. door.faults ≡ 0) }
+        ensures system { IfOk result (λ door. door.sockets.system ≡ system) }
         ensures turn { IfOk result (λ door. door.sockets.turn ≡ first_turn wall start) }
     {
         let nothing = Ready {
@@ -57,6 +58,14 @@ impl<S: System + Drop> SocketDoor<S> {
             ready,
             faults: 0,
         })
+    }
+
+    /// Has `now` wait so many milliseconds at most if nothing happens, 0 for no wait.
+    pub fn wait_at_most(&mut self, milliseconds: u64)
+        ensures wait { self.new.sockets.most ≡ Some milliseconds }
+        ensures faults { self.new.faults ≡ self.old.faults }
+    {
+        self.sockets.wait_at_most(milliseconds);
     }
 
     /// Counts a call that failed.

@@ -1,4 +1,5 @@
-//! What holds of every door over a system, whatever the system answered. Each function does nothing: what it ensures is a law.
+//! What holds of every door over a system, whatever the system answered. Each function does nothing: what it ensures is
+//! a law.
 
 ghost use Rattle.std.specs.Prelude.{◌≡◌, ◌++◌, ◌∷◌, ◌==◌, ◌||◌, ◌<◌, ◌⊎◌, ℕ, List, length, slice_index_or, Option, Some, Ok, true, false};
 ghost use Rattle.std.specs.Io.{StartsWith};
@@ -14,21 +15,25 @@ ghost use Rattle.srcp_sockets.specs.Streams.{gave, handed, taken, took};
 use crate::door::SocketDoor;
 use crate::system::System;
 
-/// What each socket took is a prefix of what the door told to have taken for its peer; what the door handed out of a peer is a
-/// prefix of what its socket gave.
+/// What each socket took is a prefix of what the door told to have taken for its peer; what the door handed out of a
+/// peer is a prefix of what its socket gave.
 pub fn sockets_follow<S: System + Drop>(door: &SocketDoor<S>)
-    ensures took { (log : List Step) → S.told door.now.sockets.system ≡ Some log → (socket : ℕ) → StartsWith (taken socket log) (took socket log) }
-    ensures handed { (log : List Step) → S.told door.now.sockets.system ≡ Some log → (socket : ℕ) → StartsWith (gave socket log) (handed socket log) }
+    ensures took { (log : List Step) → S.told door.now.sockets.system ≡ Some log → (socket : ℕ)
+        → StartsWith (taken socket log) (took socket log) }
+    ensures handed { (log : List Step) → S.told door.now.sockets.system ≡ Some log → (socket : ℕ)
+        → StartsWith (gave socket log) (handed socket log) }
 {
     let _hall = &door.sockets;
 }
 
-/// What a socket did not take of what the door told to have taken for its peer is held, while the peer is there, in order;
-/// unless a write found that the socket takes no more.
+/// What a socket did not take of what the door told to have taken for its peer is held, while the peer is there, in
+/// order; unless a write found that the socket takes no more.
 pub fn untaken_is_held<S: System + Drop>(door: &SocketDoor<S>)
-    ensures { (log : List Step) → S.told door.now.sockets.system ≡ Some log → (k : ℕ) (d : Peer) → k < length door.now.sockets.peers.items
+    ensures { (log : List Step) → S.told door.now.sockets.system ≡ Some log → (k : ℕ) (d : Peer)
+        → k < length door.now.sockets.peers.items
         → (let peer = slice_index_or door.now.sockets.peers.items k d in
-        ((account peer.number log).sent.lost ≡ true) ⊎ (taken peer.number log ≡ took peer.number log ++ peer.outgoing)) }
+        ((account peer.number log).sent.lost ≡ true)
+        ⊎ (taken peer.number log ≡ took peer.number log ++ peer.outgoing)) }
 {
     let _hall = &door.sockets;
 }
@@ -36,7 +41,8 @@ pub fn untaken_is_held<S: System + Drop>(door: &SocketDoor<S>)
 /// An end was told of a peer only after a read of its socket had found it.
 pub fn ends_are_true<S: System + Drop>(door: &SocketDoor<S>)
     ensures { (before after : List Step) (socket : ℕ) (buffer : List ℕ)
-        → S.told door.now.sockets.system ≡ Some (before ++ Told (ReadCall socket (Ok Got.Ended) buffer) ∷ after) → (account socket before).received.ended ≡ true }
+        → S.told door.now.sockets.system ≡ Some (before ++ Told (ReadCall socket (Ok Got.Ended) buffer) ∷ after)
+        → (account socket before).received.ended ≡ true }
 {
     let _hall = &door.sockets;
 }
@@ -51,9 +57,9 @@ pub fn waits_are_safe<S: System + Drop>(door: &SocketDoor<S>)
     let _hall = &door.sockets;
 }
 
-/// Each moment was the one that was to be told by the clock that was read. No wait ended past what falls due, as the door was
-/// told; no wait began in a turn that was late. A wait longer than the pause came after a turn in which nothing happened, unless
-/// there was no panel. No input was handed out in a turn that was late.
+/// Each moment was the one that was to be told by the clock that was read. No wait ended past what falls due, as the
+/// door was told; no wait began in a turn that was late. A wait longer than the pause came after a turn in which
+/// nothing happened, unless there was no panel. No input was handed out in a turn that was late.
 pub fn times_are_kept<S: System + Drop>(door: &SocketDoor<S>)
     ensures { (log : List Step) → S.told door.now.sockets.system ≡ Some log
         → AreKeptTimes (times door.now.sockets.turn.timekeeper.wall door.now.sockets.turn.timekeeper.start log) }

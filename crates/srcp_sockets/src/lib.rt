@@ -1,16 +1,19 @@
-//! The door over the system's sockets, proved down to the system call: over every list of answers that the system gives, the
-//! socket of each peer took a prefix of what the course sends it (`serve_sockets`, and the laws of every door in `laws`).
+//! The door over the system's sockets, proved down to the system call: over every list of answers that the system
+//! gives, the socket of each peer took a prefix of what the course sends it (`serve_sockets`, and the laws of every
+//! door in `laws`).
 //!
 //! `System` is the small trait of system calls, `MioSystem` makes them, and `SocketDoor` is the door over any of them.
 //!
-//! It is not the server's door yet: lines are not paced, a peer that is closed loses what is queued for it, and each turn
-//! flushes and polls.
+//! It is not the server's door yet: lines are not paced, a peer that is closed loses what is queued for it, and each
+//! turn flushes and polls.
 #![tactic(auto)]
 
 mod course;
 mod door;
+mod fault;
 pub mod laws;
 mod mio_system;
+mod opening;
 mod peer;
 mod peers;
 mod queue;
@@ -21,6 +24,7 @@ mod waiting;
 
 pub use course::serve_sockets;
 pub use door::SocketDoor;
+pub use fault::ListenFault;
 pub use mio_system::MioSystem;
 pub use peer::{Peer, Reading, Writing};
 pub use queue::{MOST_INCOMING, MOST_OUTGOING, MOST_PIECE, Outgoing, Queue};

@@ -1,5 +1,8 @@
 //! The system as it is: mio's sockets and a clock. It tells nothing, and only makes the calls.
 
+ghost use Rattle.std.specs.Prelude.{◌≡◌, IfOk};
+
+use crate::door::MOST_READY;
 use crate::system::{Ready, System};
 use mio::net::{TcpListener, TcpStream};
 use mio::{Events, Interest, Poll, Token};
@@ -7,6 +10,7 @@ use srcp_serve::{DoorFault, Got};
 use std::alloc::Global;
 use std::io;
 use std::io::{ErrorKind, Read, Write};
+use std::net::{Net, SocketAddr};
 use std::time::{Clock, Duration};
 use std::vec::Vec;
 
@@ -26,6 +30,8 @@ struct Socket {
 /// The sockets of the system, and a clock.
 #[derive(Drop)]
 pub struct MioSystem<C: Clock + Drop> {
+    /// The address at which it listens.
+    pub address: SocketAddr,
     listener: TcpListener,
     poll: Poll,
     events: Events<Global>,
@@ -35,23 +41,27 @@ pub struct MioSystem<C: Clock + Drop> {
 }
 
 impl<C: Clock + Drop> MioSystem<C> {
-    /// Returns the system with a listener.
+    /// Listens at an address.
     ///
     /// # Errors
     /// Those of the system, or where memory is refused.
-    pub fn new(
+    pub(crate) fn listen<N: Net>(
+        net: &N,
         alloc: Global,
-        mut listener: TcpListener,
-        poll: Poll,
+        address: SocketAddr,
         clock: C,
-        most: usize,
-    ) -> io::Result<MioSystem<C>> {
+    ) -> io::Result<MioSystem<C>>
+        ensures { IfOk result (λ system. system.address ≡ address) }
+    {
+        let mut listener = TcpListener::bind(net, address)?;
+        let poll = Poll::new(net)?;
         poll.registry()
             .register(&mut listener, LISTENER, Interest::READABLE)?;
         Ok(MioSystem {
+            address,
             listener,
             poll,
-            events: Events::with_capacity(alloc, most)?,
+            events: Events::with_capacity(alloc, MOST_READY)?,
             clock,
             sockets: Vec::new(alloc),
         })

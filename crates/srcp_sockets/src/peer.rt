@@ -4,7 +4,7 @@ ghost use Rattle.std.specs.Prelude.{◌≡◌, ◌≢◌, ◌<◌, ◌≤◌, �
 ghost use Rattle.srcp_sockets.specs.Steps.{SaysNothing, Tells, Told};
 ghost use Rattle.srcp_serve.specs.Calls.{ReadCall, WriteCall};
 ghost use Rattle.srcp_sockets.specs.Times.{KeepsTimes};
-ghost use Rattle.srcp_sockets.specs.Peers.{IsKept, Spares, after_wake, queued_more, given, got_bytes, is_resting, may_have, missed, refused, rests_reading, rests_writing, taken, woken_input, woken_output};
+ghost use Rattle.srcp_sockets.specs.Peers.{Asks, IsKept, Offers, Spares, after_wake, queued_more, given, got_bytes, is_resting, may_have, missed, refused, rests_reading, rests_writing, taken, woken_input, woken_output};
 
 use crate::queue::{MOST_INCOMING, MOST_OUTGOING, MOST_PIECE, Outgoing, Queue};
 use crate::system::{Ready, Refusal, System, refusal_of};
@@ -102,7 +102,8 @@ impl Reading {
 impl Writing {
     /// Returns whether a write may be taken.
     fn is_open(self) -> bool
-        ensures { result ≡ true → self ≡ Writing.Open }
+        ensures yes { result ≡ true → self ≡ Writing.Open }
+        ensures no { result ≡ false → self ≢ Writing.Open }
     {
         match self {
             Writing::Open => true,
@@ -190,7 +191,14 @@ impl Peer {
     /// # Errors
     /// Where memory is refused.
     pub fn new(alloc: Global, number: u32) -> Result<Peer, AllocError>
-        ensures { IfOk result (λ peer. peer ≡ record { number = number; outgoing = []; incoming = []; input = Reading.Ready; output = Writing.Open; cut = false }) }
+        ensures { IfOk result (λ peer. peer ≡ record {
+          number = number;
+          outgoing = [];
+          incoming = [];
+          input = Reading.Ready;
+          output = Writing.Open;
+          cut = false;
+        }) }
     {
         Ok(Peer {
             number,
@@ -231,6 +239,8 @@ impl Peer {
         ensures calls { SaysNothing (S.told system.old) (S.told system.new) }
         ensures times { KeepsTimes (S.told system.old) (S.told system.new) }
         ensures number { self.new.number ≡ self.old.number }
+        ensures offered { self.old.output ≡ Writing.Open → self.old.outgoing ≢ []
+            → Offers self.old.number self.old.outgoing (S.told system.old) (S.told system.new) }
     {
         if !self.output.is_open() || self.outgoing.is_empty() {
             return;
@@ -253,6 +263,8 @@ impl Peer {
         ensures calls { SaysNothing (S.told system.old) (S.told system.new) }
         ensures times { KeepsTimes (S.told system.old) (S.told system.new) }
         ensures number { self.new.number ≡ self.old.number }
+        ensures asked { may_have self.old.input ≡ true → length self.old.incoming < MOST_PIECE
+            → Asks self.old.number (S.told system.old) (S.told system.new) }
     {
         if !self.input.is_ready() || self.incoming.len() >= MOST_PIECE {
             return;
@@ -276,7 +288,8 @@ impl Peer {
     ) -> Result<Got, DoorFault>
         requires { IsKept (S.told system.old) self.old }
         ensures kept { IsKept (S.told system.new) self.new }
-        ensures told { Tells (S.told system.old) (Told (ReadCall self.old.number result buffer.new)) (S.told system.new) }
+        ensures told { Tells (S.told system.old) (Told (ReadCall self.old.number result buffer.new))
+            (S.told system.new) }
         ensures count { (n : ℕ) → result ≡ Ok (Got.Bytes n) → (0 < n) × (n ≤ length buffer.new) }
         ensures fault { IfErr result (λ fault. fault ≡ DoorFault.Read) }
         ensures others { (other : ℕ) → other ≢ self.old.number → Spares other (S.told system.old) (S.told system.new) }
@@ -328,7 +341,8 @@ impl Peer {
         requires { IsKept (S.told system.old) self.old }
         ensures kept { IsKept (S.told system.new) self.new }
         ensures count { result ≤ length bytes.now }
-        ensures told { Tells (S.told system.old) (Told (WriteCall self.old.number bytes.now (Ok result))) (S.told system.new) }
+        ensures told { Tells (S.told system.old) (Told (WriteCall self.old.number bytes.now (Ok result)))
+            (S.told system.new) }
         ensures others { (other : ℕ) → other ≢ self.old.number → Spares other (S.told system.old) (S.told system.new) }
         ensures number { self.new.number ≡ self.old.number }
     {
@@ -341,7 +355,9 @@ impl Peer {
     /// Gathers bytes, as many as there is space for, and returns how many.
     fn enqueue(&mut self, bytes: &[u8]) -> usize
         ensures count { result ≤ length bytes.now }
-        ensures new { self.new ≡ record self.old { outgoing = queued_more self.old.output self.old.outgoing (take result bytes.now) } }
+        ensures new { self.new ≡ record self.old {
+          outgoing = queued_more self.old.output self.old.outgoing (take result bytes.now);
+        } }
     {
         match self.output {
             Writing::Lost => bytes.len(),

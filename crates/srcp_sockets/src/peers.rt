@@ -21,6 +21,7 @@ pub(crate) fn begin_turn<S: System>(
     listening: Listening,
     last: u32,
     turn: &Turn,
+    at_most: Option<u64>,
     ready: &mut [Ready],
 ) -> Listening
     requires stands { Stands (S.told system.old) peers.old listening last }
@@ -30,7 +31,7 @@ pub(crate) fn begin_turn<S: System>(
     ensures timed { IsTimed (S.told system.new) (after_wait turn.now) }
 {
     flush(system, peers);
-    let listening = wait(system, peers, listening, last, turn, ready);
+    let listening = wait(system, peers, listening, last, turn, at_most, ready);
     fill(system, peers);
     listening
 }
@@ -72,6 +73,7 @@ fn wait<S: System>(
     listening: Listening,
     last: u32,
     turn: &Turn,
+    at_most: Option<u64>,
     ready: &mut [Ready],
 ) -> Listening
     requires stands { Stands (S.told system.old) peers.old listening last }
@@ -80,7 +82,7 @@ fn wait<S: System>(
     ensures calls { SaysNothing (S.told system.old) (S.told system.new) }
     ensures timed { IsTimed (S.told system.new) (after_wait turn.now) }
 {
-    let most = longest_wait(peers, listening, turn);
+    let most = longest_wait(peers, listening, turn, at_most);
     let count = system.wait(most, ready);
     wake(peers, &ready[..count]);
     listen(listening, &ready[..count])
@@ -88,7 +90,8 @@ fn wait<S: System>(
 
 /// Notes which sockets are ready.
 fn wake(peers: &mut [Peer], ready: &[Ready])
-    ensures { (k : ℕ) (d : Peer) → k < length peers.old → slice_index_or peers.new k d ≡ fold after_wake (slice_index_or peers.old k d) ready.now }
+    ensures { (k : ℕ) (d : Peer) → k < length peers.old
+        → slice_index_or peers.new k d ≡ fold after_wake (slice_index_or peers.old k d) ready.now }
 {
     for peer in peers.iter_mut() {
         peer.wake_all(ready);

@@ -95,7 +95,8 @@ impl<const MOST: usize> Queue<MOST> {
         requires { length self.old < MOST }
         ensures { (buffer : List ℕ) × (length buffer ≡ MOST - length self.old)
             × Tells (S.told system.old) (Reads socket buffer result) (S.told system.new)
-            × MatchResult result (λ count. (count ≤ length buffer) × (self.new ≡ self.old ++ take count buffer)) (λ _. self.new ≡ self.old) }
+            × MatchResult result (λ count. (count ≤ length buffer) × (self.new ≡ self.old ++ take count buffer))
+            (λ _. self.new ≡ self.old) }
     {
         move_to_front(&mut self.buffer, self.start, self.end);
         self.end -= self.start;

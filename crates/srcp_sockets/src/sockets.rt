@@ -31,6 +31,8 @@ pub(crate) struct Sockets<S: System + Drop> {
     // The number of the peer that came last.
     last: u32,
     turn: Turn,
+    // How long a turn waits at most, in milliseconds, where that was said.
+    pub most: Option<u64>,
     ghost stands: { Stands (S.told system) peers.items listening last } by { Stands-prop (S.told system) peers.items listening last },
     ghost named: { IsNamed (S.told system) last } by { IsNamed-prop (S.told system) last },
     ghost timed: { IsTimed (S.told system) turn } by { IsTimed-prop (S.told system) turn },
@@ -45,6 +47,13 @@ impl<S: System + Drop> Sockets<S> {
         self.turn.expect(due, slack);
     }
 
+    /// Has a turn wait so many milliseconds at most.
+    pub(crate) fn wait_at_most(&mut self, milliseconds: u64)
+        ensures { self.new.most ≡ Some milliseconds }
+    {
+        self.most = Some(milliseconds);
+    }
+
     /// Begins a turn: flushes each peer, waits, and fills each peer.
     pub(crate) fn begin_turn(&mut self, ready: &mut [Ready])
         ensures { SaysNothing (S.told self.old.system) (S.told self.new.system) }
@@ -55,6 +64,7 @@ impl<S: System + Drop> Sockets<S> {
             self.listening,
             self.last,
             &self.turn,
+            self.most,
             ready,
         );
         self.turn.wait();
@@ -80,6 +90,7 @@ impl<S: System + Drop> Sockets<S> {
             listening: Listening::Ready,
             last: 0,
             turn,
+            most: None,
         })
     }
 
@@ -96,7 +107,8 @@ impl<S: System + Drop> Sockets<S> {
 
     fn let_in(&mut self, alloc: Global) -> Result<Option<u32>, DoorFault>
         ensures calls { SaysNothing (S.told self.old.system) (S.told self.new.system) }
-        ensures numbered { IfOk result (λ peer. IfSome peer (λ number. (self.old.last < number) × (self.new.last ≡ number))) }
+        ensures numbered { IfOk result (λ peer. IfSome peer
+            (λ number. (self.old.last < number) × (self.new.last ≡ number))) }
         ensures fault { IfErr result (λ fault. fault ≡ DoorFault.Accept) }
     {
         if self.listening.is_quiet() {
@@ -160,7 +172,8 @@ impl<S: System + Drop> Sockets<S> {
 
     /// Returns the place of the peer with that number, if one has it.
     fn place(&self, number: u32) -> Option<usize>
-        ensures found { IfSome result (λ place. (place < length self.now.peers.items) × ((d : Peer) → (slice_index_or self.now.peers.items place d).number ≡ number)) }
+        ensures found { IfSome result (λ place. (place < length self.now.peers.items)
+            × ((d : Peer) → (slice_index_or self.now.peers.items place d).number ≡ number)) }
         ensures absent { IfNone result (IsAbsent number self.now.peers.items) }
     {
         for place in 0..self.peers.len() {

@@ -44,8 +44,8 @@ pub fn refusal_of(fault: ErrorKind) -> Refusal
     }
 }
 
-/// The calls of the system, and between them the calls of a door, each told at its end. An implementation for the system only
-/// makes the call, and does nothing for what it is told.
+/// The calls of the system, and between them the calls of a door, each told at its end. An implementation for the
+/// system only makes the call, and does nothing for what it is told.
 pub trait System {
     /// The calls so far, where they are told.
     ghost told: { Self → Option (List Step) } = { λ _. None };
@@ -74,8 +74,8 @@ pub trait System {
         ensures count { IfOk result (λ count. count ≤ length bytes.now) }
         ensures told { Tells (told self.old) (Writes socket bytes.now result) (told self.new) };
 
-    /// Waits until a socket is ready, so many milliseconds at most if that is said. Returns how many were found ready, which
-    /// are in front of `ready`; none where the system refuses to wait.
+    /// Waits until a socket is ready, so many milliseconds at most if that is said. Returns how many were found ready,
+    /// which are in front of `ready`; none where the system refuses to wait.
     fn wait(&mut self, most: Option<u64>, ready: &mut [Ready]) -> usize
         ensures count { result ≤ length ready.new }
         ensures told { Tells (told self.old) (Waits most result ready.new) (told self.new) };

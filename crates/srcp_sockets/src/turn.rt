@@ -78,14 +78,15 @@ impl Turn {
         self.busy = false;
     }
 
-    /// Returns the moment that is to be told, if the clock that is never set shows a time. Moments never go back. After a
-    /// stall they catch up in steps of 10 milliseconds, from the moment on at which something falls due.
+    /// Returns the moment that is to be told, if the clock that is never set shows a time. Moments never go back. After
+    /// a stall they catch up in steps of 10 milliseconds, from the moment on at which something falls due.
     ///
     /// # Errors
     /// `Now` if the clock cannot be read.
     pub(crate) fn tell(&mut self, shown: Option<u64>) -> Result<u64, DoorFault>
         ensures none { shown ≡ None → (result ≡ Err DoorFault.Now) × (self.new ≡ self.old) }
-        ensures some { (time : ℕ) → shown ≡ Some time → (result ≡ Ok (moment_at self.old time)) × (self.new ≡ told_at self.old time (moment_at self.old time)) }
+        ensures some { (time : ℕ) → shown ≡ Some time
+            → (result ≡ Ok (moment_at self.old time)) × (self.new ≡ told_at self.old time (moment_at self.old time)) }
         ensures fault { IfErr result (λ fault. fault ≡ DoorFault.Now) }
     {
         let Some(time) = shown else {

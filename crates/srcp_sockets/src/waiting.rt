@@ -46,22 +46,41 @@ impl Listening {
     }
 }
 
-/// Returns how many milliseconds a turn waits at most; `None` if only a socket ends the wait. It does not wait while a peer or
-/// the listener may have something, or a panel may have something coming, nor past the moment at which something falls due.
-pub fn longest_wait(peers: &[Peer], listening: Listening, turn: &Turn) -> Option<u64>
+/// Returns how many milliseconds a turn waits at most; `None` if only a socket ends the wait. It does not wait while a
+/// peer or the listener may have something, or a panel may have something coming. It waits neither past what falls due,
+/// nor longer than `most` if that is said.
+pub fn longest_wait(
+    peers: &[Peer],
+    listening: Listening,
+    turn: &Turn,
+    most: Option<u64>,
+) -> Option<u64>
     ensures rest { is_short result ≡ false → All (λ peer. is_resting peer ≡ true) peers.now }
     ensures newcomers { is_short result ≡ false → listening ≡ Listening.Quiet }
     ensures panels { is_short result ≡ false → is_pending turn.now.slack turn.now.busy ≡ false }
+    ensures most { (n : ℕ) → most ≡ Some n → IsWithin n result }
     ensures due { (left : ℕ) → time_left turn.now ≡ Some left → IsWithin left result }
 {
     if turn.is_pending() || !are_resting(peers) {
         return Some(0);
     }
-    let left = turn.left().map(|left| left.min(LONGEST_WAIT));
+    let left = sooner(turn.left(), most).map(|left| left.min(LONGEST_WAIT));
     match listening {
         Listening::Ready => Some(0),
         Listening::Refused => Some(left.map_or(PAUSE, |left| left.min(PAUSE))),
         Listening::Quiet => left,
+    }
+}
+
+/// Returns the lesser of two waits; `None` is without limit.
+fn sooner(one: Option<u64>, other: Option<u64>) -> Option<u64>
+    ensures one { (n : ℕ) → one ≡ Some n → IsWithin n result }
+    ensures other { (n : ℕ) → other ≡ Some n → IsWithin n result }
+{
+    match (one, other) {
+        (Some(one), Some(other)) => Some(one.min(other)),
+        (Some(left), None) | (None, Some(left)) => Some(left),
+        (None, None) => None,
     }
 }
 

@@ -2,4 +2,5 @@ use Rattle.srcp_sockets.proofs.Pasts.{ended_before}
 use Rattle.srcp_sockets.proofs.laws.ends_are_true.Goals as goal
 
 pub returns : goal.returns
-returns g c before after socket buffer is = ended_before socket before after buffer (c.args.door.now.sockets.stands.sound _ is socket).honest
+returns g c before after socket buffer is = ended_before socket before after buffer
+    (c.args.door.now.sockets.stands.sound _ is socket).honest

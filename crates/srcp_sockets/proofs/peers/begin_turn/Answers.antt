@@ -14,9 +14,11 @@ returns-clause-stands g c = stands_turned (g.S.System.told c.wait-listening.new.
     c.fill.auto.peers c.fill.ensures.kept c.fill.ensures.those c.fill.ensures.others c.wait-listening.ensures.stands
 
 pub wait-listening-requires-clause-timed : goal.wait-listening-requires-clause-timed
-wait-listening-requires-clause-timed g c = timed_kept (g.S.System.told c.args.system.now) (g.S.System.told c.flush.new.system) c.args.turn.now
+wait-listening-requires-clause-timed g c = timed_kept (g.S.System.told c.args.system.now)
+    (g.S.System.told c.flush.new.system) c.args.turn.now
     c.flush.ensures.times c.requires.timed
 
 pub returns-clause-timed : goal.returns-clause-timed
-returns-clause-timed g c = timed_kept (g.S.System.told c.wait-listening.new.system) (g.S.System.told c.fill.new.system) (after_wait c.args.turn.now)
+returns-clause-timed g c = timed_kept (g.S.System.told c.wait-listening.new.system) (g.S.System.told c.fill.new.system)
+    (after_wait c.args.turn.now)
     c.fill.ensures.times c.wait-listening.ensures.timed

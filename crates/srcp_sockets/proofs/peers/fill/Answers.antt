@@ -23,9 +23,11 @@ loop-peer-preserved g c = record {
       c.fill.ensures.number c.loop-peer.invariant.apart;
   those = set_those c.args.peers.now c.loop-peer.peers c.loop-peer.peer-index c.peer-item.result c.fill.new.self (omega arith)
       c.loop-peer.auto.peers c.fill.ensures.number c.loop-peer.invariant.those;
-  others = λ other absent. spares_then other (g.S.System.told c.args.system.now) (g.S.System.told c.loop-peer.system) (g.S.System.told c.fill.new.system)
+  others = λ other absent. spares_then other (g.S.System.told c.args.system.now) (g.S.System.told c.loop-peer.system)
+      (g.S.System.told c.fill.new.system)
       (c.loop-peer.invariant.others other absent)
-      (c.fill.ensures.others other (absent_there other c.args.peers.now c.loop-peer.peers c.loop-peer.peer-index c.peer-item.result (omega arith)
+      (c.fill.ensures.others other (absent_there other c.args.peers.now c.loop-peer.peers c.loop-peer.peer-index c.peer-item.result
+      (omega arith)
       c.loop-peer.auto.peers c.loop-peer.invariant.those absent));
   calls = says_then (g.S.System.told c.args.system.now) (g.S.System.told c.loop-peer.system) (g.S.System.told c.fill.new.system)
       c.loop-peer.invariant.calls c.fill.ensures.calls;

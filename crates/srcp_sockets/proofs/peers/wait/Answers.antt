@@ -9,9 +9,11 @@ use Rattle.srcp_sockets.proofs.Standing.{stands_waited}
 use Rattle.srcp_sockets.proofs.peers.wait.Goals as goal
 
 pub returns-clause-stands : goal.returns-clause-stands
-returns-clause-stands g c = subst (λ (l : Listening). Stands (g.S.System.told c.wait-count.new.self) c.wake.new.peers l c.args.last) (sym c.listen.ensures)
+returns-clause-stands g c = subst (λ (l : Listening). Stands (g.S.System.told c.wait-count.new.self) c.wake.new.peers l c.args.last)
+    (sym c.listen.ensures)
     (stands_waited (g.S.System.told c.args.system.now) (g.S.System.told c.wait-count.new.self) c.args.peers.now c.wake.new.peers
-    c.longest_wait-most.result c.wait-count.result c.wait-count.new.ready c.args.listening c.args.last c.longest_wait-most.ensures.rest c.longest_wait-most.ensures.newcomers
+    c.longest_wait-most.result c.wait-count.result c.wait-count.new.ready c.args.listening c.args.last c.longest_wait-most.ensures.rest
+    c.longest_wait-most.ensures.newcomers
     c.wait-count.ensures.told (search rules) c.wake.ensures c.requires.stands)
 
 pub returns-clause-calls : goal.returns-clause-calls

@@ -13,11 +13,14 @@ invariant_of-self g c =
     let new = g.S.System.told c.told_expect.new.self in
     let call = ExpectCall c.args.due c.args.slack in
     record {
-      stands = stands_step old new c.args.self.now.peers.items c.args.self.now.listening c.args.self.now.last (Told call) (λ s a. refl) c.told_expect.ensures
+      stands = stands_step old new c.args.self.now.peers.items c.args.self.now.listening c.args.self.now.last (Told call)
+          (λ s a. refl) c.told_expect.ensures
           c.args.self.now.stands;
       named = named_call old new c.args.self.now.last call (says_call old new call c.told_expect.ensures) refl c.args.self.now.named;
-      timed = timed_expect old new c.args.self.now.turn c.expect.new.self c.args.due c.args.slack c.expect.ensures c.told_expect.ensures c.args.self.now.timed;
+      timed = timed_expect old new c.args.self.now.turn c.expect.new.self c.args.due c.args.slack c.expect.ensures c.told_expect.ensures
+          c.args.self.now.timed;
     }
 
 pub returns : goal.returns
-returns g c = says_call (g.S.System.told c.args.self.now.system) (g.S.System.told c.told_expect.new.self) (ExpectCall c.args.due c.args.slack) c.told_expect.ensures
+returns g c = says_call (g.S.System.told c.args.self.now.system) (g.S.System.told c.told_expect.new.self)
+    (ExpectCall c.args.due c.args.slack) c.told_expect.ensures

@@ -14,10 +14,12 @@ invariant_of-self g c =
     let new = g.S.System.told c.told_read.new.self in
     let call = ReadCall c.args.number (Ok Nothing) c.args.buffer.now in
     record {
-      stands = stands_step old new c.args.self.now.peers.items c.args.self.now.listening c.args.self.now.last (Told call) (λ s a. refl) c.told_read.ensures
+      stands = stands_step old new c.args.self.now.peers.items c.args.self.now.listening c.args.self.now.last (Told call)
+          (λ s a. refl) c.told_read.ensures
           c.args.self.now.stands;
       named = named_call old new c.args.self.now.last call (says_call old new call c.told_read.ensures) refl c.args.self.now.named;
-      timed = timed_read old new c.args.self.now.turn c.note_read.new.self c.args.number (Ok Nothing) c.args.buffer.now c.note_read.ensures (λ e. refl)
+      timed = timed_read old new c.args.self.now.turn c.note_read.new.self c.args.number (Ok Nothing) c.args.buffer.now c.note_read.ensures
+          (λ e. refl)
           c.told_read.ensures c.args.self.now.timed;
     }
 

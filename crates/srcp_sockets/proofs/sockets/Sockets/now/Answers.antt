@@ -14,11 +14,14 @@ invariant_of-self g c =
     let new = g.S.System.told c.told_now.new.self in
     let answer = c.tell-answer.result in
     record {
-      stands = stands_step mid new c.args.self.now.peers.items c.args.self.now.listening c.args.self.now.last (Told (NowCall answer)) (λ s a. refl) c.told_now.ensures
-          (stands_step old mid c.args.self.now.peers.items c.args.self.now.listening c.args.self.now.last (Clocks c.clock-shown.result) (λ s a. refl) c.clock-shown.ensures
+      stands = stands_step mid new c.args.self.now.peers.items c.args.self.now.listening c.args.self.now.last (Told (NowCall answer))
+          (λ s a. refl) c.told_now.ensures
+          (stands_step old mid c.args.self.now.peers.items c.args.self.now.listening c.args.self.now.last (Clocks c.clock-shown.result)
+          (λ s a. refl) c.clock-shown.ensures
           c.args.self.now.stands);
       named = named_call mid new c.args.self.now.last (NowCall answer) (says_call mid new (NowCall answer) c.told_now.ensures) refl
-          (named_silent old mid c.args.self.now.last (says_step old mid (Clocks c.clock-shown.result) c.clock-shown.ensures refl) c.args.self.now.named);
+          (named_silent old mid c.args.self.now.last (says_step old mid (Clocks c.clock-shown.result) c.clock-shown.ensures refl)
+          c.args.self.now.named);
       timed = timed_moment old mid new c.args.self.now.turn c.tell-answer.new.self c.clock-shown.result answer c.tell-answer.ensures.none
           c.tell-answer.ensures.some c.clock-shown.ensures c.told_now.ensures c.args.self.now.timed;
     }

@@ -1,0 +1,64 @@
+//! Opening a door at a port of the machine itself.
+
+ghost use Rattle.std.specs.Prelude.{◌≡◌, IfOk};
+ghost use Rattle.srcp_sockets.specs.Faults.{IsLocal};
+
+use crate::door::SocketDoor;
+use crate::fault::{ListenFault, fault_of};
+use crate::mio_system::MioSystem;
+use std::alloc::Global;
+use std::io;
+use std::net::{IpAddr, Ipv4Addr, Net, SocketAddr};
+use std::time::{Clock, Duration};
+
+impl<C: Clock + Drop> SocketDoor<MioSystem<C>> {
+    /// Opens a door at the port, at 127.0.0.1. Its moments begin with the wall clock as it stands now, and go on with
+    /// the clock that is never set. A clock that cannot be read, or stands before its zero, counts as 0.
+    ///
+    /// # Errors
+    /// Fails with `Port` if the port is taken or refused, or the system has no descriptors for it, and with `Memory` if
+    /// memory is refused. Then it does not listen.
+    pub fn listen<N: Net>(
+        net: &N,
+        alloc: Global,
+        port: u16,
+        clock: C,
+    ) -> Result<SocketDoor<MioSystem<C>>, ListenFault>
+        ensures faults { IfOk result (λ door. door.faults ≡ 0) }
+        ensures address { IfOk result (λ door. IsLocal door.sockets.system.address port) }
+    {
+        match open(net, alloc, local_address(port), clock) {
+            Ok(door) => Ok(door),
+            Err(error) => Err(fault_of(&error)),
+        }
+    }
+}
+
+fn open<N: Net, C: Clock + Drop>(
+    net: &N,
+    alloc: Global,
+    address: SocketAddr,
+    clock: C,
+) -> io::Result<SocketDoor<MioSystem<C>>>
+    ensures faults { IfOk result (λ door. door.faults ≡ 0) }
+    ensures address { IfOk result (λ door. door.sockets.system.address ≡ address) }
+{
+    let wall = clock.since_1970().map_or(0, milliseconds);
+    let start = clock.monotonic().map_or(0, milliseconds);
+    let system = MioSystem::listen(net, alloc, address, clock)?;
+    match SocketDoor::open(system, alloc, wall, start) {
+        Ok(door) => Ok(door),
+        Err(error) => Err(io::Error::from(error)),
+    }
+}
+
+/// Returns the address of a port of the machine itself.
+fn local_address(port: u16) -> SocketAddr
+    ensures { IsLocal result port }
+{
+    SocketAddr::new(IpAddr::V4(Ipv4Addr::LOCALHOST), port)
+}
+
+fn milliseconds(time: Duration) -> u64 {
+    u64::try_from(time.as_millis()).unwrap_or(u64::MAX)
+}
