@@ -23,7 +23,7 @@ pub fn sockets_follow<S: System + Drop>(door: &SocketDoor<S>)
     ensures handed { (log : List Step) → S.told door.now.sockets.system ≡ Some log → (socket : ℕ)
         → StartsWith (gave socket log) (handed socket log) }
 {
-    let _hall = &door.sockets;
+    let _sockets = &door.sockets;
 }
 
 /// What a socket did not take of what the door told to have taken for its peer is held, while the peer is there, in
@@ -35,7 +35,7 @@ pub fn untaken_is_held<S: System + Drop>(door: &SocketDoor<S>)
         ((account peer.number log).sent.lost ≡ true)
         ⊎ (taken peer.number log ≡ took peer.number log ++ peer.outgoing)) }
 {
-    let _hall = &door.sockets;
+    let _sockets = &door.sockets;
 }
 
 /// An end was told of a peer only after a read of its socket had found it.
@@ -44,7 +44,7 @@ pub fn ends_are_true<S: System + Drop>(door: &SocketDoor<S>)
         → S.told door.now.sockets.system ≡ Some (before ++ Told (ReadCall socket (Ok Got.Ended) buffer) ∷ after)
         → (account socket before).received.ended ≡ true }
 {
-    let _hall = &door.sockets;
+    let _sockets = &door.sockets;
 }
 
 /// A wait longer than the pause found at rest each peer that was there, and the listener, which is socket 0.
@@ -54,7 +54,7 @@ pub fn waits_are_safe<S: System + Drop>(door: &SocketDoor<S>)
         → (socket : ℕ) → ((account socket before).watched || (socket == 0)) ≡ true
         → is_at_rest (account socket before).sent (account socket before).received ≡ true }
 {
-    let _hall = &door.sockets;
+    let _sockets = &door.sockets;
 }
 
 /// Each moment was the one that was to be told by the clock that was read. No wait ended past what falls due, as the
