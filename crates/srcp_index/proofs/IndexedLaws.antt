@@ -25,13 +25,12 @@ use Rattle.srcp_rules.specs.Rows.{AreNewRowsOf, put_rows}
 use Rattle.srcp_rules.proofs.KeyLaws.{same_key, same_key-itself, same_key-true}
 use Rattle.srcp_rules.proofs.FindLaws.{each-weaken}
 use Rattle.srcp_rules.proofs.StateLaws.{at-filter, row_key, row_at_key, row_at-put_other, each_found}
-use Rattle.srcp_rules.proofs.DueLaws.{lock_goes}
 use Rattle.srcp_rules.proofs.NewDeviceLaws.{IsFrom, ports_from, ports_rise}
 use Rattle.srcp_rules.proofs.OpeningLaws.{opening_whole}
 use Rattle.srcp_index.specs.declared.indexes.Indexes.{Indexes}
 use Rattle.srcp_index.specs.Pairs.{Held, before}
 use Rattle.srcp_index.specs.Ranked.{ranked}
-use Rattle.srcp_index.specs.Indexed.{IsIndexed, HasPairs, HasRoom, IsRankedRow, due_of, goer, goers, may_go, pairs_of, port_count, put_ranked, take_ranked, with_pair, without_pair, with_row, with_rows, without_row}
+use Rattle.srcp_index.specs.Indexed.{IsIndexed, HasPairs, HasRoom, IsRankedRow, due_of, goer, goers, may_go, may_rank, pairs_of, port_count, put_ranked, take_ranked, with_pair, without_pair, with_row, with_rows, without_row}
 use Rattle.srcp_index.proofs.Pairs.{before_weak, before_tie}
 use Rattle.srcp_index.proofs.Ranked.{length-put, length-ranked, ranked-ranked}
 use Rattle.srcp_index.proofs.RowSums.{but_at, sum-put_row, sum-there}
@@ -78,11 +77,29 @@ longer (Some r) k index = let e = length-put (before index.since) (record { rank
 -- ---- rows with a rank
 
 module _ where
+  lock_ranks : (g : Group) → is_lock g ≡ true → may_rank g ≡ true
+  lock_ranks group.LockGl e = refl
+  lock_ranks group.LockGa e = refl
+  lock_ranks group.Session e = absurd (true≢false (sym e))
+  lock_ranks group.Power e = absurd (true≢false (sym e))
+  lock_ranks group.Gl e = absurd (true≢false (sym e))
+  lock_ranks group.Ga e = absurd (true≢false (sym e))
+  lock_ranks group.Fb e = absurd (true≢false (sym e))
+
+  ranked_goes : (g : Group) → may_rank g ≡ true → can_go g ≡ true
+  ranked_goes group.Ga e = refl
+  ranked_goes group.LockGl e = refl
+  ranked_goes group.LockGa e = refl
+  ranked_goes group.Gl e = refl
+  ranked_goes group.Session e = refl
+  ranked_goes group.Power e = absurd (true≢false (sym e))
+  ranked_goes group.Fb e = absurd (true≢false (sym e))
+
   due_goes : (g : Group) (port : ℕ) (shows : Value) (o : Option ℕ) → IsValueAt g port shows
-      → IfSome o (λ moment. IsMoment moment × MayFall shows) → IsSome o → can_go g ≡ true
+      → IfSome o (λ moment. IsMoment moment × MayFall shows) → IsSome o → may_rank g ≡ true
   due_goes g port shows None v h s = absurd (true≢false (sym s))
-  due_goes g port (value.GaPort on) (Some moment) v h s = ap can_go v.0
-  due_goes g port (value.Lock seconds session) (Some moment) v h s = (lock_goes g v.0).0
+  due_goes g port (value.GaPort on) (Some moment) v h s = ap may_rank v.0
+  due_goes g port (value.Lock seconds session) (Some moment) v h s = lock_ranks g v.0
   due_goes g port (value.Session mode) (Some moment) v h s = absurd h.1
   due_goes g port (value.Power on text) (Some moment) v h s = absurd h.1
   due_goes g port (value.GlInit letter version steps functions) (Some moment) v h s = absurd h.1
@@ -90,8 +107,8 @@ module _ where
   due_goes g port (value.GaInit letter) (Some moment) v h s = absurd h.1
   due_goes g port (value.Fb on) (Some moment) v h s = absurd h.1
 
-  held_goes : (g : Group) (port : ℕ) (shows : Value) → IsValueAt g port shows → IsSome (holder_in shows) → can_go g ≡ true
-  held_goes g port (value.Lock seconds session) v s = (lock_goes g v.0).0
+  held_goes : (g : Group) (port : ℕ) (shows : Value) → IsValueAt g port shows → IsSome (holder_in shows) → may_rank g ≡ true
+  held_goes g port (value.Lock seconds session) v s = lock_ranks g v.0
   held_goes g port (value.GaPort on) v s = absurd (true≢false (sym s))
   held_goes g port (value.Session mode) v s = absurd (true≢false (sym s))
   held_goes g port (value.Power on text) v s = absurd (true≢false (sym s))
@@ -130,10 +147,10 @@ ranked_row buses row of =
     }
 
 due_all : (state : State) → AllByRecursion IsRankedRow state → AllByRecursion (λ row. IsSome (due_of row) → IsTrue (may_go row)) state
-due_all state h = each-weaken {P = IsRankedRow} (λ row r. r.due) state h
+due_all state h = each-weaken {P = IsRankedRow} (λ row r s. ranked_goes row.shown.key.group (r.due s)) state h
 
 held_all : (state : State) → AllByRecursion IsRankedRow state → AllByRecursion (λ row. IsSome (holder_of row) → IsTrue (may_go row)) state
-held_all state h = each-weaken {P = IsRankedRow} (λ row r. r.held) state h
+held_all state h = each-weaken {P = IsRankedRow} (λ row r s. ranked_goes row.shown.key.group (r.held s)) state h
 
 -- a row that may go counts
 counted_one : (b : Bool) → b ≡ true → cond {A = ℕ} b 1 0 ≡ 1
@@ -228,6 +245,18 @@ settled state both count moment index h pairs since room =
 
 -- ---- a row that is set
 
+-- what holds for all rows holds for the one at a key
+found_all : (P : Row → Type 0) (state : State) → AllByRecursion P state → (key : Key) (row : Row) → row_at key state ≡ Some row → P row
+found_all P [] h key row e = absurd (let f : ⊥ = cc in f)
+found_all P (first ∷ state) h key row e = by (same_key first.shown.key key) refl (found_all P state h.1 key row)
+  where
+    by : (b : Bool) → same_key first.shown.key key ≡ b → (row_at key state ≡ Some row → P row) → P row
+    by true f later =
+        let found : Some first ≡ Some row = sym (ap (λ c. cond c (Some first) (row_at key state)) f) ∙ e in
+        let it : first ≡ row = cc in
+        subst P it h.0
+    by false f later = later (sym (ap (λ c. cond c (Some first) (row_at key state)) f) ∙ e)
+
 module _ (buses : List Bus) (state : State) (both : Indexes) (count : ℕ) (h : IsIndexed state both count) (old row : Row)
     (there : row_at row.shown.key state ≡ Some old) (of : IsRowOf buses row) where
   same : old.shown.key ≡ row.shown.key
@@ -256,7 +285,7 @@ module _ (buses : List Bus) (state : State) (both : Indexes) (count : ℕ) (h : 
   pub room_for_due : IsSome (due_of row) → HasRoom (without_pair (due_of old) old.shown.key both.moments)
   room_for_due s =
       let a = few due_of left (without_pair (due_of old) old.shown.key both.moments) count (due_all left rows_left) due_left in
-      let b : goer row ≡ 1 = counted_one (may_go row) ((ranked_row buses row of).due s) in
+      let b : goer row ≡ 1 = counted_one (may_go row) (ranked_goes row.shown.key.group ((ranked_row buses row of).due s)) in
       let c = h.counted in
       let d = h.due.room in
       let e = counts in
@@ -265,7 +294,7 @@ module _ (buses : List Bus) (state : State) (both : Indexes) (count : ℕ) (h : 
   pub room_for_held : IsSome (holder_of row) → HasRoom (without_pair (holder_of old) old.shown.key both.sessions)
   room_for_held s =
       let a = few holder_of left (without_pair (holder_of old) old.shown.key both.sessions) count (held_all left rows_left) held_left in
-      let b : goer row ≡ 1 = counted_one (may_go row) ((ranked_row buses row of).held s) in
+      let b : goer row ≡ 1 = counted_one (may_go row) (ranked_goes row.shown.key.group ((ranked_row buses row of).held s)) in
       let c = h.counted in
       let d = h.held.room in
       let e = counts in
@@ -280,6 +309,47 @@ module _ (buses : List Bus) (state : State) (both : Indexes) (count : ℕ) (h : 
     counted = (let a = sum-put_row goer row state in let b = counts in let c = h.counted in omega arith);
     rows = all_put row_key IsRankedRow row state (ranked_row buses row of) h.rows;
   }
+
+  -- both indexes with a pair of the row's key, and without one of the old row's
+  abbrev noted : (due held : Option ℕ) → Indexes → Indexes
+  noted due held all = record {
+    moments = with_pair due row.shown.key all.moments;
+    sessions = with_pair held row.shown.key all.sessions;
+  }
+
+  abbrev forgotten : (due held : Option ℕ) → Indexes
+  forgotten due held = record {
+    moments = without_pair due old.shown.key both.moments;
+    sessions = without_pair held old.shown.key both.sessions;
+  }
+
+  -- a row that may not be ranked leaves the indexes as they are
+  no_rank : (o : Option ℕ) → (IsSome o → may_rank row.shown.key.group ≡ true) → may_rank row.shown.key.group ≡ false → o ≡ None
+  no_rank None may never = refl
+  no_rank (Some r) may never = absurd (true≢false (sym (may refl) ∙ never))
+
+  passed_indexed : may_rank row.shown.key.group ≡ false → IsIndexed (put_row row state) both count
+  passed_indexed never =
+      let was = found_all IsRankedRow state h.rows row.shown.key old there in
+      let before : may_rank old.shown.key.group ≡ may_rank row.shown.key.group = ap (λ k. may_rank k.group) same in
+      let a = no_rank (due_of row) (ranked_row buses row of).due never in
+      let b = no_rank (holder_of row) (ranked_row buses row of).held never in
+      let c = no_rank (due_of old) (λ s. sym before ∙ was.due s) never in
+      let d = no_rank (holder_of old) (λ s. sym before ∙ was.held s) never in
+      subst (λ (o : Option ℕ). IsIndexed (put_row row state) (noted o None both) count) a
+      (subst (λ (o : Option ℕ). IsIndexed (put_row row state) (noted (due_of row) o both) count) b
+      (subst (λ (o : Option ℕ). IsIndexed (put_row row state) (with_row row (forgotten o None)) count) c
+      (subst (λ (o : Option ℕ). IsIndexed (put_row row state) (with_row row (forgotten (due_of old) o)) count) d
+      set_indexed)))
+
+pub passed_by : (buses : List Bus) (state : State) (both : Indexes) (count : ℕ) → IsIndexed state both count → (row : Row)
+    → is_some (row_at row.shown.key state) ≡ true → IsRowOf buses row → may_rank row.shown.key.group ≡ false
+    → IsIndexed (put_row row state) both count
+passed_by buses state both count h row there of never = by (row_at row.shown.key state) refl there
+  where
+    by : (o : Option Row) → row_at row.shown.key state ≡ o → is_some o ≡ true → IsIndexed (put_row row state) both count
+    by None e s = absurd (true≢false (sym s))
+    by (Some old) e s = passed_indexed buses state both count h old row e of never
 
 -- ---- more room
 

@@ -1,5 +1,5 @@
 -- How indexes keep a pair of each row that has a rank: its due moment, or the session that holds it.
-use Rattle.std.specs.Prelude.{◌≡◌, ℕ, ◌<◌, ◌≤◌, Bool, IsTrue, IsSome, List, [], ◌∷◌, fold, flat_map, length, Option, if◌then◌else◌}
+use Rattle.std.specs.Prelude.{◌≡◌, ℕ, ◌<◌, ◌≤◌, Bool, true, false, IsTrue, IsSome, List, [], ◌∷◌, fold, flat_map, length, Option, if◌then◌else◌}
 use Rattle.std.specs.List.{AllByRecursion, sum_by}
 use Rattle.std.specs.Option.{option_map_or}
 use Rattle.srcp_info.specs.declared.key.Group.{Group}
@@ -73,6 +73,16 @@ HasRoom index = length index.pairs < index.room
 abbrev pub may_go : Row → Bool
 may_go row = can_go row.shown.key.group
 
+-- a row of the group may have a due moment or a holder
+abbrev pub may_rank : Group → Bool
+may_rank group.Session = false
+may_rank group.Power = false
+may_rank group.Gl = false
+may_rank group.Ga = true
+may_rank group.Fb = false
+may_rank group.LockGl = true
+may_rank group.LockGa = true
+
 -- 1 for such a row
 abbrev pub goer : Row → ℕ
 goer row = if may_go row then 1 else 0
@@ -91,10 +101,10 @@ port_count group.Fb = 1
 port_count group.LockGl = 1
 port_count group.LockGa = 1
 
--- no row has a rank but of a device that comes and goes, and its port is one that its group may have
+-- no row has a rank but of an accessory or a lock, and its port is one that its group may have
 pub record IsRankedRow (row : Row) : Type 0 where
-  pub due : IsSome (due_of row) → IsTrue (may_go row)
-  pub held : IsSome (holder_of row) → IsTrue (may_go row)
+  pub due : IsSome (due_of row) → IsTrue (may_rank row.shown.key.group)
+  pub held : IsSome (holder_of row) → IsTrue (may_rank row.shown.key.group)
   pub port : row.shown.key.port < port_count row.shown.key.group
 
 -- the index has the pairs of the rows, and room for `count` pairs

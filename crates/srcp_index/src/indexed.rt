@@ -3,7 +3,7 @@ ghost use Rattle.std.specs.Prelude.{◌≡◌, ◌+◌, ◌<◌, ◌≤◌, leng
 ghost use Rattle.std.specs.List.{AllByRecursion};
 ghost use Rattle.srcp_index.specs.Earliest.{IsEarliestDue};
 ghost use Rattle.srcp_info.specs.WellFormed.{can_go};
-ghost use Rattle.srcp_index.specs.Indexed.{IsIndexed, goers, port_count};
+ghost use Rattle.srcp_index.specs.Indexed.{IsIndexed, goers, may_rank, port_count};
 
 use crate::indexes::Indexes;
 use srcp_info::{Cursor, Device, Group, Key, Row};
@@ -86,6 +86,9 @@ impl<R: Rows> Rows for Indexed<R> {
     }
 
     fn set(&mut self, row: Row) {
+        if !may_rank(row.shown.key.group) {
+            return self.rows.set(row);
+        }
         let Some(old) = self.rows.row(&row.shown.key) else {
             return;
         };
@@ -109,6 +112,13 @@ impl<R: Rows> Rows for Indexed<R> {
         }
         self.rows.drop_device(device);
     }
+}
+
+/// Returns whether a row of the group may have a due moment or a holder: those of accessories and locks alone.
+fn may_rank(group: Group) -> bool
+    ensures { result ≡ may_rank group }
+{
+    matches!(group, Group::Ga | Group::LockGl | Group::LockGa)
 }
 
 /// Returns how many ports the rows of such a device may have, from 0 on.

@@ -1,9 +1,9 @@
-use Rattle.std.proofs.Common.{IsSome, sym, ap, subst, ◌∙◌}
+use Rattle.std.proofs.Common.{IsSome, IsTrue, sym, ap, subst, ◌∙◌}
 use Rattle.std.specs.Option.{option_copied}
-use Rattle.srcp_rules.specs.State.{holder_of, put_row}
+use Rattle.srcp_rules.specs.State.{has_row, holder_of, put_row}
 use Rattle.srcp_index.specs.declared.indexes.Indexes.{Indexes}
 use Rattle.srcp_index.specs.Indexed.{IsIndexed, HasRoom, due_of, with_row}
-use Rattle.srcp_index.proofs.IndexedLaws.{room_for_due, room_for_held, set_indexed}
+use Rattle.srcp_index.proofs.IndexedLaws.{room_for_due, room_for_held, passed_by, set_indexed}
 use Rattle.srcp_index.proofs.indexed.IndexedRows.set.Goals as goal
 
 pub note-requires-clause-moments : goal.note-requires-clause-moments
@@ -22,9 +22,16 @@ note-requires-clause-sessions g c =
 
 pub invariant_of-self : goal.invariant_of-self
 invariant_of-self g c =
+    subst (λ state. IsIndexed state c.self.inside.indexes c.self.inside.count) (sym c.set.ensures.rows)
+    (passed_by (g.R.Rows.buses c.args.self.now) (g.R.Rows.state c.self.inside.rows) c.self.inside.indexes c.self.inside.count
+    c.self.invariant c.args.row (subst (λ rows. IsTrue (has_row c.args.row.shown.key (g.R.Rows.state rows))) (sym c.self.view_is) c.requires.there)
+    c.requires.fits (sym c.may_rank.ensures ∙ c.if-not-may_rank.true))
+
+pub invariant_of-self-2 : goal.invariant_of-self-2
+invariant_of-self-2 g c =
     let there = sym c.row.ensures ∙ ap option_copied c.in-Some.is in
     let indexed = set_indexed (g.R.Rows.buses c.args.self.now) (g.R.Rows.state c.self.inside.rows) c.self.inside.indexes
     c.self.inside.count c.self.invariant c.in-Some.old.now c.args.row there c.requires.fits in
-    subst (λ state. IsIndexed state c.note.new.self c.self.inside.count) (sym c.set.ensures.rows)
+    subst (λ state. IsIndexed state c.note.new.self c.self.inside.count) (sym c.set-2.ensures.rows)
     (subst (λ both. IsIndexed (put_row c.args.row (g.R.Rows.state c.self.inside.rows)) both c.self.inside.count)
     (sym (c.note.ensures ∙ ap (with_row c.args.row) c.forget.ensures)) indexed)
