@@ -1,5 +1,6 @@
 -- Laws of what a reader of lines knows.
-use Rattle.std.specs.Prelude.{◌≡◌, ℕ, ◌+◌, ◌-◌, ◌<◌, ◌≤◌, false, List, [], ◌∷◌, ◌++◌, length, take, drop, get_or, IfSome, nat_lt, position, slice_range, Option, Some, None}
+use Rattle.std.specs.Prelude.{◌≡◌, ℕ, ◌+◌, ◌-◌, ◌<◌, ◌≤◌, false, List, [], ◌∷◌, ◌++◌, length, take, drop, get_or, IfSome, nat_lt, position}
+use Rattle.std.specs.Prelude.{slice_range, Option, Some, None}
 use Rattle.std.specs.List.{list_any, position_or_len}
 use Rattle.std.proofs.Common.{refl, ap, subst, sym, ◌∙◌, arith, inl, inr, suc, add-one, take-suc, take-add}
 use Rattle.std.proofs.lemmas.Bool.{cases_Bool, cases_lt, lt-ltb, le-ltb, eqb-true, ne_eqb, or_from}
@@ -38,7 +39,8 @@ extended-known begun more =
     ]
 
 -- the mark of a line is what the reader finds at its end
-pub new_marks-fed_at : (begun : List ℕ) (stop : ℕ) → new_marks (fed_at (known begun) stop) (after_lf (known begun)).line ≡ mark_of begun ∷ []
+pub new_marks-fed_at : (begun : List ℕ) (stop : ℕ)
+    → new_marks (fed_at (known begun) stop) (after_lf (known begun)).line ≡ mark_of begun ∷ []
 new_marks-fed_at begun stop =
     elim (cases_Bool (nat_lt 1000 (length begun))) [ inl t ↦ rw t refl | inr f ↦ rw f refl ]
 
@@ -57,7 +59,8 @@ none_before (x ∷ xs) =
           ap (λ n. list_any is_lf (take n (x ∷ xs))) e
       | inr f ↦
           let e : position_or_len is_lf (x ∷ xs) ≡ suc (position_or_len is_lf xs) = rw f (omega arith) in
-          ap (λ n. list_any is_lf (take n (x ∷ xs))) e ∙ or_from (is_lf x) (list_any is_lf (take (position_or_len is_lf xs) xs)) f (none_before xs)
+          ap (λ n. list_any is_lf (take n (x ∷ xs))) e
+          ∙ or_from (is_lf x) (list_any is_lf (take (position_or_len is_lf xs) xs)) f (none_before xs)
     ]
 
 -- where no LF is found there is none
@@ -69,18 +72,22 @@ lf_absent xs e =
     ]
 
 -- where one is found, the bytes up to it are a line and its LF
-pub lf_found : (xs : List ℕ) (len : ℕ) → position is_lf xs ≡ Some len → (list_any is_lf (take len xs) ≡ false) × (take (len + 1) xs ≡ take len xs ++ 10 ∷ [])
+pub lf_found : (xs : List ℕ) (len : ℕ) → position is_lf xs ≡ Some len
+    → (list_any is_lf (take len xs) ≡ false) × (take (len + 1) xs ≡ take len xs ++ 10 ∷ [])
 lf_found xs len e =
     let found = position_some is_lf xs len e in
     let inside : position_or_len is_lf xs < length xs = omega (arith, found.0, found.1) in
     let lf = eqb-true (get_or xs (position_or_len is_lf xs) 0) 10 (passes_at_first is_lf xs 0 inside) in (
       sym (ap (λ n. list_any is_lf (take n xs)) found.0) ∙ none_before xs,
-      sym (ap (λ n. take (n + 1) xs) found.0) ∙ ap (λ k. take k xs) (add-one (position_or_len is_lf xs)) ∙ take-suc xs (position_or_len is_lf xs) 0 inside ∙ ap (λ x. take (position_or_len is_lf xs) xs ++ x ∷ []) lf ∙ ap (λ n. take n xs ++ 10 ∷ []) found.0,
+      sym (ap (λ n. take (n + 1) xs) found.0) ∙ ap (λ k. take k xs) (add-one (position_or_len is_lf xs))
+          ∙ take-suc xs (position_or_len is_lf xs) 0 inside ∙ ap (λ x. take (position_or_len is_lf xs) xs ++ x ∷ []) lf
+          ∙ ap (λ n. take n xs ++ 10 ∷ []) found.0,
     )
 
 -- a line that goes on has none either
 begun_none : (fed more : List ℕ) → list_any is_lf more ≡ false → list_any is_lf (rest fed ++ more) ≡ false
-begun_none fed more none = list_any-append is_lf (rest fed) more ∙ or_from (list_any is_lf (rest fed)) (list_any is_lf more) (rest_within fed) none
+begun_none fed more none =
+    list_any-append is_lf (rest fed) more ∙ or_from (list_any is_lf (rest fed)) (list_any is_lf more) (rest_within fed) none
 
 -- bytes without LF end no line
 pub marks-more : (fed more : List ℕ) → list_any is_lf more ≡ false → marks (fed ++ more) ≡ marks fed
@@ -95,10 +102,12 @@ rest-more fed more none =
     rest-append fed more ∙ rest_none (rest fed ++ more) all
 
 -- bytes that end in their only LF end the begun line
-pub marks-ended : (fed more : List ℕ) → list_any is_lf more ≡ false → marks (fed ++ (more ++ 10 ∷ [])) ≡ marks fed ++ mark_of (rest fed ++ more) ∷ []
+pub marks-ended : (fed more : List ℕ) → list_any is_lf more ≡ false
+    → marks (fed ++ (more ++ 10 ∷ [])) ≡ marks fed ++ mark_of (rest fed ++ more) ∷ []
 marks-ended fed more none =
     let all = begun_none fed more none in
-    marks-append fed (more ++ 10 ∷ []) ∙ ap (λ ms. marks fed ++ ms) (ap marks (sym (append_assoc (rest fed) more (10 ∷ []))) ∙ marks_line (rest fed ++ more) [] all)
+    marks-append fed (more ++ 10 ∷ [])
+    ∙ ap (λ ms. marks fed ++ ms) (ap marks (sym (append_assoc (rest fed) more (10 ∷ []))) ∙ marks_line (rest fed ++ more) [] all)
 
 -- and no line has begun then
 pub rest-ended : (fed more : List ℕ) → list_any is_lf more ≡ false → rest (fed ++ (more ++ 10 ∷ [])) ≡ []
@@ -122,14 +131,16 @@ stop_of-feed_of reading piece start = go (position is_lf (drop start piece))
 pub within-next_stop : (piece : List ℕ) (start : ℕ) → IfSome (next_stop piece start) (λ stop. (start < stop) × (stop ≤ length piece))
 within-next_stop piece start = go (position is_lf (drop start piece)) refl
   where
-    go : (o : Option ℕ) → position is_lf (drop start piece) ≡ o → IfSome (place_after start o) (λ stop. (start < stop) × (stop ≤ length piece))
+    go : (o : Option ℕ) → position is_lf (drop start piece) ≡ o
+        → IfSome (place_after start o) (λ stop. (start < stop) × (stop ≤ length piece))
     go None e = tt
     go (Some len) e =
         let found = position_some is_lf (drop start piece) len e in
         (omega arith, omega (arith, found.1, length-drop start piece))
 
 -- where it stops after an LF, that is the part of the line and its LF
-taken-fed_at : (piece : List ℕ) (start len : ℕ) (whole : Option (List ℕ)) → position is_lf (drop start piece) ≡ Some len → taken piece start (fed_at whole (start + len + 1)) ≡ take len (drop start piece) ++ 10 ∷ []
+taken-fed_at : (piece : List ℕ) (start len : ℕ) (whole : Option (List ℕ)) → position is_lf (drop start piece) ≡ Some len
+    → taken piece start (fed_at whole (start + len + 1)) ≡ take len (drop start piece) ++ 10 ∷ []
 taken-fed_at piece start len None e =
     let n : start + len + 1 - start ≡ len + 1 = omega arith in
     ap (λ k. take k (drop start piece)) n ∙ (lf_found (drop start piece) len e).1
@@ -138,23 +149,34 @@ taken-fed_at piece start len (Some bytes) e =
     ap (λ k. take k (drop start piece)) n ∙ (lf_found (drop start piece) len e).1
 
 -- a feed finds the next mark, or none where no LF is left
-pub marks-feed_of : (fed : List ℕ) (reading : Reading) (piece : List ℕ) (start : ℕ) → StandsAt fed reading → marks (fed ++ taken piece start (feed_of reading piece start).0) ≡ marks fed ++ new_marks (feed_of reading piece start).0 (feed_of reading piece start).1.line
+pub marks-feed_of : (fed : List ℕ) (reading : Reading) (piece : List ℕ) (start : ℕ) → StandsAt fed reading
+    → marks (fed ++ taken piece start (feed_of reading piece start).0)
+    ≡ marks fed ++ new_marks (feed_of reading piece start).0 (feed_of reading piece start).1.line
 marks-feed_of fed reading piece start stands = go (position is_lf (drop start piece)) refl
   where
-    go : (o : Option ℕ) → position is_lf (drop start piece) ≡ o → marks (fed ++ taken piece start (feed_at reading.begun start (drop start piece) o).0) ≡ marks fed ++ new_marks (feed_at reading.begun start (drop start piece) o).0 (feed_at reading.begun start (drop start piece) o).1.line
+    go : (o : Option ℕ) → position is_lf (drop start piece) ≡ o
+        → marks (fed ++ taken piece start (feed_at reading.begun start (drop start piece) o).0)
+        ≡ marks fed
+        ++ new_marks (feed_at reading.begun start (drop start piece) o).0 (feed_at reading.begun start (drop start piece) o).1.line
     go None e = marks-more fed (drop start piece) (lf_absent (drop start piece) e) ∙ sym (append-nil (marks fed))
     go (Some len) e =
         let left = drop start piece in
         let whole = ap (λ b. extended b (take len left)) stands ∙ extended-known (rest fed) (take len left) in
         ap (λ ts. marks (fed ++ ts)) (taken-fed_at piece start len (extended reading.begun (take len left)) e)
         ∙ marks-ended fed (take len left) (lf_found left len e).0
-        ∙ ap (λ ms. marks fed ++ ms) (sym (ap (λ b. new_marks (fed_at b (start + len + 1)) (after_lf b).line) whole ∙ new_marks-fed_at (rest fed ++ take len left) (start + len + 1)))
+        ∙ ap (λ ms. marks fed ++ ms)
+        (sym
+        (ap (λ b. new_marks (fed_at b (start + len + 1)) (after_lf b).line) whole
+        ∙ new_marks-fed_at (rest fed ++ take len left) (start + len + 1)))
 
 -- and then the reader stands at what has been fed
-pub stands-feed_of : (fed : List ℕ) (reading : Reading) (piece : List ℕ) (start : ℕ) → StandsAt fed reading → StandsAt (fed ++ taken piece start (feed_of reading piece start).0) (feed_of reading piece start).1
+pub stands-feed_of : (fed : List ℕ) (reading : Reading) (piece : List ℕ) (start : ℕ) → StandsAt fed reading
+    → StandsAt (fed ++ taken piece start (feed_of reading piece start).0) (feed_of reading piece start).1
 stands-feed_of fed reading piece start stands = go (position is_lf (drop start piece)) refl
   where
-    go : (o : Option ℕ) → position is_lf (drop start piece) ≡ o → (feed_at reading.begun start (drop start piece) o).1.begun ≡ known (rest (fed ++ taken piece start (feed_at reading.begun start (drop start piece) o).0))
+    go : (o : Option ℕ) → position is_lf (drop start piece) ≡ o
+        → (feed_at reading.begun start (drop start piece) o).1.begun
+        ≡ known (rest (fed ++ taken piece start (feed_at reading.begun start (drop start piece) o).0))
     go None e =
         ap (λ b. extended b (drop start piece)) stands ∙ extended-known (rest fed) (drop start piece)
         ∙ ap known (sym (rest-more fed (drop start piece) (lf_absent (drop start piece) e)))
@@ -162,33 +184,42 @@ stands-feed_of fed reading piece start stands = go (position is_lf (drop start p
         let left = drop start piece in
         let whole = extended reading.begun (take len left) in
         after_lf-begun whole
-        ∙ sym (ap (λ ts. known (rest (fed ++ ts))) (taken-fed_at piece start len whole e) ∙ ap known (rest-ended fed (take len left) (lf_found left len e).0))
+        ∙ sym (ap (λ ts. known (rest (fed ++ ts))) (taken-fed_at piece start len whole e)
+        ∙ ap known (rest-ended fed (take len left) (lf_found left len e).0))
 
 -- the same of what a feed answered and left
-pub marks-fed : (fed : List ℕ) (old new : Reading) (piece : List ℕ) (start : ℕ) (result : Fed) → (result, new) ≡ feed_of old piece start → StandsAt fed old → marks (fed ++ taken piece start result) ≡ marks fed ++ new_marks result new.line
+pub marks-fed : (fed : List ℕ) (old new : Reading) (piece : List ℕ) (start : ℕ) (result : Fed) → (result, new) ≡ feed_of old piece start
+    → StandsAt fed old → marks (fed ++ taken piece start result) ≡ marks fed ++ new_marks result new.line
 marks-fed fed old new piece start result e stands =
-    ap (λ r. marks (fed ++ taken piece start r.0)) e ∙ marks-feed_of fed old piece start stands ∙ sym (ap (λ r. marks fed ++ new_marks r.0 r.1.line) e)
+    ap (λ r. marks (fed ++ taken piece start r.0)) e ∙ marks-feed_of fed old piece start stands
+    ∙ sym (ap (λ r. marks fed ++ new_marks r.0 r.1.line) e)
 
-pub stands-fed : (fed : List ℕ) (old new : Reading) (piece : List ℕ) (start : ℕ) (result : Fed) → (result, new) ≡ feed_of old piece start → StandsAt fed old → StandsAt (fed ++ taken piece start result) new
+pub stands-fed : (fed : List ℕ) (old new : Reading) (piece : List ℕ) (start : ℕ) (result : Fed) → (result, new) ≡ feed_of old piece start
+    → StandsAt fed old → StandsAt (fed ++ taken piece start result) new
 stands-fed fed old new piece start result e stands =
     ap (λ r. r.1.begun) e ∙ stands-feed_of fed old piece start stands ∙ sym (ap (λ r. known (rest (fed ++ taken piece start r.0))) e)
 
 -- a feed of what is left, where that has no LF
-pub feed_of-more : (old new : Reading) (piece left : List ℕ) (start : ℕ) → left ≡ drop start piece → None ≡ position is_lf left → new ≡ record { begun = extended old.begun left; line = [] } → (More, new) ≡ feed_of old piece start
+pub feed_of-more : (old new : Reading) (piece left : List ℕ) (start : ℕ) → left ≡ drop start piece → None ≡ position is_lf left
+    → new ≡ record { begun = extended old.begun left; line = [] } → (More, new) ≡ feed_of old piece start
 feed_of-more old new piece left start from none after =
     ap (λ r. (More, r)) after ∙ ap (feed_at old.begun start left) none ∙ ap (λ ys. feed_at old.begun start ys (position is_lf ys)) from
 
 -- and where its first LF is so far on
-pub feed_of-line : (old mid new : Reading) (piece left : List ℕ) (start len : ℕ) (result : Fed) → left ≡ drop start piece → Some len ≡ position is_lf left → mid.begun ≡ extended old.begun (take len left) → result ≡ fed_at mid.begun (start + len + 1) → new ≡ after_lf mid.begun → (result, new) ≡ feed_of old piece start
+pub feed_of-line : (old mid new : Reading) (piece left : List ℕ) (start len : ℕ) (result : Fed) → left ≡ drop start piece
+    → Some len ≡ position is_lf left → mid.begun ≡ extended old.begun (take len left) → result ≡ fed_at mid.begun (start + len + 1)
+    → new ≡ after_lf mid.begun → (result, new) ≡ feed_of old piece start
 feed_of-line old mid new piece left start len result from found whole answer after =
     (λ i. (answer i, after i)) ∙ ap (λ b. (fed_at b (start + len + 1), after_lf b)) whole ∙ ap (feed_at old.begun start left) found
     ∙ ap (λ ys. feed_at old.begun start ys (position is_lf ys)) from
 
 -- what was fed before a piece, with the piece up to a place and from there to a stop
-up_to_stop : (fed piece : List ℕ) (start stop : ℕ) → start ≤ stop → (fed ++ take start piece) ++ slice_range piece start stop ≡ fed ++ take stop piece
+up_to_stop : (fed piece : List ℕ) (start stop : ℕ) → start ≤ stop
+    → (fed ++ take start piece) ++ slice_range piece start stop ≡ fed ++ take stop piece
 up_to_stop fed piece start stop le =
     let n : start + (stop - start) ≡ stop = omega arith in
-    append_assoc fed (take start piece) (slice_range piece start stop) ∙ ap (λ ys. fed ++ ys) (sym (take-add start (stop - start) piece) ∙ ap (λ k. take k piece) n)
+    append_assoc fed (take start piece) (slice_range piece start stop)
+    ∙ ap (λ ys. fed ++ ys) (sym (take-add start (stop - start) piece) ∙ ap (λ k. take k piece) n)
 
 -- and from there to its end
 up_to_end : (fed piece : List ℕ) (start : ℕ) → (fed ++ take start piece) ++ drop start piece ≡ fed ++ piece
@@ -201,8 +232,10 @@ pub fed_to_stop : (fed piece : List ℕ) (start stop : ℕ) (ms : List Mark) (ol
     → StandsAt (fed ++ take start piece) old
     → (marks (fed ++ take stop piece) ≡ marks (fed ++ take start piece) ++ ms) × StandsAt (fed ++ take stop piece) new
 fed_to_stop fed piece start stop ms old new le adds moves stands =
-    let bytes = up_to_stop fed piece start stop le in
-    (sym (ap marks bytes) ∙ adds (fed ++ take start piece) stands, subst (λ (all : List ℕ). StandsAt all new) bytes (moves (fed ++ take start piece) stands))
+    let bytes = up_to_stop fed piece start stop le in (
+      sym (ap marks bytes) ∙ adds (fed ++ take start piece) stands,
+      subst (λ (all : List ℕ). StandsAt all new) bytes (moves (fed ++ take start piece) stands),
+    )
 
 -- and its end
 pub fed_to_end : (fed piece : List ℕ) (start : ℕ) (ms : List Mark) (old new : Reading)
@@ -211,11 +244,15 @@ pub fed_to_end : (fed piece : List ℕ) (start : ℕ) (ms : List Mark) (old new 
     → StandsAt (fed ++ take start piece) old
     → (marks (fed ++ piece) ≡ marks (fed ++ take start piece) ++ ms) × StandsAt (fed ++ piece) new
 fed_to_end fed piece start ms old new adds moves stands =
-    let bytes = up_to_end fed piece start in
-    (sym (ap marks bytes) ∙ adds (fed ++ take start piece) stands, subst (λ (all : List ℕ). StandsAt all new) bytes (moves (fed ++ take start piece) stands))
+    let bytes = up_to_end fed piece start in (
+      sym (ap marks bytes) ∙ adds (fed ++ take start piece) stands,
+      subst (λ (all : List ℕ). StandsAt all new) bytes (moves (fed ++ take start piece) stands),
+    )
 
 -- the marks past those of what was fed before, with more at their end
-pub later_marks : (fed first : List ℕ) (all ms : List Mark) → all ≡ marks (fed ++ first) ++ ms → drop (length (marks fed)) all ≡ drop (length (marks fed)) (marks (fed ++ first)) ++ ms
+pub later_marks : (fed first : List ℕ) (all ms : List Mark) → all ≡ marks (fed ++ first) ++ ms
+    → drop (length (marks fed)) all ≡ drop (length (marks fed)) (marks (fed ++ first)) ++ ms
 later_marks fed first all ms e =
-    let within : length (marks fed) ≤ length (marks (fed ++ first)) = rw (marks-append fed first, length-append (marks fed) (marks (rest fed ++ first))) (omega arith) in
+    let within : length (marks fed) ≤ length (marks (fed ++ first)) =
+    rw (marks-append fed first, length-append (marks fed) (marks (rest fed ++ first))) (omega arith) in
     ap (drop (length (marks fed))) e ∙ drop-append-le (length (marks fed)) (marks (fed ++ first)) ms within

@@ -1,5 +1,6 @@
 -- Laws of the words of a line that is gone through from its front.
-use Rattle.std.specs.Prelude.{◌≡◌, ℕ, ◌+◌, ◌<◌, ◌≤◌, Bool, false, not, List, [], ◌∷◌, length, take, drop, get_or, position, unwrap_or, nat_lt, Option, Some, None}
+use Rattle.std.specs.Prelude.{◌≡◌, ℕ, ◌+◌, ◌<◌, ◌≤◌, Bool, false, not, List, [], ◌∷◌, length, take, drop, get_or, position, unwrap_or}
+use Rattle.std.specs.Prelude.{nat_lt, Option, Some, None}
 use Rattle.std.specs.List.{list_any, filter, slice_split, position_or_len}
 use Rattle.std.proofs.Common.{refl, ap, sym, ◌∙◌, arith, inl, inr, suc, drop-cons, add-one, length-drop}
 use Rattle.std.proofs.lemmas.Bool.{cases_Bool, cases_lt, false_from_ne_true, lt-ltb, le-ltb, ltb-true, not-true}
@@ -44,7 +45,8 @@ words_of-drop_blanks (x ∷ xs) =
     ]
 
 -- what is left begins with no blank
-pub first_filled : (xs : List ℕ) → 0 < length (drop (position_or_len is_filled xs) xs) → 0 < position_or_len is_blank (drop (position_or_len is_filled xs) xs)
+pub first_filled : (xs : List ℕ) → 0 < length (drop (position_or_len is_filled xs) xs)
+    → 0 < position_or_len is_blank (drop (position_or_len is_filled xs) xs)
 first_filled xs some =
     let n = position_or_len is_filled xs in
     let inside : n < length xs = omega (arith, length-drop n xs, some) in
@@ -63,7 +65,8 @@ no_blank (x ∷ xs) h =
     nothing n h = omega arith
 
 -- the bytes before the first blank are the first word
-pub words_of-first : (xs : List ℕ) → 0 < position_or_len is_blank xs → words_of xs ≡ take (position_or_len is_blank xs) xs ∷ words_of (drop (position_or_len is_blank xs) xs)
+pub words_of-first : (xs : List ℕ) → 0 < position_or_len is_blank xs
+    → words_of xs ≡ take (position_or_len is_blank xs) xs ∷ words_of (drop (position_or_len is_blank xs) xs)
 words_of-first xs some =
     let n = position_or_len is_blank xs in
     let within = position_or_len-le is_blank xs in
@@ -79,7 +82,8 @@ words_of-first xs some =
       | inr outside ↦ rw (take_all n xs outside, drop_all n xs outside) (words_of_word xs (filled xs (omega arith), no_blank xs outside))
     ]
   where
-    filter_front : (word : List ℕ) (ps : List (List ℕ)) → is_empty word ≡ false → filter (λ part. not (is_empty part)) (word ∷ ps) ≡ word ∷ filter (λ part. not (is_empty part)) ps
+    filter_front : (word : List ℕ) (ps : List (List ℕ)) → is_empty word ≡ false
+        → filter (λ part. not (is_empty part)) (word ∷ ps) ≡ word ∷ filter (λ part. not (is_empty part)) ps
     filter_front word ps e = rw e refl
 
     next : (n : ℕ) → n < length xs → drop n xs ≡ get_or xs n 0 ∷ drop (n + 1) xs
@@ -89,12 +93,14 @@ words_of-first xs some =
 pub words_of-none : (xs : List ℕ) → position is_filled xs ≡ None → words_of xs ≡ []
 words_of-none xs e =
     elim (cases_lt (position_or_len is_filled xs) (length xs)) [
-      | inl inside ↦ absurd (none-some (position_or_len is_filled xs) (sym (rw (lt-ltb (position_or_len is_filled xs) (length xs) inside) at e)))
+      | inl inside ↦
+          absurd (none-some (position_or_len is_filled xs) (sym (rw (lt-ltb (position_or_len is_filled xs) (length xs) inside) at e)))
       | inr outside ↦ sym (words_of-drop_blanks xs) ∙ ap words_of (drop_all (position_or_len is_filled xs) xs outside)
     ]
 
 -- and where one begins, it goes up to the next blank
-pub words_of-some : (xs : List ℕ) (n k : ℕ) → position is_filled xs ≡ Some n → unwrap_or (position is_blank (drop n xs)) (length (drop n xs)) ≡ k → words_of xs ≡ take k (drop n xs) ∷ words_of (drop k (drop n xs))
+pub words_of-some : (xs : List ℕ) (n k : ℕ) → position is_filled xs ≡ Some n
+    → unwrap_or (position is_blank (drop n xs)) (length (drop n xs)) ≡ k → words_of xs ≡ take k (drop n xs) ∷ words_of (drop k (drop n xs))
 words_of-some xs n k e at_k =
     let found = position_some is_filled xs n e in
     let begun = ap (λ m. drop m xs) found.0 in
@@ -105,10 +111,13 @@ words_of-some xs n k e at_k =
     sym (words_of-drop_blanks xs) ∙ ap words_of begun ∙ rw at at first
 
 -- the same of a front that is cut off
-pub words_of-cut : (xs begun word left : List ℕ) (n k : ℕ) → position is_filled xs ≡ Some n → begun ≡ drop n xs → k ≡ unwrap_or (position is_blank begun) (length begun) → word ≡ take k begun → left ≡ drop k begun → words_of xs ≡ word ∷ words_of left
+pub words_of-cut : (xs begun word left : List ℕ) (n k : ℕ) → position is_filled xs ≡ Some n → begun ≡ drop n xs
+    → k ≡ unwrap_or (position is_blank begun) (length begun) → word ≡ take k begun → left ≡ drop k begun
+    → words_of xs ≡ word ∷ words_of left
 words_of-cut xs begun word left n k found from at front back =
     words_of-some xs n k found (sym (ap (λ ys. unwrap_or (position is_blank ys) (length ys)) from) ∙ sym at)
-    ∙ ap (λ ys. take k ys ∷ words_of (drop k ys)) (sym from) ∙ ap (λ ys. ys ∷ words_of (drop k begun)) (sym front) ∙ ap (λ ys. word ∷ words_of ys) (sym back)
+    ∙ ap (λ ys. take k ys ∷ words_of (drop k ys)) (sym from) ∙ ap (λ ys. ys ∷ words_of (drop k begun)) (sym front)
+    ∙ ap (λ ys. word ∷ words_of ys) (sym back)
 
 -- what a search for a byte finds is its first place
 pub first_place : (a : ℕ) (xs : List ℕ) (found : Option ℕ) → IsFirstByte (is_byte a) xs found → found ≡ position (is_byte a) xs

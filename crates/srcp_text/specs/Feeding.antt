@@ -1,5 +1,6 @@
 -- What a feed of a piece from a place on finds.
-use Rattle.std.specs.Prelude.{ℕ, Bool, true, false, ◌+◌, List, [], ◌∷◌, take, drop, position, slice_range, Option, Some, None}
+use Rattle.std.specs.Prelude.{ℕ, Bool, true, false, ◌+◌, List, [], ◌∷◌, take, drop, position, slice_range, Option, Some}
+use Rattle.std.specs.Prelude.{None}
 use Rattle.srcp_text.specs.Marks.{Mark, Line, TooLong, is_lf}
 use Rattle.srcp_text.specs.Reading.{Reading, extended, after_lf}
 use Rattle.srcp_text.specs.declared.reader.Fed.{Fed}
@@ -46,7 +47,8 @@ fed_at (Some bytes) stop = FoundLine stop
 -- what a feed answers and what is known then, by how far its first LF is, if any
 abbrev pub feed_at : Option (List ℕ) → ℕ → List ℕ → Option ℕ → Fed × Reading
 feed_at begun start left None = (More, record { begun = extended begun left; line = [] })
-feed_at begun start left (Some len) = (fed_at (extended begun (take len left)) (start + len + 1), after_lf (extended begun (take len left)))
+feed_at begun start left (Some len) =
+    (fed_at (extended begun (take len left)) (start + len + 1), after_lf (extended begun (take len left)))
 
 -- what a feed answers and what is known then, by what was known before
 abbrev pub feed_of : Reading → List ℕ → ℕ → Fed × Reading

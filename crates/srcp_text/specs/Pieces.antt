@@ -15,14 +15,17 @@ pub record Step : Type 0 where
 abbrev pub FeedsPiece : List ℕ → ℕ → Reading → List Step → Reading → Type 0
 FeedsPiece piece start old [] new = ⊥
 FeedsPiece piece start old (step ∷ steps) new =
-    ((step.result, step.reading) ≡ feed_of old piece start) × MatchOption (stop_of step.result) ((steps ≡ []) × (step.reading ≡ new)) (λ stop. FeedsPiece piece stop step.reading steps new)
+    ((step.result, step.reading) ≡ feed_of old piece start)
+    × MatchOption (stop_of step.result) ((steps ≡ []) × (step.reading ≡ new))
+    (λ stop. FeedsPiece piece stop step.reading steps new)
 
 -- the feeds of piece after piece
 abbrev pub FeedsPieces : List (List ℕ) → Reading → List (List Step) → Reading → Type 0
 FeedsPieces [] old [] new = old ≡ new
 FeedsPieces [] old (steps ∷ later) new = ⊥
 FeedsPieces (piece ∷ pieces) old [] new = ⊥
-FeedsPieces (piece ∷ pieces) old (steps ∷ later) new = (between : Reading) × FeedsPiece piece 0 old steps between × FeedsPieces pieces between later new
+FeedsPieces (piece ∷ pieces) old (steps ∷ later) new =
+    (between : Reading) × FeedsPiece piece 0 old steps between × FeedsPieces pieces between later new
 
 -- the marks that the feeds found
 abbrev pub found : List Step → List Mark
@@ -33,4 +36,5 @@ found steps = flat_map (λ step. new_marks step.result step.reading.line) steps
 abbrev pub FindsMarks : Type 0
 FindsMarks = (pieces : List (List ℕ)) →
     ((steps : List (List Step)) × (new : Reading) × FeedsPieces pieces nothing_read steps new)
-    × ((steps : List (List Step)) (new : Reading) → FeedsPieces pieces nothing_read steps new → (flat_map found steps ≡ marks (concat pieces)) × StandsAt (concat pieces) new)
+    × ((steps : List (List Step)) (new : Reading) → FeedsPieces pieces nothing_read steps new
+    → (flat_map found steps ≡ marks (concat pieces)) × StandsAt (concat pieces) new)

@@ -30,8 +30,8 @@ impl<'a> Words<'a> {
         Words { rest: line }
     }
 
-    /// Takes the next word if it is 0 or 1 between two single spaces, as most functions of a locomotive are written. That is
-    /// read in fewer steps than by `next`, which takes every word.
+    /// Takes the next word if it is 0 or 1 between two single spaces, as most functions of a locomotive are written.
+    /// That is read in fewer steps than by `next`, which takes every word.
     #[inline(always)]
     pub fn next_bit(&mut self) -> Option<bool>
         ensures { MatchOption result (self.new ≡ self.old) (λ bit. self.old ≡ bit_word bit ∷ self.new) }

@@ -13,7 +13,10 @@ write_digits-start-requires g c = search (rules, length-decimal-le 20)
 pub returns : goal.returns
 returns g c =
     let text = c.write_digits in
-    let tail = drop-point text.new.buf text.result (c.args.moment % 1000) (omega arith) (omega arith) text.ensures.start text.ensures.written in
+    let tail =
+    drop-point text.new.buf text.result (c.args.moment % 1000) (omega arith) (omega arith) text.ensures.start text.ensures.written in
     let written = rw tail at c.write_digits-start.ensures.written in
-    let whole = take_all (24 - c.write_digits-start.result) (drop c.write_digits-start.result c.write_digits-start.new.buf) (omega (arith, length-drop {A = ℕ})) in
+    let whole =
+    take_all (24 - c.write_digits-start.result) (drop c.write_digits-start.result c.write_digits-start.new.buf)
+    (omega (arith, length-drop {A = ℕ})) in
     cc

@@ -14,7 +14,9 @@ returns-clause-steps c =
     let n = c.in_ok-begun.field-0 in
     let from = between_to_end rest n (length rest) (omega arith) in
     let at = c.unwrap_or-end.ensures ∙ ap (λ o. unwrap_or o (length (take (length rest - n) (drop n rest)))) c.first_blank.ensures in
-    let cut = words_of-cut rest (take (length rest - n) (drop n rest)) c.split_at.result.0.now c.split_at.result.1.now n c.unwrap_or-end.result (sym c.in_ok-begun.ensures) from at c.split_at.ensures.front c.split_at.ensures.back in
+    let cut =
+    words_of-cut rest (take (length rest - n) (drop n rest)) c.split_at.result.0.now c.split_at.result.1.now n c.unwrap_or-end.result
+    (sym c.in_ok-begun.ensures) from at c.split_at.ensures.front c.split_at.ensures.back in
     sym c.self.view_is ∙ cut
 
 pub returns-clause-goes : goal.returns-clause-goes
