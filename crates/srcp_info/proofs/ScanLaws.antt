@@ -1,5 +1,6 @@
 -- Laws of the words of a text that is cut at its spaces from the front.
-use Rattle.std.specs.Prelude.{◌≡◌, ℕ, ◌+◌, ◌/◌, ◌%◌, ◌^◌, ◌<◌, ◌≤◌, Bool, false, true, List, [], ◌∷◌, ◌++◌, length, map, take, drop, position, ◌==◌, Some, None}
+use Rattle.std.specs.Prelude.{◌≡◌, ℕ, ◌+◌, ◌/◌, ◌%◌, ◌^◌, ◌<◌, ◌≤◌, Bool, false, true, List, [], ◌∷◌, ◌++◌, length, map, take, drop}
+use Rattle.std.specs.Prelude.{position, ◌==◌, Some, None}
 use Rattle.std.specs.List.{list_any, position_or_len, before_first, after_first, join_with_byte}
 use Rattle.std.specs.Char.{is_ascii_digit}
 use Rattle.std.specs.Fmt.{decimal}
@@ -25,7 +26,8 @@ use Rattle.srcp_info.proofs.LineLaws.{join-cons}
 -- ---- a text cut at the first byte that passes
 
 -- where one does
-pub cut_some : (p : ℕ → Bool) (xs : List ℕ) (n : ℕ) → position p xs ≡ Some n → (take n xs ≡ before_first p xs) × (drop (n + 1) xs ≡ after_first p xs)
+pub cut_some : (p : ℕ → Bool) (xs : List ℕ) (n : ℕ) → position p xs ≡ Some n
+    → (take n xs ≡ before_first p xs) × (drop (n + 1) xs ≡ after_first p xs)
 cut_some p xs n e =
     let at = (position_some p xs n e).0 in
     (ap (λ k. take k xs) (sym at), ap (λ k. drop (k + 1) xs) (sym at))
@@ -45,7 +47,8 @@ position_or_len-none p (x ∷ w) e =
     let more = position_or_len-none p w parts.1 in
     rw parts.0 (omega arith)
 
-position_or_len-append : (p : ℕ → Bool) (w : List ℕ) (y : ℕ) (ys : List ℕ) → list_any p w ≡ false → p y ≡ true → position_or_len p (w ++ y ∷ ys) ≡ length w
+position_or_len-append : (p : ℕ → Bool) (w : List ℕ) (y : ℕ) (ys : List ℕ) → list_any p w ≡ false → p y ≡ true
+    → position_or_len p (w ++ y ∷ ys) ≡ length w
 position_or_len-append p [] y ys e h = rw h refl
 position_or_len-append p (x ∷ w) y ys e h =
     let parts = or_parts (p x) (list_any p w) e in
@@ -53,10 +56,12 @@ position_or_len-append p (x ∷ w) y ys e h =
     rw parts.0 (omega arith)
 
 -- what stands before the first and what stands after it
-pub before_first-append : (p : ℕ → Bool) (w : List ℕ) (y : ℕ) (ys : List ℕ) → list_any p w ≡ false → p y ≡ true → before_first p (w ++ y ∷ ys) ≡ w
+pub before_first-append : (p : ℕ → Bool) (w : List ℕ) (y : ℕ) (ys : List ℕ) → list_any p w ≡ false → p y ≡ true
+    → before_first p (w ++ y ∷ ys) ≡ w
 before_first-append p w y ys e h = rw (position_or_len-append p w y ys e h) (take-append_seam w (y ∷ ys))
 
-pub after_first-append : (p : ℕ → Bool) (w : List ℕ) (y : ℕ) (ys : List ℕ) → list_any p w ≡ false → p y ≡ true → after_first p (w ++ y ∷ ys) ≡ ys
+pub after_first-append : (p : ℕ → Bool) (w : List ℕ) (y : ℕ) (ys : List ℕ) → list_any p w ≡ false → p y ≡ true
+    → after_first p (w ++ y ∷ ys) ≡ ys
 after_first-append p w y ys e h = rw (position_or_len-append p w y ys e h) (drop-append-add w (y ∷ ys) 1)
 
 -- and where none passes, all of it and nothing
@@ -67,11 +72,13 @@ pub after_first-none : (p : ℕ → Bool) (w : List ℕ) → list_any p w ≡ fa
 after_first-none p w e = drop_all (position_or_len p w + 1) w (omega (arith, position_or_len-none p w e))
 
 -- so a word is cut off the words that spaces join
-pub before_first-join : (w : List ℕ) (ws : List (List ℕ)) → list_any is_space w ≡ false → before_first is_space (join_with_byte 32 (w ∷ ws)) ≡ w
+pub before_first-join : (w : List ℕ) (ws : List (List ℕ)) → list_any is_space w ≡ false
+    → before_first is_space (join_with_byte 32 (w ∷ ws)) ≡ w
 before_first-join w [] e = before_first-none is_space w e
 before_first-join w (v ∷ ws) e = before_first-append is_space w 32 (join_with_byte 32 (v ∷ ws)) e refl
 
-pub after_first-join : (w : List ℕ) (ws : List (List ℕ)) → list_any is_space w ≡ false → after_first is_space (join_with_byte 32 (w ∷ ws)) ≡ join_with_byte 32 ws
+pub after_first-join : (w : List ℕ) (ws : List (List ℕ)) → list_any is_space w ≡ false
+    → after_first is_space (join_with_byte 32 (w ∷ ws)) ≡ join_with_byte 32 ws
 after_first-join w [] e = after_first-none is_space w e
 after_first-join w (v ∷ ws) e = after_first-append is_space w 32 (join_with_byte 32 (v ∷ ws)) e refl
 
@@ -104,13 +111,15 @@ number_of-decimal max n le h = rw (has_leading_zero-decimal n h) at (plain_numbe
 pub before_first-stamp : (moment : ℕ) → moment < 2 ^ 64 → before_first (λ byte. byte == 46) (stamp moment) ≡ decimal (moment / 1000)
 before_first-stamp moment h =
     let small : moment / 1000 < 2 ^ 64 = omega arith in
-    before_first-append (λ byte. byte == 46) (decimal (moment / 1000)) 46 (three_digits (moment % 1000)) (digits_free (λ byte. byte == 46) digit_no_point (decimal (moment / 1000)) (digits_decimal own (moment / 1000) small)) refl
+    before_first-append (λ byte. byte == 46) (decimal (moment / 1000)) 46 (three_digits (moment % 1000))
+    (digits_free (λ byte. byte == 46) digit_no_point (decimal (moment / 1000)) (digits_decimal own (moment / 1000) small)) refl
 
 -- and its thousandths after it
 pub after_first-stamp : (moment : ℕ) → moment < 2 ^ 64 → after_first (λ byte. byte == 46) (stamp moment) ≡ three_digits (moment % 1000)
 after_first-stamp moment h =
     let small : moment / 1000 < 2 ^ 64 = omega arith in
-    after_first-append (λ byte. byte == 46) (decimal (moment / 1000)) 46 (three_digits (moment % 1000)) (digits_free (λ byte. byte == 46) digit_no_point (decimal (moment / 1000)) (digits_decimal own (moment / 1000) small)) refl
+    after_first-append (λ byte. byte == 46) (decimal (moment / 1000)) 46 (three_digits (moment % 1000))
+    (digits_free (λ byte. byte == 46) digit_no_point (decimal (moment / 1000)) (digits_decimal own (moment / 1000) small)) refl
 
 -- and they are read as such
 pub seconds_again : (moment : ℕ) → moment < 2 ^ 64 → plain_number_of 18446744073709551 (decimal (moment / 1000)) ≡ Some (moment / 1000)
@@ -122,7 +131,8 @@ seconds_again moment h = plain_number_of-decimal 18446744073709551 (moment / 100
 pub bits_none : (bits : List Bool) (rest : List ℕ) → rest ≡ join_with_byte 32 (map bit_word bits) → (length rest == 0) ≡ true → bits ≡ []
 bits_none [] rest is e = refl
 bits_none (b ∷ bs) rest is e =
-    let whole : length rest ≡ length (bit_word b ++ after_spaces (map bit_word bs)) = ap length (is ∙ join-cons (bit_word b) (map bit_word bs)) in
+    let whole : length rest ≡ length (bit_word b ++ after_spaces (map bit_word bs)) =
+    ap length (is ∙ join-cons (bit_word b) (map bit_word bs)) in
     absurd (omega (arith, whole, length-append (bit_word b) (after_spaces (map bit_word bs)), length_bit b, eqb-true (length rest) 0 e))
   where
     length_bit : (b : Bool) → length (bit_word b) ≡ 1
@@ -130,17 +140,23 @@ bits_none (b ∷ bs) rest is e =
     length_bit false = refl
 
 -- and where there is a text there is a first
-pub bits_some : (bits : List Bool) (rest : List ℕ) → rest ≡ join_with_byte 32 (map bit_word bits) → (length rest == 0) ≡ false → (b : Bool) × (bs : List Bool) × (bits ≡ b ∷ bs)
+pub bits_some : (bits : List Bool) (rest : List ℕ) → rest ≡ join_with_byte 32 (map bit_word bits) → (length rest == 0) ≡ false
+    → (b : Bool) × (bs : List Bool) × (bits ≡ b ∷ bs)
 bits_some [] rest is e = absurd (both_ways (length rest == 0) e (rw is refl))
 bits_some (b ∷ bs) rest is e = (b, bs, refl)
 
 -- one more of them is read
-pub bits_step : (bits seen seen' left : List Bool) (on : Bool) (rest more : List ℕ) → bits ≡ seen ++ left → rest ≡ join_with_byte 32 (map bit_word left) → (length rest == 0) ≡ false → seen' ≡ seen ++ on ∷ []
+pub bits_step : (bits seen seen' left : List Bool) (on : Bool) (rest more : List ℕ) → bits ≡ seen ++ left
+    → rest ≡ join_with_byte 32 (map bit_word left) → (length rest == 0) ≡ false → seen' ≡ seen ++ on ∷ []
     → ((b : Bool) (others : List (List ℕ)) → rest ≡ join_with_byte 32 (bit_word b ∷ others) → (on ≡ b) × (more ≡ join_with_byte 32 others))
     → (left' : List Bool) × (bits ≡ seen' ++ left') × (more ≡ join_with_byte 32 (map bit_word left'))
 bits_step bits seen seen' left on rest more whole is some push next =
     let first = bits_some left rest is some in
     let b = first.0 in
     let bs = first.1 in
-    let read = next b (map bit_word bs) (is ∙ ap (λ (ys : List Bool). join_with_byte 32 (map bit_word ys)) first.2) in
-    (bs, whole ∙ ap (λ (ys : List Bool). seen ++ ys) (first.2 ∙ ap (λ (y : Bool). y ∷ bs) (sym read.0)) ∙ sym (append_assoc seen (on ∷ []) bs) ∙ ap (λ (ys : List Bool). ys ++ bs) (sym push), read.1)
+    let read = next b (map bit_word bs) (is ∙ ap (λ (ys : List Bool). join_with_byte 32 (map bit_word ys)) first.2) in (
+      bs,
+      whole ∙ ap (λ (ys : List Bool). seen ++ ys) (first.2 ∙ ap (λ (y : Bool). y ∷ bs) (sym read.0))
+          ∙ sym (append_assoc seen (on ∷ []) bs) ∙ ap (λ (ys : List Bool). ys ++ bs) (sym push),
+      read.1,
+    )

@@ -76,7 +76,8 @@ pub text_of_line : (text : List ℕ) (change : Change) → IsLineOf text change 
 text_of_line text change is = sym (same_from_push (join_with_byte 32 (change_words change)) text 10 10 is.same).0
 
 -- what follows ON or OFF in the line of a power row is its text
-pub power_text : (on : Bool) (text whole : List ℕ) → whole ≡ join_with_byte 32 (value_words 0 0 (Power on text)) → (others : List (List ℕ)) × (whole ≡ join_with_byte 32 (switch_word on ∷ others)) × (join_with_byte 32 others ≡ text)
+pub power_text : (on : Bool) (text whole : List ℕ) → whole ≡ join_with_byte 32 (value_words 0 0 (Power on text))
+    → (others : List (List ℕ)) × (whole ≡ join_with_byte 32 (switch_word on ∷ others)) × (join_with_byte 32 others ≡ text)
 power_text on text whole is =
     elim (cases_Bool (is_empty text)) [
       | inl t ↦
@@ -86,12 +87,15 @@ power_text on text whole is =
     ]
 
 -- a line without its last byte is its words with spaces between them
-pub without_lf : (change : Change) (items rest : List ℕ) → items ≡ line change → rest ≡ take (length items - 1) items → rest ≡ join_with_byte 32 (change_words change)
+pub without_lf : (change : Change) (items rest : List ℕ) → items ≡ line change → rest ≡ take (length items - 1) items
+    → rest ≡ join_with_byte 32 (change_words change)
 without_lf change items rest whole front =
     let text = join_with_byte 32 (change_words change) in
     let shorter : length (text ++ codes "\n") - 1 ≡ length text = omega (arith, length-append text (codes "\n")) in
-    front ∙ ap (λ (ys : List ℕ). take (length ys - 1) ys) whole ∙ ap (λ k. take k (text ++ codes "\n")) shorter ∙ take-append_seam text (codes "\n")
+    front ∙ ap (λ (ys : List ℕ). take (length ys - 1) ys) whole ∙ ap (λ k. take k (text ++ codes "\n")) shorter
+    ∙ take-append_seam text (codes "\n")
 
 -- where that is the text, the text is the line of the change
-pub is_line : (text rest : List ℕ) (change : Change) → IsWellFormed change → rest ≡ join_with_byte 32 (change_words change) → rest ≡ text → IsLineOf text change
+pub is_line : (text rest : List ℕ) (change : Change) → IsWellFormed change → rest ≡ join_with_byte 32 (change_words change) → rest ≡ text
+    → IsLineOf text change
 is_line text rest change ok words same = record { well_formed = ok; same = ap (λ (ys : List ℕ). ys ++ codes "\n") (sym words ∙ same) }

@@ -23,7 +23,8 @@ ChangesHaveLines = (change : Change) → IsWellFormed change → IsLine (line ch
 
 -- and each reply
 abbrev pub RepliesHaveLines : Type 0
-RepliesHaveLines = (moment : ℕ) (reply : Reply) → IsMoment moment → IsWellFormedReply reply → IsLine (reply_line moment reply)
+RepliesHaveLines =
+    (moment : ℕ) (reply : Reply) → IsMoment moment → IsWellFormedReply reply → IsLine (reply_line moment reply)
 
 -- no two changes share a line
 abbrev pub LinesDiffer : Type 0
@@ -45,4 +46,5 @@ ClientRises = (changes : List Change) → IsRisingBy (λ row. row.key) (client c
 
 -- and one more change changes them
 abbrev pub ClientFollows : Type 0
-ClientFollows = (changes : List Change) (change : Change) → client (changes ++ change ∷ []) ≡ changed change (client changes)
+ClientFollows =
+    (changes : List Change) (change : Change) → client (changes ++ change ∷ []) ≡ changed change (client changes)

@@ -1,7 +1,8 @@
 //! What holds of all lines, and of all that a client holds. Each function does nothing: what it
 //! ensures is a law.
 
-ghost use Rattle.srcp_info.specs.Laws.{ChangesHaveLines, RepliesHaveLines, LinesDiffer, LinesReadAgain, BytesHoldOnce, ClientRises, ClientFollows};
+ghost use Rattle.srcp_info.specs.Laws.{ChangesHaveLines, RepliesHaveLines, LinesDiffer, LinesReadAgain, BytesHoldOnce};
+ghost use Rattle.srcp_info.specs.Laws.{ClientRises, ClientFollows};
 
 /// The line of a well-formed change has at most 126 bytes, of which the last is LF and no other.
 pub fn changes_have_lines()

@@ -1,6 +1,7 @@
 //! The words of a line, one after another. Each is read for what it would say in a line of ours.
 
-ghost use Rattle.std.specs.Prelude.{◌≡◌, ℕ, ◌^◌, ◌<◌, ◌≤◌, ◌++◌, ◌∷◌, List, Bool, false, length, map, decimal, codes, position, ◌==◌};
+ghost use Rattle.std.specs.Prelude.{◌≡◌, ℕ, ◌^◌, ◌<◌, ◌≤◌, ◌++◌, ◌∷◌, List, Bool, false, length, map, decimal, codes};
+ghost use Rattle.std.specs.Prelude.{position, ◌==◌};
 ghost use Rattle.std.specs.List.{join_with_byte, list_any, before_first, after_first};
 ghost use Rattle.srcp_text.specs.Stamp.{stamp};
 ghost use Rattle.srcp_info.specs.declared.key.Group.{Group};

@@ -2,7 +2,8 @@
 
 ghost use Rattle.std.specs.Prelude.{◌≡◌, ◌≤◌, ◌↔◌, IsTrue};
 ghost use Rattle.std.specs.List.{list_all, slice_split};
-ghost use Rattle.srcp_info.specs.WellFormed.{IsBetween, IsAddress, IsSpeed, IsValueAt, IsWellFormed, can_go, is_lock, is_space, is_text, is_text_byte, is_text_word};
+ghost use Rattle.srcp_info.specs.WellFormed.{IsBetween, IsAddress, IsSpeed, IsValueAt, IsWellFormed, can_go, is_lock};
+ghost use Rattle.srcp_info.specs.WellFormed.{is_space, is_text, is_text_byte, is_text_word};
 
 use crate::change::Change;
 use crate::key::Group;

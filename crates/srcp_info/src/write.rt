@@ -4,7 +4,8 @@ ghost use Rattle.std.specs.Prelude.{◌≡◌, ◌+◌, ◌≤◌, [], ◌∷◌
 ghost use Rattle.arrayvec.specs.ArrayVec.{array_vec_len};
 ghost use Rattle.std.specs.List.{join_with_byte};
 ghost use Rattle.srcp_text.specs.Stamp.{stamp as stamp_of};
-ghost use Rattle.srcp_info.specs.Line.{after_spaces, bit_word, switch_word, group_words, value_words, info_words, spaced, line, reply_line};
+ghost use Rattle.srcp_info.specs.Line.{after_spaces, bit_word, switch_word, group_words, value_words, info_words};
+ghost use Rattle.srcp_info.specs.Line.{spaced, line, reply_line};
 ghost use Rattle.srcp_info.specs.WellFormed.{IsWellFormed, IsWellFormedShown, IsWellFormedReply, ShowsNoRow, IsValueAt};
 
 use crate::change::{Change, Reply, Shown};
@@ -15,7 +16,8 @@ use crate::words::{code_text, letter_word, mode_word, switch_word, value_code};
 use arrayvec::ArrayVec;
 use srcp_text::{put_bytes, put_number, put_stamp};
 
-/// A line that is being written, with room for the longest line. Its bytes stand in the value itself, so it takes no memory.
+/// A line that is being written, with room for the longest line. Its bytes stand in
+/// the value itself, so it takes no memory.
 pub type InfoLine = ArrayVec<u8, LONGEST_LINE>;
 
 /// Appends bytes whose number is known when the program is built. They are pushed one by one, which
@@ -188,8 +190,8 @@ fn put_info<const N: usize>(
     put_group(group, buffer);
 }
 
-/// Writes the line that tells of a row, with its LF, into an empty buffer with room for the longest line. It has at most 126
-/// bytes, and takes no memory. It is the line that `write_change` writes of a change to this row.
+/// Writes the line that tells of a row, with its LF, into an empty buffer with room for the longest line. It has at
+/// most 126 bytes, and takes no memory. It is the line that `write_change` writes of a change to this row.
 pub fn write_shown<const N: usize>(shown: &Shown, buffer: &mut ArrayVec<u8, N>)
     requires well_formed { IsWellFormedShown shown.now }
     requires fits { LONGEST_LINE ≤ N }
@@ -222,8 +224,8 @@ fn write_gone<const N: usize>(stamp: u64, device: &Device, buffer: &mut ArrayVec
     buffer.push(b'\n');
 }
 
-/// Writes the line that tells of a change, with its LF, into an empty buffer with room for the longest line. It has at most
-/// 126 bytes, and takes no memory. The line's form is that of SRCP 0.8, with one space between two words,
+/// Writes the line that tells of a change, with its LF, into an empty buffer with room for the longest line. It has at
+/// most 126 bytes, and takes no memory. The line's form is that of SRCP 0.8, with one space between two words,
 /// numbers without leading zeros, and capital letters alone.
 pub fn write_change<const N: usize>(change: &Change, buffer: &mut ArrayVec<u8, N>)
     requires well_formed { IsWellFormed change.now }

@@ -23,5 +23,6 @@ returns-clause-others c =
     let old = c.args.by_key.now.entries in
     let key = c.in-Some.key.now in
     let own : owns device key ≡ true = sym c.owns.ensures ∙ c.if-not-owns.false in
-    ap (λ (es : Entries). filter (λ e. not (owns device e.0)) es) (c.remove.ensures.entries ∙ (λ i. remove_entry (is_at (same_order i key)) old))
+    ap (λ (es : Entries). filter (λ e. not (owns device e.0)) es)
+    (c.remove.ensures.entries ∙ (λ i. remove_entry (is_at (same_order i key)) old))
     ∙ filter-remove (owns device) key own old

@@ -9,6 +9,9 @@ returns c = λ address port on small least most is.
     let one = c.next_number-address.ensures address (decimal (port - 1) ∷ bit_word on ∷ []) small is in
     let two = c.next_number-port.ensures (port - 1) (bit_word on ∷ []) (omega arith) one.1 in
     let three = c.next_bit-on.ensures on [] two.1 in
-    let byte = c.unwrap_or.ensures ∙ taken_fits c.try_from.result (c.next_number-port.result.0 < 256) c.next_number-port.result.0 255 c.try_from.ensures (omega (arith, two.0)) in
+    let byte =
+    c.unwrap_or.ensures
+    ∙ taken_fits c.try_from.result (c.next_number-port.result.0 < 256) c.next_number-port.result.0 255 c.try_from.ensures
+    (omega (arith, two.0)) in
     let same : c.saturating_add-port.result ≡ port = omega (arith, c.saturating_add-port.ensures, byte, two.0) in
     cc

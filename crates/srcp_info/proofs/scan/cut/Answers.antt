@@ -10,7 +10,8 @@ returns-in-Some-clause-before c = (cut_some (λ byte. byte == c.args.separator) 
 pub returns-in-Some-clause-after : goal.returns-in-Some-clause-after
 returns-in-Some-clause-after c =
     let text = c.args.text.now in
-    between_to_end text (c.in-Some.at + 1) (length text) (omega arith) ∙ (cut_some (λ byte. byte == c.args.separator) text c.in-Some.at (sym c.in-Some.ensures)).1
+    between_to_end text (c.in-Some.at + 1) (length text) (omega arith)
+    ∙ (cut_some (λ byte. byte == c.args.separator) text c.in-Some.at (sym c.in-Some.ensures)).1
 
 pub returns-in-None-clause-before : goal.returns-in-None-clause-before
 returns-in-None-clause-before c = (cut_none (λ byte. byte == c.args.separator) c.args.text.now (sym c.in-None.ensures)).0

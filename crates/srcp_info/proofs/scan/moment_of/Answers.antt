@@ -11,6 +11,11 @@ pub returns : goal.returns
 returns c = λ moment small is.
     let front = c.cut.ensures.before ∙ ap (before_first (λ (byte : ℕ). byte == 46)) is ∙ before_first-stamp moment small in
     let back = c.cut.ensures.after ∙ ap (after_first (λ (byte : ℕ). byte == 46)) is ∙ after_first-stamp moment small in
-    let seconds = c.unwrap_or-seconds.ensures ∙ ap (λ o. unwrap_or o 0) (c.read_plain.ensures ∙ ap (plain_number_of 18446744073709551) front ∙ seconds_again moment small) in
-    let thousandths = c.unwrap_or-thousandths.ensures ∙ ap (λ o. unwrap_or o 0) (c.read_number.ensures ∙ ap (number_of 999) back ∙ three_digits_again (moment % 1000) (omega arith)) in
+    let seconds =
+    c.unwrap_or-seconds.ensures
+    ∙ ap (λ o. unwrap_or o 0) (c.read_plain.ensures ∙ ap (plain_number_of 18446744073709551) front ∙ seconds_again moment small) in
+    let thousandths =
+    c.unwrap_or-thousandths.ensures
+    ∙ ap (λ o. unwrap_or o 0)
+    (c.read_number.ensures ∙ ap (number_of 999) back ∙ three_digits_again (moment % 1000) (omega arith)) in
     omega arith

@@ -7,5 +7,10 @@ use Rattle.srcp_info.proofs.scan.next_number.Goals as goal
 
 pub returns : goal.returns
 returns c = λ number others small is.
-    let first = c.next_word.ensures (decimal number) others (decimal_no_space number (omega arith)) is in
-    (c.unwrap_or.ensures ∙ ap (λ o. unwrap_or o 0) (c.read_number.ensures ∙ ap (number_of 4294967295) first.0 ∙ number_of-decimal 4294967295 number (omega arith) (omega arith)), first.1)
+    let first = c.next_word.ensures (decimal number) others (decimal_no_space number (omega arith)) is in (
+      c.unwrap_or.ensures
+          ∙ ap (λ o. unwrap_or o 0)
+          (c.read_number.ensures ∙ ap (number_of 4294967295) first.0
+          ∙ number_of-decimal 4294967295 number (omega arith) (omega arith)),
+      first.1,
+    )
