@@ -1,5 +1,6 @@
 -- A layout with one more bus: its place, and that it is a layout again.
-use Rattle.std.specs.Prelude.{◌≡◌, ℕ, ◌<◌, ◌≤◌, Bool, true, false, ◌||◌, ◌==◌, nat_lt, List, [], ◌∷◌, ◌++◌, length, map, filter, find, insert, is_some, cond, slice_index_or, Option, Some}
+use Rattle.std.specs.Prelude.{◌≡◌, ℕ, ◌<◌, ◌≤◌, Bool, true, false, ◌||◌, ◌==◌, nat_lt, List, [], ◌∷◌, ◌++◌, length, map, filter, find}
+use Rattle.std.specs.Prelude.{insert, is_some, cond, slice_index_or, Option, Some}
 use Rattle.std.proofs.Common.{refl, sym, ◌∙◌, true≢false, arith}
 use Rattle.std.specs.Cmp.{nat_cmp_is}
 use Rattle.std.specs.List.{AllByRecursion, list_any}
@@ -25,7 +26,9 @@ found_step false o bus r e = e
 -- one has the number where it is found
 any_found : (buses : List Bus) (n : ℕ) → list_any (λ bus. bus.number == n) buses ≡ has_number buses n
 any_found [] n = refl
-any_found (bus ∷ buses) n = found_step (bus.number == n) (list_any (λ other. other.number == n) buses) bus (find (λ other. other.number == n) buses) (any_found buses n)
+any_found (bus ∷ buses) n =
+    found_step (bus.number == n) (list_any (λ other. other.number == n) buses) bus (find (λ other. other.number == n) buses)
+    (any_found buses n)
 
 -- a bus of a number is there where it is found
 pub has_number-found : (buses : List Bus) (n : ℕ) → has_number buses n ≡ is_some (find (λ bus. bus.number == n) buses)
@@ -36,23 +39,28 @@ unfolding IsStrictlySortedBy
 rises_sorted [] h = tt
 rises_sorted (b ∷ bs) h = (mapped bs h.0, rises_sorted bs h.1)
   where
-    mapped : (cs : List Bus) → AllByRecursion (λ c. b.number < c.number) cs → AllByRecursion (λ n. nat_cmp b.number n ≡ Less) (map (λ bus. bus.number) cs)
+    mapped : (cs : List Bus) → AllByRecursion (λ c. b.number < c.number) cs
+        → AllByRecursion (λ n. nat_cmp b.number n ≡ Less) (map (λ bus. bus.number) cs)
     mapped [] h = tt
     mapped (c ∷ cs) h = (sym (nat_cmp_is b.number c.number Less h.0), mapped cs h.1)
 
-rises_step : (c : Bool) (b : Bus) (bs : List Bus) → AllByRecursion (λ other. b.number < other.number) bs → Rising bs → Rising (cond c (b ∷ bs) bs)
+rises_step : (c : Bool) (b : Bus) (bs : List Bus) → AllByRecursion (λ other. b.number < other.number) bs → Rising bs
+    → Rising (cond c (b ∷ bs) bs)
 rises_step true b bs a r = (a, r)
 rises_step false b bs a r = r
 
 rises-filter : (p : Bus → Bool) (bs : List Bus) → Rising bs → Rising (filter p bs)
 rises-filter p [] h = tt
-rises-filter p (b ∷ bs) h = rises_step (p b) b (filter p bs) (all_filter (λ other. b.number < other.number) p bs h.0) (rises-filter p bs h.1)
+rises-filter p (b ∷ bs) h =
+    rises_step (p b) b (filter p bs) (all_filter (λ other. b.number < other.number) p bs h.0) (rises-filter p bs h.1)
 
-rises_join : (xs : List Bus) (b : Bus) (ys : List Bus) → Rising xs → AllByRecursion (λ x. x.number < b.number) xs → AllByRecursion (λ y. b.number < y.number) ys → Rising ys → Rising (xs ++ b ∷ ys)
+rises_join : (xs : List Bus) (b : Bus) (ys : List Bus) → Rising xs → AllByRecursion (λ x. x.number < b.number) xs
+    → AllByRecursion (λ y. b.number < y.number) ys → Rising ys → Rising (xs ++ b ∷ ys)
 rises_join [] b ys r low high s = (high, s)
 rises_join (x ∷ xs) b ys r low high s =
     let first : x.number < b.number = low.0 in (
-      all_append (λ y. x.number < y.number) xs (b ∷ ys) r.0 (low.0, each-weaken {P = λ y. b.number < y.number} (λ y h. omega (arith, h, first)) ys high),
+      all_append (λ y. x.number < y.number) xs (b ∷ ys) r.0
+          (low.0, each-weaken {P = λ y. b.number < y.number} (λ y h. omega (arith, h, first)) ys high),
       rises_join xs b ys r.1 low.1 high s,
     )
 
@@ -81,18 +89,25 @@ module _ (bus : Bus) where
 
   pub below_partitioned : (buses : List Bus) → IsLayout buses → IsPartitionedBy below buses
   below_partitioned buses layout =
-      partitioned (λ a b. a.number < b.number) below (λ x y less e. lt-ltb x.number bus.number (omega (arith, less, ltb-true y.number bus.number e))) buses
+      partitioned (λ a b. a.number < b.number) below
+      (λ x y less e. lt-ltb x.number bus.number (omega (arith, less, ltb-true y.number bus.number e))) buses
       (follows buses (rising_buses buses (sorted_from_strictly_increasing (map (λ other. other.number) buses) layout.rising)))
 
   -- an insert at the place that a search by the number finds gives the buses with one more
-  pub insert-with_bus : (buses : List Bus) (place : ℕ) → has_number buses bus.number ≡ false → place ≤ length buses → IsPartitionPoint (λ other. below other ≡ true) (λ other. below other ≡ false) buses place
+  pub insert-with_bus : (buses : List Bus) (place : ℕ) → has_number buses bus.number ≡ false → place ≤ length buses
+      → IsPartitionPoint (λ other. below other ≡ true) (λ other. below other ≡ false) buses place
       → insert buses place bus ≡ with_bus bus buses
   insert-with_bus buses place free h parted =
       let low = front_each (λ other. below other ≡ true) buses place h parted.0 in
-      let no_high = front_each (λ other. above other ≡ false) buses place h (λ k d a b. not_above (slice_index_or buses k d) (parted.0 k d a b)) in
+      let no_high =
+      front_each (λ other. above other ≡ false) buses place h (λ k d a b. not_above (slice_index_or buses k d) (parted.0 k d a b)) in
       let no_low = back_each (λ other. below other ≡ false) buses place parted.1 in
       let high = back_each (λ other. above other ≡ true) buses place
-      (λ k d a b. then_above (slice_index_or buses k d) (parted.1 k d a b) (λ e. true≢false (sym (list_any_at (λ other. other.number == bus.number) buses k d b e) ∙ any_found buses bus.number ∙ free))) in
+      (λ k d a b.
+      then_above (slice_index_or buses k d) (parted.1 k d a b)
+      (λ e.
+      true≢false (sym (list_any_at (λ other. other.number == bus.number) buses k d b e) ∙ any_found buses bus.number
+      ∙ free))) in
       λ i. sym (filter_front below buses place low no_low) i ++ bus ∷ sym (filter_back above buses place no_high high) i
 
   -- it is a layout again
@@ -100,7 +115,9 @@ module _ (bus : Bus) where
   IsLayout-with_bus buses layout fits =
       let rises = rising_buses buses (sorted_from_strictly_increasing (map (λ other. other.number) buses) layout.rising) in
       record {
-        each = all_append IsBus (filter below buses) (bus ∷ filter above buses) (all_filter IsBus below buses layout.each) (fits, all_filter IsBus above buses layout.each);
+        each =
+            all_append IsBus (filter below buses) (bus ∷ filter above buses) (all_filter IsBus below buses layout.each)
+            (fits, all_filter IsBus above buses layout.each);
         rising = IsStrictlyIncreasing-from_sorted (map (λ other. other.number) (with_bus bus buses))
             (rises_sorted (with_bus bus buses)
             (rises_join (filter below buses) bus (filter above buses) (rises-filter below buses rises)

@@ -1,5 +1,6 @@
 -- The rows of a bus, group by group: look-ups and changes.
-use Rattle.std.specs.Prelude.{◌≡◌, ℕ, zero, suc, ◌+◌, ◌<◌, Bool, true, false, cond, is_some, not, List, [], ◌∷◌, map, Option, Some, None, MatchOption, Result, Ok, Err, OnOk, OnErr}
+use Rattle.std.specs.Prelude.{◌≡◌, ℕ, zero, suc, ◌+◌, ◌<◌, Bool, true, false, cond, is_some, not, List, [], ◌∷◌, map, Option, Some, None}
+use Rattle.std.specs.Prelude.{MatchOption, Result, Ok, Err, OnOk, OnErr}
 use Rattle.std.proofs.Common.{refl, sym, ap, ◌∙◌, arith, true≢false}
 use Rattle.std.specs.List.{AllByRecursion, range_with_len}
 use Rattle.std.specs.List.Sorted.{IsStrictlySortedBy}
@@ -20,7 +21,8 @@ use Rattle.srcp_info.proofs.ClientLaws.{all_put, put_over, rising_put}
 use Rattle.srcp_rules.specs.State.{State, IsRising, fb_device, first_row, has_row, power_device, put_row, row_after, row_at, without}
 use Rattle.srcp_rules.specs.Rows.{put_rows}
 use Rattle.srcp_rules.specs.declared.nested.bus_rows.BusRows.{BusRows}
-use Rattle.srcp_rules.specs.Nested.{AreDevices, AreOfDevice, AreOfGroup, AreRowsOfBus, AreSorted, IsIn, bus_groups, bus_rows, device_rows, entry_at, group_rows}
+use Rattle.srcp_rules.specs.Nested.{AreDevices, AreOfDevice, AreOfGroup, AreRowsOfBus, AreSorted, IsIn, bus_groups, bus_rows, device_rows}
+use Rattle.srcp_rules.specs.Nested.{entry_at, group_rows}
 use Rattle.srcp_rules.proofs.FindLaws.{each-weaken}
 use Rattle.srcp_rules.proofs.ListedLaws.{IsTagged, each-listed, row_at-listed, row_after-own}
 use Rattle.srcp_rules.proofs.KeyLaws.{same_key, same_key-true}
@@ -78,7 +80,10 @@ put_row-option_to_list (Some other) row h = set_one row other (same_key other.sh
 
 pub of_group-put_row : (bus : ℕ) (g : Group) (row : Row) (rows : State) → IsIn bus g row.shown.key → AreOfGroup bus g rows
     → AreOfGroup bus g (put_row row rows)
-of_group-put_row bus g row rows here h = record { rising = rising_put row_key row rows h.rising; each = all_put row_key (λ other. IsIn bus g other.shown.key) row rows here h.each }
+of_group-put_row bus g row rows here h = record {
+  rising = rising_put row_key row rows h.rising;
+  each = all_put row_key (λ other. IsIn bus g other.shown.key) row rows here h.each;
+}
 
 -- ---- the rows that begin with the registry
 
@@ -94,7 +99,8 @@ module _ (bus : ℕ) where
   fb_after : (first from n : ℕ) → first < from
       → AllByRecursion (λ row. key_cmp (fb_row first).shown.key row.shown.key ≡ Less) (map fb_row (range_with_len from n))
   fb_after first from zero h = tt
-  fb_after first from (suc n) h = (address_order (fb_row first).shown.key (fb_row from).shown.key refl refl h, fb_after first (from + 1) n (omega (arith, h)))
+  fb_after first from (suc n) h =
+      (address_order (fb_row first).shown.key (fb_row from).shown.key refl refl h, fb_after first (from + 1) n (omega (arith, h)))
 
   fb_rising : (first n : ℕ) → IsRising (map fb_row (range_with_len first n))
   fb_rising first zero = tt

@@ -9,9 +9,12 @@ use Rattle.srcp_info.specs.declared.value.Value.TheVariants as value
 use Rattle.srcp_info.specs.Key.{first_key}
 use Rattle.srcp_rules.specs.declared.command.Lockable.TheVariants as lockable
 use Rattle.srcp_rules.specs.declared.command.Command.{Command}
-use Rattle.srcp_rules.specs.declared.command.Command.TheVariants.{GetSession, TermSession, GetPower, SetPower, CheckPower, InitPower, GetGl, SetGl, CheckGl, InitGl, TermGl, GetGa, SetGa, CheckGa, InitGa, TermGa, GetFb, SetFb, CheckFb, InitFb, GetLock, SetLock, CheckLock, TermLock}
+use Rattle.srcp_rules.specs.declared.command.Command.TheVariants.{GetSession, TermSession, GetPower, SetPower, CheckPower, InitPower, GetGl}
+use Rattle.srcp_rules.specs.declared.command.Command.TheVariants.{SetGl, CheckGl, InitGl, TermGl, GetGa, SetGa, CheckGa, InitGa, TermGa}
+use Rattle.srcp_rules.specs.declared.command.Command.TheVariants.{GetFb, SetFb, CheckFb, InitFb, GetLock, SetLock, CheckLock, TermLock}
 use Rattle.srcp_rules.specs.State.{State, Update, row_at, key_at, session_device, power_device, fb_device, device_in, lock_on}
-use Rattle.srcp_rules.specs.Effect.{Effect, effect, accepted, refused, showing, done, checked, set_gl, set_ga, set_lock, term_lock, term_device, init_device, fresh_gl, fresh_ga, term_session}
+use Rattle.srcp_rules.specs.Effect.{Effect, effect, accepted, refused, showing, done, checked, set_gl, set_ga, set_lock, term_lock}
+use Rattle.srcp_rules.specs.Effect.{term_device, init_device, fresh_gl, fresh_ga, term_session}
 use Rattle.srcp_rules.specs.Laws.{ChangesNothing, AnswersAs, set_of}
 
 -- a refusal changes nothing
@@ -52,15 +55,20 @@ refused_calm state session moment (SetPower bus on text) = calm_accepted (effect
 refused_calm state session moment (CheckPower bus on text) = calm_accepted []
 refused_calm state session moment (InitPower bus) = calm_accepted []
 refused_calm state session moment (GetGl bus address) = calm_showing (row_at (key_at (device_in lockable.Gl bus address) 1) state)
-refused_calm state session moment (SetGl bus address mode v vmax functions) = calm_done (set_gl state session moment bus address mode v vmax functions)
-refused_calm state session moment (CheckGl bus address mode v vmax functions) = calm_checked (set_gl state session moment bus address mode v vmax functions)
+refused_calm state session moment (SetGl bus address mode v vmax functions) =
+    calm_done (set_gl state session moment bus address mode v vmax functions)
+refused_calm state session moment (CheckGl bus address mode v vmax functions) =
+    calm_checked (set_gl state session moment bus address mode v vmax functions)
 refused_calm state session moment (InitGl bus address letter version steps functions) =
-    calm_done (init_device state session moment lockable.Gl bus address (value.GlInit letter version steps functions) (fresh_gl moment bus address letter version steps functions))
+    calm_done (init_device state session moment lockable.Gl bus address (value.GlInit letter version steps functions)
+    (fresh_gl moment bus address letter version steps functions))
 refused_calm state session moment (TermGl bus address) = calm_done (term_device state session moment lockable.Gl bus address)
-refused_calm state session moment (GetGa bus address port) = calm_showing (row_at (key_at (device_in lockable.Ga bus address) (1 + port)) state)
+refused_calm state session moment (GetGa bus address port) =
+    calm_showing (row_at (key_at (device_in lockable.Ga bus address) (1 + port)) state)
 refused_calm state session moment (SetGa bus address port on time) = calm_done (set_ga state session moment bus address port on time)
 refused_calm state session moment (CheckGa bus address port on time) = calm_checked (set_ga state session moment bus address port on time)
-refused_calm state session moment (InitGa bus address letter ports) = calm_done (init_device state session moment lockable.Ga bus address (value.GaInit letter) (fresh_ga moment bus address letter ports))
+refused_calm state session moment (InitGa bus address letter ports) =
+    calm_done (init_device state session moment lockable.Ga bus address (value.GaInit letter) (fresh_ga moment bus address letter ports))
 refused_calm state session moment (TermGa bus address) = calm_done (term_device state session moment lockable.Ga bus address)
 refused_calm state session moment (GetFb bus port) = calm_showing (row_at (first_key (fb_device bus port)) state)
 refused_calm state session moment (SetFb bus port on) = calm_accepted (effect state session moment (SetFb bus port on)).updates
@@ -76,10 +84,13 @@ pub checked_as_done : (r : Result (List Update) Code) → AnswersAs (checked r) 
 checked_as_done (Ok updates) = record { reply = refl; nothing = record { updates = refl; ends = refl } }
 checked_as_done (Err code) = record { reply = refl; nothing = record { updates = refl; ends = refl } }
 
-pub check_as_set : (state : State) (session moment : ℕ) (command : Command) → IfSome (set_of command) (λ set. AnswersAs (effect state session moment command) (effect state session moment set))
+pub check_as_set : (state : State) (session moment : ℕ) (command : Command)
+    → IfSome (set_of command) (λ set. AnswersAs (effect state session moment command) (effect state session moment set))
 check_as_set state session moment (CheckPower bus on text) = record { reply = refl; nothing = record { updates = refl; ends = refl } }
-check_as_set state session moment (CheckGl bus address mode v vmax functions) = checked_as_done (set_gl state session moment bus address mode v vmax functions)
-check_as_set state session moment (CheckGa bus address port on time) = checked_as_done (set_ga state session moment bus address port on time)
+check_as_set state session moment (CheckGl bus address mode v vmax functions) =
+    checked_as_done (set_gl state session moment bus address mode v vmax functions)
+check_as_set state session moment (CheckGa bus address port on time) =
+    checked_as_done (set_ga state session moment bus address port on time)
 check_as_set state session moment (CheckFb bus port on) = record { reply = refl; nothing = record { updates = refl; ends = refl } }
 check_as_set state session moment (CheckLock bus g address seconds) = checked_as_done (set_lock state session moment g bus address seconds)
 check_as_set state session moment other = tt

@@ -38,7 +38,8 @@ abbrev address_of : Key → ℕ
 address_of key = key.address
 
 some-put_row : (row : Row) (rows : State) → 0 < length (put_row row rows)
-some-put_row row rows = some (filter (λ other. is_after row.shown.key other.shown.key) rows) (filter (λ other. is_after other.shown.key row.shown.key) rows)
+some-put_row row rows =
+    some (filter (λ other. is_after row.shown.key other.shown.key) rows) (filter (λ other. is_after other.shown.key row.shown.key) rows)
   where
     some : (xs ys : State) → 0 < length (xs ++ row ∷ ys)
     some [] ys = omega arith
@@ -82,7 +83,8 @@ module _ (bus : ℕ) (g : Group) where
   Here key = IsIn bus g key
 
   -- the rows of a device after one of them is set
-  pub device-put_row : (address : ℕ) (row : Row) (rows : State) → Here row.shown.key → row.shown.key.address ≡ address → AreOfDevice bus g address rows → AreOfDevice bus g address (put_row row rows)
+  pub device-put_row : (address : ℕ) (row : Row) (rows : State) → Here row.shown.key → row.shown.key.address ≡ address
+      → AreOfDevice bus g address rows → AreOfDevice bus g address (put_row row rows)
   device-put_row address row rows e f h = record {
     rising = rising_put row_key row rows h.rising;
     each = all_put row_key (λ other. Here other.shown.key × (other.shown.key.address ≡ address)) row rows (e, f) h.each;
@@ -123,7 +125,10 @@ module _ (bus : ℕ) (g : Group) where
 
     -- each row is of the group of the bus
     pub devices_in_group : AllByRecursion (λ row. Here row.shown.key) (device_rows es)
-    devices_in_group = each-listed whole (λ row. Here row.shown.key) es (each-weaken {P = IsTagged whole address_of Here} (λ e h. each-weaken {P = λ row. Here row.shown.key × (row.shown.key.address ≡ e.0)} (λ row t. t.0) e.1 h) es tagged)
+    devices_in_group =
+        each-listed whole (λ row. Here row.shown.key) es
+        (each-weaken {P = IsTagged whole address_of Here}
+        (λ e h. each-weaken {P = λ row. Here row.shown.key × (row.shown.key.address ≡ e.0)} (λ row t. t.0) e.1 h) es tagged)
 
     -- their keys rise
     pub devices_rising : IsRising (device_rows es)
@@ -160,17 +165,24 @@ module _ (bus : ℕ) (g : Group) where
 
     -- ---- changes
 
-    pub devices-set_row : (row : Row) → Here row.shown.key → (rows after : State) → Some rows ≡ entry_at row.shown.key.address es → after ≡ put_row row rows
+    pub devices-set_row : (row : Row) → Here row.shown.key → (rows after : State) → Some rows ≡ entry_at row.shown.key.address es
+        → after ≡ put_row row rows
         → device_rows (set_value (is_at (nat_cmp row.shown.key.address)) es after) ≡ put_row row (device_rows es)
-    devices-set_row row here rows after e is = listed-put_row whole address_of Here in_order row here es tagged devices.sorted rows after (sym e) is
+    devices-set_row row here rows after e is =
+        listed-put_row whole address_of Here in_order row here es tagged devices.sorted rows after (sym e) is
 
-    gone : (device : Device) → (bus ≡ device.bus) × (g ≡ device.group) → (address : ℕ) (rows : State) → AreOfDevice bus g address rows → device.address ≡ address → without device rows ≡ []
+    gone : (device : Device) → (bus ≡ device.bus) × (g ≡ device.group) → (address : ℕ) (rows : State) → AreOfDevice bus g address rows
+        → device.address ≡ address → without device rows ≡ []
     gone device here address rows h e =
         without-all device rows
         (each-weaken {P = λ row. Here row.shown.key × (row.shown.key.address ≡ address)}
-        (λ row t. owns-own device row.shown.key (device_in_group device.bus device.group device.address row.shown.key (t.0.0 ∙ here.0, t.0.1 ∙ here.1) (t.1 ∙ sym e))) rows h.each)
+        (λ row t.
+        owns-own device row.shown.key
+        (device_in_group device.bus device.group device.address row.shown.key (t.0.0 ∙ here.0, t.0.1 ∙ here.1) (t.1 ∙ sym e)))
+        rows h.each)
 
-    pub devices-remove : (device : Device) → (bus ≡ device.bus) × (g ≡ device.group) → device_rows (remove_entry (is_at (nat_cmp device.address)) es) ≡ without device (device_rows es)
+    pub devices-remove : (device : Device) → (bus ≡ device.bus) × (g ≡ device.group)
+        → device_rows (remove_entry (is_at (nat_cmp device.address)) es) ≡ without device (device_rows es)
     devices-remove device here =
         listed-without_all whole address_of Here in_order device device.address (apart device) es tagged devices.sorted
         (each-weaken {P = λ e. AreOfDevice bus g e.0 e.1} (λ e h. gone device here e.0 e.1 h) es devices.each)
@@ -178,22 +190,28 @@ module _ (bus : ℕ) (g : Group) where
     -- ---- adding a device
 
     -- a device with rows is there
-    there : (key : Key) (rows : State) → AreOfDevice bus g key.address rows → Here key → Some rows ≡ entry_at key.address es → ((port : ℕ) → has_row (key_at (device_of key) port) (device_rows es) ≡ false) → ⊥
+    there : (key : Key) (rows : State) → AreOfDevice bus g key.address rows → Here key → Some rows ≡ entry_at key.address es
+        → ((port : ℕ) → has_row (key_at (device_of key) port) (device_rows es) ≡ false) → ⊥
     there key [] h here e free = let some = h.some in omega (arith, some)
     there key (first ∷ rows) h here e free =
         let same : device_of first.shown.key ≡ device_of key =
         device_in_group bus g key.address first.shown.key h.each.0.0 h.each.0.1 ∙ sym (device_in_group bus g key.address key here refl) in
-        let at : row_at first.shown.key (device_rows es) ≡ Some first = sym (row_at-device first.shown.key (first ∷ rows) (e ∙ ap (λ n. entry_at n es) (sym h.each.0.1))) ∙ row_at-first first rows in
-        true≢false (sym (ap is_some at) ∙ ap (λ d. has_row (key_at d first.shown.key.port) (device_rows es)) same ∙ free first.shown.key.port)
+        let at : row_at first.shown.key (device_rows es) ≡ Some first =
+        sym (row_at-device first.shown.key (first ∷ rows) (e ∙ ap (λ n. entry_at n es) (sym h.each.0.1))) ∙ row_at-first first rows in
+        true≢false (sym (ap is_some at) ∙ ap (λ d. has_row (key_at d first.shown.key.port) (device_rows es)) same
+        ∙ free first.shown.key.port)
 
-    absent_by : (key : Key) → Here key → ((port : ℕ) → has_row (key_at (device_of key) port) (device_rows es) ≡ false) → (o : Option State) → o ≡ entry_at key.address es → entry_at key.address es ≡ None
+    absent_by : (key : Key) → Here key → ((port : ℕ) → has_row (key_at (device_of key) port) (device_rows es) ≡ false) → (o : Option State)
+        → o ≡ entry_at key.address es → entry_at key.address es ≡ None
     absent_by key here free None e = sym e
     absent_by key here free (Some rows) e = absurd (there key rows (found_device key.address rows (sym e)) here e free)
 
-    pub devices-insert : (key : Key) → Here key → (added : State) → AreOfDevice bus g key.address added → ((port : ℕ) → has_row (key_at (device_of key) port) (device_rows es) ≡ false)
+    pub devices-insert : (key : Key) → Here key → (added : State) → AreOfDevice bus g key.address added
+        → ((port : ℕ) → has_row (key_at (device_of key) port) (device_rows es) ≡ false)
         → device_rows (insert_entry nat_cmp es key.address added) ≡ put_rows added (device_rows es)
     devices-insert key here added new free =
-        listed-put_rows_new whole address_of Here in_order key.address added new.each es tagged devices.sorted added (absent_by key here free (entry_at key.address es) refl) (put_rows-new added new.rising)
+        listed-put_rows_new whole address_of Here in_order key.address added new.each es tagged devices.sorted added
+        (absent_by key here free (entry_at key.address es) refl) (put_rows-new added new.rising)
 
 -- no row of an address below the key's is beyond it
 pub row_after-devices : (last : Key) (es : List (ℕ × State)) → AreDevices last.bus last.group es

@@ -1,5 +1,6 @@
 -- What a moment makes of each row, and what a timed SET leaves behind.
-use Rattle.std.specs.Prelude.{◌≡◌, ℕ, ◌+◌, ◌*◌, ◌<◌, min, Bool, true, false, cond, nat_le, map, filter, List, [], ◌∷◌, Option, Some, None, Err, if◌then◌else◌}
+use Rattle.std.specs.Prelude.{◌≡◌, ℕ, ◌+◌, ◌*◌, ◌<◌, min, Bool, true, false, cond, nat_le, map, filter, List, [], ◌∷◌, Option, Some, None}
+use Rattle.std.specs.Prelude.{Err, if◌then◌else◌}
 use Rattle.std.proofs.Common.{refl, sym, ap, subst, ◌∙◌, arith}
 use Rattle.std.proofs.lemmas.Bool.{lt-ltb}
 use Rattle.std.proofs.Math.Nat.{min-eq_left, min-eq_right}
@@ -17,7 +18,8 @@ use Rattle.srcp_rules.specs.declared.layout.Bus.{Bus}
 use Rattle.srcp_rules.specs.declared.command.Lockable.{Lockable}
 use Rattle.srcp_rules.specs.declared.command.Lockable.TheVariants as lockable
 use Rattle.srcp_rules.specs.declared.command.Command.TheVariants.{SetGa, SetLock}
-use Rattle.srcp_rules.specs.State.{State, Update, IsWhole, IsRowOf, MayFall, row_at, key_at, device_in, lock_on, updated, updated_all, row_put}
+use Rattle.srcp_rules.specs.State.{State, Update, IsWhole, IsRowOf, MayFall, row_at, key_at, device_in, lock_on, updated, updated_all}
+use Rattle.srcp_rules.specs.State.{row_put}
 use Rattle.srcp_rules.specs.Effect.{effect, done, unless_refused, refusals, put_at, port_end, lock_end, moment_after}
 use Rattle.srcp_rules.specs.Due.{due, due_change, is_due}
 use Rattle.srcp_rules.specs.Obeyed.{MayObey}
@@ -38,8 +40,10 @@ module _ (buses : List Bus) (moment : ℕ) (now : IsMoment moment) where
   fate o = option_map_or (comes_to moment) o None
 
   -- a row that is due falls
-  due_fate : (row : Row) (shows : Value) → is_due moment row ≡ true → row.shown.value ≡ shows → comes_to moment row ≡ fallen moment row.shown.key shows
-  due_fate row shows now_due same = ap (λ b. cond b (fallen moment row.shown.key row.shown.value) (Some row)) now_due ∙ ap (fallen moment row.shown.key) same
+  due_fate : (row : Row) (shows : Value) → is_due moment row ≡ true → row.shown.value ≡ shows
+      → comes_to moment row ≡ fallen moment row.shown.key shows
+  due_fate row shows now_due same =
+      ap (λ b. cond b (fallen moment row.shown.key row.shown.value) (Some row)) now_due ∙ ap (fallen moment row.shown.key) same
 
   -- and any other stays
   other_fate : (row : Row) → is_due moment row ≡ false → comes_to moment row ≡ Some row
@@ -50,39 +54,49 @@ module _ (buses : List Bus) (moment : ℕ) (now : IsMoment moment) where
     Known row = IsRowOf buses row × (row_at row.shown.key state ≡ Some row)
 
     known : AllByRecursion Known state
-    known = each_found Known state whole.rising (λ key row h. (whole.rows key row h, subst (λ k. row_at k state ≡ Some row) (sym (row_at_key key state row h)) h))
+    known =
+        each_found Known state whole.rising
+        (λ key row h. (whole.rows key row h, subst (λ k. row_at k state ≡ Some row) (sym (row_at_key key state row h)) h))
 
     -- ---- a port that is due
 
-    port_fate : (row : Row) (on : Bool) → Known row → is_due moment row ≡ true → row.shown.value ≡ value.GaPort on → (key : Key) (b : Bool) → same_key row.shown.key key ≡ b
+    port_fate : (row : Row) (on : Bool) → Known row → is_due moment row ≡ true → row.shown.value ≡ value.GaPort on → (key : Key) (b : Bool)
+        → same_key row.shown.key key ≡ b
         → fate (cond b (Some (row_put moment row.shown.key (value.GaPort false) None)) (row_at key state)) ≡ fate (row_at key state)
     port_fate row on k now_due same key true e =
-        sym (ap fate (ap (λ q. row_at q state) (sym (same_key-true row.shown.key key e)) ∙ k.1) ∙ due_fate row (value.GaPort on) now_due same)
+        sym (ap fate (ap (λ q. row_at q state) (sym (same_key-true row.shown.key key e)) ∙ k.1)
+        ∙ due_fate row (value.GaPort on) now_due same)
     port_fate row on k now_due same key false e = refl
 
     -- ---- a lock that is due
 
     -- a row of its device is its own
-    same_lock : (row other : Row) (key : Key) → Known row → is_lock row.shown.key.group ≡ true → owns (device_of row.shown.key) key ≡ true → row_at key state ≡ Some other → other ≡ row
+    same_lock : (row other : Row) (key : Key) → Known row → is_lock row.shown.key.group ≡ true → owns (device_of row.shown.key) key ≡ true
+        → row_at key state ≡ Some other → other ≡ row
     same_lock row other key k lock e h =
         let device : device_of key ≡ device_of row.shown.key = device_from_owns (device_of row.shown.key) key e in
         let at_key : other.shown.key ≡ key = row_at_key key state other h in
         let its : is_lock other.shown.key.group ≡ true = ap (λ q. is_lock q.group) at_key ∙ ap (λ d. is_lock d.group) device ∙ lock in
         let port : key.port ≡ row.shown.key.port =
-        ap (λ q. q.port) (sym at_key) ∙ lock_port other.shown.value other.shown.key (whole.rows key other h).shown.value its ∙ sym (lock_port row.shown.value row.shown.key k.0.shown.value lock) in
-        let keys : key ≡ row.shown.key = λ i. record { bus = (device i).bus; group = (device i).group; address = (device i).address; port = port i } in
+        ap (λ q. q.port) (sym at_key) ∙ lock_port other.shown.value other.shown.key (whole.rows key other h).shown.value its
+        ∙ sym (lock_port row.shown.value row.shown.key k.0.shown.value lock) in
+        let keys : key ≡ row.shown.key =
+        λ i. record { bus = (device i).bus; group = (device i).group; address = (device i).address; port = port i } in
         let found : Some other ≡ Some row = sym h ∙ ap (λ q. row_at q state) keys ∙ k.1 in
         cc
 
-    lock_by : (row : Row) (seconds session : ℕ) → Known row → is_lock row.shown.key.group ≡ true → is_due moment row ≡ true → row.shown.value ≡ value.Lock seconds session → (key : Key)
+    lock_by : (row : Row) (seconds session : ℕ) → Known row → is_lock row.shown.key.group ≡ true → is_due moment row ≡ true
+        → row.shown.value ≡ value.Lock seconds session → (key : Key)
         → owns (device_of row.shown.key) key ≡ true → (o : Option Row) → row_at key state ≡ o → None ≡ fate o
     lock_by row seconds session k lock now_due same key e None h = refl
     lock_by row seconds session k lock now_due same key e (Some other) h =
         sym (ap (comes_to moment) (same_lock row other key k lock e h) ∙ due_fate row (value.Lock seconds session) now_due same)
 
-    lock_fate : (row : Row) (seconds session : ℕ) → Known row → is_lock row.shown.key.group ≡ true → is_due moment row ≡ true → row.shown.value ≡ value.Lock seconds session → (key : Key) (b : Bool)
+    lock_fate : (row : Row) (seconds session : ℕ) → Known row → is_lock row.shown.key.group ≡ true → is_due moment row ≡ true
+        → row.shown.value ≡ value.Lock seconds session → (key : Key) (b : Bool)
         → owns (device_of row.shown.key) key ≡ b → fate (cond b None (row_at key state)) ≡ fate (row_at key state)
-    lock_fate row seconds session k lock now_due same key true e = lock_by row seconds session k lock now_due same key e (row_at key state) refl
+    lock_fate row seconds session k lock now_due same key true e =
+        lock_by row seconds session k lock now_due same key e (row_at key state) refl
     lock_fate row seconds session k lock now_due same key false e = refl
 
     -- ---- any row that is due
@@ -96,14 +110,18 @@ module _ (buses : List Bus) (moment : ℕ) (now : IsMoment moment) where
     step_by row k now_due (value.GlState mode v vmax functions) same may key = absurd may
     step_by row k now_due (value.GaInit letter) same may key = absurd may
     step_by row k now_due (value.GaPort on) same may key =
-        ap fate (row_at-put_row key (row_put moment row.shown.key (value.GaPort false) None) state) ∙ port_fate row on k now_due same key (same_key row.shown.key key) refl
+        ap fate (row_at-put_row key (row_put moment row.shown.key (value.GaPort false) None) state)
+        ∙ port_fate row on k now_due same key (same_key row.shown.key key) refl
     step_by row k now_due (value.Fb on) same may key = absurd may
     step_by row k now_due (value.Lock seconds session) same may key =
         let fits = subst (IsValueAt row.shown.key.group row.shown.key.port) same k.0.shown.value in
-        ap fate (row_at-without key (device_of row.shown.key) state) ∙ lock_fate row seconds session k fits.0 now_due same key (owns (device_of row.shown.key) key) refl
+        ap fate (row_at-without key (device_of row.shown.key) state)
+        ∙ lock_fate row seconds session k fits.0 now_due same key (owns (device_of row.shown.key) key) refl
 
-    first_step : (rows : List Row) (update : Update) (updates : List Update) → AllByRecursion (λ row. Known row × (is_due moment row ≡ true)) rows
-        → map (λ row. due_change moment row.shown.key row.shown.value) rows ≡ update ∷ updates → (key : Key) → fate (row_at key (updated update state)) ≡ fate (row_at key state)
+    first_step : (rows : List Row) (update : Update) (updates : List Update)
+        → AllByRecursion (λ row. Known row × (is_due moment row ≡ true)) rows
+        → map (λ row. due_change moment row.shown.key row.shown.value) rows ≡ update ∷ updates → (key : Key)
+        → fate (row_at key (updated update state)) ≡ fate (row_at key state)
     first_step [] update updates k e key = let bad : [] ≡ update ∷ updates = e in cc
     first_step (row ∷ rows) update updates k e key =
         let first : due_change moment row.shown.key row.shown.value ≡ update = cc in
@@ -111,14 +129,19 @@ module _ (buses : List Bus) (moment : ℕ) (now : IsMoment moment) where
         ap (λ u. fate (row_at key (updated u state))) (sym first)
         ∙ step_by row k.0.0 k.0.1 row.shown.value refl (due_may moment row row.due refl of.due k.0.1) key
 
-    step : (update : Update) (updates : List Update) → due state moment ≡ update ∷ updates → (key : Key) → fate (row_at key (updated update state)) ≡ fate (row_at key state)
-    step update updates e key = first_step (filter (is_due moment) state) update updates (each_filtered Known (is_due moment) state known) e key
+    step : (update : Update) (updates : List Update) → due state moment ≡ update ∷ updates → (key : Key)
+        → fate (row_at key (updated update state)) ≡ fate (row_at key state)
+    step update updates e key =
+        first_step (filter (is_due moment) state) update updates (each_filtered Known (is_due moment) state known) e key
 
     -- ---- where nothing is due
 
-    nothing_due : (rows : List Row) → map (λ row. due_change moment row.shown.key row.shown.value) rows ≡ [] → AllByRecursion (λ row. ⊥) rows
+    nothing_due : (rows : List Row) → map (λ row. due_change moment row.shown.key row.shown.value) rows ≡ []
+        → AllByRecursion (λ row. ⊥) rows
     nothing_due [] e = tt
-    nothing_due (row ∷ rows) e = let bad : due_change moment row.shown.key row.shown.value ∷ map (λ r. due_change moment r.shown.key r.shown.value) rows ≡ [] = e in cc
+    nothing_due (row ∷ rows) e =
+        let bad : due_change moment row.shown.key row.shown.value ∷ map (λ r. due_change moment r.shown.key r.shown.value) rows ≡ [] = e in
+        cc
 
     stays : (row : Row) → (is_due moment row ≡ true → ⊥) → (b : Bool) → is_due moment row ≡ b → b ≡ false
     stays row none true e = absurd (none e)
@@ -128,48 +151,61 @@ module _ (buses : List Bus) (moment : ℕ) (now : IsMoment moment) where
     still_by e key None h = refl
     still_by e key (Some row) h =
         let none : is_due moment row ≡ true → ⊥ =
-        found_holds (λ r. is_due moment r ≡ true → ⊥) (λ r. same_key r.shown.key key) state (each_unfiltered (λ r. ⊥) (is_due moment) state (nothing_due (filter (is_due moment) state) e)) row h in
+        found_holds (λ r. is_due moment r ≡ true → ⊥) (λ r. same_key r.shown.key key) state
+        (each_unfiltered (λ r. ⊥) (is_due moment) state (nothing_due (filter (is_due moment) state) e)) row h in
         sym (other_fate row (stays row none (is_due moment row) refl))
 
-  all_fates : (updates : List Update) (state : State) → IsWhole buses state → due state moment ≡ updates → (key : Key) → row_at key (updated_all updates state) ≡ fate (row_at key state)
+  all_fates : (updates : List Update) (state : State) → IsWhole buses state → due state moment ≡ updates → (key : Key)
+      → row_at key (updated_all updates state) ≡ fate (row_at key state)
   all_fates [] state whole e key = still_by state whole e key (row_at key state) refl
   all_fates (update ∷ updates) state whole e key =
       let later = due_later buses state whole moment now update updates e in
       all_fates updates (updated update state) later.0 later.1 key ∙ step state whole update updates e key
 
   -- a moment makes of each row what it comes to
-  pub due_rows : (state : State) → IsWhole buses state → (key : Key) → row_at key (updated_all (due state moment) state) ≡ option_map_or (comes_to moment) (row_at key state) None
+  pub due_rows : (state : State) → IsWhole buses state → (key : Key)
+      → row_at key (updated_all (due state moment) state) ≡ option_map_or (comes_to moment) (row_at key state) None
   due_rows state whole key = all_fates (due state moment) state whole refl key
 
 -- ---- what a SET leaves behind
 
 -- a command that is accepted makes its changes
-accepted_done : (refused : List (Bool × Code)) (updates : List Update) → (done (unless_refused refused updates)).reply ≡ Accepted → (done (unless_refused refused updates)).updates ≡ updates
+accepted_done : (refused : List (Bool × Code)) (updates : List Update) → (done (unless_refused refused updates)).reply ≡ Accepted
+    → (done (unless_refused refused updates)).updates ≡ updates
 accepted_done [] updates e = refl
 accepted_done (refusal ∷ others) updates e = by refusal.0 (accepted_done others updates) e
   where
-    by : (b : Bool) → ((done (unless_refused others updates)).reply ≡ Accepted → (done (unless_refused others updates)).updates ≡ updates) → (done (cond b (Err refusal.1) (unless_refused others updates))).reply ≡ Accepted
+    by : (b : Bool) → ((done (unless_refused others updates)).reply ≡ Accepted → (done (unless_refused others updates)).updates ≡ updates)
+        → (done (cond b (Err refusal.1) (unless_refused others updates))).reply ≡ Accepted
         → (done (cond b (Err refusal.1) (unless_refused others updates))).updates ≡ updates
     by true later e = cc
     by false later e = later e
 
 -- so the row that a SET puts is there
-put_there : (refused : List (Bool × Code)) (moment : ℕ) (key : Key) (shows : Value) (ends : Option ℕ) (state : State) → (done (unless_refused refused (put_at moment key shows ends ∷ []))).reply ≡ Accepted
-    → row_at key (updated_all (done (unless_refused refused (put_at moment key shows ends ∷ []))).updates state) ≡ Some (row_put moment key shows ends)
+put_there : (refused : List (Bool × Code)) (moment : ℕ) (key : Key) (shows : Value) (ends : Option ℕ) (state : State)
+    → (done (unless_refused refused (put_at moment key shows ends ∷ []))).reply ≡ Accepted
+    → row_at key (updated_all (done (unless_refused refused (put_at moment key shows ends ∷ []))).updates state)
+    ≡ Some (row_put moment key shows ends)
 put_there refused moment key shows ends state e =
-    ap (λ us. row_at key (updated_all us state)) (accepted_done refused (put_at moment key shows ends ∷ []) e) ∙ row_at-put_same (row_put moment key shows ends) state
+    ap (λ us. row_at key (updated_all us state)) (accepted_done refused (put_at moment key shows ends ∷ []) e)
+    ∙ row_at-put_same (row_put moment key shows ends) state
 
-pub port_set : (state : State) (session moment bus address port : ℕ) (on : Bool) (time : Option ℕ) → (effect state session moment (SetGa bus address port on time)).reply ≡ Accepted
-    → row_at (key_at (device_in lockable.Ga bus address) (1 + port)) (updated_all (effect state session moment (SetGa bus address port on time)).updates state)
+pub port_set : (state : State) (session moment bus address port : ℕ) (on : Bool) (time : Option ℕ)
+    → (effect state session moment (SetGa bus address port on time)).reply ≡ Accepted
+    → row_at (key_at (device_in lockable.Ga bus address) (1 + port))
+    (updated_all (effect state session moment (SetGa bus address port on time)).updates state)
     ≡ Some (row_put moment (key_at (device_in lockable.Ga bus address) (1 + port)) (value.GaPort on) (port_end moment on time))
 port_set state session moment bus address port on time e =
-    put_there (refusals state session lockable.Ga bus address) moment (key_at (device_in lockable.Ga bus address) (1 + port)) (value.GaPort on) (port_end moment on time) state e
+    put_there (refusals state session lockable.Ga bus address) moment (key_at (device_in lockable.Ga bus address) (1 + port))
+    (value.GaPort on) (port_end moment on time) state e
 
-pub lock_set : (state : State) (session moment : ℕ) (g : Lockable) (bus address seconds : ℕ) → (effect state session moment (SetLock bus g address seconds)).reply ≡ Accepted
+pub lock_set : (state : State) (session moment : ℕ) (g : Lockable) (bus address seconds : ℕ)
+    → (effect state session moment (SetLock bus g address seconds)).reply ≡ Accepted
     → row_at (first_key (lock_on g bus address)) (updated_all (effect state session moment (SetLock bus g address seconds)).updates state)
     ≡ Some (row_put moment (first_key (lock_on g bus address)) (value.Lock seconds session) (lock_end moment seconds))
 lock_set state session moment g bus address seconds e =
-    put_there (refusals state session g bus address) moment (first_key (lock_on g bus address)) (value.Lock seconds session) (lock_end moment seconds) state e
+    put_there (refusals state session g bus address) moment (first_key (lock_on g bus address)) (value.Lock seconds session)
+    (lock_end moment seconds) state e
 
 -- ---- and what becomes of it
 
@@ -179,30 +215,41 @@ some_time moment n some = ap (λ b. cond b (Some (moment_after moment n)) None) 
 some_seconds : (moment n : ℕ) → 0 < n → lock_end moment n ≡ Some (moment_after moment (1000 * n))
 some_seconds moment n some = ap (λ b. cond b (Some (moment_after moment (1000 * n))) None) (lt-ltb 0 n some)
 
-pub port_falls : (buses : List Bus) (state : State) (session moment later bus address port milliseconds : ℕ) → MayObey buses state session (SetGa bus address port true (Some milliseconds)) → IsMoment moment → IsMoment later
+pub port_falls : (buses : List Bus) (state : State) (session moment later bus address port milliseconds : ℕ)
+    → MayObey buses state session (SetGa bus address port true (Some milliseconds)) → IsMoment moment → IsMoment later
     → 0 < milliseconds → (effect state session moment (SetGa bus address port true (Some milliseconds))).reply ≡ Accepted
     → (after : State) → after ≡ updated_all (effect state session moment (SetGa bus address port true (Some milliseconds))).updates state
     → row_at (key_at (device_in lockable.Ga bus address) (1 + port)) (updated_all (due after later) after)
-    ≡ (if nat_le (moment_after moment milliseconds) later then Some (row_put later (key_at (device_in lockable.Ga bus address) (1 + port)) (value.GaPort false) None)
-    else Some (row_put moment (key_at (device_in lockable.Ga bus address) (1 + port)) (value.GaPort true) (Some (moment_after moment milliseconds))))
+    ≡ (if nat_le (moment_after moment milliseconds) later
+    then Some (row_put later (key_at (device_in lockable.Ga bus address) (1 + port)) (value.GaPort false) None)
+    else Some (row_put moment (key_at (device_in lockable.Ga bus address) (1 + port)) (value.GaPort true)
+    (Some (moment_after moment milliseconds))))
 port_falls buses state session moment later bus address port milliseconds may begins now some e after is =
     let key = key_at (device_in lockable.Ga bus address) (1 + port) in
-    let whole : IsWhole buses after = subst (IsWhole buses) (sym is) (effect_kept buses state may.whole session moment may.begun begins (SetGa bus address port true (Some milliseconds)) may.of) in
+    let whole : IsWhole buses after =
+    subst (IsWhole buses) (sym is)
+    (effect_kept buses state may.whole session moment may.begun begins (SetGa bus address port true (Some milliseconds)) may.of) in
     let there : row_at key after ≡ Some (row_put moment key (value.GaPort true) (Some (moment_after moment milliseconds))) =
-    ap (row_at key) is ∙ port_set state session moment bus address port true (Some milliseconds) e ∙ ap (λ ends. Some (row_put moment key (value.GaPort true) ends)) (some_time moment milliseconds some) in
+    ap (row_at key) is ∙ port_set state session moment bus address port true (Some milliseconds) e
+    ∙ ap (λ ends. Some (row_put moment key (value.GaPort true) ends)) (some_time moment milliseconds some) in
     due_rows buses later now after whole key ∙ ap (λ o. option_map_or (comes_to later) o None) there
 
-pub lock_runs_out : (buses : List Bus) (state : State) (session moment later : ℕ) (g : Lockable) (bus address seconds : ℕ) → MayObey buses state session (SetLock bus g address seconds) → IsMoment moment → IsMoment later
+pub lock_runs_out : (buses : List Bus) (state : State) (session moment later : ℕ) (g : Lockable) (bus address seconds : ℕ)
+    → MayObey buses state session (SetLock bus g address seconds) → IsMoment moment → IsMoment later
     → 0 < seconds → (effect state session moment (SetLock bus g address seconds)).reply ≡ Accepted
     → (after : State) → after ≡ updated_all (effect state session moment (SetLock bus g address seconds)).updates state
     → row_at (first_key (lock_on g bus address)) (updated_all (due after later) after)
     ≡ (if nat_le (moment_after moment (1000 * seconds)) later then None
-    else Some (row_put moment (first_key (lock_on g bus address)) (value.Lock seconds session) (Some (moment_after moment (1000 * seconds)))))
+    else Some (row_put moment (first_key (lock_on g bus address)) (value.Lock seconds session)
+    (Some (moment_after moment (1000 * seconds)))))
 lock_runs_out buses state session moment later g bus address seconds may begins now some e after is =
     let key = first_key (lock_on g bus address) in
-    let whole : IsWhole buses after = subst (IsWhole buses) (sym is) (effect_kept buses state may.whole session moment may.begun begins (SetLock bus g address seconds) may.of) in
+    let whole : IsWhole buses after =
+    subst (IsWhole buses) (sym is)
+    (effect_kept buses state may.whole session moment may.begun begins (SetLock bus g address seconds) may.of) in
     let there : row_at key after ≡ Some (row_put moment key (value.Lock seconds session) (Some (moment_after moment (1000 * seconds)))) =
-    ap (row_at key) is ∙ lock_set state session moment g bus address seconds e ∙ ap (λ ends. Some (row_put moment key (value.Lock seconds session) ends)) (some_seconds moment seconds some) in
+    ap (row_at key) is ∙ lock_set state session moment g bus address seconds e
+    ∙ ap (λ ends. Some (row_put moment key (value.Lock seconds session) ends)) (some_seconds moment seconds some) in
     due_rows buses later now after whole key ∙ ap (λ o. option_map_or (comes_to later) o None) there
 
 -- ---- the greatest moment
@@ -210,5 +257,7 @@ lock_runs_out buses state session moment later g bus address seconds may begins 
 pub ends_in_time : (moment milliseconds : ℕ) → EndsInTime moment milliseconds
 ends_in_time moment milliseconds = record {
   within = λ h. min-eq_left (omega (arith, h));
-  beyond = λ h. let e : min (moment + milliseconds) 18446744073709551615 ≡ 18446744073709551615 = min-eq_right (omega (arith, h)) in omega (arith, e);
+  beyond =
+      λ h. let e : min (moment + milliseconds) 18446744073709551615 ≡ 18446744073709551615 = min-eq_right (omega (arith, h)) in
+      omega (arith, e);
 }

@@ -12,7 +12,8 @@ use Rattle.srcp_rules.proofs.DueLaws.{freed_kept}
 use Rattle.srcp_rules.proofs.SessionLaws.{freed_own, freed_others}
 
 -- a session that is not there holds nothing
-unheld : (buses : List Bus) (state : State) (session : ℕ) → IsWhole buses state → is_there (session_device session) state ≡ false → (key : Key) (row : Row) → row_at key state ≡ Some row
+unheld : (buses : List Bus) (state : State) (session : ℕ) → IsWhole buses state → is_there (session_device session) state ≡ false
+    → (key : Key) (row : Row) → row_at key state ≡ Some row
     → (o : Option ℕ) → holder_of row ≡ o → option_map_or (λ holder. holder == session) o false ≡ false
 unheld buses state session whole absent key row h None e = refl
 unheld buses state session whole absent key row h (Some holder) e = by (holder == session) refl
@@ -23,7 +24,8 @@ unheld buses state session whole absent key row h (Some holder) e = by (holder =
         absurd (true≢false (sym there ∙ ap (λ n. is_there (session_device n) state) (eqb-true holder session same) ∙ absent))
     by false same = refl
 
-pub all_freed : (buses : List Bus) (state : State) (session moment : ℕ) → IsWhole buses state → IsFreed session state (updated_all (freed state session moment) state)
+pub all_freed : (buses : List Bus) (state : State) (session moment : ℕ) → IsWhole buses state
+    → IsFreed session state (updated_all (freed state session moment) state)
 all_freed buses state session moment whole =
     let after = updated_all (freed state session moment) state in
     let gone = freed_own buses state whole moment session in

@@ -23,7 +23,8 @@ use Rattle.srcp_rules.proofs.AddsNoRowLaws.{gl_count}
 module _ (buses : List Bus) (state : State) (session moment : ℕ) (now : IsMoment moment) where
   -- ---- a locomotive
 
-  pub gl_rows : (bus address : ℕ) (letter : Letter) (version steps functions : ℕ) → MayObey buses state session (InitGl bus address letter version steps functions)
+  pub gl_rows : (bus address : ℕ) (letter : Letter) (version steps functions : ℕ)
+      → MayObey buses state session (InitGl bus address letter version steps functions)
       → AreRowsOf buses (device_in lockable.Gl bus address)
       (row_put moment (key_at (device_in lockable.Gl bus address) 0) (value.GlInit letter version steps functions) None
       ∷ row_put moment (key_at (device_in lockable.Gl bus address) 1) (value.GlState 1 0 0 (replicate functions false)) None ∷ [])
@@ -40,7 +41,8 @@ module _ (buses : List Bus) (state : State) (session moment : ℕ) (now : IsMome
         each = (
           IsRowOf-put buses may.whole.laid_out (key_at device 0) moment (value.GlInit letter version steps functions) None some now fits tt,
           (
-            IsRowOf-put buses may.whole.laid_out (key_at device 1) moment (value.GlState 1 0 0 (replicate functions false)) None (omega (arith, count)) now
+            IsRowOf-put buses may.whole.laid_out (key_at device 1) moment (value.GlState 1 0 0 (replicate functions false)) None
+                (omega (arith, count)) now
                 (refl, refl, (omega arith, omega arith, omega arith, refl, λ e. absurd (omega (arith, e))), omega (arith, most, long)) tt,
             tt,
           ),
@@ -53,24 +55,33 @@ module _ (buses : List Bus) (state : State) (session moment : ℕ) (now : IsMome
   port_row device port = row_put moment (key_at device port) (value.GaPort false) None
 
   abbrev pub ga_fresh : Device → Letter → (ports : ℕ) → List Row
-  ga_fresh device letter ports = row_put moment (key_at device 0) (value.GaInit letter) None ∷ map (port_row device) (range_with_len 1 ports)
+  ga_fresh device letter ports =
+      row_put moment (key_at device 0) (value.GaInit letter) None ∷ map (port_row device) (range_with_len 1 ports)
 
   -- the rows of the fewest ports among those of the most
-  pub ga_taken : (device : Device) (letter : Letter) (ports n : ℕ) → ports ≤ 8 → n ≡ 1 + ports → take n (ga_fresh device letter 8) ≡ ga_fresh device letter ports
+  pub ga_taken : (device : Device) (letter : Letter) (ports n : ℕ) → ports ≤ 8 → n ≡ 1 + ports
+      → take n (ga_fresh device letter 8) ≡ ga_fresh device letter ports
   ga_taken device letter ports n few e =
       let one : n ≡ suc ports = omega arith in
       ap (λ k. take k (ga_fresh device letter 8)) one
-      ∙ ap (λ rows. row_put moment (key_at device 0) (value.GaInit letter) None ∷ rows) (take-map-range_with_len (port_row device) 1 8 ports few)
+      ∙ ap (λ rows. row_put moment (key_at device 0) (value.GaInit letter) None ∷ rows)
+      (take-map-range_with_len (port_row device) 1 8 ports few)
 
   puts-ports : (bus address first n : ℕ) → map put_of (map (port_row (device_in lockable.Ga bus address)) (range_with_len first n))
       ≡ map (λ port. put_at moment (key_at (device_in lockable.Ga bus address) port) (value.GaPort false) None) (range_with_len first n)
   puts-ports bus address first zero = refl
-  puts-ports bus address first (suc n) = ap (λ updates. put_at moment (key_at (device_in lockable.Ga bus address) first) (value.GaPort false) None ∷ updates) (puts-ports bus address (first + 1) n)
+  puts-ports bus address first (suc n) =
+      ap (λ updates. put_at moment (key_at (device_in lockable.Ga bus address) first) (value.GaPort false) None ∷ updates)
+      (puts-ports bus address (first + 1) n)
 
-  pub ga_puts : (bus address : ℕ) (letter : Letter) (ports : ℕ) → map put_of (ga_fresh (device_in lockable.Ga bus address) letter ports) ≡ fresh_ga moment bus address letter ports
-  ga_puts bus address letter ports = ap (λ updates. put_at moment (key_at (device_in lockable.Ga bus address) 0) (value.GaInit letter) None ∷ updates) (puts-ports bus address 1 ports)
+  pub ga_puts : (bus address : ℕ) (letter : Letter) (ports : ℕ)
+      → map put_of (ga_fresh (device_in lockable.Ga bus address) letter ports) ≡ fresh_ga moment bus address letter ports
+  ga_puts bus address letter ports =
+      ap (λ updates. put_at moment (key_at (device_in lockable.Ga bus address) 0) (value.GaInit letter) None ∷ updates)
+      (puts-ports bus address 1 ports)
 
-  keys-ports : (device : Device) (first n : ℕ) → map (λ row. row.shown.key) (map (port_row device) (range_with_len first n)) ≡ map (key_at device) (range_with_len first n)
+  keys-ports : (device : Device) (first n : ℕ)
+      → map (λ row. row.shown.key) (map (port_row device) (range_with_len first n)) ≡ map (key_at device) (range_with_len first n)
   keys-ports device first zero = refl
   keys-ports device first (suc n) = ap (λ keys. key_at device first ∷ keys) (keys-ports device (first + 1) n)
 
@@ -78,14 +89,16 @@ module _ (buses : List Bus) (state : State) (session moment : ℕ) (now : IsMome
   length-ports device first zero = refl
   length-ports device first (suc n) = ap suc (length-ports device (first + 1) n)
 
-  each_port : (bus address : ℕ) (letter : Letter) (ports : ℕ) → MayObey buses state session (InitGa bus address letter ports) → (first n : ℕ) → 1 ≤ first → first + n ≤ 1 + ports
+  each_port : (bus address : ℕ) (letter : Letter) (ports : ℕ) → MayObey buses state session (InitGa bus address letter ports)
+      → (first n : ℕ) → 1 ≤ first → first + n ≤ 1 + ports
       → AllByRecursion (IsRowOf buses) (map (port_row (device_in lockable.Ga bus address)) (range_with_len first n))
   each_port bus address letter ports may first zero low high = tt
   each_port bus address letter ports may first (suc n) low high =
       let device = device_in lockable.Ga bus address in
       let count : row_count buses device ≡ 1 + ports = may.of.0 in
       let few : ports ≤ 8 = may.of.1 in (
-        IsRowOf-put buses may.whole.laid_out (key_at device first) moment (value.GaPort false) None (omega (arith, count)) now (refl, (low, omega arith)) tt,
+        IsRowOf-put buses may.whole.laid_out (key_at device first) moment (value.GaPort false) None (omega (arith, count)) now
+            (refl, (low, omega arith)) tt,
         each_port bus address letter ports may (first + 1) n (omega arith) (omega arith),
       )
 
@@ -98,10 +111,12 @@ module _ (buses : List Bus) (state : State) (session moment : ℕ) (now : IsMome
       let few : ports ≤ 8 = may.of.1 in
       let long = length-ports device 1 ports in
       record {
-        keys = ap (λ keys. key_at device 0 ∷ keys) (keys-ports device 1 ports) ∙ ap (λ n. map (key_at device) (range_with_len 0 n)) (sym more);
+        keys =
+            ap (λ keys. key_at device 0 ∷ keys) (keys-ports device 1 ports) ∙ ap (λ n. map (key_at device) (range_with_len 0 n)) (sym more);
         few = omega (arith, few, long);
         each = (
-          IsRowOf-put buses may.whole.laid_out (key_at device 0) moment (value.GaInit letter) None (omega (arith, count)) now (refl, refl) tt,
+          IsRowOf-put buses may.whole.laid_out (key_at device 0) moment (value.GaInit letter) None (omega (arith, count)) now
+              (refl, refl) tt,
           each_port bus address letter ports may 1 ports (omega arith) (omega arith),
         );
       }

@@ -48,13 +48,17 @@ module _ (buses : List Bus) (state : State) (whole : IsWhole buses state) (momen
     where
       by : (b : Bool) → is_there (device_in g bus address) (updated_all (lock_gone b) state) ≡ true
       by true =
-          ap is_some (row_at-without (first_key (device_in g bus address)) (lock_on g bus address) state ∙ ap (λ b. cond b None (row_at (first_key (device_in g bus address)) state)) (lock_apart g bus address)) ∙ there
+          ap is_some
+          (row_at-without (first_key (device_in g bus address)) (lock_on g bus address) state
+          ∙ ap (λ b. cond b None (row_at (first_key (device_in g bus address)) state)) (lock_apart g bus address))
+          ∙ there
       by false = there
 
   -- a device that is not there has no lock
   pub removals_none : is_there (device_in g bus address) state ≡ false → removals state moment g bus address ≡ []
   removals_none absent =
-      (λ i. cond (no_lock (is_there (lock_on g bus address) state) refl i) (gone_at moment (lock_on g bus address) ∷ []) [] ++ cond (absent i) (gone_at moment (device_in g bus address) ∷ []) [])
+      (λ i. cond (no_lock (is_there (lock_on g bus address) state) refl i) (gone_at moment (lock_on g bus address) ∷ []) []
+      ++ cond (absent i) (gone_at moment (device_in g bus address) ∷ []) [])
     where
       no_lock : (b : Bool) → is_there (lock_on g bus address) state ≡ b → is_there (lock_on g bus address) state ≡ false
       no_lock true e = absurd (true≢false (sym (whole.locked g bus address e) ∙ absent))
@@ -64,14 +68,20 @@ module _ (buses : List Bus) (state : State) (whole : IsWhole buses state) (momen
   changes_puts [] = refl
   changes_puts (row ∷ rows) = ap (λ changes. (put_of row).change ∷ changes) (changes_puts rows)
 
-  pub changes_made : (rows : List Row) → is_there (device_in g bus address) state ≡ false → map (λ row. (put_of row).change) rows ≡ map change_of (removals state moment g bus address ++ map put_of rows)
-  changes_made rows absent = changes_puts rows ∙ ap (λ (updates : List Update). map change_of (updates ++ map put_of rows)) (sym (removals_none absent))
+  pub changes_made : (rows : List Row) → is_there (device_in g bus address) state ≡ false
+      → map (λ row. (put_of row).change) rows ≡ map change_of (removals state moment g bus address ++ map put_of rows)
+  changes_made rows absent =
+      changes_puts rows ∙ ap (λ (updates : List Update). map change_of (updates ++ map put_of rows)) (sym (removals_none absent))
 
-  pub rows_made : (rows : List Row) → is_there (device_in g bus address) state ≡ false → put_rows rows state ≡ updated_all (removals state moment g bus address ++ map put_of rows) state
-  rows_made rows absent = sym (updated_all-puts rows state) ∙ ap (λ (updates : List Update). updated_all (updates ++ map put_of rows) state) (sym (removals_none absent))
+  pub rows_made : (rows : List Row) → is_there (device_in g bus address) state ≡ false
+      → put_rows rows state ≡ updated_all (removals state moment g bus address ++ map put_of rows) state
+  rows_made rows absent =
+      sym (updated_all-puts rows state)
+      ∙ ap (λ (updates : List Update). updated_all (updates ++ map put_of rows) state) (sym (removals_none absent))
 
   pub changes_remade : (rows : List Row) → is_there (device_in g bus address) state ≡ true
-      → (map change_of (removal state moment (lock_on g bus address)) ++ (gone_at moment (device_in g bus address)).change ∷ []) ++ map (λ row. (put_of row).change) rows
+      → (map change_of (removal state moment (lock_on g bus address)) ++ (gone_at moment (device_in g bus address)).change ∷ [])
+      ++ map (λ row. (put_of row).change) rows
       ≡ map change_of (removals state moment g bus address ++ map put_of rows)
   changes_remade rows there =
       let lock = removal state moment (lock_on g bus address) in
@@ -79,20 +89,24 @@ module _ (buses : List Bus) (state : State) (whole : IsWhole buses state) (momen
       (λ i. sym (map-append change_of lock gone) i ++ changes_puts rows i) ∙ sym (map-append change_of (lock ++ gone) (map put_of rows))
       ∙ ap (λ b. map change_of ((lock ++ cond b gone []) ++ map put_of rows)) (sym there)
 
-  pub rows_remade : (rows : List Row) → is_there (device_in g bus address) state ≡ true → AreRowsOf buses (device_in g bus address) rows → put_rows rows unlocked ≡ updated_all (removals state moment g bus address ++ map put_of rows) state
+  pub rows_remade : (rows : List Row) → is_there (device_in g bus address) state ≡ true → AreRowsOf buses (device_in g bus address) rows
+      → put_rows rows unlocked ≡ updated_all (removals state moment g bus address ++ map put_of rows) state
   rows_remade rows there all =
       let device = device_in g bus address in
       let lock = removal state moment (lock_on g bus address) in
       let gone = gone_at moment device ∷ [] in
       sym (put_rows-without buses device rows all unlocked unlocked_whole) ∙ sym (updated_all-puts rows (without device unlocked))
-      ∙ ap (updated_all (map put_of rows)) (sym (updated_all-append lock gone state)) ∙ sym (updated_all-append (lock ++ gone) (map put_of rows) state)
+      ∙ ap (updated_all (map put_of rows)) (sym (updated_all-append lock gone state))
+      ∙ sym (updated_all-append (lock ++ gone) (map put_of rows) state)
       ∙ ap (λ b. updated_all ((lock ++ cond b gone []) ++ map put_of rows) state) (sym there)
 
-  pub added : (rows : List Row) → AreRowsOf buses (device_in g bus address) rows → 0 < row_count buses (device_in g bus address) → is_there (device_in g bus address) state ≡ false → AreNewRowsOf buses state (device_in g bus address) rows
+  pub added : (rows : List Row) → AreRowsOf buses (device_in g bus address) rows → 0 < row_count buses (device_in g bus address)
+      → is_there (device_in g bus address) state ≡ false → AreNewRowsOf buses state (device_in g bus address) rows
   added rows all some absent = record { all = all; free = none_there buses state whole (device_in g bus address) absent some }
 
 -- a device that nobody else has locked, and that has other parameters or is not there, is made
-pub init_accepted : (state : State) (session moment : ℕ) (g : Lockable) (bus address : ℕ) (init : Value) (fresh : List Update) → is_locked state session g bus address ≡ false → has_init state g bus address init ≡ false
+pub init_accepted : (state : State) (session moment : ℕ) (g : Lockable) (bus address : ℕ) (init : Value) (fresh : List Update)
+    → is_locked state session g bus address ≡ false → has_init state g bus address init ≡ false
     → accepted (removals state moment g bus address ++ fresh) ≡ done (init_device state session moment g bus address init fresh)
 init_accepted state session moment g bus address init fresh free other =
     let made = removals state moment g bus address ++ fresh in

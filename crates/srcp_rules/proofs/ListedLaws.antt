@@ -54,7 +54,8 @@ apart m n e p = true≢false (sym (ap is_eq (tied_itself nat_cmp_total m)) ∙ a
 
 -- ---- entries by number
 
-above_trans : (n m : ℕ) → nat_cmp n m ≡ Less → (ks : List ℕ) → AllByRecursion (λ k. nat_cmp m k ≡ Less) ks → AllByRecursion (λ k. nat_cmp n k ≡ Less) ks
+above_trans : (n m : ℕ) → nat_cmp n m ≡ Less → (ks : List ℕ) → AllByRecursion (λ k. nat_cmp m k ≡ Less) ks
+    → AllByRecursion (λ k. nat_cmp n k ≡ Less) ks
 above_trans n m e ks h = each-weaken {P = λ k. nat_cmp m k ≡ Less} (λ k f. nat_cmp_total.trans n m k e f) ks h
 
 module _ {X : Type 0} where
@@ -64,7 +65,8 @@ module _ {X : Type 0} where
   none_above n (e ∷ es) h = ap (λ o. cond (is_eq o) (Some e.1) (entry_at n es)) h.0 ∙ none_above n es h.1
 
   module _ (Q : ℕ → X → Type 0) where
-    found_step : (n : ℕ) (e : ℕ × X) (es : List (ℕ × X)) (x : X) (o : Ordering) → nat_cmp n e.0 ≡ o → Q e.0 e.1 → (entry_at n es ≡ Some x → Q n x) → cond (is_eq o) (Some e.1) (entry_at n es) ≡ Some x → Q n x
+    found_step : (n : ℕ) (e : ℕ × X) (es : List (ℕ × X)) (x : X) (o : Ordering) → nat_cmp n e.0 ≡ o → Q e.0 e.1
+        → (entry_at n es ≡ Some x → Q n x) → cond (is_eq o) (Some e.1) (entry_at n es) ≡ Some x → Q n x
     found_step n e es x Less p a ih h = ih h
     found_step n e es x Equal p a ih h = subst (λ k. Q k x) (sym (nat_tie n e.0 p)) (subst (Q e.0) (same_Some e.1 x h) a)
     found_step n e es x Greater p a ih h = ih h
@@ -74,36 +76,45 @@ module _ {X : Type 0} where
     entry_holds n [] a x h = absurd (none-some x h)
     entry_holds n (e ∷ es) a x h = found_step n e es x (nat_cmp n e.0) refl a.0 (entry_holds n es a.1 x) h
 
-    set_step : (n : ℕ) (e : ℕ × X) (es rest : List (ℕ × X)) (w : X) (o : Ordering) → nat_cmp n e.0 ≡ o → Q n w → Q e.0 e.1 → AllByRecursion (λ e. Q e.0 e.1) es → AllByRecursion (λ e. Q e.0 e.1) rest
+    set_step : (n : ℕ) (e : ℕ × X) (es rest : List (ℕ × X)) (w : X) (o : Ordering) → nat_cmp n e.0 ≡ o → Q n w → Q e.0 e.1
+        → AllByRecursion (λ e. Q e.0 e.1) es → AllByRecursion (λ e. Q e.0 e.1) rest
         → AllByRecursion (λ e. Q e.0 e.1) (cond (is_eq o) ((e.0, w) ∷ es) (e ∷ rest))
     set_step n e es rest w Less p new a b ih = (a, ih)
     set_step n e es rest w Equal p new a b ih = (subst (λ k. Q k w) (nat_tie n e.0 p) new, b)
     set_step n e es rest w Greater p new a b ih = (a, ih)
 
     -- each entry after one is set
-    pub each-set_value : (n : ℕ) (w : X) → Q n w → (es : List (ℕ × X)) → AllByRecursion (λ e. Q e.0 e.1) es → AllByRecursion (λ e. Q e.0 e.1) (set_value (is_at (nat_cmp n)) es w)
+    pub each-set_value : (n : ℕ) (w : X) → Q n w → (es : List (ℕ × X)) → AllByRecursion (λ e. Q e.0 e.1) es
+        → AllByRecursion (λ e. Q e.0 e.1) (set_value (is_at (nat_cmp n)) es w)
     each-set_value n w new [] a = tt
-    each-set_value n w new (e ∷ es) a = set_step n e es (set_value (is_at (nat_cmp n)) es w) w (nat_cmp n e.0) refl new a.0 a.1 (each-set_value n w new es a.1)
+    each-set_value n w new (e ∷ es) a =
+        set_step n e es (set_value (is_at (nat_cmp n)) es w) w (nat_cmp n e.0) refl new a.0 a.1 (each-set_value n w new es a.1)
 
-    remove_step : (b : Bool) (e : ℕ × X) (es rest : List (ℕ × X)) → Q e.0 e.1 → AllByRecursion (λ e. Q e.0 e.1) es → AllByRecursion (λ e. Q e.0 e.1) rest → AllByRecursion (λ e. Q e.0 e.1) (cond b es (e ∷ rest))
+    remove_step : (b : Bool) (e : ℕ × X) (es rest : List (ℕ × X)) → Q e.0 e.1 → AllByRecursion (λ e. Q e.0 e.1) es
+        → AllByRecursion (λ e. Q e.0 e.1) rest → AllByRecursion (λ e. Q e.0 e.1) (cond b es (e ∷ rest))
     remove_step true e es rest a b ih = b
     remove_step false e es rest a b ih = (a, ih)
 
     -- and after one is taken out
-    pub each-remove_entry : (n : ℕ) (es : List (ℕ × X)) → AllByRecursion (λ e. Q e.0 e.1) es → AllByRecursion (λ e. Q e.0 e.1) (remove_entry (is_at (nat_cmp n)) es)
+    pub each-remove_entry : (n : ℕ) (es : List (ℕ × X)) → AllByRecursion (λ e. Q e.0 e.1) es
+        → AllByRecursion (λ e. Q e.0 e.1) (remove_entry (is_at (nat_cmp n)) es)
     each-remove_entry n [] a = tt
-    each-remove_entry n (e ∷ es) a = remove_step (is_at (nat_cmp n) e.0) e es (remove_entry (is_at (nat_cmp n)) es) a.0 a.1 (each-remove_entry n es a.1)
+    each-remove_entry n (e ∷ es) a =
+        remove_step (is_at (nat_cmp n) e.0) e es (remove_entry (is_at (nat_cmp n)) es) a.0 a.1 (each-remove_entry n es a.1)
 
-    insert_step : (n : ℕ) (e : ℕ × X) (es rest : List (ℕ × X)) (w : X) (o : Ordering) → nat_cmp n e.0 ≡ o → Q n w → Q e.0 e.1 → AllByRecursion (λ e. Q e.0 e.1) es → AllByRecursion (λ e. Q e.0 e.1) rest
+    insert_step : (n : ℕ) (e : ℕ × X) (es rest : List (ℕ × X)) (w : X) (o : Ordering) → nat_cmp n e.0 ≡ o → Q n w → Q e.0 e.1
+        → AllByRecursion (λ e. Q e.0 e.1) es → AllByRecursion (λ e. Q e.0 e.1) rest
         → AllByRecursion (λ e. Q e.0 e.1) (match_ordering o ((n, w) ∷ e ∷ es) ((e.0, w) ∷ es) (e ∷ rest))
     insert_step n e es rest w Less p new a b ih = (new, (a, b))
     insert_step n e es rest w Equal p new a b ih = (subst (λ k. Q k w) (nat_tie n e.0 p) new, b)
     insert_step n e es rest w Greater p new a b ih = (a, ih)
 
     -- and after one is inserted
-    pub each-insert_entry : (n : ℕ) (w : X) → Q n w → (es : List (ℕ × X)) → AllByRecursion (λ e. Q e.0 e.1) es → AllByRecursion (λ e. Q e.0 e.1) (insert_entry nat_cmp es n w)
+    pub each-insert_entry : (n : ℕ) (w : X) → Q n w → (es : List (ℕ × X)) → AllByRecursion (λ e. Q e.0 e.1) es
+        → AllByRecursion (λ e. Q e.0 e.1) (insert_entry nat_cmp es n w)
     each-insert_entry n w new [] a = (new, tt)
-    each-insert_entry n w new (e ∷ es) a = insert_step n e es (insert_entry nat_cmp es n w) w (nat_cmp n e.0) refl new a.0 a.1 (each-insert_entry n w new es a.1)
+    each-insert_entry n w new (e ∷ es) a =
+        insert_step n e es (insert_entry nat_cmp es n w) w (nat_cmp n e.0) refl new a.0 a.1 (each-insert_entry n w new es a.1)
 
 -- ---- their rows
 
@@ -125,35 +136,54 @@ module _ {X : Type 0} (rows : X → State) (tag : Key → ℕ) (P : Key → Type
   lower n m t h e = omega (arith, h, e)
 
   entry_above : (n : ℕ) (e : ℕ × X) → n < e.0 → IsTagged e → Above n (rows e.1)
-  entry_above n e h a = each-weaken {P = λ row. P row.shown.key × (tag row.shown.key ≡ e.0)} (λ row t. (t.0, higher n e.0 (tag row.shown.key) h t.1)) (rows e.1) a
+  entry_above n e h a =
+      each-weaken {P = λ row. P row.shown.key × (tag row.shown.key ≡ e.0)} (λ row t. (t.0, higher n e.0 (tag row.shown.key) h t.1))
+      (rows e.1) a
 
   entry_below : (n : ℕ) (e : ℕ × X) → e.0 < n → IsTagged e → Below n (rows e.1)
-  entry_below n e h a = each-weaken {P = λ row. P row.shown.key × (tag row.shown.key ≡ e.0)} (λ row t. (t.0, lower n e.0 (tag row.shown.key) h t.1)) (rows e.1) a
+  entry_below n e h a =
+      each-weaken {P = λ row. P row.shown.key × (tag row.shown.key ≡ e.0)} (λ row t. (t.0, lower n e.0 (tag row.shown.key) h t.1))
+      (rows e.1) a
 
   -- the rows of entries above a number are above it
-  pub listed_above : (n : ℕ) (es : List (ℕ × X)) → AllByRecursion IsTagged es → AllByRecursion (λ k. nat_cmp n k ≡ Less) (keys_of es) → Above n (listed rows es)
+  pub listed_above : (n : ℕ) (es : List (ℕ × X)) → AllByRecursion IsTagged es → AllByRecursion (λ k. nat_cmp n k ≡ Less) (keys_of es)
+      → Above n (listed rows es)
   listed_above n [] a h = tt
-  listed_above n (e ∷ es) a h = all_append (λ row. P row.shown.key × (n < tag row.shown.key)) (rows e.1) (listed rows es) (entry_above n e (below_of n e.0 h.0) a.0) (listed_above n es a.1 h.1)
+  listed_above n (e ∷ es) a h =
+      all_append (λ row. P row.shown.key × (n < tag row.shown.key)) (rows e.1) (listed rows es) (entry_above n e (below_of n e.0 h.0) a.0)
+      (listed_above n es a.1 h.1)
 
   -- ---- looking up
 
   module _ (key : Key) where
     past_entry : (e : ℕ × X) → (tag key ≡ e.0 → ⊥) → IsTagged e → AllByRecursion (λ row. same_key row.shown.key key ≡ false) (rows e.1)
-    past_entry e h a = each-weaken {P = λ row. P row.shown.key × (tag row.shown.key ≡ e.0)} (λ row t. other_key tag row.shown.key key (λ p. h (sym p ∙ t.1)) (same_key row.shown.key key) refl) (rows e.1) a
+    past_entry e h a =
+        each-weaken {P = λ row. P row.shown.key × (tag row.shown.key ≡ e.0)}
+        (λ row t. other_key tag row.shown.key key (λ p. h (sym p ∙ t.1)) (same_key row.shown.key key) refl) (rows e.1) a
 
-    past_rest : (es : List (ℕ × X)) → AllByRecursion IsTagged es → AllByRecursion (λ k. nat_cmp (tag key) k ≡ Less) (keys_of es) → AllByRecursion (λ row. same_key row.shown.key key ≡ false) (listed rows es)
+    past_rest : (es : List (ℕ × X)) → AllByRecursion IsTagged es → AllByRecursion (λ k. nat_cmp (tag key) k ≡ Less) (keys_of es)
+        → AllByRecursion (λ row. same_key row.shown.key key ≡ false) (listed rows es)
     past_rest es a h =
-        each-weaken {P = λ row. P row.shown.key × (tag key < tag row.shown.key)} (λ row t. other_key tag row.shown.key key (λ p. unequal (tag key) (tag row.shown.key) t.1 p) (same_key row.shown.key key) refl) (listed rows es) (listed_above (tag key) es a h)
+        each-weaken {P = λ row. P row.shown.key × (tag key < tag row.shown.key)}
+        (λ row t. other_key tag row.shown.key key (λ p. unequal (tag key) (tag row.shown.key) t.1 p) (same_key row.shown.key key) refl)
+        (listed rows es) (listed_above (tag key) es a h)
 
-    row_at_step : (e : ℕ × X) (es : List (ℕ × X)) → IsTagged e → AllByRecursion IsTagged es → AllByRecursion (λ k. nat_cmp e.0 k ≡ Less) (keys_of es) → (row_at key (listed rows es) ≡ option_map_or (λ x. row_at key (rows x)) (entry_at (tag key) es) None)
-        → (c : Bool) → is_eq (nat_cmp (tag key) e.0) ≡ c → row_at key (rows e.1 ++ listed rows es) ≡ option_map_or (λ x. row_at key (rows x)) (cond c (Some e.1) (entry_at (tag key) es)) None
+    row_at_step : (e : ℕ × X) (es : List (ℕ × X)) → IsTagged e → AllByRecursion IsTagged es
+        → AllByRecursion (λ k. nat_cmp e.0 k ≡ Less) (keys_of es)
+        → (row_at key (listed rows es) ≡ option_map_or (λ x. row_at key (rows x)) (entry_at (tag key) es) None)
+        → (c : Bool) → is_eq (nat_cmp (tag key) e.0) ≡ c
+        → row_at key (rows e.1 ++ listed rows es)
+        ≡ option_map_or (λ x. row_at key (rows x)) (cond c (Some e.1) (entry_at (tag key) es)) None
     row_at_step e es a b s ih true q =
         let here : tag key ≡ e.0 = tied (tag key) e.0 (nat_cmp (tag key) e.0) refl q in
-        find_before (λ row. same_key row.shown.key key) (rows e.1) (listed rows es) (past_rest es b (subst (λ n. AllByRecursion (λ k. nat_cmp n k ≡ Less) (keys_of es)) (sym here) s))
-    row_at_step e es a b s ih false q = find_past (λ row. same_key row.shown.key key) (rows e.1) (listed rows es) (past_entry e (apart (tag key) e.0 q) a) ∙ ih
+        find_before (λ row. same_key row.shown.key key) (rows e.1) (listed rows es)
+        (past_rest es b (subst (λ n. AllByRecursion (λ k. nat_cmp n k ≡ Less) (keys_of es)) (sym here) s))
+    row_at_step e es a b s ih false q =
+        find_past (λ row. same_key row.shown.key key) (rows e.1) (listed rows es) (past_entry e (apart (tag key) e.0 q) a) ∙ ih
 
     -- the row at a key is that of the entry of its number
-    pub row_at-listed : (es : List (ℕ × X)) → AllByRecursion IsTagged es → AreSorted es → row_at key (listed rows es) ≡ option_map_or (λ x. row_at key (rows x)) (entry_at (tag key) es) None
+    pub row_at-listed : (es : List (ℕ × X)) → AllByRecursion IsTagged es → AreSorted es
+        → row_at key (listed rows es) ≡ option_map_or (λ x. row_at key (rows x)) (entry_at (tag key) es) None
     unfolding IsStrictlySortedBy
     row_at-listed [] a s = refl
     row_at-listed (e ∷ es) a s = row_at_step e es a.0 a.1 s.0 (row_at-listed es a.1 s.1) (is_eq (nat_cmp (tag key) e.0)) refl
@@ -170,16 +200,26 @@ module _ {X : Type 0} (rows : X → State) (tag : Key → ℕ) (P : Key → Type
     outside_of m Greater e h = above_of n m e
 
     all_reached : (e : ℕ × X) → e.0 < n → IsTagged e → AllByRecursion (λ row. not (has_reached cursor row.shown.key) ≡ false) (rows e.1)
-    all_reached e h a = each-weaken {P = λ row. P row.shown.key × (tag row.shown.key ≡ e.0)} (λ row t. ap not (reached row.shown.key t.0 (lower n e.0 (tag row.shown.key) h t.1))) (rows e.1) a
+    all_reached e h a =
+        each-weaken {P = λ row. P row.shown.key × (tag row.shown.key ≡ e.0)}
+        (λ row t. ap not (reached row.shown.key t.0 (lower n e.0 (tag row.shown.key) h t.1))) (rows e.1) a
 
-    row_after_step : (e : ℕ × X) (es between : List (ℕ × X)) → IsTagged e → row_after cursor (listed rows es) ≡ row_after cursor (listed rows between) → (c : Bool) → inside e.0 ≡ c → row_after cursor (rows e.1 ++ listed rows es) ≡ row_after cursor (listed rows (cond c (e ∷ between) between))
-    row_after_step e es between a ih true q = find_behind (λ row. not (has_reached cursor row.shown.key)) (rows e.1) (listed rows es) (listed rows between) ih
-    row_after_step e es between a ih false q = find_past (λ row. not (has_reached cursor row.shown.key)) (rows e.1) (listed rows es) (all_reached e (outside_of e.0 (nat_cmp n e.0) refl q) a) ∙ ih
+    row_after_step : (e : ℕ × X) (es between : List (ℕ × X)) → IsTagged e
+        → row_after cursor (listed rows es) ≡ row_after cursor (listed rows between) → (c : Bool) → inside e.0 ≡ c
+        → row_after cursor (rows e.1 ++ listed rows es) ≡ row_after cursor (listed rows (cond c (e ∷ between) between))
+    row_after_step e es between a ih true q =
+        find_behind (λ row. not (has_reached cursor row.shown.key)) (rows e.1) (listed rows es) (listed rows between) ih
+    row_after_step e es between a ih false q =
+        find_past (λ row. not (has_reached cursor row.shown.key)) (rows e.1) (listed rows es)
+        (all_reached e (outside_of e.0 (nat_cmp n e.0) refl q) a)
+        ∙ ih
 
     -- entries whose rows the cursor has reached may be left out
-    pub row_after-listed : (es : List (ℕ × X)) → AllByRecursion IsTagged es → row_after cursor (listed rows es) ≡ row_after cursor (listed rows (entries_between nat_cmp (Included n) Unbounded es))
+    pub row_after-listed : (es : List (ℕ × X)) → AllByRecursion IsTagged es
+        → row_after cursor (listed rows es) ≡ row_after cursor (listed rows (entries_between nat_cmp (Included n) Unbounded es))
     row_after-listed [] a = refl
-    row_after-listed (e ∷ es) a = row_after_step e es (entries_between nat_cmp (Included n) Unbounded es) a.0 (row_after-listed es a.1) (inside e.0) refl
+    row_after-listed (e ∷ es) a =
+        row_after_step e es (entries_between nat_cmp (Included n) Unbounded es) a.0 (row_after-listed es a.1) (inside e.0) refl
 
     own_step : (e : ℕ × X) (es : List (ℕ × X)) (x : X) (row : Row) → IsTagged e → AllByRecursion (λ k. nat_cmp e.0 k ≡ Less) (keys_of es)
         → row_after cursor (rows x) ≡ Some row → (entry_at n es ≡ Some x → row_after cursor (listed rows es) ≡ Some row)
@@ -203,41 +243,55 @@ module _ {X : Type 0} (rows : X → State) (tag : Key → ℕ) (P : Key → Type
 
   -- ---- changes of the rows of one number
 
-  module _ (n : ℕ) (op : State → State) (left : (xs ys : State) → Above n ys → op (xs ++ ys) ≡ op xs ++ ys) (right : (xs ys : State) → Below n xs → op (xs ++ ys) ≡ xs ++ op ys) where
+  module _ (n : ℕ) (op : State → State) (left : (xs ys : State) → Above n ys → op (xs ++ ys) ≡ op xs ++ ys)
+      (right : (xs ys : State) → Below n xs → op (xs ++ ys) ≡ xs ++ op ys) where
     untouched : op [] ≡ [] → (ys : State) → Above n ys → op ys ≡ ys
     untouched none ys h = left [] ys h ∙ ap (λ xs. xs ++ ys) none
 
-    set_rows : (e : ℕ × X) (es : List (ℕ × X)) → IsTagged e → AllByRecursion IsTagged es → AllByRecursion (λ k. nat_cmp e.0 k ≡ Less) (keys_of es) → (x w : X) → rows w ≡ op (rows x)
-        → (entry_at n es ≡ Some x → listed rows (set_value (is_at (nat_cmp n)) es w) ≡ op (listed rows es)) → (o : Ordering) → nat_cmp n e.0 ≡ o → cond (is_eq o) (Some e.1) (entry_at n es) ≡ Some x
+    set_rows : (e : ℕ × X) (es : List (ℕ × X)) → IsTagged e → AllByRecursion IsTagged es
+        → AllByRecursion (λ k. nat_cmp e.0 k ≡ Less) (keys_of es) → (x w : X) → rows w ≡ op (rows x)
+        → (entry_at n es ≡ Some x → listed rows (set_value (is_at (nat_cmp n)) es w) ≡ op (listed rows es)) → (o : Ordering)
+        → nat_cmp n e.0 ≡ o → cond (is_eq o) (Some e.1) (entry_at n es) ≡ Some x
         → listed rows (cond (is_eq o) ((e.0, w) ∷ es) (e ∷ set_value (is_at (nat_cmp n)) es w)) ≡ op (rows e.1 ++ listed rows es)
     set_rows e es a b s x w is ih Less p h = absurd (none-some x (sym (none_above n es (above_trans n e.0 p (keys_of es) s)) ∙ h))
     set_rows e es a b s x w is ih Equal p h =
         ap (λ zs. zs ++ listed rows es) (is ∙ ap (λ y. op (rows y)) (sym (same_Some e.1 x h)))
-        ∙ sym (left (rows e.1) (listed rows es) (listed_above n es b (subst (λ m. AllByRecursion (λ k. nat_cmp m k ≡ Less) (keys_of es)) (sym (nat_tie n e.0 p)) s)))
-    set_rows e es a b s x w is ih Greater p h = ap (λ zs. rows e.1 ++ zs) (ih h) ∙ sym (right (rows e.1) (listed rows es) (entry_below n e (above_of n e.0 p) a))
+        ∙ sym (left (rows e.1) (listed rows es)
+        (listed_above n es b (subst (λ m. AllByRecursion (λ k. nat_cmp m k ≡ Less) (keys_of es)) (sym (nat_tie n e.0 p)) s)))
+    set_rows e es a b s x w is ih Greater p h =
+        ap (λ zs. rows e.1 ++ zs) (ih h) ∙ sym (right (rows e.1) (listed rows es) (entry_below n e (above_of n e.0 p) a))
 
     -- a change where the number has an entry
-    pub listed-set_value : (es : List (ℕ × X)) → AllByRecursion IsTagged es → AreSorted es → (x w : X) → entry_at n es ≡ Some x → rows w ≡ op (rows x) → listed rows (set_value (is_at (nat_cmp n)) es w) ≡ op (listed rows es)
+    pub listed-set_value : (es : List (ℕ × X)) → AllByRecursion IsTagged es → AreSorted es → (x w : X) → entry_at n es ≡ Some x
+        → rows w ≡ op (rows x) → listed rows (set_value (is_at (nat_cmp n)) es w) ≡ op (listed rows es)
     unfolding IsStrictlySortedBy
     listed-set_value [] a s x w h is = absurd (none-some x h)
-    listed-set_value (e ∷ es) a s x w h is = set_rows e es a.0 a.1 s.0 x w is (λ g. listed-set_value es a.1 s.1 x w g is) (nat_cmp n e.0) refl h
+    listed-set_value (e ∷ es) a s x w h is =
+        set_rows e es a.0 a.1 s.0 x w is (λ g. listed-set_value es a.1 s.1 x w g is) (nat_cmp n e.0) refl h
 
-    insert_rows : (e : ℕ × X) (es : List (ℕ × X)) → IsTagged e → AllByRecursion IsTagged es → AllByRecursion (λ k. nat_cmp e.0 k ≡ Less) (keys_of es) → (w : X) → op [] ≡ rows w
-        → (entry_at n es ≡ None → listed rows (insert_entry nat_cmp es n w) ≡ op (listed rows es)) → (o : Ordering) → nat_cmp n e.0 ≡ o → cond (is_eq o) (Some e.1) (entry_at n es) ≡ None
-        → listed rows (match_ordering o ((n, w) ∷ e ∷ es) ((e.0, w) ∷ es) (e ∷ insert_entry nat_cmp es n w)) ≡ op (rows e.1 ++ listed rows es)
+    insert_rows : (e : ℕ × X) (es : List (ℕ × X)) → IsTagged e → AllByRecursion IsTagged es
+        → AllByRecursion (λ k. nat_cmp e.0 k ≡ Less) (keys_of es) → (w : X) → op [] ≡ rows w
+        → (entry_at n es ≡ None → listed rows (insert_entry nat_cmp es n w) ≡ op (listed rows es)) → (o : Ordering) → nat_cmp n e.0 ≡ o
+        → cond (is_eq o) (Some e.1) (entry_at n es) ≡ None
+        → listed rows (match_ordering o ((n, w) ∷ e ∷ es) ((e.0, w) ∷ es) (e ∷ insert_entry nat_cmp es n w))
+        ≡ op (rows e.1 ++ listed rows es)
     insert_rows e es a b s w is ih Less p h =
         ap (λ xs. xs ++ (rows e.1 ++ listed rows es)) (sym is)
         ∙ sym (left [] (rows e.1 ++ listed rows es) (listed_above n (e ∷ es) (a, b) (p, above_trans n e.0 p (keys_of es) s)))
     insert_rows e es a b s w is ih Equal p h = absurd (none-some e.1 (sym h))
-    insert_rows e es a b s w is ih Greater p h = ap (λ zs. rows e.1 ++ zs) (ih h) ∙ sym (right (rows e.1) (listed rows es) (entry_below n e (above_of n e.0 p) a))
+    insert_rows e es a b s w is ih Greater p h =
+        ap (λ zs. rows e.1 ++ zs) (ih h) ∙ sym (right (rows e.1) (listed rows es) (entry_below n e (above_of n e.0 p) a))
 
     -- a change that gives the number an entry
-    pub listed-insert_entry : (es : List (ℕ × X)) → AllByRecursion IsTagged es → AreSorted es → (w : X) → entry_at n es ≡ None → op [] ≡ rows w → listed rows (insert_entry nat_cmp es n w) ≡ op (listed rows es)
+    pub listed-insert_entry : (es : List (ℕ × X)) → AllByRecursion IsTagged es → AreSorted es → (w : X) → entry_at n es ≡ None
+        → op [] ≡ rows w → listed rows (insert_entry nat_cmp es n w) ≡ op (listed rows es)
     unfolding IsStrictlySortedBy
     listed-insert_entry [] a s w h is = append-nil (rows w) ∙ sym is
-    listed-insert_entry (e ∷ es) a s w h is = insert_rows e es a.0 a.1 s.0 w is (λ g. listed-insert_entry es a.1 s.1 w g is) (nat_cmp n e.0) refl h
+    listed-insert_entry (e ∷ es) a s w h is =
+        insert_rows e es a.0 a.1 s.0 w is (λ g. listed-insert_entry es a.1 s.1 w g is) (nat_cmp n e.0) refl h
 
-    remove_rows : op [] ≡ [] → (e : ℕ × X) (es : List (ℕ × X)) → IsTagged e → AllByRecursion IsTagged es → AllByRecursion (λ k. nat_cmp e.0 k ≡ Less) (keys_of es) → op (rows e.1) ≡ [] ⊎ (n ≡ e.0 → ⊥)
+    remove_rows : op [] ≡ [] → (e : ℕ × X) (es : List (ℕ × X)) → IsTagged e → AllByRecursion IsTagged es
+        → AllByRecursion (λ k. nat_cmp e.0 k ≡ Less) (keys_of es) → op (rows e.1) ≡ [] ⊎ (n ≡ e.0 → ⊥)
         → listed rows (remove_entry (is_at (nat_cmp n)) es) ≡ op (listed rows es) → (o : Ordering) → nat_cmp n e.0 ≡ o
         → listed rows (cond (is_eq o) es (e ∷ remove_entry (is_at (nat_cmp n)) es)) ≡ op (rows e.1 ++ listed rows es)
     remove_rows none e es a b s gone ih Less p =
@@ -246,9 +300,11 @@ module _ {X : Type 0} (rows : X → State) (tag : Key → ℕ) (P : Key → Type
         ∙ sym (untouched none (rows e.1 ++ listed rows es) (listed_above n (e ∷ es) (a, b) (p, rest)))
     remove_rows none e es a b s (inl gone) ih Equal p =
         ap (λ xs. xs ++ listed rows es) (sym gone)
-        ∙ sym (left (rows e.1) (listed rows es) (listed_above n es b (subst (λ m. AllByRecursion (λ k. nat_cmp m k ≡ Less) (keys_of es)) (sym (nat_tie n e.0 p)) s)))
+        ∙ sym (left (rows e.1) (listed rows es)
+        (listed_above n es b (subst (λ m. AllByRecursion (λ k. nat_cmp m k ≡ Less) (keys_of es)) (sym (nat_tie n e.0 p)) s)))
     remove_rows none e es a b s (inr other) ih Equal p = absurd (other (nat_tie n e.0 p))
-    remove_rows none e es a b s gone ih Greater p = ap (λ zs. rows e.1 ++ zs) ih ∙ sym (right (rows e.1) (listed rows es) (entry_below n e (above_of n e.0 p) a))
+    remove_rows none e es a b s gone ih Greater p =
+        ap (λ zs. rows e.1 ++ zs) ih ∙ sym (right (rows e.1) (listed rows es) (entry_below n e (above_of n e.0 p) a))
 
     gone_or : (e : ℕ × X) → (n ≡ e.0 → op (rows e.1) ≡ []) → (o : Ordering) → nat_cmp n e.0 ≡ o → op (rows e.1) ≡ [] ⊎ (n ≡ e.0 → ⊥)
     gone_or e h Less p = inr (apart n e.0 (ap is_eq p))
@@ -256,20 +312,27 @@ module _ {X : Type 0} (rows : X → State) (tag : Key → ℕ) (P : Key → Type
     gone_or e h Greater p = inr (apart n e.0 (ap is_eq p))
 
     -- a change that leaves no row of the number
-    pub listed-remove_entry : op [] ≡ [] → (es : List (ℕ × X)) → AllByRecursion IsTagged es → AreSorted es → AllByRecursion (λ e. n ≡ e.0 → op (rows e.1) ≡ []) es → listed rows (remove_entry (is_at (nat_cmp n)) es) ≡ op (listed rows es)
+    pub listed-remove_entry : op [] ≡ [] → (es : List (ℕ × X)) → AllByRecursion IsTagged es → AreSorted es
+        → AllByRecursion (λ e. n ≡ e.0 → op (rows e.1) ≡ []) es → listed rows (remove_entry (is_at (nat_cmp n)) es) ≡ op (listed rows es)
     unfolding IsStrictlySortedBy
     listed-remove_entry none [] a s gone = sym none
     listed-remove_entry none (e ∷ es) a s gone =
-        remove_rows none e es a.0 a.1 s.0 (gone_or e gone.0 (nat_cmp n e.0) refl) (listed-remove_entry none es a.1 s.1 gone.1) (nat_cmp n e.0) refl
+        remove_rows none e es a.0 a.1 s.0 (gone_or e gone.0 (nat_cmp n e.0) refl) (listed-remove_entry none es a.1 s.1 gone.1)
+        (nat_cmp n e.0) refl
 
-    absent_rows : op [] ≡ [] → (e : ℕ × X) (es : List (ℕ × X)) → IsTagged e → AllByRecursion IsTagged es → AllByRecursion (λ k. nat_cmp e.0 k ≡ Less) (keys_of es)
-        → (entry_at n es ≡ None → listed rows es ≡ op (listed rows es)) → (o : Ordering) → nat_cmp n e.0 ≡ o → cond (is_eq o) (Some e.1) (entry_at n es) ≡ None → rows e.1 ++ listed rows es ≡ op (rows e.1 ++ listed rows es)
-    absent_rows none e es a b s ih Less p h = sym (untouched none (rows e.1 ++ listed rows es) (listed_above n (e ∷ es) (a, b) (p, above_trans n e.0 p (keys_of es) s)))
+    absent_rows : op [] ≡ [] → (e : ℕ × X) (es : List (ℕ × X)) → IsTagged e → AllByRecursion IsTagged es
+        → AllByRecursion (λ k. nat_cmp e.0 k ≡ Less) (keys_of es)
+        → (entry_at n es ≡ None → listed rows es ≡ op (listed rows es)) → (o : Ordering) → nat_cmp n e.0 ≡ o
+        → cond (is_eq o) (Some e.1) (entry_at n es) ≡ None → rows e.1 ++ listed rows es ≡ op (rows e.1 ++ listed rows es)
+    absent_rows none e es a b s ih Less p h =
+        sym (untouched none (rows e.1 ++ listed rows es) (listed_above n (e ∷ es) (a, b) (p, above_trans n e.0 p (keys_of es) s)))
     absent_rows none e es a b s ih Equal p h = absurd (none-some e.1 (sym h))
-    absent_rows none e es a b s ih Greater p h = ap (λ zs. rows e.1 ++ zs) (ih h) ∙ sym (right (rows e.1) (listed rows es) (entry_below n e (above_of n e.0 p) a))
+    absent_rows none e es a b s ih Greater p h =
+        ap (λ zs. rows e.1 ++ zs) (ih h) ∙ sym (right (rows e.1) (listed rows es) (entry_below n e (above_of n e.0 p) a))
 
     -- and one where the number has no entry
-    pub listed-absent : op [] ≡ [] → (es : List (ℕ × X)) → AllByRecursion IsTagged es → AreSorted es → entry_at n es ≡ None → listed rows es ≡ op (listed rows es)
+    pub listed-absent : op [] ≡ [] → (es : List (ℕ × X)) → AllByRecursion IsTagged es → AreSorted es → entry_at n es ≡ None
+        → listed rows es ≡ op (listed rows es)
     unfolding IsStrictlySortedBy
     listed-absent none [] a s h = sym none
     listed-absent none (e ∷ es) a s h = absent_rows none e es a.0 a.1 s.0 (λ g. listed-absent none es a.1 s.1 g) (nat_cmp n e.0) refl h
@@ -294,12 +357,14 @@ module _ {E : Type 0} (rows : E → State) (cursor : Cursor) where
       ∙ ap (λ o. option_or o (row_after cursor (flat_map rows rest))) (sym h)
 
 -- what holds of the rows of each entry holds of all
-pub each-listed : {X : Type 0} (rows : X → State) (Q : Row → Type 0) (es : List (ℕ × X)) → AllByRecursion (λ e. AllByRecursion Q (rows e.1)) es → AllByRecursion Q (listed rows es)
+pub each-listed : {X : Type 0} (rows : X → State) (Q : Row → Type 0) (es : List (ℕ × X))
+    → AllByRecursion (λ e. AllByRecursion Q (rows e.1)) es → AllByRecursion Q (listed rows es)
 each-listed rows Q [] a = tt
 each-listed rows Q (e ∷ es) a = all_append Q (rows e.1) (listed rows es) a.0 (each-listed rows Q es a.1)
 
 -- entries between bounds are entries
-pub each-between : {X : Type 0} (Q : ℕ × X → Type 0) (n : ℕ) (es : List (ℕ × X)) → AllByRecursion Q es → AllByRecursion Q (entries_between nat_cmp (Included n) Unbounded es)
+pub each-between : {X : Type 0} (Q : ℕ × X → Type 0) (n : ℕ) (es : List (ℕ × X)) → AllByRecursion Q es
+    → AllByRecursion Q (entries_between nat_cmp (Included n) Unbounded es)
 each-between Q n es a = all_filter Q (λ e. range_contains nat_cmp (Included n) Unbounded e.0) es a
 
 from_of : (n m : ℕ) (o : Ordering) → nat_cmp n m ≡ o → (is_le o && true) ≡ true → n ≤ m

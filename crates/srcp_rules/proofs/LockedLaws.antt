@@ -1,5 +1,6 @@
 -- No command of a session touches a device that another session has locked.
-use Rattle.std.specs.Prelude.{◌≡◌, ℕ, zero, suc, ◌+◌, Bool, true, false, not, cond, nat_lt, ◌==◌, ◌&&◌, length, map, List, [], ◌∷◌, ◌++◌, Option, Some, None}
+use Rattle.std.specs.Prelude.{◌≡◌, ℕ, zero, suc, ◌+◌, Bool, true, false, not, cond, nat_lt, ◌==◌, ◌&&◌, length, map, List, [], ◌∷◌, ◌++◌}
+use Rattle.std.specs.Prelude.{Option, Some, None}
 use Rattle.std.proofs.Common.{refl, sym, ap, ◌∙◌, true≢false}
 use Rattle.std.specs.List.{AllByRecursion, range_with_len}
 use Rattle.srcp_info.specs.declared.key.Key.{Key}
@@ -16,10 +17,15 @@ use Rattle.srcp_info.proofs.ClientLaws.{all_append}
 use Rattle.srcp_rules.specs.declared.command.Lockable.{Lockable}
 use Rattle.srcp_rules.specs.declared.command.Lockable.TheVariants as lockable
 use Rattle.srcp_rules.specs.declared.command.Command.{Command}
-use Rattle.srcp_rules.specs.declared.command.Command.TheVariants.{GetSession, TermSession, GetPower, SetPower, CheckPower, InitPower, GetGl, SetGl, CheckGl, InitGl, TermGl, GetGa, SetGa, CheckGa, InitGa, TermGa, GetFb, SetFb, CheckFb, InitFb, GetLock, SetLock, CheckLock, TermLock}
-use Rattle.srcp_rules.specs.State.{State, Update, row_at, is_there, key_at, session_device, power_device, fb_device, device_in, device_group, lock_on, lock_group, functions_of, updated, updated_by, updated_all}
+use Rattle.srcp_rules.specs.declared.command.Command.TheVariants.{GetSession, TermSession, GetPower, SetPower, CheckPower, InitPower, GetGl}
+use Rattle.srcp_rules.specs.declared.command.Command.TheVariants.{SetGl, CheckGl, InitGl, TermGl, GetGa, SetGa, CheckGa, InitGa, TermGa}
+use Rattle.srcp_rules.specs.declared.command.Command.TheVariants.{GetFb, SetFb, CheckFb, InitFb, GetLock, SetLock, CheckLock, TermLock}
+use Rattle.srcp_rules.specs.State.{State, Update, row_at, is_there, key_at, session_device, power_device, fb_device, device_in}
+use Rattle.srcp_rules.specs.State.{device_group, lock_on, lock_group, functions_of, updated, updated_by, updated_all}
 use Rattle.srcp_rules.specs.Command.{kept_v}
-use Rattle.srcp_rules.specs.Effect.{effect, refused, done, refusals, is_locked, put_at, gone_at, removal, removals, lock_end, port_end, set_gl, set_ga, set_lock, fresh_gl, fresh_ga, init_device, has_init, functions_after, term_device, term_session}
+use Rattle.srcp_rules.specs.Effect.{effect, refused, done, refusals, is_locked, put_at, gone_at, removal, removals, lock_end, port_end}
+use Rattle.srcp_rules.specs.Effect.{set_gl, set_ga, set_lock, fresh_gl, fresh_ga, init_device, has_init, functions_after, term_device}
+use Rattle.srcp_rules.specs.Effect.{term_session}
 use Rattle.srcp_rules.specs.Laws.{IsKept}
 use Rattle.srcp_rules.proofs.KeyLaws.{same_key, same_key-true}
 use Rattle.srcp_rules.proofs.StateLaws.{row_at-put_other, row_at-without}
@@ -31,25 +37,31 @@ use Rattle.srcp_rules.proofs.EffectLaws.{accepted_updates, checked_updates, show
 abbrev AreApart : Device → List Update → Type 0
 AreApart device updates = AllByRecursion (λ update. owns device (key_of update.change) ≡ false) updates
 
-put_apart : (device : Device) (key : Key) (port : ℕ) → owns device key ≡ false → (b : Bool) → same_key key (key_at device port) ≡ b → b ≡ false
-put_apart device key port h true e = absurd (true≢false (sym (owns-device_of (key_at device port)) ∙ sym (ap (owns device) (same_key-true key (key_at device port) e)) ∙ h))
+put_apart : (device : Device) (key : Key) (port : ℕ) → owns device key ≡ false → (b : Bool) → same_key key (key_at device port) ≡ b
+    → b ≡ false
+put_apart device key port h true e =
+    absurd (true≢false (sym (owns-device_of (key_at device port)) ∙ sym (ap (owns device) (same_key-true key (key_at device port) e)) ∙ h))
 put_apart device key port h false e = refl
 
-gone_apart : (device other : Device) (port : ℕ) → owns device (first_key other) ≡ false → (b : Bool) → owns other (key_at device port) ≡ b → b ≡ false
+gone_apart : (device other : Device) (port : ℕ) → owns device (first_key other) ≡ false → (b : Bool) → owns other (key_at device port) ≡ b
+    → b ≡ false
 gone_apart device other port h true e =
     let same : device ≡ other = device_from_owns other (key_at device port) e in
     absurd (true≢false (sym (owns-device_of (first_key device)) ∙ ap (λ d. owns device (first_key d)) same ∙ h))
 gone_apart device other port h false e = refl
 
-apart_by : (device : Device) (port : ℕ) (change : Change) (due : Option ℕ) (state : State) → owns device (key_of change) ≡ false → row_at (key_at device port) (updated_by change due state) ≡ row_at (key_at device port) state
+apart_by : (device : Device) (port : ℕ) (change : Change) (due : Option ℕ) (state : State) → owns device (key_of change) ≡ false
+    → row_at (key_at device port) (updated_by change due state) ≡ row_at (key_at device port) state
 apart_by device port (Put shown) due state h =
-    row_at-put_other (key_at device port) (record { shown = shown; due = due }) state (put_apart device shown.key port h (same_key shown.key (key_at device port)) refl)
+    row_at-put_other (key_at device port) (record { shown = shown; due = due }) state
+    (put_apart device shown.key port h (same_key shown.key (key_at device port)) refl)
 apart_by device port (Gone stamp other) due state h =
     row_at-without (key_at device port) other state
     ∙ ap (λ b. cond b None (row_at (key_at device port) state)) (gone_apart device other port h (owns other (key_at device port)) refl)
 
 -- they leave each of its rows as it is
-pub apart_row : (device : Device) (port : ℕ) (updates : List Update) (state : State) → AreApart device updates → row_at (key_at device port) (updated_all updates state) ≡ row_at (key_at device port) state
+pub apart_row : (device : Device) (port : ℕ) (updates : List Update) (state : State) → AreApart device updates
+    → row_at (key_at device port) (updated_all updates state) ≡ row_at (key_at device port) state
 apart_row device port [] state h = refl
 apart_row device port (u ∷ us) state h = apart_row device port us (updated u state) h.1 ∙ apart_by device port u.change u.due state h.0
 
@@ -61,7 +73,8 @@ no_middle false b c h = refl
 
 -- a key of another group is another device's
 pub other_group : (device : Device) (key : Key) → (group_place key.group == group_place device.group) ≡ false → owns device key ≡ false
-other_group device key h = no_middle (key.bus == device.bus) (group_place key.group == group_place device.group) (key.address == device.address) h
+other_group device key h =
+    no_middle (key.bus == device.bus) (group_place key.group == group_place device.group) (key.address == device.address) h
 
 -- no lock is of a group of devices, and no device of a group of locks
 lock_no_device : (g h : Lockable) → (group_place (lock_group h) == group_place (device_group g)) ≡ false
@@ -77,7 +90,8 @@ device_no_lock lockable.Ga lockable.Gl = refl
 device_no_lock lockable.Ga lockable.Ga = refl
 
 -- a lock is another's as its device is
-lock_as_device : (g h : Lockable) (bus address b a : ℕ) → owns (lock_on g bus address) (first_key (lock_on h b a)) ≡ owns (device_in g bus address) (first_key (device_in h b a))
+lock_as_device : (g h : Lockable) (bus address b a : ℕ)
+    → owns (lock_on g bus address) (first_key (lock_on h b a)) ≡ owns (device_in g bus address) (first_key (device_in h b a))
 lock_as_device lockable.Gl lockable.Gl bus address b a = refl
 lock_as_device lockable.Gl lockable.Ga bus address b a = refl
 lock_as_device lockable.Ga lockable.Gl bus address b a = refl
@@ -105,7 +119,8 @@ fb_no_lock lockable.Ga = refl
 module _ (state : State) (session moment : ℕ) (g : Lockable) (bus address : ℕ) (locked : is_locked state session g bus address ≡ true) where
   -- the change is about another device
   abbrev IsApart : Update → Type 0
-  IsApart update = (owns (device_in g bus address) (key_of update.change) ≡ false) × (owns (lock_on g bus address) (key_of update.change) ≡ false)
+  IsApart update =
+      (owns (device_in g bus address) (key_of update.change) ≡ false) × (owns (lock_on g bus address) (key_of update.change) ≡ false)
 
   abbrev AllApart : List Update → Type 0
   AllApart updates = AllByRecursion IsApart updates
@@ -119,40 +134,55 @@ module _ (state : State) (session moment : ℕ) (g : Lockable) (bus address : �
     where
       by : (c : Bool) → owns (device_in g bus address) (first_key (device_in h b a)) ≡ c → c ≡ false
       by true e =
-          let same : device_in h b a ≡ device_in g bus address = device_from_owns (device_in g bus address) (first_key (device_in h b a)) e in
+          let same : device_in h b a ≡ device_in g bus address =
+          device_from_owns (device_in g bus address) (first_key (device_in h b a)) e in
           let kinds : h ≡ g = device_group-injective h g (ap (λ d. d.group) same) in
-          let too : is_locked state session h b a ≡ is_locked state session g bus address = λ i. is_locked state session (kinds i) ((same i).bus) ((same i).address) in
+          let too : is_locked state session h b a ≡ is_locked state session g bus address =
+          λ i. is_locked state session (kinds i) ((same i).bus) ((same i).address) in
           absurd (true≢false (sym locked ∙ sym too ∙ unlocked))
       by false e = refl
 
-  lock_apart : (h : Lockable) (b a : ℕ) → IsOther h b a → (owns (device_in g bus address) (first_key (lock_on h b a)) ≡ false) × (owns (lock_on g bus address) (first_key (lock_on h b a)) ≡ false)
-  lock_apart h b a other = (other_group (device_in g bus address) (first_key (lock_on h b a)) (lock_no_device g h), lock_as_device g h bus address b a ∙ other)
+  lock_apart : (h : Lockable) (b a : ℕ) → IsOther h b a
+      → (owns (device_in g bus address) (first_key (lock_on h b a)) ≡ false)
+      × (owns (lock_on g bus address) (first_key (lock_on h b a)) ≡ false)
+  lock_apart h b a other =
+      (other_group (device_in g bus address) (first_key (lock_on h b a)) (lock_no_device g h), lock_as_device g h bus address b a ∙ other)
 
-  row_apart : (h : Lockable) (b a port : ℕ) → IsOther h b a → (owns (device_in g bus address) (key_at (device_in h b a) port) ≡ false) × (owns (lock_on g bus address) (key_at (device_in h b a) port) ≡ false)
+  row_apart : (h : Lockable) (b a port : ℕ) → IsOther h b a
+      → (owns (device_in g bus address) (key_at (device_in h b a) port) ≡ false)
+      × (owns (lock_on g bus address) (key_at (device_in h b a) port) ≡ false)
   row_apart h b a port other = (other, other_group (lock_on g bus address) (key_at (device_in h b a) port) (device_no_lock g h))
 
-  removal_apart : (device : Device) → (owns (device_in g bus address) (first_key device) ≡ false) × (owns (lock_on g bus address) (first_key device) ≡ false) → (b : Bool) → AllApart (cond b (gone_at moment device ∷ []) [])
+  removal_apart : (device : Device)
+      → (owns (device_in g bus address) (first_key device) ≡ false) × (owns (lock_on g bus address) (first_key device) ≡ false) → (b : Bool)
+      → AllApart (cond b (gone_at moment device ∷ []) [])
   removal_apart device h true = (h, tt)
   removal_apart device h false = tt
 
   removals_apart : (h : Lockable) (b a : ℕ) → IsOther h b a → AllApart (removals state moment h b a)
   removals_apart h b a other =
       all_append IsApart (removal state moment (lock_on h b a)) (removal state moment (device_in h b a))
-      (removal_apart (lock_on h b a) (lock_apart h b a other) (is_there (lock_on h b a) state)) (removal_apart (device_in h b a) (row_apart h b a 0 other) (is_there (device_in h b a) state))
+      (removal_apart (lock_on h b a) (lock_apart h b a other) (is_there (lock_on h b a) state))
+      (removal_apart (device_in h b a) (row_apart h b a 0 other) (is_there (device_in h b a) state))
 
-  ports_apart : (b a first n : ℕ) → IsOther lockable.Ga b a → AllApart (map (λ port. put_at moment (key_at (device_in lockable.Ga b a) port) (value.GaPort false) None) (range_with_len first n))
+  ports_apart : (b a first n : ℕ) → IsOther lockable.Ga b a
+      → AllApart (map (λ port. put_at moment (key_at (device_in lockable.Ga b a) port) (value.GaPort false) None) (range_with_len first n))
   ports_apart b a first zero other = tt
   ports_apart b a first (suc n) other = (row_apart lockable.Ga b a first other, ports_apart b a (first + 1) n other)
 
-  init_apart : (h : Lockable) (b a : ℕ) (init : Value) (fresh : List Update) → (IsOther h b a → AllApart fresh) → AllApart (done (init_device state session moment h b a init fresh)).updates
+  init_apart : (h : Lockable) (b a : ℕ) (init : Value) (fresh : List Update) → (IsOther h b a → AllApart fresh)
+      → AllApart (done (init_device state session moment h b a init fresh)).updates
   init_apart h b a init fresh made =
-      accepted_updates AllApart tt ((is_locked state session h b a, C414) ∷ []) (cond (has_init state h b a init) [] (removals state moment h b a ++ fresh))
+      accepted_updates AllApart tt ((is_locked state session h b a, C414) ∷ [])
+      (cond (has_init state h b a init) [] (removals state moment h b a ++ fresh))
       (λ none. choice_updates AllApart tt (has_init state h b a init) [] (removals state moment h b a ++ fresh) tt
-      (all_append IsApart (removals state moment h b a) fresh (removals_apart h b a (other_device h b a none.0)) (made (other_device h b a none.0))))
+      (all_append IsApart (removals state moment h b a) fresh (removals_apart h b a (other_device h b a none.0))
+      (made (other_device h b a none.0))))
 
   term_apart : (h : Lockable) (b a : ℕ) → AllApart (done (term_device state session moment h b a)).updates
   term_apart h b a =
-      accepted_updates AllApart tt (refusals state session h b a) (removals state moment h b a) (λ none. removals_apart h b a (other_device h b a none.1.0))
+      accepted_updates AllApart tt (refusals state session h b a) (removals state moment h b a)
+      (λ none. removals_apart h b a (other_device h b a none.1.0))
 
   ended_apart : (id : Option ℕ) → AllApart (term_session session id).updates
   ended_apart None = tt
@@ -167,15 +197,23 @@ module _ (state : State) (session moment : ℕ) (g : Lockable) (bus address : �
   effect_apart (GetSession id) = showing_updates AllApart tt (row_at (first_key (session_device id)) state)
   effect_apart (TermSession id) = ended_apart id
   effect_apart (GetPower b) = showing_updates AllApart tt (row_at (first_key (power_device b)) state)
-  effect_apart (SetPower b on text) =
-      ((other_group (device_in g bus address) (first_key (power_device b)) (power_no_device g), other_group (lock_on g bus address) (first_key (power_device b)) (power_no_lock g)), tt)
+  effect_apart (SetPower b on text) = (
+    (
+      other_group (device_in g bus address) (first_key (power_device b)) (power_no_device g),
+      other_group (lock_on g bus address) (first_key (power_device b)) (power_no_lock g),
+    ),
+    tt,
+  )
   effect_apart (CheckPower b on text) = tt
   effect_apart (InitPower b) = tt
   effect_apart (GetGl b a) = showing_updates AllApart tt (row_at (key_at (device_in lockable.Gl b a) 1) state)
   effect_apart (SetGl b a mode v vmax functions) =
       accepted_updates AllApart tt
-      ((not (is_there (device_in lockable.Gl b a) state), C416) ∷ (nat_lt (length (functions_of b a state)) (length functions), C418) ∷ (is_locked state session lockable.Gl b a, C414) ∷ [])
-      (put_at moment (key_at (device_in lockable.Gl b a) 1) (value.GlState mode (kept_v mode v) vmax (functions_after functions (functions_of b a state))) None ∷ [])
+      ((not (is_there (device_in lockable.Gl b a) state), C416) ∷ (nat_lt (length (functions_of b a state)) (length functions), C418)
+      ∷ (is_locked state session lockable.Gl b a, C414) ∷ [])
+      (put_at moment (key_at (device_in lockable.Gl b a) 1)
+      (value.GlState mode (kept_v mode v) vmax (functions_after functions (functions_of b a state))) None
+      ∷ [])
       (λ none. (row_apart lockable.Gl b a 1 (other_device lockable.Gl b a none.1.1.0), tt))
   effect_apart (CheckGl b a mode v vmax functions) = checked_updates AllApart tt (set_gl state session moment b a mode v vmax functions)
   effect_apart (InitGl b a letter version steps functions) =
@@ -184,24 +222,33 @@ module _ (state : State) (session moment : ℕ) (g : Lockable) (bus address : �
   effect_apart (TermGl b a) = term_apart lockable.Gl b a
   effect_apart (GetGa b a port) = showing_updates AllApart tt (row_at (key_at (device_in lockable.Ga b a) (1 + port)) state)
   effect_apart (SetGa b a port on time) =
-      accepted_updates AllApart tt (refusals state session lockable.Ga b a) (put_at moment (key_at (device_in lockable.Ga b a) (1 + port)) (value.GaPort on) (port_end moment on time) ∷ [])
+      accepted_updates AllApart tt (refusals state session lockable.Ga b a)
+      (put_at moment (key_at (device_in lockable.Ga b a) (1 + port)) (value.GaPort on) (port_end moment on time) ∷ [])
       (λ none. (row_apart lockable.Ga b a (1 + port) (other_device lockable.Ga b a none.1.0), tt))
   effect_apart (CheckGa b a port on time) = checked_updates AllApart tt (set_ga state session moment b a port on time)
   effect_apart (InitGa b a letter ports) =
-      init_apart lockable.Ga b a (value.GaInit letter) (fresh_ga moment b a letter ports) (λ other. (row_apart lockable.Ga b a 0 other, ports_apart b a 1 ports other))
+      init_apart lockable.Ga b a (value.GaInit letter) (fresh_ga moment b a letter ports)
+      (λ other. (row_apart lockable.Ga b a 0 other, ports_apart b a 1 ports other))
   effect_apart (TermGa b a) = term_apart lockable.Ga b a
   effect_apart (GetFb b port) = showing_updates AllApart tt (row_at (first_key (fb_device b port)) state)
-  effect_apart (SetFb b port on) =
-      ((other_group (device_in g bus address) (first_key (fb_device b port)) (fb_no_device g), other_group (lock_on g bus address) (first_key (fb_device b port)) (fb_no_lock g)), tt)
+  effect_apart (SetFb b port on) = (
+    (
+      other_group (device_in g bus address) (first_key (fb_device b port)) (fb_no_device g),
+      other_group (lock_on g bus address) (first_key (fb_device b port)) (fb_no_lock g),
+    ),
+    tt,
+  )
   effect_apart (CheckFb b port on) = tt
   effect_apart (InitFb b) = tt
   effect_apart (GetLock b h a) = showing_updates AllApart tt (row_at (first_key (lock_on h b a)) state)
   effect_apart (SetLock b h a seconds) =
-      accepted_updates AllApart tt (refusals state session h b a) (put_at moment (first_key (lock_on h b a)) (value.Lock seconds session) (lock_end moment seconds) ∷ [])
+      accepted_updates AllApart tt (refusals state session h b a)
+      (put_at moment (first_key (lock_on h b a)) (value.Lock seconds session) (lock_end moment seconds) ∷ [])
       (λ none. (lock_apart h b a (other_device h b a none.1.0), tt))
   effect_apart (CheckLock b h a seconds) = checked_updates AllApart tt (set_lock state session moment h b a seconds)
   effect_apart (TermLock b h a) =
-      accepted_updates AllApart tt ((not (is_there (lock_on h b a) state), C416) ∷ (is_locked state session h b a, C414) ∷ []) (gone_at moment (lock_on h b a) ∷ [])
+      accepted_updates AllApart tt ((not (is_there (lock_on h b a) state), C416) ∷ (is_locked state session h b a, C414) ∷ [])
+      (gone_at moment (lock_on h b a) ∷ [])
       (λ none. (lock_apart h b a (other_device h b a none.1.0), tt))
 
   device_side : (updates : List Update) → AllApart updates → AreApart (device_in g bus address) updates

@@ -1,5 +1,6 @@
 -- The rows of all buses: look-ups, changes, and how they begin.
-use Rattle.std.specs.Prelude.{◌≡◌, ℕ, zero, suc, ◌<◌, Bool, true, false, ◌&&◌, ◌==◌, cond, is_some, not, List, [], ◌∷◌, ◌++◌, length, map, flat_map, take, drop, find, slice_index_or, Option, Some, None, IsTrue, Result, Ok, Err, OnOk, OnErr}
+use Rattle.std.specs.Prelude.{◌≡◌, ℕ, zero, suc, ◌<◌, Bool, true, false, ◌&&◌, ◌==◌, cond, is_some, not, List, [], ◌∷◌, ◌++◌, length, map}
+use Rattle.std.specs.Prelude.{flat_map, take, drop, find, slice_index_or, Option, Some, None, IsTrue, Result, Ok, Err, OnOk, OnErr}
 use Rattle.std.proofs.Common.{refl, sym, ap, subst, ◌∙◌, arith, append_assoc, true≢false}
 use Rattle.std.proofs.lemmas.Bool.{eqb-true}
 use Rattle.std.proofs.lemmas.Cmp.{nat_cmp_total, tied_itself}
@@ -24,7 +25,8 @@ use Rattle.srcp_info.specs.Key.{key_cmp, first_key, has_reached, owns}
 use Rattle.srcp_info.specs.WellFormed.{can_go}
 use Rattle.srcp_rules.specs.declared.layout.Bus.{Bus}
 use Rattle.srcp_rules.specs.Layout.{IsLayout, bus_at, row_count, rows_on, server}
-use Rattle.srcp_rules.specs.State.{State, IsRising, fb_device, has_row, is_there, key_at, opening, power_device, put_row, row_at, row_after, without}
+use Rattle.srcp_rules.specs.State.{State, IsRising, fb_device, has_row, is_there, key_at, opening, power_device, put_row, row_at, row_after}
+use Rattle.srcp_rules.specs.State.{without}
 use Rattle.srcp_rules.specs.Rows.{put_rows}
 use Rattle.srcp_rules.specs.declared.nested.bus_rows.BusRows.{BusRows}
 use Rattle.srcp_rules.specs.Nested.{AreRowsOfBus, AreRowsOfLayout, AreSorted, bus_rows, entry_at, group_rows, listed}
@@ -180,7 +182,8 @@ module _ {buses : List Bus} {es : List (ℕ × BusRows)} (are : AreRowsOfLayout 
 
   pub stays-without : (gone : Device) → can_go gone.group ≡ true → (state : State) → state ≡ without gone (listed bus_rows es) → Stays state
   stays-without gone goes state is device never count =
-      let kept : owns gone (first_key device) ≡ false = owns-other gone (first_key device) (λ e. true≢false (sym goes ∙ sym (ap (λ (d : Device). can_go d.group) e) ∙ never)) in
+      let kept : owns gone (first_key device) ≡ false =
+      owns-other gone (first_key device) (λ e. true≢false (sym goes ∙ sym (ap (λ (d : Device). can_go d.group) e) ∙ never)) in
       ap (has_row (first_key device)) is
       ∙ ap is_some (row_at-without (first_key device) gone (listed bus_rows es)
       ∙ ap (λ c. cond c None (row_at (first_key device) (listed bus_rows es))) kept)
@@ -244,7 +247,8 @@ pub before_rising : (bs : List Bus) → Rising bs → (i : ℕ) (d : Bus) → i 
     → AllByRecursion (λ n. n < (slice_index_or bs i d).number) (map (λ bus. bus.number) (take i bs))
 before_rising [] r i d h = absurd (omega (arith, h))
 before_rising (b ∷ bs) r zero d h = tt
-before_rising (b ∷ bs) r (suc i) d h = (each_at (λ c. b.number < c.number) bs r.0 i d (omega (arith, h)), before_rising bs r.1 i d (omega (arith, h)))
+before_rising (b ∷ bs) r (suc i) d h =
+    (each_at (λ c. b.number < c.number) bs r.0 i d (omega (arith, h)), before_rising bs r.1 i d (omega (arith, h)))
 
 pub map-append : {X Y : Type 0} (f : X → Y) (xs ys : List X) → map f (xs ++ ys) ≡ map f xs ++ map f ys
 map-append f [] ys = refl
@@ -263,14 +267,18 @@ stays_on : (buses : List Bus) → IsLayout buses → (device : Device) (g : Grou
     → 0 < row_count buses device → is_there device (opening buses 0) ≡ true
 stays_on buses layout device group.Session e never count = absurd (true≢false never)
 stays_on buses layout device group.Power e never count =
-    let zeroth = power_address device.address (bus_at buses device.bus) (subst (λ g. 0 < option_map_or (λ bus. rows_on bus g device.address) (bus_at buses device.bus) 0) e count) in
+    let zeroth =
+    power_address device.address (bus_at buses device.bus)
+    (subst (λ g. 0 < option_map_or (λ bus. rows_on bus g device.address) (bus_at buses device.bus) 0) e count) in
     let same : device ≡ power_device device.bus = λ i. record { bus = device.bus; group = e i; address = zeroth i } in
-    ap (λ d. is_there d (opening buses 0)) same ∙ (opening_whole buses layout 0 (omega arith)).power device.bus (subst (λ d. 0 < row_count buses d) same count)
+    ap (λ d. is_there d (opening buses 0)) same
+    ∙ (opening_whole buses layout 0 (omega arith)).power device.bus (subst (λ d. 0 < row_count buses d) same count)
 stays_on buses layout device group.Gl e never count = absurd (true≢false never)
 stays_on buses layout device group.Ga e never count = absurd (true≢false never)
 stays_on buses layout device group.Fb e never count =
     let same : device ≡ fb_device device.bus device.address = λ i. record { bus = device.bus; group = e i; address = device.address } in
-    ap (λ d. is_there d (opening buses 0)) same ∙ (opening_whole buses layout 0 (omega arith)).fb device.bus device.address (subst (λ d. 0 < row_count buses d) same count)
+    ap (λ d. is_there d (opening buses 0)) same
+    ∙ (opening_whole buses layout 0 (omega arith)).fb device.bus device.address (subst (λ d. 0 < row_count buses d) same count)
 stays_on buses layout device group.LockGl e never count = absurd (true≢false never)
 stays_on buses layout device group.LockGa e never count = absurd (true≢false never)
 

@@ -1,5 +1,6 @@
 -- The rows of a device that is new: they are by rising port, and as few as its group has.
-use Rattle.std.specs.Prelude.{◌≡◌, ℕ, zero, suc, ◌+◌, ◌<◌, ◌≤◌, Bool, true, false, List, [], ◌∷◌, length, map, drop, slice_get, slice_index_or, Option, Some, None}
+use Rattle.std.specs.Prelude.{◌≡◌, ℕ, zero, suc, ◌+◌, ◌<◌, ◌≤◌, Bool, true, false, List, [], ◌∷◌, length, map, drop, slice_get}
+use Rattle.std.specs.Prelude.{slice_index_or, Option, Some, None}
 use Rattle.std.proofs.Common.{refl, sym, ap, subst, ◌∙◌, arith}
 use Rattle.std.proofs.lemmas.Option.{none-some, same_Some}
 use Rattle.std.specs.List.{AllByRecursion, range_with_len}
@@ -31,24 +32,39 @@ module _ (device : Device) where
   abbrev pub IsFrom : ℕ → Row → Type 0
   IsFrom first row = (port : ℕ) × (first ≤ port) × (row.shown.key ≡ key_at device port)
 
-  pub ports_from : (rows : State) (first n : ℕ) → map (λ row. row.shown.key) rows ≡ map (key_at device) (range_with_len first n) → AllByRecursion (IsFrom first) rows
+  pub ports_from : (rows : State) (first n : ℕ) → map (λ row. row.shown.key) rows ≡ map (key_at device) (range_with_len first n)
+      → AllByRecursion (IsFrom first) rows
   ports_from [] first n e = tt
   ports_from (row ∷ rows) first zero e = absurd (none_left row.shown.key (map (λ row. row.shown.key) rows) e)
   ports_from (row ∷ rows) first (suc n) e = (
-    (first, omega arith, heads row.shown.key (key_at device first) (map (λ row. row.shown.key) rows) (map (key_at device) (range_with_len (first + 1) n)) e),
-    each-weaken {P = IsFrom (first + 1)} (λ row h. (h.0, weaker first h.0 h.1, h.2)) rows (ports_from rows (first + 1) n (tails row.shown.key (key_at device first) (map (λ row. row.shown.key) rows) (map (key_at device) (range_with_len (first + 1) n)) e)),
+    (
+      first,
+      omega arith,
+      heads row.shown.key (key_at device first) (map (λ row. row.shown.key) rows) (map (key_at device) (range_with_len (first + 1) n)) e,
+    ),
+    each-weaken {P = IsFrom (first + 1)} (λ row h. (h.0, weaker first h.0 h.1, h.2)) rows
+        (ports_from rows (first + 1) n
+        (tails row.shown.key (key_at device first) (map (λ row. row.shown.key) rows)
+        (map (key_at device) (range_with_len (first + 1) n)) e)),
   )
     where
       weaker : (a b : ℕ) → a + 1 ≤ b → a ≤ b
       weaker a b h = omega (arith, h)
 
-  pub ports_rise : (rows : State) (first n : ℕ) → map (λ row. row.shown.key) rows ≡ map (key_at device) (range_with_len first n) → IsRising rows
+  pub ports_rise : (rows : State) (first n : ℕ) → map (λ row. row.shown.key) rows ≡ map (key_at device) (range_with_len first n)
+      → IsRising rows
   ports_rise [] first n e = tt
   ports_rise (row ∷ rows) first zero e = absurd (none_left row.shown.key (map (λ row. row.shown.key) rows) e)
   ports_rise (row ∷ rows) first (suc n) e =
-      let here = heads row.shown.key (key_at device first) (map (λ row. row.shown.key) rows) (map (key_at device) (range_with_len (first + 1) n)) e in
-      let rest = tails row.shown.key (key_at device first) (map (λ row. row.shown.key) rows) (map (key_at device) (range_with_len (first + 1) n)) e in (
-        each-weaken {P = IsFrom (first + 1)} (λ other h. (λ i. key_cmp (here i) (h.2 i)) ∙ port_order device first h.0 (stricter first h.0 h.1)) rows (ports_from rows (first + 1) n rest),
+      let here =
+      heads row.shown.key (key_at device first) (map (λ row. row.shown.key) rows)
+      (map (key_at device) (range_with_len (first + 1) n)) e in
+      let rest =
+      tails row.shown.key (key_at device first) (map (λ row. row.shown.key) rows)
+      (map (key_at device) (range_with_len (first + 1) n)) e in (
+        each-weaken {P = IsFrom (first + 1)}
+            (λ other h. (λ i. key_cmp (here i) (h.2 i)) ∙ port_order device first h.0 (stricter first h.0 h.1)) rows
+            (ports_from rows (first + 1) n rest),
         ports_rise rows (first + 1) n rest,
       )
     where
@@ -60,14 +76,21 @@ module _ (device : Device) where
   counted [] first (suc n) e = absurd (none_left (key_at device first) (map (key_at device) (range_with_len (first + 1) n)) (sym e))
   counted (row ∷ rows) first zero e = absurd (none_left row.shown.key (map (λ row. row.shown.key) rows) e)
   counted (row ∷ rows) first (suc n) e =
-      let rest = counted rows (first + 1) n (tails row.shown.key (key_at device first) (map (λ row. row.shown.key) rows) (map (key_at device) (range_with_len (first + 1) n)) e) in
+      let rest =
+      counted rows (first + 1) n
+      (tails row.shown.key (key_at device first) (map (λ row. row.shown.key) rows)
+      (map (key_at device) (range_with_len (first + 1) n)) e) in
       omega (arith, rest)
 
   -- all rows of a device are by rising port, each of the device
-  new_device : (buses : List Bus) (rows : State) → AreRowsOf buses device rows → 0 < length rows → AreOfDevice device.bus device.group device.address rows
+  new_device : (buses : List Bus) (rows : State) → AreRowsOf buses device rows → 0 < length rows
+      → AreOfDevice device.bus device.group device.address rows
   new_device buses rows h some = record {
     rising = ports_rise rows 0 (row_count buses device) h.keys;
-    each = each-weaken {P = IsFrom 0} (λ row k. ((ap (λ (key : Key). key.bus) k.2, ap (λ (key : Key). key.group) k.2), ap (λ (key : Key). key.address) k.2)) rows (ports_from rows 0 (row_count buses device) h.keys);
+    each =
+        each-weaken {P = IsFrom 0}
+        (λ row k. ((ap (λ (key : Key). key.bus) k.2, ap (λ (key : Key). key.group) k.2), ap (λ (key : Key). key.address) k.2)) rows
+        (ports_from rows 0 (row_count buses device) h.keys);
     some = some;
   }
 
@@ -75,7 +98,8 @@ module _ (device : Device) where
   at_most true n m h = h
   at_most false n m h = omega arith
 
-  few_on : (o : Option Bus) (rows : State) (g : Group) → length rows ≡ option_map_or (λ bus. rows_on bus g device.address) o 0 → length rows ≤ 9 → length rows ≤ most_rows g
+  few_on : (o : Option Bus) (rows : State) (g : Group) → length rows ≡ option_map_or (λ bus. rows_on bus g device.address) o 0
+      → length rows ≤ 9 → length rows ≤ most_rows g
   few_on None rows group.Session e h = omega (arith, e)
   few_on None rows group.Power e h = omega (arith, e)
   few_on None rows group.Gl e h = omega (arith, e)
@@ -95,19 +119,22 @@ module _ (device : Device) where
   few_rows : (buses : List Bus) (rows : State) → AreRowsOf buses device rows → length rows ≤ most_rows device.group
   few_rows buses rows h = few_on (bus_at buses device.bus) rows device.group (counted rows 0 (row_count buses device) h.keys) h.few
 
-  first_row_device : (buses : List Bus) (row first : Row) (rows : State) → row ≡ first → AreRowsOf buses device (row ∷ rows) → (0 < length (row ∷ rows)) × (0 < row_count buses device) × (device_of first.shown.key ≡ device)
+  first_row_device : (buses : List Bus) (row first : Row) (rows : State) → row ≡ first → AreRowsOf buses device (row ∷ rows)
+      → (0 < length (row ∷ rows)) × (0 < row_count buses device) × (device_of first.shown.key ≡ device)
   first_row_device buses row first rows e h =
       let count = counted (row ∷ rows) 0 (row_count buses device) h.keys in (
         omega arith,
         some (length rows) (row_count buses device) count,
-        ap (λ (other : Row). device_of other.shown.key) (sym e) ∙ ap device_of (ports_from (row ∷ rows) 0 (row_count buses device) h.keys).0.2,
+        ap (λ (other : Row). device_of other.shown.key) (sym e)
+            ∙ ap device_of (ports_from (row ∷ rows) 0 (row_count buses device) h.keys).0.2,
       )
     where
       some : (l n : ℕ) → suc l ≡ n → 0 < n
       some l n e = omega (arith, e)
 
   -- where there is a first row, it is the device's, and the layout has the device
-  first_device : (buses : List Bus) (rows : State) (first : Row) → Some first ≡ slice_get rows 0 → AreRowsOf buses device rows → (0 < length rows) × (0 < row_count buses device) × (device_of first.shown.key ≡ device)
+  first_device : (buses : List Bus) (rows : State) (first : Row) → Some first ≡ slice_get rows 0 → AreRowsOf buses device rows
+      → (0 < length rows) × (0 < row_count buses device) × (device_of first.shown.key ≡ device)
   first_device buses [] first e h = absurd (none-some first (sym e))
   first_device buses (row ∷ rows) first e h = first_row_device buses row first rows (same_Some row first (sym e)) h
 
@@ -118,7 +145,8 @@ pub record IsNew (buses : List Bus) (state : State) (first : Row) (added : State
   pub count : 0 < row_count buses (device_of first.shown.key)
   pub free : (port : ℕ) → has_row (key_at (device_of first.shown.key) port) state ≡ false
 
-pub is_new : (buses : List Bus) (state : State) (device : Device) (first : Row) (added : State) → Some first ≡ slice_get added 0 → AreNewRowsOf buses state device added → IsNew buses state first added
+pub is_new : (buses : List Bus) (state : State) (device : Device) (first : Row) (added : State) → Some first ≡ slice_get added 0
+    → AreNewRowsOf buses state device added → IsNew buses state first added
 is_new buses state device first added e h =
     let of = first_device device buses added first e h.all in
     record {

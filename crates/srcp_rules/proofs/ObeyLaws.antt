@@ -16,8 +16,10 @@ use Rattle.srcp_rules.specs.Command.{kept_v}
 use Rattle.srcp_rules.specs.declared.command.Lockable.{Lockable}
 use Rattle.srcp_rules.specs.declared.command.Lockable.TheVariants as lockable
 use Rattle.srcp_rules.specs.declared.command.Command.TheVariants.{SetPower, SetGl, SetGa, SetFb, SetLock}
-use Rattle.srcp_rules.specs.State.{State, Update, IsRowOf, IsWhole, has_row, row_at, is_there, key_at, power_device, fb_device, device_in, lock_on, functions_of, row_put}
-use Rattle.srcp_rules.specs.Effect.{done, checked, first_refusal, refused, refused_or_not, accepted, unless_refused, lock_end, port_end, functions_after}
+use Rattle.srcp_rules.specs.State.{State, Update, IsRowOf, IsWhole, has_row, row_at, is_there, key_at, power_device, fb_device, device_in}
+use Rattle.srcp_rules.specs.State.{lock_on, functions_of, row_put}
+use Rattle.srcp_rules.specs.Effect.{done, checked, first_refusal, refused, refused_or_not, accepted, unless_refused, lock_end, port_end}
+use Rattle.srcp_rules.specs.Effect.{functions_after}
 use Rattle.srcp_rules.specs.Obeyed.{MayObey}
 use Rattle.srcp_rules.proofs.EffectLaws.{NoneApplies, lock_value, lock_end_fits, port_end_fits, is_not, found_few, as_many}
 use Rattle.srcp_rules.proofs.StateLaws.{row_at_key}
@@ -26,20 +28,24 @@ use Rattle.srcp_rules.proofs.StepLaws.{IsRowOf-put}
 
 -- ---- refusals
 
-pub refused_done : (refusals : List (Bool × Code)) (updates : List Update) (code : Code) → Some code ≡ first_refusal refusals → refused code ≡ done (unless_refused refusals updates)
+pub refused_done : (refusals : List (Bool × Code)) (updates : List Update) (code : Code) → Some code ≡ first_refusal refusals
+    → refused code ≡ done (unless_refused refusals updates)
 refused_done [] updates code e = let bad : Some code ≡ None = e in absurd (let f : ⊥ = cc in f)
 refused_done (refusal ∷ others) updates code e = by refusal.0 (refused_done others updates code) e
   where
-    by : (b : Bool) → (Some code ≡ first_refusal others → refused code ≡ done (unless_refused others updates)) → Some code ≡ result_err (cond b (Err refusal.1) (unless_refused others []))
+    by : (b : Bool) → (Some code ≡ first_refusal others → refused code ≡ done (unless_refused others updates))
+        → Some code ≡ result_err (cond b (Err refusal.1) (unless_refused others []))
         → refused code ≡ done (cond b (Err refusal.1) (unless_refused others updates))
     by true later e = let same : code ≡ refusal.1 = cc in ap refused same
     by false later e = later e
 
-pub accepted_done : (refusals : List (Bool × Code)) (updates : List Update) → None ≡ first_refusal refusals → accepted updates ≡ done (unless_refused refusals updates)
+pub accepted_done : (refusals : List (Bool × Code)) (updates : List Update) → None ≡ first_refusal refusals
+    → accepted updates ≡ done (unless_refused refusals updates)
 accepted_done [] updates e = refl
 accepted_done (refusal ∷ others) updates e = by refusal.0 (accepted_done others updates) e
   where
-    by : (b : Bool) → (None ≡ first_refusal others → accepted updates ≡ done (unless_refused others updates)) → None ≡ result_err (cond b (Err refusal.1) (unless_refused others []))
+    by : (b : Bool) → (None ≡ first_refusal others → accepted updates ≡ done (unless_refused others updates))
+        → None ≡ result_err (cond b (Err refusal.1) (unless_refused others []))
         → accepted updates ≡ done (cond b (Err refusal.1) (unless_refused others updates))
     by true later e = cc
     by false later e = later e
@@ -48,17 +54,20 @@ pub none_applies : (refusals : List (Bool × Code)) → None ≡ first_refusal r
 none_applies [] e = tt
 none_applies (refusal ∷ others) e = by refusal.0 refl (none_applies others) e
   where
-    by : (b : Bool) → refusal.0 ≡ b → (None ≡ first_refusal others → NoneApplies others) → None ≡ result_err (cond b (Err refusal.1) (unless_refused others [])) → (refusal.0 ≡ false) × NoneApplies others
+    by : (b : Bool) → refusal.0 ≡ b → (None ≡ first_refusal others → NoneApplies others)
+        → None ≡ result_err (cond b (Err refusal.1) (unless_refused others [])) → (refusal.0 ≡ false) × NoneApplies others
     by true t later e = absurd (let f : ⊥ = cc in f)
     by false t later e = (t, later e)
 
 -- CHECK is refused as SET is, and changes nothing
-pub checked_is : (refusals : List (Bool × Code)) (updates : List Update) → refused_or_not (first_refusal refusals) ≡ checked (unless_refused refusals updates)
+pub checked_is : (refusals : List (Bool × Code)) (updates : List Update)
+    → refused_or_not (first_refusal refusals) ≡ checked (unless_refused refusals updates)
 checked_is [] updates = refl
 checked_is (refusal ∷ others) updates = by refusal.0 (checked_is others updates)
   where
     by : (b : Bool) → refused_or_not (first_refusal others) ≡ checked (unless_refused others updates)
-        → refused_or_not (result_err (cond b (Err refusal.1) (unless_refused others []))) ≡ checked (cond b (Err refusal.1) (unless_refused others updates))
+        → refused_or_not (result_err (cond b (Err refusal.1) (unless_refused others [])))
+        ≡ checked (cond b (Err refusal.1) (unless_refused others updates))
     by true later = refl
     by false later = later
 
@@ -97,38 +106,51 @@ module _ (buses : List Bus) (state : State) (session moment : ℕ) (now : IsMome
   pub lock_row : (g : Lockable) (bus address seconds : ℕ) → MayObey buses state session (SetLock bus g address seconds)
       → IsRowOf buses (row_put moment (first_key (lock_on g bus address)) (value.Lock seconds session) (lock_end moment seconds))
   lock_row g bus address seconds may =
-      IsRowOf-put buses may.whole.laid_out (first_key (lock_on g bus address)) moment (value.Lock seconds session) (lock_end moment seconds) may.of.0 now
+      IsRowOf-put buses may.whole.laid_out (first_key (lock_on g bus address)) moment (value.Lock seconds session)
+      (lock_end moment seconds) may.of.0 now
       (lock_value buses state may.whole session moment may.begun now g seconds may.of.1) (lock_end_fits moment seconds session)
 
   -- all rows of a device that is there are there
-  pub port_there : (device : Device) → IsWhole buses state → is_there device state ≡ true → (port : ℕ) → IsKeyOf buses (key_at device port) → has_row (key_at device port) state ≡ true
+  pub port_there : (device : Device) → IsWhole buses state → is_there device state ≡ true → (port : ℕ) → IsKeyOf buses (key_at device port)
+      → has_row (key_at device port) state ≡ true
   port_there device whole there port place = whole.complete (first_key device) there port place
 
   -- the row of an accessory's port
   pub ga_row : (bus address port : ℕ) (on : Bool) (time : Option ℕ) → MayObey buses state session (SetGa bus address port on time)
       → IsRowOf buses (row_put moment (key_at (device_in lockable.Ga bus address) (1 + port)) (value.GaPort on) (port_end moment on time))
   ga_row bus address port on time may =
-      IsRowOf-put buses may.whole.laid_out (key_at (device_in lockable.Ga bus address) (1 + port)) moment (value.GaPort on) (port_end moment on time) may.of.0.0 now may.of.0.1 (port_end_fits moment on time)
+      IsRowOf-put buses may.whole.laid_out (key_at (device_in lockable.Ga bus address) (1 + port)) moment (value.GaPort on)
+      (port_end moment on time) may.of.0.0 now may.of.0.1 (port_end_fits moment on time)
 
   -- a device that may be set is there
-  pub set_there : (device : Device) (others : List (Bool × Code)) → None ≡ first_refusal ((not (is_there device state), C416) ∷ others) → is_there device state ≡ true
+  pub set_there : (device : Device) (others : List (Bool × Code)) → None ≡ first_refusal ((not (is_there device state), C416) ∷ others)
+      → is_there device state ≡ true
   set_there device others e = is_not (is_there device state) (none_applies ((not (is_there device state), C416) ∷ others) e).0
 
   -- the row of a locomotive's state
-  pub gl_row : (bus address mode v vmax : ℕ) (functions : List Bool) → MayObey buses state session (SetGl bus address mode v vmax functions) → length functions ≤ length (functions_of bus address state)
-      → IsRowOf buses (row_put moment (key_at (device_in lockable.Gl bus address) 1) (value.GlState mode (kept_v mode v) vmax (functions_after functions (functions_of bus address state))) None)
+  pub gl_row : (bus address mode v vmax : ℕ) (functions : List Bool) → MayObey buses state session (SetGl bus address mode v vmax functions)
+      → length functions ≤ length (functions_of bus address state)
+      → IsRowOf buses
+      (row_put moment (key_at (device_in lockable.Gl bus address) 1)
+      (value.GlState mode (kept_v mode v) vmax (functions_after functions (functions_of bus address state))) None)
   gl_row bus address mode v vmax functions may short =
       let device = device_in lockable.Gl bus address in
       let before = functions_of bus address state in
       let after = functions_after functions before in
       let same : length after ≡ length before = as_many buses state may.whole session moment may.begun now functions before short in
-      let most : length before ≤ 29 = found_few buses state may.whole session moment may.begun now (key_at device 1) (row_at (key_at device 1) state) refl in
+      let most : length before ≤ 29 =
+      found_few buses state may.whole session moment may.begun now (key_at device 1) (row_at (key_at device 1) state) refl in
       let few : length after ≤ 29 = omega (arith, most, same) in
       let fits = may.of.1 in
-      IsRowOf-put buses may.whole.laid_out (key_at device 1) moment (value.GlState mode (kept_v mode v) vmax after) None may.of.0 now (fits.0, fits.1, fits.2, few) tt
+      IsRowOf-put buses may.whole.laid_out (key_at device 1) moment (value.GlState mode (kept_v mode v) vmax after) None may.of.0 now
+      (fits.0, fits.1, fits.2, few) tt
 
-  pub power_row : (bus : ℕ) (on : Bool) (text : List ℕ) → MayObey buses state session (SetPower bus on text) → IsRowOf buses (row_put moment (first_key (power_device bus)) (value.Power on text) None)
-  power_row bus on text may = IsRowOf-put buses may.whole.laid_out (first_key (power_device bus)) moment (value.Power on text) None may.of.0 now may.of.1 tt
+  pub power_row : (bus : ℕ) (on : Bool) (text : List ℕ) → MayObey buses state session (SetPower bus on text)
+      → IsRowOf buses (row_put moment (first_key (power_device bus)) (value.Power on text) None)
+  power_row bus on text may =
+      IsRowOf-put buses may.whole.laid_out (first_key (power_device bus)) moment (value.Power on text) None may.of.0 now may.of.1 tt
 
-  pub fb_row : (bus port : ℕ) (on : Bool) → MayObey buses state session (SetFb bus port on) → IsRowOf buses (row_put moment (first_key (fb_device bus port)) (value.Fb on) None)
-  fb_row bus port on may = IsRowOf-put buses may.whole.laid_out (first_key (fb_device bus port)) moment (value.Fb on) None may.of now (refl, refl) tt
+  pub fb_row : (bus port : ℕ) (on : Bool) → MayObey buses state session (SetFb bus port on)
+      → IsRowOf buses (row_put moment (first_key (fb_device bus port)) (value.Fb on) None)
+  fb_row bus port on may =
+      IsRowOf-put buses may.whole.laid_out (first_key (fb_device bus port)) moment (value.Fb on) None may.of now (refl, refl) tt

@@ -16,10 +16,14 @@ use Rattle.srcp_rules.specs.Nested.{IsIn}
 -- ---- numbers
 
 pub less : (m n : ℕ) → m < n → nat_cmp m n ≡ Less
-less m n h = by_ranked (m < n) (m ≡ n) (n < m) (nat_cmp m n) (ranked m n (nat_cmp m n) refl) (λ o lt. o) (λ o eq. absurd (omega (arith, h, eq))) (λ o gt. absurd (omega (arith, h, gt)))
+less m n h =
+    by_ranked (m < n) (m ≡ n) (n < m) (nat_cmp m n) (ranked m n (nat_cmp m n) refl) (λ o lt. o) (λ o eq. absurd (omega (arith, h, eq)))
+    (λ o gt. absurd (omega (arith, h, gt)))
 
 pub greater : (m n : ℕ) → n < m → nat_cmp m n ≡ Greater
-greater m n h = by_ranked (m < n) (m ≡ n) (n < m) (nat_cmp m n) (ranked m n (nat_cmp m n) refl) (λ o lt. absurd (omega (arith, h, lt))) (λ o eq. absurd (omega (arith, h, eq))) (λ o gt. o)
+greater m n h =
+    by_ranked (m < n) (m ≡ n) (n < m) (nat_cmp m n) (ranked m n (nat_cmp m n) refl) (λ o lt. absurd (omega (arith, h, lt)))
+    (λ o eq. absurd (omega (arith, h, eq))) (λ o gt. o)
 
 same : (m n : ℕ) → m ≡ n → nat_cmp m n ≡ Equal
 same m n e = ap (nat_cmp m) (sym e) ∙ tied_itself nat_cmp_total m
@@ -27,7 +31,11 @@ same m n e = ap (nat_cmp m) (sym e) ∙ tied_itself nat_cmp_total m
 -- ---- keys
 
 pub bus_order : (a b : Key) → a.bus < b.bus → key_cmp a b ≡ Less
-bus_order a b h = ap (λ o. ordering_then o (ordering_then (group_cmp a.group b.group) (ordering_then (nat_cmp a.address b.address) (nat_cmp a.port b.port)))) (less a.bus b.bus h)
+bus_order a b h =
+    ap (λ o.
+    ordering_then o
+    (ordering_then (group_cmp a.group b.group) (ordering_then (nat_cmp a.address b.address) (nat_cmp a.port b.port))))
+    (less a.bus b.bus h)
 
 pub group_order : (a b : Key) → a.bus ≡ b.bus → group_place a.group < group_place b.group → key_cmp a b ≡ Less
 group_order a b e h =
@@ -38,8 +46,10 @@ group_order a b e h =
 pub address_order : (a b : Key) → a.bus ≡ b.bus → a.group ≡ b.group → a.address < b.address → key_cmp a b ≡ Less
 address_order a b e f h =
     let ports = nat_cmp a.port b.port in
-    ap (λ o. ordering_then o (ordering_then (group_cmp a.group b.group) (ordering_then (nat_cmp a.address b.address) ports))) (same a.bus b.bus e)
-    ∙ ap (λ o. ordering_then o (ordering_then (nat_cmp a.address b.address) ports)) (same (group_place a.group) (group_place b.group) (ap group_place f))
+    ap (λ o. ordering_then o (ordering_then (group_cmp a.group b.group) (ordering_then (nat_cmp a.address b.address) ports)))
+    (same a.bus b.bus e)
+    ∙ ap (λ o. ordering_then o (ordering_then (nat_cmp a.address b.address) ports))
+    (same (group_place a.group) (group_place b.group) (ap group_place f))
     ∙ ap (λ o. ordering_then o ports) (less a.address b.address h)
 
 -- how keys of one group of one bus stand
@@ -88,5 +98,9 @@ pub owns-own : (device : Device) (key : Key) → device_of key ≡ device → ow
 owns-own device key e = ap (λ d. owns d key) (sym e) ∙ owns-device_of key
 
 -- a key of a group with this address is of this device
-pub device_in_group : (bus : ℕ) (g : Group) (address : ℕ) (key : Key) → IsIn bus g key → key.address ≡ address → device_of key ≡ record { bus = bus; group = g; address = address }
+pub device_in_group : (bus : ℕ) (g : Group) (address : ℕ) (key : Key) → IsIn bus g key → key.address ≡ address → device_of key ≡ record {
+  bus = bus;
+  group = g;
+  address = address;
+}
 device_in_group bus g address key h e = λ i. record { bus = h.0 i; group = h.1 i; address = e i }

@@ -1,5 +1,6 @@
 -- Places in a list: what stands before one and what from it on.
-use Rattle.std.specs.Prelude.{◌≡◌, ℕ, zero, suc, ◌≤◌, ◌<◌, Bool, true, false, cond, List, [], ◌∷◌, ◌++◌, length, take, drop, filter, find, slice_get, slice_index_or, not, Some}
+use Rattle.std.specs.Prelude.{◌≡◌, ℕ, zero, suc, ◌≤◌, ◌<◌, Bool, true, false, cond, List, [], ◌∷◌, ◌++◌, length, take, drop, filter, find}
+use Rattle.std.specs.Prelude.{slice_get, slice_index_or, not, Some}
 use Rattle.std.proofs.Common.{refl, sym, ap, ◌∙◌, arith}
 use Rattle.std.specs.List.{AllByRecursion, AllWithin}
 use Rattle.std.specs.List.Sorted.{IsPartitionedBy, IsNonDecreasingBy}
@@ -12,27 +13,36 @@ module _ {X : Type 0} (P : X → Type 0) where
   pub front_each : (xs : List X) (i : ℕ) → i ≤ length xs → AllWithin P xs 0 i → AllByRecursion P (take i xs)
   front_each xs zero h a = tt
   front_each [] (suc i) h a = absurd (omega (arith, h))
-  front_each (x ∷ xs) (suc i) h a = (a 0 x (omega arith) (omega arith), front_each xs i (omega (arith, h)) (λ k d low high. a (suc k) d (omega arith) (omega (arith, high))))
+  front_each (x ∷ xs) (suc i) h a = (
+    a 0 x (omega arith) (omega arith),
+    front_each xs i (omega (arith, h)) (λ k d low high. a (suc k) d (omega arith) (omega (arith, high))),
+  )
 
   -- what holds at each place from this one on holds of each item there
   pub back_each : (xs : List X) (i : ℕ) → AllWithin P xs i (length xs) → AllByRecursion P (drop i xs)
   back_each [] zero a = tt
   back_each [] (suc i) a = tt
-  back_each (x ∷ xs) zero a = (a 0 x (omega arith) (omega arith), back_each xs zero (λ k d low high. a (suc k) d (omega arith) (omega (arith, high))))
+  back_each (x ∷ xs) zero a =
+      (a 0 x (omega arith) (omega arith), back_each xs zero (λ k d low high. a (suc k) d (omega arith) (omega (arith, high))))
   back_each (x ∷ xs) (suc i) a = back_each xs i (λ k d low high. a (suc k) d (omega (arith, low)) (omega (arith, high)))
 
 module _ {X : Type 0} where
   -- what passes a test, where it is what stands before a place, or what stands from it on
-  pub filter_front : (p : X → Bool) (xs : List X) (i : ℕ) → AllByRecursion (λ x. p x ≡ true) (take i xs) → AllByRecursion (λ x. p x ≡ false) (drop i xs) → filter p xs ≡ take i xs
+  pub filter_front : (p : X → Bool) (xs : List X) (i : ℕ) → AllByRecursion (λ x. p x ≡ true) (take i xs)
+      → AllByRecursion (λ x. p x ≡ false) (drop i xs) → filter p xs ≡ take i xs
   filter_front p xs i a b =
-      ap (filter p) (sym (take-append-drop i xs)) ∙ filter-append p (take i xs) (drop i xs) ∙ (λ k. filter_every p (take i xs) a k ++ filter_no_one p (drop i xs) b k) ∙ append-nil (take i xs)
+      ap (filter p) (sym (take-append-drop i xs)) ∙ filter-append p (take i xs) (drop i xs)
+      ∙ (λ k. filter_every p (take i xs) a k ++ filter_no_one p (drop i xs) b k) ∙ append-nil (take i xs)
 
-  pub filter_back : (p : X → Bool) (xs : List X) (i : ℕ) → AllByRecursion (λ x. p x ≡ false) (take i xs) → AllByRecursion (λ x. p x ≡ true) (drop i xs) → filter p xs ≡ drop i xs
+  pub filter_back : (p : X → Bool) (xs : List X) (i : ℕ) → AllByRecursion (λ x. p x ≡ false) (take i xs)
+      → AllByRecursion (λ x. p x ≡ true) (drop i xs) → filter p xs ≡ drop i xs
   filter_back p xs i a b =
-      ap (filter p) (sym (take-append-drop i xs)) ∙ filter-append p (take i xs) (drop i xs) ∙ (λ k. filter_no_one p (take i xs) a k ++ filter_every p (drop i xs) b k)
+      ap (filter p) (sym (take-append-drop i xs)) ∙ filter-append p (take i xs) (drop i xs)
+      ∙ (λ k. filter_no_one p (take i xs) a k ++ filter_every p (drop i xs) b k)
 
 -- what holds of each item holds at each place
-pub each_at : {X : Type 0} (P : X → Type 0) (xs : List X) → AllByRecursion P xs → (k : ℕ) (d : X) → k < length xs → P (slice_index_or xs k d)
+pub each_at : {X : Type 0} (P : X → Type 0) (xs : List X) → AllByRecursion P xs → (k : ℕ) (d : X) → k < length xs
+    → P (slice_index_or xs k d)
 each_at P [] a k d h = absurd (omega (arith, h))
 each_at P (x ∷ xs) a zero d h = a.0
 each_at P (x ∷ xs) a (suc k) d h = each_at P xs a.1 k d (omega (arith, h))
@@ -61,7 +71,8 @@ module _ {X : Type 0} (R : X → X → Type 0) where
   non_decreasing n keeps (x ∷ xs) f (suc i) (suc j) d le h = non_decreasing n keeps xs f.1 i j d (omega (arith, le)) (omega (arith, h))
 
 -- the first item that fails a test stands at the place that splits the list by it
-pub find-parted : {X : Type 0} (p : X → Bool) (xs : List X) (i : ℕ) → AllByRecursion (λ x. p x ≡ true) (take i xs) → AllByRecursion (λ x. p x ≡ false) (drop i xs) → find (λ x. not (p x)) xs ≡ slice_get xs i
+pub find-parted : {X : Type 0} (p : X → Bool) (xs : List X) (i : ℕ) → AllByRecursion (λ x. p x ≡ true) (take i xs)
+    → AllByRecursion (λ x. p x ≡ false) (drop i xs) → find (λ x. not (p x)) xs ≡ slice_get xs i
 find-parted p [] zero a b = refl
 find-parted p [] (suc i) a b = refl
 find-parted p (x ∷ xs) zero a b = ap (λ c. cond (not c) (Some x) (find (λ y. not (p y)) xs)) b.0

@@ -1,5 +1,6 @@
 -- Looking through two lists of rows, one after the other, and changing one of them.
-use Rattle.std.specs.Prelude.{◌≡◌, ℕ, zero, suc, ◌<◌, length, take, slice_set, Bool, true, false, not, cond, List, [], ◌∷◌, ◌++◌, filter, find, Some, None}
+use Rattle.std.specs.Prelude.{◌≡◌, ℕ, zero, suc, ◌<◌, length, take, slice_set, Bool, true, false, not, cond, List, [], ◌∷◌, ◌++◌, filter}
+use Rattle.std.specs.Prelude.{find, Some, None}
 use Rattle.std.proofs.Common.{refl, sym, ap, ◌∙◌, append_assoc, arith}
 use Rattle.std.proofs.lemmas.List.{append-nil}
 use Rattle.std.proofs.lemmas.List.Elements.{filter-append}
@@ -45,29 +46,42 @@ module _ (row : Row) where
   higher other = is_after other.shown.key row.shown.key
 
   -- behind rows that are below it
-  pub put_row-past : (xs ys : State) → AllByRecursion (λ x. key_cmp x.shown.key row.shown.key ≡ Less) xs → put_row row (xs ++ ys) ≡ xs ++ put_row row ys
+  pub put_row-past : (xs ys : State) → AllByRecursion (λ x. key_cmp x.shown.key row.shown.key ≡ Less) xs
+      → put_row row (xs ++ ys) ≡ xs ++ put_row row ys
   put_row-past xs ys h =
       (λ i. filter-append lower xs ys i ++ row ∷ filter-append higher xs ys i)
       ∙ (λ i.
-      (filter_every lower xs (each-weaken {P = λ x. key_cmp x.shown.key row.shown.key ≡ Less} (λ x e. after_from_less row.shown.key x.shown.key e) xs h) i ++ filter lower ys)
-      ++ row ∷ (filter_no_one higher xs (each-weaken {P = λ x. key_cmp x.shown.key row.shown.key ≡ Less} (λ x e. ap is_gt e) xs h) i ++ filter higher ys))
+      (filter_every lower xs
+      (each-weaken {P = λ x. key_cmp x.shown.key row.shown.key ≡ Less} (λ x e. after_from_less row.shown.key x.shown.key e) xs h) i
+      ++ filter lower ys)
+      ++ row
+      ∷ (filter_no_one higher xs (each-weaken {P = λ x. key_cmp x.shown.key row.shown.key ≡ Less} (λ x e. ap is_gt e) xs h) i
+      ++ filter higher ys))
       ∙ append_assoc xs (filter lower ys) (row ∷ filter higher ys)
 
   -- before rows that are above it
-  pub put_row-before : (xs ys : State) → AllByRecursion (λ y. key_cmp row.shown.key y.shown.key ≡ Less) ys → put_row row (xs ++ ys) ≡ put_row row xs ++ ys
+  pub put_row-before : (xs ys : State) → AllByRecursion (λ y. key_cmp row.shown.key y.shown.key ≡ Less) ys
+      → put_row row (xs ++ ys) ≡ put_row row xs ++ ys
   put_row-before xs ys h =
       (λ i. filter-append lower xs ys i ++ row ∷ filter-append higher xs ys i)
       ∙ (λ i.
-      (filter lower xs ++ filter_no_one lower ys (each-weaken {P = λ y. key_cmp row.shown.key y.shown.key ≡ Less} (λ y e. ap is_gt e) ys h) i)
-      ++ row ∷ (filter higher xs ++ filter_every higher ys (each-weaken {P = λ y. key_cmp row.shown.key y.shown.key ≡ Less} (λ y e. after_from_less y.shown.key row.shown.key e) ys h) i))
+      (filter lower xs
+      ++ filter_no_one lower ys (each-weaken {P = λ y. key_cmp row.shown.key y.shown.key ≡ Less} (λ y e. ap is_gt e) ys h) i)
+      ++ row
+      ∷ (filter higher xs
+      ++ filter_every higher ys
+      (each-weaken {P = λ y. key_cmp row.shown.key y.shown.key ≡ Less}
+      (λ y e. after_from_less y.shown.key row.shown.key e) ys h) i))
       ∙ ap (λ zs. zs ++ row ∷ (filter higher xs ++ ys)) (append-nil (filter lower xs))
       ∙ sym (append_assoc (filter lower xs) (row ∷ filter higher xs) ys)
 
-pub put_rows-past : (rows xs ys : State) → AllByRecursion (λ row. AllByRecursion (λ x. key_cmp x.shown.key row.shown.key ≡ Less) xs) rows → put_rows rows (xs ++ ys) ≡ xs ++ put_rows rows ys
+pub put_rows-past : (rows xs ys : State) → AllByRecursion (λ row. AllByRecursion (λ x. key_cmp x.shown.key row.shown.key ≡ Less) xs) rows
+    → put_rows rows (xs ++ ys) ≡ xs ++ put_rows rows ys
 put_rows-past [] xs ys h = refl
 put_rows-past (row ∷ rows) xs ys h = ap (put_rows rows) (put_row-past row xs ys h.0) ∙ put_rows-past rows xs (put_row row ys) h.1
 
-pub put_rows-before : (rows xs ys : State) → AllByRecursion (λ row. AllByRecursion (λ y. key_cmp row.shown.key y.shown.key ≡ Less) ys) rows → put_rows rows (xs ++ ys) ≡ put_rows rows xs ++ ys
+pub put_rows-before : (rows xs ys : State) → AllByRecursion (λ row. AllByRecursion (λ y. key_cmp row.shown.key y.shown.key ≡ Less) ys) rows
+    → put_rows rows (xs ++ ys) ≡ put_rows rows xs ++ ys
 put_rows-before [] xs ys h = refl
 put_rows-before (row ∷ rows) xs ys h = ap (put_rows rows) (put_row-before row xs ys h.0) ∙ put_rows-before rows (put_row row xs) ys h.1
 
@@ -84,22 +98,27 @@ module _ (device : Device) where
   abbrev stays : Row → Bool
   stays row = not (owns device row.shown.key)
 
-  pub without-past : (xs ys : State) → AllByRecursion (λ x. owns device x.shown.key ≡ false) xs → without device (xs ++ ys) ≡ xs ++ without device ys
+  pub without-past : (xs ys : State) → AllByRecursion (λ x. owns device x.shown.key ≡ false) xs
+      → without device (xs ++ ys) ≡ xs ++ without device ys
   without-past xs ys h =
       filter-append stays xs ys
-      ∙ ap (λ zs. zs ++ filter stays ys) (filter_every stays xs (each-weaken {P = λ x. owns device x.shown.key ≡ false} (λ x e. ap not e) xs h))
+      ∙ ap (λ zs. zs ++ filter stays ys)
+      (filter_every stays xs (each-weaken {P = λ x. owns device x.shown.key ≡ false} (λ x e. ap not e) xs h))
 
-  pub without-before : (xs ys : State) → AllByRecursion (λ y. owns device y.shown.key ≡ false) ys → without device (xs ++ ys) ≡ without device xs ++ ys
+  pub without-before : (xs ys : State) → AllByRecursion (λ y. owns device y.shown.key ≡ false) ys
+      → without device (xs ++ ys) ≡ without device xs ++ ys
   without-before xs ys h =
       filter-append stays xs ys
-      ∙ ap (λ zs. filter stays xs ++ zs) (filter_every stays ys (each-weaken {P = λ y. owns device y.shown.key ≡ false} (λ y e. ap not e) ys h))
+      ∙ ap (λ zs. filter stays xs ++ zs)
+      (filter_every stays ys (each-weaken {P = λ y. owns device y.shown.key ≡ false} (λ y e. ap not e) ys h))
 
   -- where all are the device's, none is left
   pub without-all : (xs : State) → AllByRecursion (λ x. owns device x.shown.key ≡ true) xs → without device xs ≡ []
   without-all xs h = filter_no_one stays xs (each-weaken {P = λ x. owns device x.shown.key ≡ true} (λ x e. ap not e) xs h)
 
 -- a write among the first items
-pub take-set : {X : Type 0} (n : ℕ) (xs : List X) (i : ℕ) (x : X) → i < length (take n xs) → take n (slice_set xs i x) ≡ slice_set (take n xs) i x
+pub take-set : {X : Type 0} (n : ℕ) (xs : List X) (i : ℕ) (x : X) → i < length (take n xs)
+    → take n (slice_set xs i x) ≡ slice_set (take n xs) i x
 take-set zero xs i x h = refl
 take-set (suc n) [] i x h = refl
 take-set (suc n) (y ∷ xs) zero x h = refl

@@ -1,5 +1,6 @@
 -- Several rows that are put one after another, and a device that is made afresh in place.
-use Rattle.std.specs.Prelude.{◌≡◌, ℕ, zero, suc, ◌+◌, ◌<◌, ◌≤◌, Bool, true, false, not, ◌||◌, cond, List, [], ◌∷◌, map, Option, Some, None, Result, Ok, Err, OnOk, OnErr}
+use Rattle.std.specs.Prelude.{◌≡◌, ℕ, zero, suc, ◌+◌, ◌<◌, ◌≤◌, Bool, true, false, not, ◌||◌, cond, List, [], ◌∷◌, map, Option, Some, None}
+use Rattle.std.specs.Prelude.{Result, Ok, Err, OnOk, OnErr}
 use Rattle.std.proofs.Common.{refl, sym, ap, subst, ◌∙◌, true≢false, arith}
 use Rattle.std.specs.List.{AllByRecursion, list_any, range_with_len}
 use Rattle.std.specs.Ordering.{ordering_reverse}
@@ -12,7 +13,8 @@ use Rattle.srcp_info.proofs.KeyLaws.{key_cmp_total, device_from_owns}
 use Rattle.srcp_info.proofs.ClientLaws.{rising_put, rising_filter}
 use Rattle.srcp_rules.specs.declared.layout.Bus.{Bus}
 use Rattle.srcp_rules.specs.Layout.{row_count}
-use Rattle.srcp_rules.specs.State.{State, IsRising, IsWhole, IsRowOf, row_at, has_row, is_there, key_at, put_row, put_of, without, updated_all}
+use Rattle.srcp_rules.specs.State.{State, IsRising, IsWhole, IsRowOf, row_at, has_row, is_there, key_at, put_row, put_of, without}
+use Rattle.srcp_rules.specs.State.{updated_all}
 use Rattle.srcp_rules.specs.Rows.{AreRowsOf, put_rows}
 use Rattle.srcp_rules.proofs.KeyLaws.{same_key, same_key-itself, same_key-true}
 use Rattle.srcp_rules.proofs.FindLaws.{found_holds}
@@ -29,23 +31,28 @@ module _ where
   some_same x y e = cc
 
 -- a row that is found is the first, or stands above it
-first_or_above : (row other : Row) (state : State) → IsRising (row ∷ state) → (key : Key) → row_at key (row ∷ state) ≡ Some other → (b : Bool) → same_key row.shown.key key ≡ b
+first_or_above : (row other : Row) (state : State) → IsRising (row ∷ state) → (key : Key) → row_at key (row ∷ state) ≡ Some other
+    → (b : Bool) → same_key row.shown.key key ≡ b
     → cond b (row ≡ other) (key_cmp row.shown.key other.shown.key ≡ Less)
 first_or_above row other state rising key e true s = some_same row other (sym (ap (λ b. cond b (Some row) (row_at key state)) s) ∙ e)
 first_or_above row other state rising key e false s =
-    found_holds (λ later. key_cmp row.shown.key later.shown.key ≡ Less) (λ later. same_key later.shown.key key) state rising.0 other (sym (ap (λ b. cond b (Some row) (row_at key state)) s) ∙ e)
+    found_holds (λ later. key_cmp row.shown.key later.shown.key ≡ Less) (λ later. same_key later.shown.key key) state rising.0 other
+    (sym (ap (λ b. cond b (Some row) (row_at key state)) s) ∙ e)
 
 below_both : (a b : Key) → key_cmp a b ≡ Less → key_cmp b a ≡ Less → ⊥
 below_both a b e f = let bad : Less ≡ Greater = sym e ∙ key_cmp_total.antisymm a b ∙ ap ordering_reverse f in cc
 
 -- the first rows of two registries with the same rows are one
-same_first : (x y : Row) (xs ys : State) → IsRising (x ∷ xs) → IsRising (y ∷ ys) → ((key : Key) → row_at key (x ∷ xs) ≡ row_at key (y ∷ ys)) → x ≡ y
+same_first : (x y : Row) (xs ys : State) → IsRising (x ∷ xs) → IsRising (y ∷ ys) → ((key : Key) → row_at key (x ∷ xs) ≡ row_at key (y ∷ ys))
+    → x ≡ y
 same_first x y xs ys rx ry same =
     let at_x : row_at x.shown.key (y ∷ ys) ≡ Some x = sym (same x.shown.key) ∙ row_at-first x xs in
     let at_y : row_at y.shown.key (x ∷ xs) ≡ Some y = same y.shown.key ∙ row_at-first y ys in
-    by (same_key y.shown.key x.shown.key) (same_key x.shown.key y.shown.key) (first_or_above y x ys ry x.shown.key at_x _ refl) (first_or_above x y xs rx y.shown.key at_y _ refl)
+    by (same_key y.shown.key x.shown.key) (same_key x.shown.key y.shown.key) (first_or_above y x ys ry x.shown.key at_x _ refl)
+    (first_or_above x y xs rx y.shown.key at_y _ refl)
   where
-    by : (b c : Bool) → cond b (y ≡ x) (key_cmp y.shown.key x.shown.key ≡ Less) → cond c (x ≡ y) (key_cmp x.shown.key y.shown.key ≡ Less) → x ≡ y
+    by : (b c : Bool) → cond b (y ≡ x) (key_cmp y.shown.key x.shown.key ≡ Less) → cond c (x ≡ y) (key_cmp x.shown.key y.shown.key ≡ Less)
+        → x ≡ y
     by true c e f = sym e
     by false true e f = f
     by false false e f = absurd (below_both y.shown.key x.shown.key e f)
@@ -57,9 +64,12 @@ none_above row state rising = by (row_at row.shown.key state) refl
     by : (o : Option Row) → row_at row.shown.key state ≡ o → o ≡ None
     by None e = refl
     by (Some other) e =
-        let above = found_holds (λ later. key_cmp row.shown.key later.shown.key ≡ Less) (λ later. same_key later.shown.key row.shown.key) state rising.0 other e in
+        let above =
+        found_holds (λ later. key_cmp row.shown.key later.shown.key ≡ Less)
+        (λ later. same_key later.shown.key row.shown.key) state rising.0 other e in
         let same : other.shown.key ≡ row.shown.key = row_at_key row.shown.key state other e in
-        absurd (below_both row.shown.key row.shown.key (ap (key_cmp row.shown.key) (sym same) ∙ above) (ap (key_cmp row.shown.key) (sym same) ∙ above))
+        absurd (below_both row.shown.key row.shown.key (ap (key_cmp row.shown.key) (sym same) ∙ above)
+        (ap (key_cmp row.shown.key) (sym same) ∙ above))
 
 pub same_rows : (xs ys : State) → IsRising xs → IsRising ys → ((key : Key) → row_at key xs ≡ row_at key ys) → xs ≡ ys
 same_rows [] [] rx ry same = refl
@@ -72,9 +82,11 @@ same_rows (x ∷ xs) (y ∷ ys) rx ry same =
     rest : x ≡ y → (key : Key) → (b : Bool) → same_key x.shown.key key ≡ b → row_at key xs ≡ row_at key ys
     rest first key true s =
         let mine : x.shown.key ≡ key = same_key-true x.shown.key key s in
-        subst (λ k. row_at k xs ≡ row_at k ys) mine (none_above x xs rx ∙ sym (ap (λ (r : Row). row_at r.shown.key ys) first ∙ none_above y ys ry))
+        subst (λ k. row_at k xs ≡ row_at k ys) mine
+        (none_above x xs rx ∙ sym (ap (λ (r : Row). row_at r.shown.key ys) first ∙ none_above y ys ry))
     rest first key false s =
-        sym (ap (λ b. cond b (Some x) (row_at key xs)) s) ∙ same key ∙ ap (λ b. cond b (Some y) (row_at key ys)) (sym (ap (λ (r : Row). same_key r.shown.key key) first) ∙ s)
+        sym (ap (λ b. cond b (Some x) (row_at key xs)) s) ∙ same key
+        ∙ ap (λ b. cond b (Some y) (row_at key ys)) (sym (ap (λ (r : Row). same_key r.shown.key key) first) ∙ s)
 
 -- ---- rows that are put
 
@@ -87,7 +99,8 @@ rising-put_rows [] state h = h
 rising-put_rows (row ∷ rows) state h = rising-put_rows rows (put_row row state) (rising_put row_key row state h)
 
 -- and where they are added or not
-pub rising-added : {E : Type 0} (added before after : State) (r : Result (Unit {0}) E) → OnOk r (after ≡ put_rows added before) → OnErr r (after ≡ before) → IsRising before → IsRising after
+pub rising-added : {E : Type 0} (added before after : State) (r : Result (Unit {0}) E) → OnOk r (after ≡ put_rows added before)
+    → OnErr r (after ≡ before) → IsRising before → IsRising after
 rising-added added before after (Ok u) e f h = subst IsRising (sym e) (rising-put_rows added before h)
 rising-added added before after (Err x) e f h = subst IsRising (sym f) h
 
@@ -99,7 +112,8 @@ alike : (key : Key) (row : Row) (a b : State) → row_at key a ≡ row_at key b 
 alike key row a b e = row_at-put_row key row a ∙ ap (cond (same_key row.shown.key key) (Some row)) e ∙ sym (row_at-put_row key row b)
 
 -- what is the same at a key stays the same
-still_alike : (key : Key) (rows : List Row) (a b : State) → row_at key a ≡ row_at key b → row_at key (put_rows rows a) ≡ row_at key (put_rows rows b)
+still_alike : (key : Key) (rows : List Row) (a b : State) → row_at key a ≡ row_at key b
+    → row_at key (put_rows rows a) ≡ row_at key (put_rows rows b)
 still_alike key [] a b e = e
 still_alike key (row ∷ rows) a b e = still_alike key rows (put_row row a) (put_row row b) (alike key row a b e)
 
@@ -107,44 +121,58 @@ still_alike key (row ∷ rows) a b e = still_alike key rows (put_row row a) (put
 abbrev puts_at : Key → List Row → Bool
 puts_at key rows = list_any (λ row. same_key row.shown.key key) rows
 
-put_alike : (key : Key) (rows : List Row) (a b : State) → puts_at key rows ≡ true → row_at key (put_rows rows a) ≡ row_at key (put_rows rows b)
+put_alike : (key : Key) (rows : List Row) (a b : State) → puts_at key rows ≡ true
+    → row_at key (put_rows rows a) ≡ row_at key (put_rows rows b)
 put_alike key [] a b e = absurd (true≢false (sym e))
 put_alike key (row ∷ rows) a b e = by (same_key row.shown.key key) refl e (put_alike key rows (put_row row a) (put_row row b))
   where
-    by : (t : Bool) → same_key row.shown.key key ≡ t → (t || puts_at key rows) ≡ true → (puts_at key rows ≡ true → row_at key (put_rows rows (put_row row a)) ≡ row_at key (put_rows rows (put_row row b)))
+    by : (t : Bool) → same_key row.shown.key key ≡ t → (t || puts_at key rows) ≡ true
+        → (puts_at key rows ≡ true → row_at key (put_rows rows (put_row row a)) ≡ row_at key (put_rows rows (put_row row b)))
         → row_at key (put_rows (row ∷ rows) a) ≡ row_at key (put_rows (row ∷ rows) b)
     by true s e later =
         still_alike key rows (put_row row a) (put_row row b)
-        (row_at-put_row key row a ∙ ap (λ t. cond t (Some row) (row_at key a)) s ∙ sym (row_at-put_row key row b ∙ ap (λ t. cond t (Some row) (row_at key b)) s))
+        (row_at-put_row key row a ∙ ap (λ t. cond t (Some row) (row_at key a)) s
+        ∙ sym (row_at-put_row key row b ∙ ap (λ t. cond t (Some row) (row_at key b)) s))
     by false s e later = later e
 
 -- ---- all the rows of a device
 
-range_each : (P : Key → Type 0) (device : Device) (first n : ℕ) → ((port : ℕ) → port < first + n → P (key_at device port)) → AllByRecursion P (map (key_at device) (range_with_len first n))
+range_each : (P : Key → Type 0) (device : Device) (first n : ℕ) → ((port : ℕ) → port < first + n → P (key_at device port))
+    → AllByRecursion P (map (key_at device) (range_with_len first n))
 range_each P device first zero h = tt
 range_each P device first (suc n) h = (h first (omega arith), range_each P device (first + 1) n (λ port less. h port (omega (arith, less))))
 
-range_any : (device : Device) (port first n : ℕ) → first ≤ port → port < first + n → list_any (λ key. same_key key (key_at device port)) (map (key_at device) (range_with_len first n)) ≡ true
+range_any : (device : Device) (port first n : ℕ) → first ≤ port → port < first + n
+    → list_any (λ key. same_key key (key_at device port)) (map (key_at device) (range_with_len first n)) ≡ true
 range_any device port first zero low high = absurd (omega arith)
-range_any device port first (suc n) low high = by (same_key (key_at device first) (key_at device port)) refl (λ h. range_any device port (first + 1) n (omega (arith, h)) (omega arith))
+range_any device port first (suc n) low high =
+    by (same_key (key_at device first) (key_at device port)) refl
+    (λ h. range_any device port (first + 1) n (omega (arith, h)) (omega arith))
   where
-    by : (t : Bool) → same_key (key_at device first) (key_at device port) ≡ t → (first < port → list_any (λ key. same_key key (key_at device port)) (map (key_at device) (range_with_len (first + 1) n)) ≡ true)
+    by : (t : Bool) → same_key (key_at device first) (key_at device port) ≡ t
+        → (first < port → list_any (λ key. same_key key (key_at device port)) (map (key_at device) (range_with_len (first + 1) n)) ≡ true)
         → (t || list_any (λ key. same_key key (key_at device port)) (map (key_at device) (range_with_len (first + 1) n))) ≡ true
     by true s later = refl
-    by false s later = later (strict first port low (λ e. true≢false (sym (same_key-itself (key_at device port)) ∙ ap (λ p. same_key (key_at device p) (key_at device port)) (sym e) ∙ s)))
+    by false s later =
+        later (strict first port low
+        (λ e.
+        true≢false (sym (same_key-itself (key_at device port))
+        ∙ ap (λ p. same_key (key_at device p) (key_at device port)) (sym e) ∙ s)))
 
 any-keys : (key : Key) (rows : List Row) → puts_at key rows ≡ list_any (λ k. same_key k key) (map row_key rows)
 any-keys key [] = refl
 any-keys key (row ∷ rows) = ap (λ b. same_key row.shown.key key || b) (any-keys key rows)
 
-module _ (buses : List Bus) (device : Device) (rows : List Row) (all : AreRowsOf buses device rows) (state : State) (whole : IsWhole buses state) where
+module _ (buses : List Bus) (device : Device) (rows : List Row) (all : AreRowsOf buses device rows) (state : State)
+    (whole : IsWhole buses state) where
   -- each of them is there where the device is
   pub each_there : is_there device state ≡ true → AllByRecursion (λ row. IsRowOf buses row × (has_row row.shown.key state ≡ true)) rows
   each_there there =
       each_and (IsRowOf buses) (λ row. has_row row.shown.key state ≡ true) rows all.each
       (each_unmapped (λ key. has_row key state ≡ true) row_key rows
       (subst (AllByRecursion (λ key. has_row key state ≡ true)) (sym all.keys)
-      (range_each (λ key. has_row key state ≡ true) device 0 (row_count buses device) (λ port less. whole.complete (first_key device) there port (omega (arith, less))))))
+      (range_each (λ key. has_row key state ≡ true) device 0 (row_count buses device)
+      (λ port less. whole.complete (first_key device) there port (omega (arith, less))))))
 
   -- no other row of the device is
   covered : (key : Key) → owns device key ≡ true → (o : Option Row) → row_at key state ≡ o → (puts_at key rows ≡ true → ⊥) → o ≡ None
@@ -153,12 +181,15 @@ module _ (buses : List Bus) (device : Device) (rows : List Row) (all : AreRowsOf
       let same : device_of key ≡ device = device_from_owns device key mine in
       let place = subst (λ k. k.port < row_count buses (device_of k)) (row_at_key key state row e) (whole.rows key row e).place in
       let within : key.port < row_count buses device = subst (λ d. key.port < row_count buses d) same place in
-      let at : key_at device key.port ≡ key = λ i. record { bus = (sym same i).bus; group = (sym same i).group; address = (sym same i).address; port = key.port } in
+      let at : key_at device key.port ≡ key =
+      λ i. record { bus = (sym same i).bus; group = (sym same i).group; address = (sym same i).address; port = key.port } in
       absurd (apart
       (any-keys key rows ∙ ap (list_any (λ k. same_key k key)) all.keys
-      ∙ subst (λ k. list_any (λ q. same_key q k) (map (key_at device) (range_with_len 0 (row_count buses device))) ≡ true) at (range_any device key.port 0 (row_count buses device) (omega arith) (omega (arith, within)))))
+      ∙ subst (λ k. list_any (λ q. same_key q k) (map (key_at device) (range_with_len 0 (row_count buses device))) ≡ true) at
+      (range_any device key.port 0 (row_count buses device) (omega arith) (omega (arith, within)))))
 
-  look : (key : Key) (t : Bool) → puts_at key rows ≡ t → row_at key (put_rows rows (without device state)) ≡ row_at key (put_rows rows state)
+  look : (key : Key) (t : Bool) → puts_at key rows ≡ t
+      → row_at key (put_rows rows (without device state)) ≡ row_at key (put_rows rows state)
   look key true e = put_alike key rows (without device state) state e
   look key false e =
       still_alike key rows (without device state) state (row_at-without key device state ∙ kept (owns device key) refl)

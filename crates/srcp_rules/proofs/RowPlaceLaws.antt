@@ -1,5 +1,6 @@
 -- Where a key is among rows by rising key, and what a write or an insert there gives.
-use Rattle.std.specs.Prelude.{◌≡◌, ℕ, zero, suc, ◌<◌, ◌≤◌, Bool, false, cond, List, [], ◌∷◌, ◌++◌, length, take, drop, find, insert, slice_set, slice_index_or, Some, None, Result, Ok, Err, IfOk, IfErr}
+use Rattle.std.specs.Prelude.{◌≡◌, ℕ, zero, suc, ◌<◌, ◌≤◌, Bool, false, cond, List, [], ◌∷◌, ◌++◌, length, take, drop, find, insert}
+use Rattle.std.specs.Prelude.{slice_set, slice_index_or, Some, None, Result, Ok, Err, IfOk, IfErr}
 use Rattle.std.proofs.Common.{refl, sym, ap, subst, ◌∙◌, arith}
 use Rattle.std.proofs.lemmas.List.{take-append-drop, set_split}
 use Rattle.std.proofs.lemmas.List.Folds.{find-append}
@@ -37,8 +38,10 @@ greatest Equal = omega arith
 greatest Greater = omega arith
 
 index_step : (key a b : Key) → key_cmp a b ≡ Less → (q : Ordering) → key_cmp b key ≡ q → ordering_index (key_cmp a key) ≤ ordering_index q
-index_step key a b less Less e = subst (λ r. ordering_index r ≤ ordering_index Less) (sym (key_cmp_total.trans a b key less e)) (omega arith)
-index_step key a b less Equal e = subst (λ r. ordering_index r ≤ ordering_index Equal) (sym (ap (key_cmp a) (sym (key_tie b key e)) ∙ less)) (omega arith)
+index_step key a b less Less e =
+    subst (λ r. ordering_index r ≤ ordering_index Less) (sym (key_cmp_total.trans a b key less e)) (omega arith)
+index_step key a b less Equal e =
+    subst (λ r. ordering_index r ≤ ordering_index Equal) (sym (ap (key_cmp a) (sym (key_tie b key e)) ∙ less)) (omega arith)
 index_step key a b less Greater e = greatest (key_cmp a key)
 
 turned : (a b : Key) → key_cmp a b ≡ Greater → key_cmp b a ≡ Less
@@ -46,29 +49,37 @@ turned a b e = key_cmp_total.antisymm b a ∙ ap ordering_reverse e
 
 module _ (state : State) (rising : IsRising state) (key : Key) where
   compared : IsNonDecreasingBy (λ row. ordering_index (key_cmp row.shown.key key)) state
-  compared = non_decreasing Below (λ row. ordering_index (key_cmp row.shown.key key)) (λ a b less. index_step key a.shown.key b.shown.key less (key_cmp b.shown.key key) refl) state (follows state rising)
+  compared =
+      non_decreasing Below (λ row. ordering_index (key_cmp row.shown.key key))
+      (λ a b less. index_step key a.shown.key b.shown.key less (key_cmp b.shown.key key) refl) state (follows state rising)
 
   -- what a binary search by the key answers
-  pub searched : (r : Result ℕ ℕ) → IsSearchInRange r (length state) → IsBinarySearchResult (λ row. key_cmp row.shown.key key) state r → IfOk r (IsAt state key) × IfErr r (IsGap state key)
-  searched (Ok place) within equal = (record { within = within; here = λ d. key_tie (slice_index_or state place d).shown.key key (equal d) }, tt)
+  pub searched : (r : Result ℕ ℕ) → IsSearchInRange r (length state) → IsBinarySearchResult (λ row. key_cmp row.shown.key key) state r
+      → IfOk r (IsAt state key) × IfErr r (IsGap state key)
+  searched (Ok place) within equal =
+      (record { within = within; here = λ d. key_tie (slice_index_or state place d).shown.key key (equal d) }, tt)
   searched (Err place) within parted = (
     tt,
     record {
       within = within;
       below = front_each (λ row. key_cmp row.shown.key key ≡ Less) state place within (parted compared).0;
-      above = back_each (λ row. key_cmp key row.shown.key ≡ Less) state place (λ k d low high. turned (slice_index_or state k d).shown.key key ((parted compared).1 k d low high));
+      above =
+          back_each (λ row. key_cmp key row.shown.key ≡ Less) state place
+          (λ k d low high. turned (slice_index_or state k d).shown.key key ((parted compared).1 k d low high));
     },
   )
 
 -- ---- looking up
 
 -- the row at the place of a key is the key's
-pub row_at-here : (state : State) → IsRising state → (key : Key) (place : ℕ) → IsAt state key place → (d : Row) → row_at key state ≡ Some (slice_index_or state place d)
+pub row_at-here : (state : State) → IsRising state → (key : Key) (place : ℕ) → IsAt state key place → (d : Row)
+    → row_at key state ≡ Some (slice_index_or state place d)
 row_at-here [] rising key place at d = let h = at.within in absurd (omega (arith, h))
 row_at-here (row ∷ state) rising key zero at d = subst (λ k. row_at k (row ∷ state) ≡ Some row) (at.here d) (row_at-first row state)
 row_at-here (row ∷ state) rising key (suc place) at d =
     let within : suc place < length (row ∷ state) = at.within in
-    row_at-later row state rising key (slice_index_or state place d) (row_at-here state rising.1 key place (record { within = omega (arith, within); here = at.here }) d)
+    row_at-later row state rising key (slice_index_or state place d)
+    (row_at-here state rising.1 key place (record { within = omega (arith, within); here = at.here }) d)
 
 none_tie : (t : Row → Bool) (rows : List Row) → AllByRecursion (λ row. t row ≡ false) rows → find t rows ≡ None
 none_tie t [] h = refl
@@ -79,23 +90,30 @@ pub row_at-gap : (state : State) (key : Key) (place : ℕ) → IsGap state key p
 row_at-gap state key place gap =
     ap (row_at key) (sym (take-append-drop place state))
     ∙ find-append (λ row. same_key row.shown.key key) (take place state) (drop place state)
-    ∙ (λ i. option_or (none_tie (λ row. same_key row.shown.key key) (take place state) (each-weaken {P = λ row. key_cmp row.shown.key key ≡ Less} (λ row h. ap is_eq h) (take place state) gap.below) i)
+    ∙ (λ i.
+    option_or (none_tie (λ row. same_key row.shown.key key) (take place state)
+    (each-weaken {P = λ row. key_cmp row.shown.key key ≡ Less} (λ row h. ap is_eq h) (take place state) gap.below) i)
     (none_tie (λ row. same_key row.shown.key key) (drop place state)
-    (each-weaken {P = λ row. key_cmp key row.shown.key ≡ Less} (λ row h. ap is_eq (key_cmp_total.antisymm row.shown.key key ∙ ap ordering_reverse h)) (drop place state) gap.above) i))
+    (each-weaken {P = λ row. key_cmp key row.shown.key ≡ Less}
+    (λ row h. ap is_eq (key_cmp_total.antisymm row.shown.key key ∙ ap ordering_reverse h)) (drop place state) gap.above)
+    i))
 
 -- ---- writing
 
 -- the row at a place, the rows before it and those after it
 around : (state : State) → Follows Below state → (i : ℕ) → i < length state → (d : Row)
-    → AllByRecursion (λ row. Below row (slice_index_or state i d)) (take i state) × AllByRecursion (Below (slice_index_or state i d)) (drop (suc i) state)
+    → AllByRecursion (λ row. Below row (slice_index_or state i d)) (take i state)
+    × AllByRecursion (Below (slice_index_or state i d)) (drop (suc i) state)
     × (state ≡ take i state ++ slice_index_or state i d ∷ drop (suc i) state)
 around [] f i h d = absurd (omega (arith, h))
 around (row ∷ state) f zero h d = (tt, f.0, refl)
 around (row ∷ state) f (suc i) h d =
-    let rest = around state f.1 i (omega (arith, h)) d in ((each_at (Below row) state f.0 i d (omega (arith, h)), rest.0), rest.1, ap (λ rows. row ∷ rows) rest.2)
+    let rest = around state f.1 i (omega (arith, h)) d in
+    ((each_at (Below row) state f.0 i d (omega (arith, h)), rest.0), rest.1, ap (λ rows. row ∷ rows) rest.2)
 
 -- a write at the place of a key
-pub set-put_row : (state : State) → IsRising state → (row : Row) (place : ℕ) → IsAt state row.shown.key place → slice_set state place row ≡ put_row row state
+pub set-put_row : (state : State) → IsRising state → (row : Row) (place : ℕ) → IsAt state row.shown.key place
+    → slice_set state place row ≡ put_row row state
 set-put_row state rising row place at =
     let parts = around state (follows state rising) place at.within row in
     let old = slice_index_or state place row in
@@ -108,7 +126,9 @@ set-put_row state rising row place at =
 
 -- an insert where a key belongs
 pub insert-put_row : (state : State) (row : Row) (place : ℕ) → IsGap state row.shown.key place → insert state place row ≡ put_row row state
-insert-put_row state row place gap = sym (put_between row_key row (take place state) (drop place state) gap.below gap.above) ∙ ap (put_row row) (take-append-drop place state)
+insert-put_row state row place gap =
+    sym (put_between row_key row (take place state) (drop place state) gap.below gap.above)
+    ∙ ap (put_row row) (take-append-drop place state)
 
 -- ---- the row after a cursor
 
@@ -118,4 +138,5 @@ module _ (cursor : Cursor) where
 
   pub passed_partitioned : (state : State) → IsRising state → IsPartitionedBy passed state
   passed_partitioned state rising =
-      partitioned Below passed (λ a b less e. reached_below cursor a.shown.key b.shown.key (not_after a.shown.key b.shown.key less) e) state (follows state rising)
+      partitioned Below passed (λ a b less e. reached_below cursor a.shown.key b.shown.key (not_after a.shown.key b.shown.key less) e) state
+      (follows state rising)

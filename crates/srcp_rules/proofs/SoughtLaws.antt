@@ -29,43 +29,56 @@ module _ {X : Type 0} (p q : X → Bool) where
   find-both [] = refl
   find-both (x ∷ xs) = both_step (p x) (q x) x (find (λ y. p y && q y) xs) (find q (filter p xs)) (find-both xs) ∙ found (p x)
     where
-      found : (a : Bool) → cond a (cond (q x) (Some x) (find q (filter p xs))) (find q (filter p xs)) ≡ find q (cond a (x ∷ filter p xs) (filter p xs))
+      found : (a : Bool)
+          → cond a (cond (q x) (Some x) (find q (filter p xs))) (find q (filter p xs)) ≡ find q (cond a (x ∷ filter p xs) (filter p xs))
       found true = refl
       found false = refl
 
 -- ---- the next row
 
-still_beyond : (at : Cursor) (low high : Key) → key_cmp low high ≡ Less → has_reached at low ≡ false → (b : Bool) → has_reached at high ≡ b → b ≡ false
+still_beyond : (at : Cursor) (low high : Key) → key_cmp low high ≡ Less → has_reached at low ≡ false → (b : Bool) → has_reached at high ≡ b
+    → b ≡ false
 still_beyond at low high less e true f = absurd (true≢false (sym (reached_below at low high (not_after low high less) f) ∙ e))
 still_beyond at low high less e false f = refl
 
 abbrev Next : Cursor → Row → State → Type 0
 Next at row state = beyond at state ≡ row ∷ beyond (cursor.After row.shown.key) state
 
-next_here : (at : Cursor) (row : Row) (state : State) → IsRising (row ∷ state) → has_reached at row.shown.key ≡ false → Next at row (row ∷ state)
+next_here : (at : Cursor) (row : Row) (state : State) → IsRising (row ∷ state) → has_reached at row.shown.key ≡ false
+    → Next at row (row ∷ state)
 next_here at row state rising e =
     ap (λ b. cond (not b) (row ∷ beyond at state) (beyond at state)) e
     ∙ ap (λ rows. row ∷ rows)
     (filter_every (λ other. not (has_reached at other.shown.key)) state
-    (each-weaken {P = λ other. key_cmp row.shown.key other.shown.key ≡ Less} (λ other less. ap not (still_beyond at row.shown.key other.shown.key less e (has_reached at other.shown.key) refl)) state rising.0)
+    (each-weaken {P = λ other. key_cmp row.shown.key other.shown.key ≡ Less}
+    (λ other less. ap not (still_beyond at row.shown.key other.shown.key less e (has_reached at other.shown.key) refl)) state rising.0)
     ∙ sym
-    (ap (λ b. cond (not (not b)) (row ∷ beyond (cursor.After row.shown.key) state) (beyond (cursor.After row.shown.key) state)) (after_not_itself row.shown.key)
+    (ap (λ b. cond (not (not b)) (row ∷ beyond (cursor.After row.shown.key) state) (beyond (cursor.After row.shown.key) state))
+    (after_not_itself row.shown.key)
     ∙ filter_every (λ other. not (has_reached (cursor.After row.shown.key) other.shown.key)) state
-    (each-weaken {P = λ other. key_cmp row.shown.key other.shown.key ≡ Less} (λ other less. ap (λ b. not (not b)) (after_from_less other.shown.key row.shown.key less)) state rising.0)))
+    (each-weaken {P = λ other. key_cmp row.shown.key other.shown.key ≡ Less}
+    (λ other less. ap (λ b. not (not b)) (after_from_less other.shown.key row.shown.key less)) state rising.0)))
 
-next_later : (at : Cursor) (row first : Row) (state : State) → key_cmp first.shown.key row.shown.key ≡ Less → has_reached at first.shown.key ≡ true → Next at row state → Next at row (first ∷ state)
+next_later : (at : Cursor) (row first : Row) (state : State) → key_cmp first.shown.key row.shown.key ≡ Less
+    → has_reached at first.shown.key ≡ true → Next at row state → Next at row (first ∷ state)
 next_later at row first state less e next =
     ap (λ b. cond (not b) (first ∷ beyond at state) (beyond at state)) e ∙ next
     ∙ ap (λ rows. row ∷ rows)
-    (sym (ap (λ b. cond (not (not b)) (first ∷ beyond (cursor.After row.shown.key) state) (beyond (cursor.After row.shown.key) state)) (not_after first.shown.key row.shown.key less)))
+    (sym (ap (λ b. cond (not (not b)) (first ∷ beyond (cursor.After row.shown.key) state) (beyond (cursor.After row.shown.key) state))
+    (not_after first.shown.key row.shown.key less)))
 
 -- the next row beyond a cursor is the first that is beyond, and the others are beyond that row
 pub beyond-next : (at : Cursor) (row : Row) (state : State) → IsRising state → row_after at state ≡ Some row → Next at row state
 beyond-next at row [] rising e = let bad : None ≡ Some row = e in cc
 beyond-next at row (first ∷ state) rising e = by (beyond-next at row state rising.1) (has_reached at first.shown.key) refl e
   where
-    by : (row_after at state ≡ Some row → Next at row state) → (b : Bool) → has_reached at first.shown.key ≡ b → cond (not b) (Some first) (row_after at state) ≡ Some row → Next at row (first ∷ state)
-    by rest true r e = next_later at row first state (found_holds (λ later. key_cmp first.shown.key later.shown.key ≡ Less) (λ other. not (has_reached at other.shown.key)) state rising.0 row e) r (rest e)
+    by : (row_after at state ≡ Some row → Next at row state) → (b : Bool) → has_reached at first.shown.key ≡ b
+        → cond (not b) (Some first) (row_after at state) ≡ Some row → Next at row (first ∷ state)
+    by rest true r e =
+        next_later at row first state
+        (found_holds (λ later. key_cmp first.shown.key later.shown.key ≡ Less)
+        (λ other. not (has_reached at other.shown.key)) state rising.0 row e) r
+        (rest e)
     by rest false r e =
         let same : first ≡ row = cc in
         subst (λ other. Next at other (first ∷ state)) same (next_here at first state rising r)
@@ -75,7 +88,8 @@ pub beyond-none : (at : Cursor) (state : State) → row_after at state ≡ None 
 beyond-none at [] e = refl
 beyond-none at (first ∷ state) e = by (beyond-none at state) (has_reached at first.shown.key) refl e
   where
-    by : (row_after at state ≡ None → beyond at state ≡ []) → (b : Bool) → has_reached at first.shown.key ≡ b → cond (not b) (Some first) (row_after at state) ≡ None → beyond at (first ∷ state) ≡ []
+    by : (row_after at state ≡ None → beyond at state ≡ []) → (b : Bool) → has_reached at first.shown.key ≡ b
+        → cond (not b) (Some first) (row_after at state) ≡ None → beyond at (first ∷ state) ≡ []
     by rest true r e = ap (λ b. cond (not b) (first ∷ beyond at state) (beyond at state)) r ∙ rest e
     by rest false r e = cc
 
@@ -94,7 +108,8 @@ module _ (kind : Sought) (at : Cursor) (state : State) where
   sought_none e = seek ∙ ap (find (is_sought kind)) (beyond-none at state e)
 
   module _ (rising : IsRising state) (row : Row) (next : row_after at state ≡ Some row) where
-    first : sought_after kind at state ≡ cond (is_sought kind row) (Some row) (find (is_sought kind) (beyond (cursor.After row.shown.key) state))
+    first : sought_after kind at state
+        ≡ cond (is_sought kind row) (Some row) (find (is_sought kind) (beyond (cursor.After row.shown.key) state))
     first = seek ∙ ap (find (is_sought kind)) (beyond-next at row state rising next)
 
     pub sought_here : is_sought kind row ≡ true → sought_after kind at state ≡ Some row

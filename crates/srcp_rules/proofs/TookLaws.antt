@@ -14,23 +14,28 @@ use Rattle.srcp_rules.proofs.CountLaws.{effect_few}
 use Rattle.srcp_rules.proofs.EffectLaws.{effect_kept}
 use Rattle.srcp_rules.proofs.ToldLaws.{effect_told, reply_told}
 
-each_change : (updates : List Update) → AllByRecursion (λ update. IsWellFormed update.change) updates → AllByRecursion IsWellFormed (map (λ update. update.change) updates)
+each_change : (updates : List Update) → AllByRecursion (λ update. IsWellFormed update.change) updates
+    → AllByRecursion IsWellFormed (map (λ update. update.change) updates)
 each_change [] h = tt
 each_change (update ∷ updates) h = (h.0, each_change updates h.1)
 
-module _ (buses : List Bus) (state after : State) (session moment : ℕ) (now : IsMoment moment) (command : Command) (may : MayObey buses state session command) (obeyed : Obeyed) where
+module _ (buses : List Bus) (state after : State) (session moment : ℕ) (now : IsMoment moment) (command : Command)
+    (may : MayObey buses state session command) (obeyed : Obeyed) where
   pub obeyed_whole : IsObeyed state after session moment command obeyed → IsWhole buses after
-  obeyed_whole (inl took) = subst (IsWhole buses) (sym took.rows) (effect_kept buses state may.whole session moment may.begun now command may.of)
+  obeyed_whole (inl took) =
+      subst (IsWhole buses) (sym took.rows) (effect_kept buses state may.whole session moment may.begun now command may.of)
   obeyed_whole (inr wants) = subst (IsWhole buses) (sym wants.1.rows) may.whole
 
   pub obeyed_reply : IsObeyed state after session moment command obeyed → IsWellFormedReply obeyed.reply
-  obeyed_reply (inl took) = subst IsWellFormedReply (sym took.told.reply) (reply_told buses state may.whole session moment may.begun now command)
+  obeyed_reply (inl took) =
+      subst IsWellFormedReply (sym took.told.reply) (reply_told buses state may.whole session moment may.begun now command)
   obeyed_reply (inr wants) = subst IsWellFormedReply (sym wants.1.told.reply) tt
 
   pub obeyed_changes : IsObeyed state after session moment command obeyed → AllByRecursion IsWellFormed obeyed.changes.items
   obeyed_changes (inl took) =
       subst (AllByRecursion IsWellFormed) (sym took.told.changes)
-      (each_change (effect state session moment command).updates (effect_told buses state may.whole session moment may.begun now command may.of))
+      (each_change (effect state session moment command).updates
+      (effect_told buses state may.whole session moment may.begun now command may.of))
   obeyed_changes (inr wants) = subst (AllByRecursion IsWellFormed) (sym wants.1.told.changes) tt
 
   pub obeyed_few : IsObeyed state after session moment command obeyed → length obeyed.changes.items ≤ 11

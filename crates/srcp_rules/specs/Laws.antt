@@ -1,5 +1,6 @@
 -- What holds of every command, every moment, and every session's beginning and end.
-use Rattle.std.specs.Prelude.{◌≡◌, ◌≢◌, ℕ, ◌+◌, ◌*◌, ◌≤◌, ◌<◌, ◌^◌, Bool, true, false, nat_le, if◌then◌else◌, List, [], take, drop, length, IsTrue, Option, Some, None, IfSome}
+use Rattle.std.specs.Prelude.{◌≡◌, ◌≢◌, ℕ, ◌+◌, ◌*◌, ◌≤◌, ◌<◌, ◌^◌, Bool, true, false, nat_le, if◌then◌else◌, List, []}
+use Rattle.std.specs.Prelude.{take, drop, length, IsTrue, Option, Some, None, IfSome}
 use Rattle.std.specs.List.{AllByRecursion}
 use Rattle.std.specs.Option.{option_map_or, ForSome}
 use Rattle.srcp_info.specs.declared.key.Key.{Key}
@@ -15,9 +16,11 @@ use Rattle.srcp_rules.specs.declared.layout.Bus.{Bus}
 use Rattle.srcp_rules.specs.declared.command.Lockable.{Lockable}
 use Rattle.srcp_rules.specs.declared.command.Lockable.TheVariants as lockable
 use Rattle.srcp_rules.specs.declared.command.Command.{Command}
-use Rattle.srcp_rules.specs.declared.command.Command.TheVariants.{SetPower, CheckPower, SetGl, CheckGl, SetGa, CheckGa, SetFb, CheckFb, SetLock, CheckLock}
+use Rattle.srcp_rules.specs.declared.command.Command.TheVariants.{SetPower, CheckPower, SetGl, CheckGl, SetGa, CheckGa}
+use Rattle.srcp_rules.specs.declared.command.Command.TheVariants.{SetFb, CheckFb, SetLock, CheckLock}
 use Rattle.srcp_rules.specs.Layout.{IsLayout}
-use Rattle.srcp_rules.specs.State.{State, Update, AddsNoRow, IsRising, IsWhole, opening, row_at, is_there, key_at, session_device, device_in, lock_on, updated, updated_all, row_put}
+use Rattle.srcp_rules.specs.State.{State, Update, AddsNoRow, IsRising, IsWhole, opening, row_at, is_there, key_at}
+use Rattle.srcp_rules.specs.State.{session_device, device_in, lock_on, updated, updated_all, row_put}
 use Rattle.srcp_rules.specs.Command.{IsCommandOf}
 use Rattle.srcp_rules.specs.Effect.{Effect, effect, is_locked, port_end, lock_end, moment_after}
 use Rattle.srcp_rules.specs.Obeyed.{MayObey}
@@ -27,7 +30,8 @@ use Rattle.srcp_rules.specs.Due.{due, freed, began, is_due, is_held_by}
 
 -- the registry of a layout begins whole
 abbrev pub OpeningsAreWhole : Type 0
-OpeningsAreWhole = (buses : List Bus) (moment : ℕ) → IsLayout buses → IsMoment moment → IsWhole buses (opening buses moment)
+OpeningsAreWhole =
+    (buses : List Bus) (moment : ℕ) → IsLayout buses → IsMoment moment → IsWhole buses (opening buses moment)
 
 -- an update leaves the keys rising
 abbrev pub UpdatesKeepRising : Type 0
@@ -42,13 +46,15 @@ CommandsKeepWhole = (buses : List Bus) (state : State) (session moment : ℕ) (c
 -- those of a moment do so one by one: after the first k of them it is whole, and the others are still to come
 abbrev pub MomentsKeepWhole : Type 0
 MomentsKeepWhole = (buses : List Bus) (state : State) (moment k : ℕ) → IsWhole buses state → IsMoment moment
-    → IsWhole buses (updated_all (take k (due state moment)) state) × (due (updated_all (take k (due state moment)) state) moment ≡ drop k (due state moment))
+    → IsWhole buses (updated_all (take k (due state moment)) state)
+    × (due (updated_all (take k (due state moment)) state) moment ≡ drop k (due state moment))
 
 -- and those of a session's end
 abbrev pub EndsKeepWhole : Type 0
 EndsKeepWhole = (buses : List Bus) (state : State) (session moment k : ℕ) → IsWhole buses state
     → IsWhole buses (updated_all (take k (freed state session moment)) state)
-    × (freed (updated_all (take k (freed state session moment)) state) session moment ≡ drop k (freed state session moment))
+    × (freed (updated_all (take k (freed state session moment)) state) session moment
+    ≡ drop k (freed state session moment))
 
 -- and a session's beginning
 abbrev pub BeginningsKeepWhole : Type 0
@@ -70,7 +76,8 @@ CommandsAddNoRow = (buses : List Bus) (state : State) (session moment : ℕ) (co
 
 -- nor one of a moment
 abbrev pub MomentsAddNoRow : Type 0
-MomentsAddNoRow = (buses : List Bus) (state : State) (moment : ℕ) → IsWhole buses state → AddNoRow state (due state moment)
+MomentsAddNoRow =
+    (buses : List Bus) (state : State) (moment : ℕ) → IsWhole buses state → AddNoRow state (due state moment)
 
 -- nor one of a session's end, which has none
 abbrev pub EndsAddNoRow : Type 0
@@ -78,7 +85,8 @@ EndsAddNoRow = (state : State) (session moment : ℕ) → AddNoRow state (freed 
 
 -- nor that of a session's beginning
 abbrev pub BeginningsAddNoRow : Type 0
-BeginningsAddNoRow = (buses : List Bus) (state : State) (session moment : ℕ) (mode : Mode) → IsWhole buses state → 1 ≤ session
+BeginningsAddNoRow =
+    (buses : List Bus) (state : State) (session moment : ℕ) (mode : Mode) → IsWhole buses state → 1 ≤ session
     → session < 2 ^ 32
     → AddsNoRow state (began session moment mode).change
 
@@ -86,7 +94,8 @@ BeginningsAddNoRow = (buses : List Bus) (state : State) (session moment : ℕ) (
 
 -- a command makes at most 11 changes
 abbrev pub CommandsChangeLittle : Type 0
-CommandsChangeLittle = (buses : List Bus) (state : State) (session moment : ℕ) (command : Command) → IsCommandOf buses command
+CommandsChangeLittle =
+    (buses : List Bus) (state : State) (session moment : ℕ) (command : Command) → IsCommandOf buses command
     → length (effect state session moment command).updates ≤ 11
 
 -- each of the changes can be written as a line
@@ -97,7 +106,8 @@ CanBeTold updates = AllByRecursion (λ update. IsWellFormed update.change) updat
 abbrev pub CommandsCanBeTold : Type 0
 CommandsCanBeTold = (buses : List Bus) (state : State) (session moment : ℕ) (command : Command)
     → MayObey buses state session command → IsMoment moment
-    → CanBeTold (effect state session moment command).updates × IsWellFormedReply (effect state session moment command).reply
+    → CanBeTold (effect state session moment command).updates
+    × IsWellFormedReply (effect state session moment command).reply
 
 -- so can those of a moment
 abbrev pub MomentsCanBeTold : Type 0
@@ -151,7 +161,8 @@ ChecksAnswerAsSets = (state : State) (session moment : ℕ) (command : Command)
 -- the rows of the device, and of its lock, are as before
 pub record IsKept (group : Lockable) (bus address : ℕ) (before after : State) : Type 0 where
   pub device : (port : ℕ)
-      → row_at (key_at (device_in group bus address) port) after ≡ row_at (key_at (device_in group bus address) port) before
+      → row_at (key_at (device_in group bus address) port) after
+      ≡ row_at (key_at (device_in group bus address) port) before
   pub lock : (port : ℕ)
       → row_at (key_at (lock_on group bus address) port) after ≡ row_at (key_at (lock_on group bus address) port) before
 
@@ -166,12 +177,14 @@ LocksHold = (state : State) (session moment : ℕ) (command : Command) (group : 
 -- no command touches the row of a session
 abbrev pub CommandsKeepSessions : Type 0
 CommandsKeepSessions = (state : State) (session moment : ℕ) (command : Command) (id : ℕ)
-    → row_at (first_key (session_device id)) (updated_all (effect state session moment command).updates state) ≡ row_at (first_key (session_device id)) state
+    → row_at (first_key (session_device id)) (updated_all (effect state session moment command).updates state)
+    ≡ row_at (first_key (session_device id)) state
 
 -- nor does a moment
 abbrev pub MomentsKeepSessions : Type 0
 MomentsKeepSessions = (buses : List Bus) (state : State) (moment id : ℕ) → IsWhole buses state
-    → row_at (first_key (session_device id)) (updated_all (due state moment) state) ≡ row_at (first_key (session_device id)) state
+    → row_at (first_key (session_device id)) (updated_all (due state moment) state)
+    ≡ row_at (first_key (session_device id)) state
 
 -- the session is gone with all its locks, and every other session is as before
 pub record IsFreed (session : ℕ) (before after : State) : Type 0 where
@@ -209,36 +222,44 @@ port_key bus address port = key_at (device_in lockable.Ga bus address) (1 + port
 abbrev pub PortsAreSet : Type 0
 PortsAreSet = (state : State) (session moment bus address port : ℕ) (on : Bool) (time : Option ℕ)
     → (effect state session moment (SetGa bus address port on time)).reply ≡ Accepted
-    → row_at (port_key bus address port) (updated_all (effect state session moment (SetGa bus address port on time)).updates state)
+    → row_at (port_key bus address port)
+    (updated_all (effect state session moment (SetGa bus address port on time)).updates state)
     ≡ Some (row_put moment (port_key bus address port) (value.GaPort on) (port_end moment on time))
 
 -- and so has a lock
 abbrev pub LocksAreSet : Type 0
 LocksAreSet = (state : State) (session moment : ℕ) (group : Lockable) (bus address seconds : ℕ)
     → (effect state session moment (SetLock bus group address seconds)).reply ≡ Accepted
-    → row_at (first_key (lock_on group bus address)) (updated_all (effect state session moment (SetLock bus group address seconds)).updates state)
-    ≡ Some (row_put moment (first_key (lock_on group bus address)) (value.Lock seconds session) (lock_end moment seconds))
+    → row_at (first_key (lock_on group bus address))
+    (updated_all (effect state session moment (SetLock bus group address seconds)).updates state)
+    ≡ Some (row_put moment (first_key (lock_on group bus address)) (value.Lock seconds session)
+    (lock_end moment seconds))
 
 -- a port that was set to 1 for some milliseconds is 1 at each moment before their end, and 0 at each from it on
 abbrev pub PortsFallBack : Type 0
 PortsFallBack = (buses : List Bus) (state : State) (session moment later bus address port milliseconds : ℕ)
     → MayObey buses state session (SetGa bus address port true (Some milliseconds)) → IsMoment moment → IsMoment later
-    → 0 < milliseconds → (effect state session moment (SetGa bus address port true (Some milliseconds))).reply ≡ Accepted
+    → 0 < milliseconds
+    → (effect state session moment (SetGa bus address port true (Some milliseconds))).reply ≡ Accepted
     → (after : State)
     → after ≡ updated_all (effect state session moment (SetGa bus address port true (Some milliseconds))).updates state
     → row_at (port_key bus address port) (updated_all (due after later) after)
-    ≡ (if nat_le (moment_after moment milliseconds) later then Some (row_put later (port_key bus address port) (value.GaPort false) None)
-    else Some (row_put moment (port_key bus address port) (value.GaPort true) (Some (moment_after moment milliseconds))))
+    ≡ (if nat_le (moment_after moment milliseconds) later
+    then Some (row_put later (port_key bus address port) (value.GaPort false) None)
+    else Some (row_put moment (port_key bus address port) (value.GaPort true)
+    (Some (moment_after moment milliseconds))))
 
 -- a lock that was set for some seconds is there at each moment before their end, and gone at each from it on
 abbrev pub LocksRunOut : Type 0
 LocksRunOut = (buses : List Bus) (state : State) (session moment later : ℕ) (group : Lockable) (bus address seconds : ℕ)
     → MayObey buses state session (SetLock bus group address seconds) → IsMoment moment → IsMoment later
     → 0 < seconds → (effect state session moment (SetLock bus group address seconds)).reply ≡ Accepted
-    → (after : State) → after ≡ updated_all (effect state session moment (SetLock bus group address seconds)).updates state
+    → (after : State)
+    → after ≡ updated_all (effect state session moment (SetLock bus group address seconds)).updates state
     → row_at (first_key (lock_on group bus address)) (updated_all (due after later) after)
     ≡ (if nat_le (moment_after moment (1000 * seconds)) later then None
-    else Some (row_put moment (first_key (lock_on group bus address)) (value.Lock seconds session) (Some (moment_after moment (1000 * seconds)))))
+    else Some (row_put moment (first_key (lock_on group bus address)) (value.Lock seconds session)
+    (Some (moment_after moment (1000 * seconds)))))
 
 -- that many milliseconds later if there is such a moment, and else the greatest one
 pub record EndsInTime (moment milliseconds : ℕ) : Type 0 where

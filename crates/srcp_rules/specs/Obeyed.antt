@@ -28,11 +28,13 @@ pub record WantsMemory (did : Effect) (before after : State) (obeyed : Obeyed) :
 
 -- the effect took place, or, where rows are added, memory was refused
 abbrev pub TookUnless : (adds : Bool) → Effect → (before after : State) → Obeyed → Type 0
-TookUnless adds did before after obeyed = Took did before after obeyed ⊎ (IsTrue adds × WantsMemory did before after obeyed)
+TookUnless adds did before after obeyed =
+    Took did before after obeyed ⊎ (IsTrue adds × WantsMemory did before after obeyed)
 
 -- the command did what it does, or it adds rows and memory was refused
 abbrev pub IsObeyed : (before after : State) → (session moment : ℕ) → Command → Obeyed → Type 0
-IsObeyed before after session moment command obeyed = TookUnless (adds_rows before command) (effect before session moment command) before after obeyed
+IsObeyed before after session moment command obeyed =
+    TookUnless (adds_rows before command) (effect before session moment command) before after obeyed
 
 -- what a command may be obeyed under: the registry is whole, the session has begun, the command is one of the layout
 pub record MayObey (buses : List Bus) (state : State) (session : ℕ) (command : Command) : Type 0 where

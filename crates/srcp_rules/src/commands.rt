@@ -45,7 +45,9 @@ fn set_power<R: Rows>(
 )
     requires blank { IsTold (accepted []) obeyed.old }
     requires may { MayObey (R.buses rows.old) (R.state rows.old) sender.session (Command.SetPower bus on text) }
-    ensures took { Took (accepted (put_at sender.moment (first_key (power_device bus)) (value.Power on text) None ∷ [])) (R.state rows.old) (R.state rows.new) obeyed.new }
+    ensures took { Took (accepted
+        (put_at sender.moment (first_key (power_device bus)) (value.Power on text) None ∷ []))
+        (R.state rows.old) (R.state rows.new) obeyed.new }
     ensures layout { R.buses rows.new ≡ R.buses rows.old }
 {
     let key = power_device(bus).first_key();
@@ -63,7 +65,8 @@ fn set_power<R: Rows>(
 fn set_fb<R: Rows>(rows: &mut R, sender: Sender, bus: u8, port: u32, on: bool, obeyed: &mut Obeyed)
     requires blank { IsTold (accepted []) obeyed.old }
     requires may { MayObey (R.buses rows.old) (R.state rows.old) sender.session (Command.SetFb bus port on) }
-    ensures took { Took (accepted (put_at sender.moment (first_key (fb_device bus port)) (value.Fb on) None ∷ [])) (R.state rows.old) (R.state rows.new) obeyed.new }
+    ensures took { Took (accepted (put_at sender.moment (first_key (fb_device bus port)) (value.Fb on) None ∷ []))
+        (R.state rows.old) (R.state rows.new) obeyed.new }
     ensures layout { R.buses rows.new ≡ R.buses rows.old }
 {
     let key = fb_device(bus, port).first_key();
@@ -88,7 +91,8 @@ fn answer_power<R: Rows>(rows: &mut R, sender: Sender, command: &Command, obeyed
     requires blank { IsTold (accepted []) obeyed.old }
     requires may { MayObey (R.buses rows.old) (R.state rows.old) sender.session command.now }
     requires named { named_of command.now ≡ named.Power }
-    ensures obeyed { IsObeyed (R.state rows.old) (R.state rows.new) sender.session sender.moment command.now obeyed.new }
+    ensures obeyed { IsObeyed (R.state rows.old) (R.state rows.new)
+        sender.session sender.moment command.now obeyed.new }
     ensures layout { R.buses rows.new ≡ R.buses rows.old }
 {
     match *command {
@@ -103,7 +107,8 @@ fn answer_power<R: Rows>(rows: &mut R, sender: Sender, command: &Command, obeyed
 /// GET of a locomotive: its state.
 fn show_gl<R: Rows>(rows: &R, place: BusAddress, obeyed: &mut Obeyed)
     requires { IsTold (accepted []) obeyed.old }
-    ensures { Took (shown_at (key_at (device_in lockable.Gl place.bus place.address) 1) (R.state rows.now)) (R.state rows.now) (R.state rows.now) obeyed.new }
+    ensures { Took (shown_at (key_at (device_in lockable.Gl place.bus place.address) 1) (R.state rows.now))
+        (R.state rows.now) (R.state rows.now) obeyed.new }
 {
     show(rows, &key_at(device_in(Lockable::Gl, place), 1), obeyed);
 }
@@ -113,7 +118,8 @@ fn answer_gl<R: Rows>(rows: &mut R, sender: Sender, command: &Command, obeyed: &
     requires blank { IsTold (accepted []) obeyed.old }
     requires may { MayObey (R.buses rows.old) (R.state rows.old) sender.session command.now }
     requires named { named_of command.now ≡ named.Gl }
-    ensures obeyed { IsObeyed (R.state rows.old) (R.state rows.new) sender.session sender.moment command.now obeyed.new }
+    ensures obeyed { IsObeyed (R.state rows.old) (R.state rows.new)
+        sender.session sender.moment command.now obeyed.new }
     ensures layout { R.buses rows.new ≡ R.buses rows.old }
 {
     match *command {
@@ -168,7 +174,8 @@ fn answer_ga<R: Rows>(rows: &mut R, sender: Sender, command: &Command, obeyed: &
     requires blank { IsTold (accepted []) obeyed.old }
     requires may { MayObey (R.buses rows.old) (R.state rows.old) sender.session command.now }
     requires named { named_of command.now ≡ named.Ga }
-    ensures obeyed { IsObeyed (R.state rows.old) (R.state rows.new) sender.session sender.moment command.now obeyed.new }
+    ensures obeyed { IsObeyed (R.state rows.old) (R.state rows.new)
+        sender.session sender.moment command.now obeyed.new }
     ensures layout { R.buses rows.new ≡ R.buses rows.old }
 {
     match *command {
@@ -225,7 +232,8 @@ fn answer_fb<R: Rows>(rows: &mut R, sender: Sender, command: &Command, obeyed: &
     requires blank { IsTold (accepted []) obeyed.old }
     requires may { MayObey (R.buses rows.old) (R.state rows.old) sender.session command.now }
     requires named { named_of command.now ≡ named.Fb }
-    ensures obeyed { IsObeyed (R.state rows.old) (R.state rows.new) sender.session sender.moment command.now obeyed.new }
+    ensures obeyed { IsObeyed (R.state rows.old) (R.state rows.new)
+        sender.session sender.moment command.now obeyed.new }
     ensures layout { R.buses rows.new ≡ R.buses rows.old }
 {
     match *command {
@@ -242,7 +250,8 @@ fn answer_lock<R: Rows>(rows: &mut R, sender: Sender, command: &Command, obeyed:
     requires blank { IsTold (accepted []) obeyed.old }
     requires may { MayObey (R.buses rows.old) (R.state rows.old) sender.session command.now }
     requires named { named_of command.now ≡ named.Lock }
-    ensures obeyed { IsObeyed (R.state rows.old) (R.state rows.new) sender.session sender.moment command.now obeyed.new }
+    ensures obeyed { IsObeyed (R.state rows.old) (R.state rows.new)
+        sender.session sender.moment command.now obeyed.new }
     ensures layout { R.buses rows.new ≡ R.buses rows.old }
 {
     match *command {
@@ -289,7 +298,8 @@ fn answer_lock<R: Rows>(rows: &mut R, sender: Sender, command: &Command, obeyed:
 fn answer<R: Rows>(rows: &mut R, sender: Sender, command: &Command, obeyed: &mut Obeyed)
     requires blank { IsTold (accepted []) obeyed.old }
     requires may { MayObey (R.buses rows.old) (R.state rows.old) sender.session command.now }
-    ensures obeyed { IsObeyed (R.state rows.old) (R.state rows.new) sender.session sender.moment command.now obeyed.new }
+    ensures obeyed { IsObeyed (R.state rows.old) (R.state rows.new)
+        sender.session sender.moment command.now obeyed.new }
     ensures layout { R.buses rows.new ≡ R.buses rows.old }
 {
     match command.named() {

@@ -8,7 +8,8 @@ use srcp_text::Words;
 
 /// The next word; where there is none the command is too short, 419.
 pub(crate) fn next_word<'a>(words: &mut Words<'a>) -> Result<&'a [u8], Code>
-    ensures { MatchResult result (λ word. words.old ≡ word.now ∷ words.new) (λ code. (words.old ≡ []) × (code ≡ TooShort)) }
+    ensures { MatchResult result (λ word. words.old ≡ word.now ∷ words.new)
+        (λ code. (words.old ≡ []) × (code ≡ TooShort)) }
 {
     match words.next() {
         Some(word) => Ok(word),

@@ -2,7 +2,8 @@ ghost use Rattle.std.specs.Prelude.{◌≡◌, ◌≤◌, [], length, is_some, I
 ghost use Rattle.std.specs.Result.{result_err};
 ghost use Rattle.srcp_rules.specs.declared.command.Lockable.TheVariants as lockable;
 ghost use Rattle.srcp_rules.specs.Command.{kept_v};
-ghost use Rattle.srcp_rules.specs.Effect.{accepted, done, first_refusal, functions_after, gl_refusals, port_end, set_ga, set_gl};
+ghost use Rattle.srcp_rules.specs.Effect.{accepted, done, first_refusal, functions_after, gl_refusals, port_end};
+ghost use Rattle.srcp_rules.specs.Effect.{set_ga, set_gl};
 ghost use Rattle.srcp_rules.specs.Obeyed.{IsTold, MayObey, Took};
 ghost use Rattle.srcp_rules.specs.State.{IsWhole, device_in, functions_of, is_there};
 
@@ -20,7 +21,8 @@ use srcp_info::{Bits, Code, DriveMode, Value};
 fn functions_of<R: Rows>(rows: &R, place: BusAddress) -> Option<Bits>
     requires whole { IsWhole (R.buses rows.now) (R.state rows.now) }
     ensures there { is_some result ≡ is_there (device_in lockable.Gl place.bus place.address) (R.state rows.now) }
-    ensures functions { IfSome result (λ functions. functions ≡ functions_of place.bus place.address (R.state rows.now)) }
+    ensures functions { IfSome result
+        (λ functions. functions ≡ functions_of place.bus place.address (R.state rows.now)) }
 {
     let locomotive = device_in(Lockable::Gl, place);
     let row = rows.row(&key_at(locomotive, 1))?;
@@ -47,7 +49,8 @@ fn functions_after(given: &Bits, before: &Bits) -> Bits
 fn drivable<R: Rows>(rows: &R, session: u32, place: BusAddress, given: &Bits) -> Result<Bits, Code>
     requires whole { IsWhole (R.buses rows.now) (R.state rows.now) }
     ensures before { IfOk result (λ before. before ≡ functions_of place.bus place.address (R.state rows.now)) }
-    ensures refusal { result_err result ≡ first_refusal (gl_refusals (R.state rows.now) session place.bus place.address given.now) }
+    ensures refusal { result_err result
+        ≡ first_refusal (gl_refusals (R.state rows.now) session place.bus place.address given.now) }
 {
     let Some(before) = functions_of(rows, place) else {
         return Err(Code::NO_SUCH_DEVICE);
@@ -103,8 +106,12 @@ pub(crate) fn set_gl<R: Rows>(
     obeyed: &mut Obeyed,
 )
     requires blank { IsTold (accepted []) obeyed.old }
-    requires may { MayObey (R.buses rows.old) (R.state rows.old) sender.session (Command.SetGl place.bus place.address drive.mode drive.v drive.vmax functions.now) }
-    ensures took { Took (done (set_gl (R.state rows.old) sender.session sender.moment place.bus place.address drive.mode drive.v drive.vmax functions.now)) (R.state rows.old) (R.state rows.new) obeyed.new }
+    requires may { MayObey (R.buses rows.old) (R.state rows.old) sender.session
+        (Command.SetGl place.bus place.address drive.mode drive.v drive.vmax functions.now) }
+    ensures took { Took (done
+        (set_gl (R.state rows.old) sender.session sender.moment place.bus place.address drive.mode drive.v
+        drive.vmax functions.now))
+        (R.state rows.old) (R.state rows.new) obeyed.new }
     ensures layout { R.buses rows.new ≡ R.buses rows.old }
 {
     let before = match drivable(rows, sender.session, place, functions) {
@@ -144,8 +151,11 @@ pub(crate) fn set_ga<R: Rows>(
     obeyed: &mut Obeyed,
 )
     requires blank { IsTold (accepted []) obeyed.old }
-    requires may { MayObey (R.buses rows.old) (R.state rows.old) sender.session (Command.SetGa place.bus place.address port on time) }
-    ensures took { Took (done (set_ga (R.state rows.old) sender.session sender.moment place.bus place.address port on time)) (R.state rows.old) (R.state rows.new) obeyed.new }
+    requires may { MayObey (R.buses rows.old) (R.state rows.old) sender.session
+        (Command.SetGa place.bus place.address port on time) }
+    ensures took { Took (done
+        (set_ga (R.state rows.old) sender.session sender.moment place.bus place.address port on time))
+        (R.state rows.old) (R.state rows.new) obeyed.new }
     ensures layout { R.buses rows.new ≡ R.buses rows.old }
 {
     if let Some(code) = refusal(rows, sender.session, Lockable::Ga, place) {

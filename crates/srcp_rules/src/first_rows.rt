@@ -13,7 +13,11 @@ use srcp_info::{Device, Row, Text, Value};
 
 /// Appends the power row of a bus, if it has one, off.
 pub(crate) fn push_power(rows: &mut Vec<Row>, bus: &Bus) -> Result<(), Memory>
-    ensures { OnOk result (rows.new.items ≡ rows.old.items ++ (if bus.now.power then first_row 0 (power_device bus.now.number) (value.Power false []) ∷ [] else [])) }
+    ensures { OnOk result
+        (rows.new.items
+        ≡ rows.old.items
+        ++ (if bus.now.power then first_row 0 (power_device bus.now.number) (value.Power false []) ∷ []
+        else [])) }
 {
     if let Some(row) = power_row(bus) {
         rows.extend_from_slice(&[row])?;
@@ -23,7 +27,8 @@ pub(crate) fn push_power(rows: &mut Vec<Row>, bus: &Bus) -> Result<(), Memory>
 
 /// The power row of a bus, if it has one, off.
 pub(crate) fn power_row(bus: &Bus) -> Option<Row>
-    ensures { result ≡ (if bus.now.power then Some (first_row 0 (power_device bus.now.number) (value.Power false [])) else None) }
+    ensures { result
+        ≡ (if bus.now.power then Some (first_row 0 (power_device bus.now.number) (value.Power false [])) else None) }
 {
     if !bus.power {
         return None;
@@ -37,7 +42,10 @@ pub(crate) fn power_row(bus: &Bus) -> Option<Row>
 
 /// Appends the rows of a bus's feedback ports, each 0.
 pub(crate) fn push_ports(rows: &mut Vec<Row>, bus: u8, ports: u32) -> Result<(), Memory>
-    ensures { OnOk result (rows.new.items ≡ rows.old.items ++ map (λ port. first_row 0 (fb_device bus port) (value.Fb false)) (range_with_len 1 ports)) }
+    ensures { OnOk result
+        (rows.new.items
+        ≡ rows.old.items
+        ++ map (λ port. first_row 0 (fb_device bus port) (value.Fb false)) (range_with_len 1 ports)) }
 {
     for below in 0..ports {
         let row = first_row(fb_device(bus, below + 1), Value::Fb { on: false });

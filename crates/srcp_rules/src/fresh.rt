@@ -16,7 +16,9 @@ use srcp_info::{Bits, Device, DriveMode, Letter, MOST_FUNCTIONS, MOST_PORTS, Row
 /// The rows of a locomotive that is made: it goes forward at rest, with all functions off.
 fn resting_rows(moment: u64, device: Device, init: &Value, functions: u32) -> [Row; 2]
     requires { functions ≤ MOST_FUNCTIONS }
-    ensures { result ≡ row_put moment (key_at device 0) init.now None ∷ row_put moment (key_at device 1) (value.GlState 1 0 0 (replicate functions false)) None ∷ [] }
+    ensures { result
+        ≡ row_put moment (key_at device 0) init.now None
+        ∷ row_put moment (key_at device 1) (value.GlState 1 0 0 (replicate functions false)) None ∷ [] }
 {
     let resting = Value::GlState {
         mode: DriveMode::Forward as u32,
@@ -48,8 +50,10 @@ pub(crate) fn init_gl<R: Rows>(
     obeyed: &mut Obeyed,
 )
     requires blank { IsTold (accepted []) obeyed.old }
-    requires may { MayObey (R.buses rows.old) (R.state rows.old) sender.session (Command.InitGl place.bus place.address decoder.letter decoder.version decoder.steps functions) }
-    ensures obeyed { IsObeyed (R.state rows.old) (R.state rows.new) sender.session sender.moment (Command.InitGl place.bus place.address decoder.letter decoder.version decoder.steps functions) obeyed.new }
+    requires may { MayObey (R.buses rows.old) (R.state rows.old) sender.session
+        (Command.InitGl place.bus place.address decoder.letter decoder.version decoder.steps functions) }
+    ensures obeyed { IsObeyed (R.state rows.old) (R.state rows.new) sender.session sender.moment
+        (Command.InitGl place.bus place.address decoder.letter decoder.version decoder.steps functions) obeyed.new }
     ensures layout { R.buses rows.new ≡ R.buses rows.old }
 {
     let init = Value::GlInit {
@@ -81,7 +85,10 @@ fn clear_port(moment: u64, device: Device, port: u8) -> Row
 
 /// The fresh rows of an accessory with the most ports that one has.
 fn most_rows(moment: u64, device: Device, letter: Letter) -> [Row; MOST_ROWS]
-    ensures { result ≡ row_put moment (key_at device 0) (value.GaInit letter) None ∷ map (λ port. row_put moment (key_at device port) (value.GaPort false) None) (range_with_len 1 MOST_PORTS) }
+    ensures { result
+        ≡ row_put moment (key_at device 0) (value.GaInit letter) None
+        ∷ map (λ port. row_put moment (key_at device port) (value.GaPort false) None)
+        (range_with_len 1 MOST_PORTS) }
 {
     [
         row_put(moment, key_at(device, 0), Value::GaInit { letter }, None),
@@ -106,8 +113,10 @@ pub(crate) fn init_ga<R: Rows>(
     obeyed: &mut Obeyed,
 )
     requires blank { IsTold (accepted []) obeyed.old }
-    requires may { MayObey (R.buses rows.old) (R.state rows.old) sender.session (Command.InitGa place.bus place.address letter ports) }
-    ensures obeyed { IsObeyed (R.state rows.old) (R.state rows.new) sender.session sender.moment (Command.InitGa place.bus place.address letter ports) obeyed.new }
+    requires may { MayObey (R.buses rows.old) (R.state rows.old) sender.session
+        (Command.InitGa place.bus place.address letter ports) }
+    ensures obeyed { IsObeyed (R.state rows.old) (R.state rows.new) sender.session sender.moment
+        (Command.InitGa place.bus place.address letter ports) obeyed.new }
     ensures layout { R.buses rows.new ≡ R.buses rows.old }
 {
     let most = most_rows(sender.moment, device_in(Lockable::Ga, place), letter);

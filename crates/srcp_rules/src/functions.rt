@@ -1,6 +1,7 @@
 //! The functions of a GL command.
 
-ghost use Rattle.std.specs.Prelude.{◌≡◌, ◌<◌, ◌+◌, ℕ, List, [], ◌∷◌, MatchOption, Ok, Err, length, nat_lt, if◌then◌else◌};
+ghost use Rattle.std.specs.Prelude.{◌≡◌, ◌<◌, ◌+◌, ℕ, List, [], ◌∷◌, MatchOption, Ok, Err, length, nat_lt};
+ghost use Rattle.std.specs.Prelude.{if◌then◌else◌};
 ghost use Rattle.srcp_info.specs.declared.change.Code.TheVariants.{C418 as TooLong};
 ghost use Rattle.srcp_rules.specs.Grammar.{bit_of, bits_of};
 
@@ -29,7 +30,8 @@ pub(crate) fn read_functions(mut words: Words<'_>) -> Result<Result<Bits, Code>,
 /// Reads the next function; none if no word is left.
 #[inline(always)]
 fn next_function(words: &mut Words<'_>) -> Option<Result<bool, Code>>
-    ensures { MatchOption result (words.old ≡ []) (λ read. (word : List ℕ) × (words.old ≡ word ∷ words.new) × (read ≡ bit_of word)) }
+    ensures { MatchOption result (words.old ≡ [])
+        (λ read. (word : List ℕ) × (words.old ≡ word ∷ words.new) × (read ≡ bit_of word)) }
 {
     if let Some(bit) = words.next_bit() {
         return Some(Ok(bit));
@@ -45,7 +47,8 @@ fn next_function(words: &mut Words<'_>) -> Option<Result<bool, Code>>
 #[cold]
 fn refused(before: usize, mut words: Words<'_>, code: Code) -> Result<Result<Bits, Code>, Code>
     requires { before < MOST_FUNCTIONS }
-    ensures { result ≡ (if nat_lt MOST_FUNCTIONS (before + 1 + length words.entry) then Err TooLong else Ok (Err code)) }
+    ensures { result
+        ≡ (if nat_lt MOST_FUNCTIONS (before + 1 + length words.entry) then Err TooLong else Ok (Err code)) }
 {
     let mut count = before + 1;
     while let Some(_) = words.next() {

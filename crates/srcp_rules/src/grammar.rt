@@ -2,7 +2,8 @@ ghost use Rattle.std.specs.Prelude.{◌≡◌, ℕ, Bool, List, Option, Ok, Err,
 ghost use Rattle.srcp_rules.specs.declared.command.Lockable.{Lockable};
 ghost use Rattle.srcp_rules.specs.declared.command.Command.{Command};
 ghost use Rattle.srcp_rules.specs.Layout.{address_max};
-ghost use Rattle.srcp_rules.specs.Grammar.{addressed, ga_port, get_ga, get_session, init_ga, init_gl, named_lock, set_fb, set_ga, set_gl, set_lock, set_power, term_session};
+ghost use Rattle.srcp_rules.specs.Grammar.{addressed, ga_port, get_ga, get_session, init_ga, init_gl, named_lock};
+ghost use Rattle.srcp_rules.specs.Grammar.{set_fb, set_ga, set_gl, set_lock, set_power, term_session};
 
 use crate::command::{Command, Lockable};
 use crate::counted::{next_word, no_more};
@@ -18,7 +19,9 @@ use srcp_text::{Words, is_keyword};
 
 /// An address and nothing else.
 pub(crate) fn address(most: u32, mut words: Words<'_>) -> Result<u32, Code>
-    ensures { (make : ℕ → Command) → MatchResult result (λ address. addressed most make words.entry ≡ Ok (make address)) (λ code. addressed most make words.entry ≡ Err code) }
+    ensures { (make : ℕ → Command)
+        → MatchResult result (λ address. addressed most make words.entry ≡ Ok (make address))
+        (λ code. addressed most make words.entry ≡ Err code) }
 {
     let word = next_word(&mut words)?;
     no_more(words)?;
@@ -81,7 +84,9 @@ pub(crate) struct Switch {
 
 /// Address, port, value and time.
 pub(crate) fn switched(bus: &Bus, mut words: Words<'_>) -> Result<Switch, Code>
-    ensures { (make : ℕ → ℕ → Bool → Option ℕ → Command) → MatchResult result (λ s. set_ga bus.now make words.entry ≡ Ok (make s.address s.port s.on s.time)) (λ code. set_ga bus.now make words.entry ≡ Err code) }
+    ensures { (make : ℕ → ℕ → Bool → Option ℕ → Command)
+        → MatchResult result (λ s. set_ga bus.now make words.entry ≡ Ok (make s.address s.port s.on s.time))
+        (λ code. set_ga bus.now make words.entry ≡ Err code) }
 {
     let first = next_word(&mut words)?;
     let second = next_word(&mut words)?;
@@ -112,7 +117,9 @@ pub(crate) fn init_ga(bus: &Bus, mut words: Words<'_>) -> Result<Command, Code>
 
 /// Port and value.
 pub(crate) fn sensor(bus: &Bus, mut words: Words<'_>) -> Result<(u32, bool), Code>
-    ensures { (make : ℕ → Bool → Command) → MatchResult result (λ s. set_fb bus.now make words.entry ≡ Ok (make s.0 s.1)) (λ code. set_fb bus.now make words.entry ≡ Err code) }
+    ensures { (make : ℕ → Bool → Command)
+        → MatchResult result (λ s. set_fb bus.now make words.entry ≡ Ok (make s.0 s.1))
+        (λ code. set_fb bus.now make words.entry ≡ Err code) }
 {
     let first = next_word(&mut words)?;
     let second = next_word(&mut words)?;
@@ -133,7 +140,9 @@ fn address_max(bus: &Bus, group: Lockable) -> u32
 
 /// Group and address.
 pub(crate) fn lock(bus: &Bus, mut words: Words<'_>) -> Result<(Lockable, u32), Code>
-    ensures { (make : Lockable → ℕ → Command) → MatchResult result (λ l. named_lock bus.now make words.entry ≡ Ok (make l.0 l.1)) (λ code. named_lock bus.now make words.entry ≡ Err code) }
+    ensures { (make : Lockable → ℕ → Command)
+        → MatchResult result (λ l. named_lock bus.now make words.entry ≡ Ok (make l.0 l.1))
+        (λ code. named_lock bus.now make words.entry ≡ Err code) }
 {
     let first = next_word(&mut words)?;
     let second = next_word(&mut words)?;
@@ -144,7 +153,9 @@ pub(crate) fn lock(bus: &Bus, mut words: Words<'_>) -> Result<(Lockable, u32), C
 
 /// Group, address and seconds.
 pub(crate) fn timed_lock(bus: &Bus, mut words: Words<'_>) -> Result<(Lockable, u32, u32), Code>
-    ensures { (make : Lockable → ℕ → ℕ → Command) → MatchResult result (λ l. set_lock bus.now make words.entry ≡ Ok (make l.0 l.1 l.2)) (λ code. set_lock bus.now make words.entry ≡ Err code) }
+    ensures { (make : Lockable → ℕ → ℕ → Command)
+        → MatchResult result (λ l. set_lock bus.now make words.entry ≡ Ok (make l.0 l.1 l.2))
+        (λ code. set_lock bus.now make words.entry ≡ Err code) }
 {
     let first = next_word(&mut words)?;
     let second = next_word(&mut words)?;
@@ -189,7 +200,9 @@ pub(crate) fn init_gl(bus: &Bus, mut words: Words<'_>) -> Result<Command, Code>
 
 /// ON or OFF, then the words of the text.
 pub(crate) fn powered(mut words: Words<'_>) -> Result<(bool, Text), Code>
-    ensures { (make : Bool → List ℕ → Command) → MatchResult result (λ p. set_power make words.entry ≡ Ok (make p.0 p.1)) (λ code. set_power make words.entry ≡ Err code) }
+    ensures { (make : Bool → List ℕ → Command)
+        → MatchResult result (λ p. set_power make words.entry ≡ Ok (make p.0 p.1))
+        (λ code. set_power make words.entry ≡ Err code) }
 {
     let first = next_word(&mut words)?;
     let on = switch_of(first)?;
@@ -209,7 +222,10 @@ pub(crate) struct Drive {
 /// Address, mode, V, Vmax, and at most 29 functions.
 #[inline(always)]
 pub(crate) fn driven(bus: &Bus, mut words: Words<'_>) -> Result<Drive, Code>
-    ensures { (make : ℕ → ℕ → ℕ → ℕ → List Bool → Command) → MatchResult result (λ d. set_gl bus.now make words.entry ≡ Ok (make d.address d.mode d.v d.vmax d.functions)) (λ code. set_gl bus.now make words.entry ≡ Err code) }
+    ensures { (make : ℕ → ℕ → ℕ → ℕ → List Bool → Command)
+        → MatchResult result (λ d. set_gl bus.now make words.entry
+        ≡ Ok (make d.address d.mode d.v d.vmax d.functions))
+        (λ code. set_gl bus.now make words.entry ≡ Err code) }
 {
     let first = next_word(&mut words)?;
     let second = next_word(&mut words)?;

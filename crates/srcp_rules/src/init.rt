@@ -3,7 +3,8 @@ ghost use Rattle.std.specs.List.{AllByRecursion};
 ghost use Rattle.arrayvec.specs.ArrayVec.{array_vec_len};
 ghost use Rattle.srcp_info.specs.WellFormed.{can_go};
 ghost use Rattle.srcp_rules.specs.Layout.{row_count};
-ghost use Rattle.srcp_rules.specs.Effect.{accepted, done, has_init, init_device, is_same_init, removal, removals, term_device};
+ghost use Rattle.srcp_rules.specs.Effect.{accepted, done, has_init, init_device, is_same_init, removal, removals};
+ghost use Rattle.srcp_rules.specs.Effect.{term_device};
 ghost use Rattle.srcp_rules.specs.Obeyed.{IsTold, Took, TookUnless};
 ghost use Rattle.srcp_rules.specs.Rows.{AreRowsOf, put_rows};
 ghost use Rattle.srcp_rules.specs.State.{IsRowOf, IsWhole, device_in, has_row, is_there, put_of, updated_all};
@@ -44,8 +45,10 @@ fn remove_device<R: Rows>(
     changes: &mut ArrayVec<Change, CHANGES_CAPACITY>,
 )
     requires { changes.old.items ≡ [] }
-    ensures changes { changes.new.items ≡ map (λ update. update.change) (removals (R.state rows.old) moment group place.bus place.address) }
-    ensures rows { R.state rows.new ≡ updated_all (removals (R.state rows.old) moment group place.bus place.address) (R.state rows.old) }
+    ensures changes { changes.new.items
+        ≡ map (λ update. update.change) (removals (R.state rows.old) moment group place.bus place.address) }
+    ensures rows { R.state rows.new
+        ≡ updated_all (removals (R.state rows.old) moment group place.bus place.address) (R.state rows.old) }
     ensures layout { R.buses rows.new ≡ R.buses rows.old }
 {
     let device = device_in(group, place);
@@ -65,7 +68,9 @@ pub(crate) fn term_device<R: Rows>(
     obeyed: &mut Obeyed,
 )
     requires blank { IsTold (accepted []) obeyed.old }
-    ensures took { Took (done (term_device (R.state rows.old) sender.session sender.moment group place.bus place.address)) (R.state rows.old) (R.state rows.new) obeyed.new }
+    ensures took { Took (done
+        (term_device (R.state rows.old) sender.session sender.moment group place.bus place.address))
+        (R.state rows.old) (R.state rows.new) obeyed.new }
     ensures layout { R.buses rows.new ≡ R.buses rows.old }
 {
     if let Some(code) = refusal(rows, sender.session, group, place) {
@@ -120,7 +125,9 @@ fn has_init<R: Rows>(rows: &R, group: Lockable, place: BusAddress, init: &Value)
 
 /// Sets rows that are there.
 fn set_all<R: Rows>(rows: &mut R, fresh: &[Row])
-    requires { AllByRecursion (λ row. IsRowOf (R.buses rows.old) row × IsTrue (has_row row.shown.key (R.state rows.old))) fresh.now }
+    requires { AllByRecursion (λ row. IsRowOf (R.buses rows.old) row
+        × IsTrue (has_row row.shown.key (R.state rows.old)))
+        fresh.now }
     ensures rows { R.state rows.new ≡ put_rows fresh.now (R.state rows.old) }
     ensures layout { R.buses rows.new ≡ R.buses rows.old }
 {
@@ -153,8 +160,12 @@ fn remake<R: Rows>(
     requires whole { IsWhole (R.buses rows.old) (R.state rows.old) }
     requires there { is_there (device_in group place.bus place.address) (R.state rows.old) ≡ true }
     requires fresh { AreRowsOf (R.buses rows.old) (device_in group place.bus place.address) fresh.now }
-    ensures changes { changes.new.items ≡ map (λ update. update.change) (removals (R.state rows.old) moment group place.bus place.address ++ map put_of fresh.now) }
-    ensures rows { R.state rows.new ≡ updated_all (removals (R.state rows.old) moment group place.bus place.address ++ map put_of fresh.now) (R.state rows.old) }
+    ensures changes { changes.new.items
+        ≡ map (λ update. update.change)
+        (removals (R.state rows.old) moment group place.bus place.address ++ map put_of fresh.now) }
+    ensures rows { R.state rows.new
+        ≡ updated_all (removals (R.state rows.old) moment group place.bus place.address ++ map put_of fresh.now)
+        (R.state rows.old) }
     ensures layout { R.buses rows.new ≡ R.buses rows.old }
 {
     remove_there(rows, moment, lock_on(group, place), changes);
@@ -180,7 +191,11 @@ pub(crate) fn init_device<R: Rows>(
     requires whole { IsWhole (R.buses rows.old) (R.state rows.old) }
     requires some { 0 < row_count (R.buses rows.old) (device_in group place.bus place.address) }
     requires fresh { AreRowsOf (R.buses rows.old) (device_in group place.bus place.address) fresh.now }
-    ensures took { TookUnless (not (is_there (device_in group place.bus place.address) (R.state rows.old))) (done (init_device (R.state rows.old) sender.session sender.moment group place.bus place.address init.now (map put_of fresh.now))) (R.state rows.old) (R.state rows.new) obeyed.new }
+    ensures took { TookUnless (not (is_there (device_in group place.bus place.address) (R.state rows.old)))
+        (done
+        (init_device (R.state rows.old) sender.session sender.moment group place.bus place.address init.now
+        (map put_of fresh.now)))
+        (R.state rows.old) (R.state rows.new) obeyed.new }
     ensures layout { R.buses rows.new ≡ R.buses rows.old }
 {
     if is_locked(rows, sender.session, group, place) {

@@ -1,12 +1,16 @@
 //! What holds of every command, every moment, and every session's beginning and end. Each function
 //! does nothing: what it ensures is a law.
 
-ghost use Rattle.srcp_rules.specs.Laws.{OpeningsAreWhole, UpdatesKeepRising, CommandsKeepWhole, MomentsKeepWhole, EndsKeepWhole, BeginningsKeepWhole};
-ghost use Rattle.srcp_rules.specs.Laws.{CommandsAddNoRow, MomentsAddNoRow, EndsAddNoRow, BeginningsAddNoRow, CommandsChangeLittle};
+ghost use Rattle.srcp_rules.specs.Laws.{OpeningsAreWhole, UpdatesKeepRising, CommandsKeepWhole, MomentsKeepWhole};
+ghost use Rattle.srcp_rules.specs.Laws.{EndsKeepWhole, BeginningsKeepWhole};
+ghost use Rattle.srcp_rules.specs.Laws.{CommandsAddNoRow, MomentsAddNoRow, EndsAddNoRow, BeginningsAddNoRow};
+ghost use Rattle.srcp_rules.specs.Laws.{CommandsChangeLittle};
 ghost use Rattle.srcp_rules.specs.Laws.{CommandsCanBeTold, MomentsCanBeTold, EndsCanBeTold, BeginningsCanBeTold};
-ghost use Rattle.srcp_rules.specs.Laws.{RefusalsChangeNothing, ChecksAnswerAsSets, LocksHold, CommandsKeepSessions, MomentsKeepSessions, EndsFreeAll};
+ghost use Rattle.srcp_rules.specs.Laws.{RefusalsChangeNothing, ChecksAnswerAsSets, LocksHold, CommandsKeepSessions};
+ghost use Rattle.srcp_rules.specs.Laws.{MomentsKeepSessions, EndsFreeAll};
 ghost use Rattle.srcp_rules.specs.Weight.{LinesWeighEnough, WeightsAreSmall, GoesWeighOne};
-ghost use Rattle.srcp_rules.specs.Laws.{MomentsCarryOut, PortsAreSet, LocksAreSet, PortsFallBack, LocksRunOut, MomentsEnd};
+ghost use Rattle.srcp_rules.specs.Laws.{MomentsCarryOut, PortsAreSet, LocksAreSet, PortsFallBack, LocksRunOut};
+ghost use Rattle.srcp_rules.specs.Laws.{MomentsEnd};
 
 /// The registry of a layout begins whole.
 pub fn openings_are_whole()

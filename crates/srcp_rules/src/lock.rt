@@ -1,5 +1,6 @@
 ghost use Rattle.std.specs.Prelude.{◌≡◌, []};
-ghost use Rattle.srcp_rules.specs.Effect.{accepted, first_refusal, is_locked, lock_end, lock_refusals, moment_after, refusals, refused_or_not, term_lock, done};
+ghost use Rattle.srcp_rules.specs.Effect.{accepted, first_refusal, is_locked, lock_end, lock_refusals, moment_after};
+ghost use Rattle.srcp_rules.specs.Effect.{refusals, refused_or_not, term_lock, done};
 ghost use Rattle.srcp_rules.specs.Obeyed.{IsObeyed, IsTold, MayObey, Took};
 
 use crate::command::{Command, Lockable, Sender};
@@ -80,8 +81,10 @@ pub(crate) fn set_lock<R: Rows>(
     obeyed: &mut Obeyed,
 )
     requires blank { IsTold (accepted []) obeyed.old }
-    requires may { MayObey (R.buses rows.old) (R.state rows.old) sender.session (Command.SetLock place.bus group place.address seconds) }
-    ensures obeyed { IsObeyed (R.state rows.old) (R.state rows.new) sender.session sender.moment (Command.SetLock place.bus group place.address seconds) obeyed.new }
+    requires may { MayObey (R.buses rows.old) (R.state rows.old) sender.session
+        (Command.SetLock place.bus group place.address seconds) }
+    ensures obeyed { IsObeyed (R.state rows.old) (R.state rows.new) sender.session sender.moment
+        (Command.SetLock place.bus group place.address seconds) obeyed.new }
     ensures layout { R.buses rows.new ≡ R.buses rows.old }
 {
     if let Some(code) = refusal(rows, sender.session, group, place) {
@@ -112,7 +115,9 @@ pub(crate) fn term_lock<R: Rows>(
     obeyed: &mut Obeyed,
 )
     requires blank { IsTold (accepted []) obeyed.old }
-    ensures took { Took (done (term_lock (R.state rows.old) sender.session sender.moment group place.bus place.address)) (R.state rows.old) (R.state rows.new) obeyed.new }
+    ensures took { Took (done
+        (term_lock (R.state rows.old) sender.session sender.moment group place.bus place.address))
+        (R.state rows.old) (R.state rows.new) obeyed.new }
     ensures layout { R.buses rows.new ≡ R.buses rows.old }
 {
     let lock = lock_on(group, place);

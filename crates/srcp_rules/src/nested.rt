@@ -104,7 +104,8 @@ impl Rows for Nested {
 }
 
 impl Nested {
-    /// Finds the row with the least key beyond the cursor, if it is of the cursor's own group. Nearly each row of a listing is.
+    /// Finds the row with the least key beyond the cursor, if it is of the cursor's
+    /// own group. Nearly each row of a listing is.
     fn row_after_in_own_group(&self, cursor: Cursor) -> Option<&Row>
         ensures { IfSome result (λ row. Some row.now ≡ row_after cursor self.now.state) }
     {

@@ -32,7 +32,8 @@ fn carry_out<R: Rows>(rows: &mut R, moment: u64, row: &Row) -> Change
     requires there { row_at row.now.shown.key (R.state rows.old) ≡ Some row.now }
     requires may { MayFall row.now.shown.value }
     ensures change { result ≡ (due_change moment row.now.shown.key row.now.shown.value).change }
-    ensures rows { R.state rows.new ≡ updated (due_change moment row.now.shown.key row.now.shown.value) (R.state rows.old) }
+    ensures rows { R.state rows.new
+        ≡ updated (due_change moment row.now.shown.key row.now.shown.value) (R.state rows.old) }
     ensures layout { R.buses rows.new ≡ R.buses rows.old }
 {
     let key = row.shown.key;
@@ -47,8 +48,10 @@ fn carry_out<R: Rows>(rows: &mut R, moment: u64, row: &Row) -> Change
 /// as before. That its locks go with a session is of SRCP 0.8 (LOCK).
 pub fn free_next<R: Rows>(rows: &mut R, session: u32, moment: u64) -> Option<Change>
     requires whole { IsWhole (R.buses rows.old) (R.state rows.old) }
-    ensures change { result ≡ option_map (λ update. update.change) (slice_get (freed (R.state rows.old) session moment) 0) }
-    ensures rows { R.state rows.new ≡ updated_if (slice_get (freed (R.state rows.old) session moment) 0) (R.state rows.old) }
+    ensures change { result
+        ≡ option_map (λ update. update.change) (slice_get (freed (R.state rows.old) session moment) 0) }
+    ensures rows { R.state rows.new
+        ≡ updated_if (slice_get (freed (R.state rows.old) session moment) 0) (R.state rows.old) }
     ensures layout { R.buses rows.new ≡ R.buses rows.old }
     ensures whole { IsWhole (R.buses rows.new) (R.state rows.new) }
     ensures well_formed { IfSome result IsWellFormed }

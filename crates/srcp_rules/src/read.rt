@@ -3,7 +3,8 @@
 ghost use Rattle.std.specs.Prelude.{◌≡◌};
 ghost use Rattle.std.specs.Option.{ok_or};
 ghost use Rattle.srcp_info.specs.declared.change.Code.TheVariants.{C410 as UnknownCommand, C421 as UnsupportedDevice};
-ghost use Rattle.srcp_rules.specs.Grammar.{bit_of, groups, letter_of, lockable_on, named_in, number_in, operations, switch_of, time_of};
+ghost use Rattle.srcp_rules.specs.Grammar.{bit_of, groups, letter_of, lockable_on, named_in, number_in, operations};
+ghost use Rattle.srcp_rules.specs.Grammar.{switch_of, time_of};
 
 use crate::command::{Lockable, Named, Operation};
 use crate::layout::Bus;

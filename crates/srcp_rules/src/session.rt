@@ -9,8 +9,8 @@ use crate::registry::{put_of, row_put};
 use crate::rows::Rows;
 use srcp_info::{Change, Mode, Value};
 
-/// Adds the row of a session that begins, and returns its Put. Its id is at least 1 and not there. The registry is whole:
-/// only then has an id that is not there no row at all, which is what `Rows::add` asks for.
+/// Adds the row of a session that begins, and returns its Put. Its id is at least 1 and not there. The registry is
+/// whole: only then has an id that is not there no row at all, which is what `Rows::add` asks for.
 ///
 /// # Errors
 /// `Memory` if memory is refused; the rows are as before.

@@ -4,7 +4,8 @@ ghost use Rattle.srcp_info.specs.declared.value.Value.TheVariants as value;
 ghost use Rattle.srcp_info.specs.Key.{device_of};
 ghost use Rattle.srcp_info.specs.WellFormed.{can_go};
 ghost use Rattle.srcp_rules.specs.Rows.{put_rows};
-ghost use Rattle.srcp_rules.specs.State.{fb_device, first_row, has_row, key_at, opening_on, put_row, row_after, row_at, without};
+ghost use Rattle.srcp_rules.specs.State.{fb_device, first_row, has_row, key_at, opening_on, put_row, row_after, row_at};
+ghost use Rattle.srcp_rules.specs.State.{without};
 ghost use Rattle.srcp_rules.specs.Nested.{AreOfDevice, AreRowsOfBus, bus_rows, group_rows, most_rows};
 
 use crate::first_rows::{power_row, push_ports};
@@ -112,7 +113,8 @@ impl BusRows {
     pub(crate) fn add(&mut self, first: &Row, added: &[Row]) -> Result<(), Memory>
         requires bus { AreRowsOfBus first.now.shown.key.bus self.old }
         requires comes { IsTrue (can_go first.now.shown.key.group) }
-        requires device { AreOfDevice first.now.shown.key.bus first.now.shown.key.group first.now.shown.key.address added.now }
+        requires device { AreOfDevice first.now.shown.key.bus first.now.shown.key.group first.now.shown.key.address
+            added.now }
         requires few { length added.now ≤ most_rows first.now.shown.key.group }
         requires free { (port : ℕ) → has_row (key_at (device_of first.now.shown.key) port) (bus_rows self.old) ≡ false }
         ensures ok { OnOk result (bus_rows self.new ≡ put_rows added.now (bus_rows self.old)) }
@@ -167,7 +169,10 @@ impl BusRows {
 
 /// The rows of a bus's feedback ports, each 0.
 fn feedback_rows(alloc: Global, bus: &Bus) -> Result<Vec<Row>, Memory>
-    ensures { IfOk result (λ rows. rows.items ≡ map (λ port. first_row 0 (fb_device bus.now.number port) (value.Fb false)) (range_with_len 1 bus.now.fb_ports)) }
+    ensures { IfOk result
+        (λ rows. rows.items
+        ≡ map (λ port. first_row 0 (fb_device bus.now.number port) (value.Fb false))
+        (range_with_len 1 bus.now.fb_ports)) }
 {
     let mut rows = Vec::new(alloc);
     push_ports(&mut rows, bus.number, bus.fb_ports)?;

@@ -56,8 +56,8 @@ impl<const N: usize> DeviceRows<N> {
             .find(|row| compare(&row.shown.key, key).is_eq())
     }
 
-    /// Finds the row with the least key beyond a key of the group, where this is the device at an address from the key's on.
-    /// The rows of the key's own device differ from it by their ports alone.
+    /// Finds the row with the least key beyond a key of the group, where this is the device at an address from the
+    /// key's on. The rows of the key's own device differ from it by their ports alone.
     #[inline(always)]
     pub(crate) fn row_after(&self, address: u32, last: &Key) -> Option<&Row>
         requires device { AreOfDevice last.now.bus last.now.group address self.now }

@@ -88,11 +88,14 @@ impl<const N: usize> Devices<N> {
     /// Adds the rows of a device that is not there.
     pub(crate) fn add(&mut self, first: &Row, added: &[Row]) -> Result<(), Memory>
         requires devices { AreDevices first.now.shown.key.bus first.now.shown.key.group self.old.by_address.entries }
-        requires device { AreOfDevice first.now.shown.key.bus first.now.shown.key.group first.now.shown.key.address added.now }
+        requires device { AreOfDevice first.now.shown.key.bus first.now.shown.key.group first.now.shown.key.address
+            added.now }
         requires few { length added.now ≤ N }
         requires fits { FitsInMemory (device_row N.row) }
-        requires free { (port : ℕ) → has_row (key_at (device_of first.now.shown.key) port) (device_rows self.old.by_address.entries) ≡ false }
-        ensures ok { OnOk result (device_rows self.new.by_address.entries ≡ put_rows added.now (device_rows self.old.by_address.entries)) }
+        requires free { (port : ℕ)
+            → has_row (key_at (device_of first.now.shown.key) port) (device_rows self.old.by_address.entries) ≡ false }
+        ensures ok { OnOk result
+            (device_rows self.new.by_address.entries ≡ put_rows added.now (device_rows self.old.by_address.entries)) }
         ensures err { OnErr result (device_rows self.new.by_address.entries ≡ device_rows self.old.by_address.entries) }
         ensures devices { AreDevices first.now.shown.key.bus first.now.shown.key.group self.new.by_address.entries }
     {
@@ -109,7 +112,8 @@ impl<const N: usize> Devices<N> {
         requires devices { AreDevices row.now.shown.key.bus row.now.shown.key.group self.old.by_address.entries }
         requires there { IsTrue (has_row row.now.shown.key (device_rows self.old.by_address.entries)) }
         requires fits { FitsInMemory (device_row N.row) }
-        ensures rows { device_rows self.new.by_address.entries ≡ put_row row.now (device_rows self.old.by_address.entries) }
+        ensures rows { device_rows self.new.by_address.entries
+            ≡ put_row row.now (device_rows self.old.by_address.entries) }
         ensures devices { AreDevices row.now.shown.key.bus row.now.shown.key.group self.new.by_address.entries }
     {
         if let Some(device) = self.by_address.get_mut(&row.shown.key.address) {
@@ -120,7 +124,8 @@ impl<const N: usize> Devices<N> {
     /// Takes out the rows of a device.
     pub(crate) fn drop_device(&mut self, device: Device)
         requires { AreDevices device.bus device.group self.old.by_address.entries }
-        ensures rows { device_rows self.new.by_address.entries ≡ without device (device_rows self.old.by_address.entries) }
+        ensures rows { device_rows self.new.by_address.entries
+            ≡ without device (device_rows self.old.by_address.entries) }
         ensures devices { AreDevices device.bus device.group self.new.by_address.entries }
     {
         let _ = self.by_address.remove(&device.address);

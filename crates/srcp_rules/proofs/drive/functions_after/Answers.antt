@@ -11,5 +11,6 @@ loop-place-preserved c =
     let low : length given ≤ place = omega arith in
     let high : place < length before = omega arith in
     let on = get_or before place false in
-    c.push.ensures ∙ (λ i. c.loop-place.invariant i ++ get_or (c.as_slice.ensures i) place false ∷ []) ∙ append_assoc given (between (length given) place before) (on ∷ [])
+    c.push.ensures ∙ (λ i. c.loop-place.invariant i ++ get_or (c.as_slice.ensures i) place false ∷ [])
+    ∙ append_assoc given (between (length given) place before) (on ∷ [])
     ∙ ap (λ (bits : List Bool). given ++ bits) (sym (between_more before (length given) place false low high))

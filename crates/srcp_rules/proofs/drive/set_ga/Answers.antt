@@ -11,10 +11,17 @@ set_one-requires-clause-there g c =
     let buses = g.R.Rows.buses c.args.rows.now in
     let state = g.R.Rows.state c.args.rows.now in
     let device = device_in lockable.Ga c.args.place.bus c.args.place.address in
-    let there = set_there buses state c.args.sender.session c.args.sender.moment c.args.sender.fits device ((is_locked state c.args.sender.session lockable.Ga c.args.place.bus c.args.place.address, C414) ∷ []) c.in_default.ensures in
-    rw (c.key_at-key.ensures, c.device_in.ensures) (port_there buses state c.args.sender.session c.args.sender.moment c.args.sender.fits device c.requires.may.whole there (1 + c.args.port) c.requires.may.of.0.0)
+    let there =
+    set_there buses state c.args.sender.session c.args.sender.moment c.args.sender.fits device
+    ((is_locked state c.args.sender.session lockable.Ga c.args.place.bus c.args.place.address, C414) ∷ []) c.in_default.ensures in
+    rw (c.key_at-key.ensures, c.device_in.ensures)
+    (port_there buses state c.args.sender.session c.args.sender.moment c.args.sender.fits device c.requires.may.whole there
+    (1 + c.args.port) c.requires.may.of.0.0)
 
 pub set_one-requires-clause-fits : goal.set_one-requires-clause-fits
 set_one-requires-clause-fits g c =
     rw (c.key_at-key.ensures, c.device_in.ensures, c.port_end-due.ensures)
-    (ga_row (g.R.Rows.buses c.args.rows.now) (g.R.Rows.state c.args.rows.now) c.args.sender.session c.args.sender.moment c.args.sender.fits c.args.place.bus c.args.place.address c.args.port c.args.on c.args.time c.requires.may)
+    (ga_row (g.R.Rows.buses c.args.rows.now)
+    (g.R.Rows.state
+    c.args.rows.now) c.args.sender.session c.args.sender.moment c.args.sender.fits c.args.place.bus c.args.place.address c.args.port
+    c.args.on c.args.time c.requires.may)

@@ -12,6 +12,9 @@ loop-below-preserved c =
     let row = λ (port : ℕ). first_row 0 (fb_device c.args.bus port) (value.Fb false) in
     let old = c.args.rows.now.items in
     let below = c.loop-below.below in
-    c.in_ok-extend_from_slice.ensures.items ∙ (λ i. c.loop-below.rows.items ++ (c.first_row-row.ensures ∙ ap (λ (device : Device). first_row 0 device (value.Fb false)) c.fb_device.ensures) i ∷ [])
-    ∙ ap (λ (rows : List Row). rows ++ row (below + 1) ∷ []) c.loop-below.invariant ∙ append_assoc old (map row (range_with_len 1 below)) (row (below + 1) ∷ [])
+    c.in_ok-extend_from_slice.ensures.items
+    ∙ (λ i. c.loop-below.rows.items
+    ++ (c.first_row-row.ensures ∙ ap (λ (device : Device). first_row 0 device (value.Fb false)) c.fb_device.ensures) i ∷ [])
+    ∙ ap (λ (rows : List Row). rows ++ row (below + 1) ∷ []) c.loop-below.invariant
+    ∙ append_assoc old (map row (range_with_len 1 below)) (row (below + 1) ∷ [])
     ∙ ap (λ (rows : List Row). old ++ rows) (sym (map-range_with_len_more row 1 below (below + 1) (omega arith)))

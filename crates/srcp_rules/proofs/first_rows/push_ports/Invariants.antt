@@ -5,4 +5,5 @@ use Rattle.srcp_rules.specs.State.{first_row, fb_device}
 use Rattle.srcp_rules.proofs.first_rows.push_ports.Given as goal
 
 abbrev pub invariant-loop-below : goal.invariant-loop-below
-invariant-loop-below l = l.rows.items ≡ l.initial.rows.items ++ map (λ port. first_row 0 (fb_device l.bus port) (value.Fb false)) (range_with_len 1 l.below)
+invariant-loop-below l =
+    l.rows.items ≡ l.initial.rows.items ++ map (λ port. first_row 0 (fb_device l.bus port) (value.Fb false)) (range_with_len 1 l.below)

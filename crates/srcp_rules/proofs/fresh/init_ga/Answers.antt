@@ -15,10 +15,12 @@ use Rattle.srcp_rules.proofs.fresh.init_ga.Goals as goal
 
 module _ (buses : List Bus) (state : State) (session moment : ℕ) (now : IsMoment moment) where
   -- the rows that are handed on are those of an accessory with that many ports
-  handed : (most : List Row) (device made : Device) (letter : Letter) (ports n : ℕ) → ports ≤ 8 → most ≡ ga_fresh buses state session moment now device letter 8 → device ≡ made → n ≡ ports
+  handed : (most : List Row) (device made : Device) (letter : Letter) (ports n : ℕ) → ports ≤ 8
+      → most ≡ ga_fresh buses state session moment now device letter 8 → device ≡ made → n ≡ ports
       → take (1 + n) most ≡ ga_fresh buses state session moment now made letter ports
   handed most device made letter ports n few e same count =
-      ap (take (1 + n)) (e ∙ ap (λ d. ga_fresh buses state session moment now d letter 8) same) ∙ ga_taken buses state session moment now made letter ports (1 + n) few (ap (λ k. 1 + k) count)
+      ap (take (1 + n)) (e ∙ ap (λ d. ga_fresh buses state session moment now d letter 8) same)
+      ∙ ga_taken buses state session moment now made letter ports (1 + n) few (ap (λ k. 1 + k) count)
 
 pub init_device-requires-clause-fresh : goal.init_device-requires-clause-fresh
 init_device-requires-clause-fresh g c =
@@ -26,8 +28,11 @@ init_device-requires-clause-fresh g c =
     let state = g.R.Rows.state c.args.rows.now in
     let device = device_in lockable.Ga c.args.place.bus c.args.place.address in
     let rows =
-    handed buses state c.args.sender.session c.args.sender.moment c.args.sender.fits c.most_rows-most.result c.device_in.result device c.args.letter c.args.ports c.from.result c.requires.may.of.1 c.most_rows-most.ensures c.device_in.ensures c.from.ensures in
-    subst (λ (rows : List Row). AreRowsOf buses device rows) (sym rows) (ga_rows buses state c.args.sender.session c.args.sender.moment c.args.sender.fits c.args.place.bus c.args.place.address c.args.letter c.args.ports c.requires.may)
+    handed buses state c.args.sender.session c.args.sender.moment c.args.sender.fits c.most_rows-most.result c.device_in.result device
+    c.args.letter c.args.ports c.from.result c.requires.may.of.1 c.most_rows-most.ensures c.device_in.ensures c.from.ensures in
+    subst (λ (rows : List Row). AreRowsOf buses device rows) (sym rows)
+    (ga_rows buses state c.args.sender.session c.args.sender.moment c.args.sender.fits c.args.place.bus c.args.place.address
+    c.args.letter c.args.ports c.requires.may)
 
 pub returns-clause-obeyed : goal.returns-clause-obeyed
 returns-clause-obeyed g c =
@@ -35,7 +40,16 @@ returns-clause-obeyed g c =
     let state = g.R.Rows.state c.args.rows.now in
     let device = device_in lockable.Ga c.args.place.bus c.args.place.address in
     let rows =
-    handed buses state c.args.sender.session c.args.sender.moment c.args.sender.fits c.most_rows-most.result c.device_in.result device c.args.letter c.args.ports c.from.result c.requires.may.of.1 c.most_rows-most.ensures c.device_in.ensures c.from.ensures in
+    handed buses state c.args.sender.session c.args.sender.moment c.args.sender.fits c.most_rows-most.result c.device_in.result device
+    c.args.letter c.args.ports c.from.result c.requires.may.of.1 c.most_rows-most.ensures c.device_in.ensures c.from.ensures in
     subst
-    (λ (updates : List Update). TookUnless (not (is_there device state)) (done (init_device state c.args.sender.session c.args.sender.moment lockable.Ga c.args.place.bus c.args.place.address (value.GaInit c.args.letter) updates)) state (g.R.Rows.state c.init_device.new.rows) c.init_device.new.obeyed)
-    (ap (map put_of) rows ∙ ga_puts buses state c.args.sender.session c.args.sender.moment c.args.sender.fits c.args.place.bus c.args.place.address c.args.letter c.args.ports) c.init_device.ensures.took
+    (λ (updates : List Update).
+    TookUnless (not (is_there device state))
+    (done
+    (init_device state c.args.sender.session c.args.sender.moment lockable.Ga c.args.place.bus c.args.place.address
+    (value.GaInit c.args.letter) updates)) state
+    (g.R.Rows.state c.init_device.new.rows) c.init_device.new.obeyed)
+    (ap (map put_of) rows
+    ∙ ga_puts buses state c.args.sender.session c.args.sender.moment c.args.sender.fits c.args.place.bus c.args.place.address
+    c.args.letter c.args.ports)
+    c.init_device.ensures.took

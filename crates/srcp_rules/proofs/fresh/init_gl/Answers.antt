@@ -3,5 +3,9 @@ use Rattle.srcp_rules.proofs.fresh.init_gl.Goals as goal
 
 pub init_device-requires-clause-fresh : goal.init_device-requires-clause-fresh
 init_device-requires-clause-fresh g c =
-    let fresh = gl_rows (g.R.Rows.buses c.args.rows.now) (g.R.Rows.state c.args.rows.now) c.args.sender.session c.args.sender.moment c.args.sender.fits c.args.place.bus c.args.place.address c.args.decoder.letter c.args.decoder.version c.args.decoder.steps c.args.functions c.requires.may in
+    let fresh =
+    gl_rows (g.R.Rows.buses c.args.rows.now)
+    (g.R.Rows.state
+    c.args.rows.now) c.args.sender.session c.args.sender.moment c.args.sender.fits c.args.place.bus c.args.place.address
+    c.args.decoder.letter c.args.decoder.version c.args.decoder.steps c.args.functions c.requires.may in
     rw (c.resting_rows-fresh.ensures, c.device_in.ensures) fresh

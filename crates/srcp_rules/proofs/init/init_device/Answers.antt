@@ -1,4 +1,5 @@
-use Rattle.std.proofs.Common.{◌≡◌, List, Result, Ok, Err, OnOk, is_ok, not, true, false, inl, map, ◌++◌, true≢false, sym, ap, subst, ◌∙◌, rules}
+use Rattle.std.proofs.Common.{◌≡◌, List, Result, Ok, Err, OnOk, is_ok, not, true, false, inl, map, ◌++◌, true≢false, sym, ap, subst, ◌∙◌}
+use Rattle.std.proofs.Common.{rules}
 use Rattle.srcp_info.specs.declared.key.Device.{Device}
 use Rattle.srcp_info.specs.declared.change.Row.{Row}
 use Rattle.srcp_info.specs.declared.change.Change.{Change}
@@ -18,15 +19,20 @@ add-requires g c =
     let buses = g.R.Rows.buses c.args.rows.now in
     let state = g.R.Rows.state c.args.rows.now in
     let device = device_in c.args.group c.args.place.bus c.args.place.address in
-    let absent : is_there device state ≡ false = ap (λ (d : Device). is_there d state) (sym c.device_in.ensures) ∙ sym c.is_there.ensures ∙ c.if-is_there.false in
-    (device, added buses state c.requires.whole c.args.sender.moment c.args.group c.args.place.bus c.args.place.address c.args.fresh.now c.requires.fresh c.requires.some absent)
+    let absent : is_there device state ≡ false =
+    ap (λ (d : Device). is_there d state) (sym c.device_in.ensures) ∙ sym c.is_there.ensures ∙ c.if-is_there.false in (
+      device,
+      added buses state c.requires.whole c.args.sender.moment c.args.group c.args.place.bus c.args.place.address c.args.fresh.now
+          c.requires.fresh c.requires.some absent,
+    )
 
 pub returns-clause-took : goal.returns-clause-took
 returns-clause-took g c =
     let buses = g.R.Rows.buses c.args.rows.now in
     let state = g.R.Rows.state c.args.rows.now in
     let device = device_in c.args.group c.args.place.bus c.args.place.address in
-    let absent : is_there device state ≡ false = ap (λ (d : Device). is_there d state) (sym c.device_in.ensures) ∙ sym c.is_there.ensures ∙ c.if-is_there.false in
+    let absent : is_there device state ≡ false =
+    ap (λ (d : Device). is_there d state) (sym c.device_in.ensures) ∙ sym c.is_there.ensures ∙ c.if-is_there.false in
     let fresh = c.args.fresh.now in
     let free = sym c.is_locked.ensures ∙ c.if-is_locked.false in
     let other = sym c.has_init.ensures ∙ c.if-has_init.false in
@@ -34,10 +40,14 @@ returns-clause-took g c =
     let changes =
     c.push_puts.ensures ∙ ap (λ (before : List Change). before ++ map (λ (row : Row). (put_of row).change) fresh) c.requires.blank.changes
     ∙ changes_made buses state c.requires.whole c.args.sender.moment c.args.group c.args.place.bus c.args.place.address fresh absent in
-    let rows = on_ok c.add.result _ succeeded c.add.ensures.ok ∙ rows_made buses state c.requires.whole c.args.sender.moment c.args.group c.args.place.bus c.args.place.address fresh absent in
+    let rows =
+    on_ok c.add.result _ succeeded c.add.ensures.ok
+    ∙ rows_made buses state c.requires.whole c.args.sender.moment c.args.group c.args.place.bus c.args.place.address fresh absent in
     inl
-    (subst (λ (did : Effect). Took did state (g.R.Rows.state c.add.new.self) (record c.args.obeyed.now { changes = c.push_puts.new.changes }))
-    (init_accepted state c.args.sender.session c.args.sender.moment c.args.group c.args.place.bus c.args.place.address c.args.init.now (map put_of fresh) free other)
+    (subst (λ (did : Effect).
+    Took did state (g.R.Rows.state c.add.new.self) (record c.args.obeyed.now { changes = c.push_puts.new.changes }))
+    (init_accepted state c.args.sender.session c.args.sender.moment c.args.group c.args.place.bus c.args.place.address c.args.init.now
+    (map put_of fresh) free other)
     (record { told = record { reply = c.requires.blank.reply; changes = changes; ends = c.requires.blank.ends }; rows = rows }))
 
 pub returns-then-is_there-clause-took : goal.returns-then-is_there-clause-took

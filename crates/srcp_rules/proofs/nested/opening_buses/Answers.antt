@@ -53,12 +53,19 @@ loop-bus-preserved c =
     let rows = c.in_ok-rows.rows in
     let is = c.in_ok-add_bus-2.ensures.entries in
     record {
-      each = subst (AllByRecursion (λ e. AreRowsOfBus e.0 e.1)) (sym is) (all_append (λ e. AreRowsOfBus e.0 e.1) before ((bus.number, rows) ∷ []) c.loop-bus.invariant.each (c.in_ok-rows.ensures.bus, tt));
+      each =
+          subst (AllByRecursion (λ e. AreRowsOfBus e.0 e.1)) (sym is)
+          (all_append (λ e. AreRowsOfBus e.0 e.1) before ((bus.number, rows) ∷ []) c.loop-bus.invariant.each
+          (c.in_ok-rows.ensures.bus, tt));
       sorted = c.in_ok-add_bus-2.ensures.sorted;
-      numbers = ap keys_of is ∙ map-append (λ e. e.0) before ((bus.number, rows) ∷ []) ∙ ap (λ ns. ns ++ bus.number ∷ []) c.loop-bus.invariant.numbers
+      numbers =
+          ap keys_of is ∙ map-append (λ e. e.0) before ((bus.number, rows) ∷ [])
+          ∙ ap (λ ns. ns ++ bus.number ∷ []) c.loop-bus.invariant.numbers
           ∙ sym (ap (λ bs. 0 ∷ map (λ (b : Bus). b.number) bs) more
           ∙ map-append (λ (b : Bus). b.number) (server ∷ take place items) (bus ∷ []));
-      rows = ap (listed bus_rows) is ∙ flat_map_last (λ e. bus_rows e.1) before (bus.number, rows) ∙ (λ i. c.loop-bus.invariant.rows i ++ c.in_ok-rows.ensures.rows i)
+      rows =
+          ap (listed bus_rows) is ∙ flat_map_last (λ e. bus_rows e.1) before (bus.number, rows)
+          ∙ (λ i. c.loop-bus.invariant.rows i ++ c.in_ok-rows.ensures.rows i)
           ∙ sym (ap (flat_map (opening_on 0)) more ∙ flat_map_last (opening_on 0) (take place items) bus);
     }
 

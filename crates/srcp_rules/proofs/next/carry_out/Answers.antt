@@ -14,17 +14,23 @@ use Rattle.srcp_rules.proofs.next.carry_out.Goals as goal
 pub remove-requires : goal.remove-requires
 remove-requires g c =
     let key = c.args.row.now.shown.key in
-    let fits = subst (λ (shows : Value). IsValueAt key.group key.port shows) c.in-Lock.is (c.requires.whole.rows key c.args.row.now c.requires.there).shown.value in
+    let fits =
+    subst (λ (shows : Value). IsValueAt key.group key.port shows) c.in-Lock.is
+    (c.requires.whole.rows key c.args.row.now c.requires.there).shown.value in
     ap (λ (device : Device). can_go device.group) c.device.ensures ∙ (lock_goes key.group fits.0).0
 
 pub put-requires : goal.put-requires
 put-requires g c =
     let key = c.args.row.now.shown.key in
     let port = port_value c.args.row.now.shown.value c.requires.may c.in_default.not-Lock in
-    let fits = subst (λ (shows : Value). IsValueAt key.group key.port shows) port.1 (c.requires.whole.rows key c.args.row.now c.requires.there).shown.value in
+    let fits =
+    subst (λ (shows : Value). IsValueAt key.group key.port shows) port.1
+    (c.requires.whole.rows key c.args.row.now c.requires.there).shown.value in
     record {
       there = ap is_some c.requires.there;
-      fits = IsRowOf-put (g.R.Rows.buses c.args.rows.now) c.requires.whole.laid_out key c.args.moment (value.GaPort false) None (c.requires.whole.rows key c.args.row.now c.requires.there).place c.ranges.moment.fits fits tt;
+      fits =
+          IsRowOf-put (g.R.Rows.buses c.args.rows.now) c.requires.whole.laid_out key c.args.moment (value.GaPort false) None
+          (c.requires.whole.rows key c.args.row.now c.requires.there).place c.ranges.moment.fits fits tt;
     }
 
 pub returns-in-Lock-clause-change : goal.returns-in-Lock-clause-change
@@ -34,8 +40,10 @@ returns-in-Lock-clause-change g c =
 
 pub returns-in-Lock-clause-rows : goal.returns-in-Lock-clause-rows
 returns-in-Lock-clause-rows g c =
-    c.remove.ensures.rows ∙ ap (λ (device : Device). updated (gone_at c.args.moment device) (g.R.Rows.state c.args.rows.now)) c.device.ensures
-    ∙ ap (λ (shows : Value). updated (due_change c.args.moment c.args.row.now.shown.key shows) (g.R.Rows.state c.args.rows.now)) (sym c.in-Lock.is)
+    c.remove.ensures.rows
+    ∙ ap (λ (device : Device). updated (gone_at c.args.moment device) (g.R.Rows.state c.args.rows.now)) c.device.ensures
+    ∙ ap (λ (shows : Value). updated (due_change c.args.moment c.args.row.now.shown.key shows) (g.R.Rows.state c.args.rows.now))
+    (sym c.in-Lock.is)
 
 pub returns-in_default-clause-change : goal.returns-in_default-clause-change
 returns-in_default-clause-change g c =
@@ -45,4 +53,6 @@ returns-in_default-clause-change g c =
 pub returns-in_default-clause-rows : goal.returns-in_default-clause-rows
 returns-in_default-clause-rows g c =
     let port = port_value c.args.row.now.shown.value c.requires.may c.in_default.not-Lock in
-    c.put.ensures.rows ∙ ap (λ (shows : Value). updated (due_change c.args.moment c.args.row.now.shown.key shows) (g.R.Rows.state c.args.rows.now)) (sym port.1)
+    c.put.ensures.rows
+    ∙ ap (λ (shows : Value). updated (due_change c.args.moment c.args.row.now.shown.key shows) (g.R.Rows.state c.args.rows.now))
+    (sym port.1)

@@ -11,8 +11,12 @@ add-requires g c =
     let session = c.args.session in
     let buses = g.R.Rows.buses c.args.rows.now in
     let state = g.R.Rows.state c.args.rows.now in
-    let most : session ≤ 4294967295 = omega arith in
-    (session_device session, rw (c.row_put-row.ensures, c.first_key-key.ensures, c.session_device.ensures) (session_added buses state c.requires.whole session c.args.moment c.args.mode c.requires.session most c.ranges.moment.fits c.requires.free))
+    let most : session ≤ 4294967295 = omega arith in (
+      session_device session,
+      rw (c.row_put-row.ensures, c.first_key-key.ensures, c.session_device.ensures)
+          (session_added buses state c.requires.whole session c.args.moment c.args.mode c.requires.session most c.ranges.moment.fits
+          c.requires.free),
+    )
 
 pub returns-clause-whole : goal.returns-clause-whole
 returns-clause-whole g c =
@@ -33,4 +37,5 @@ returns-clause-adds_no_row g c =
     let most : session ≤ 4294967295 = omega arith in
     let count = session_rows buses session c.requires.session most in
     let some : 0 < row_count buses (session_device session) = omega (arith, count) in
-    rw (c.put_of-change.ensures, c.row_put-row.ensures, c.first_key-key.ensures, c.session_device.ensures) (began-adds_no_row buses state session c.args.moment c.args.mode c.requires.whole some)
+    rw (c.put_of-change.ensures, c.row_put-row.ensures, c.first_key-key.ensures, c.session_device.ensures)
+    (began-adds_no_row buses state session c.args.moment c.args.mode c.requires.whole some)

@@ -11,7 +11,8 @@ loop-row-preserved c =
     let before = c.loop-row.rows.items in
     record {
       rows = c.put.ensures.rows ∙ (λ i. put_row (c.row-item.is i) (c.loop-row.invariant.rows i))
-          ∙ sym (fold_more (λ state other. put_row other state) c.reserve.new.self.items c.args.added.now c.loop-row.row-index row c.loop-row-test.true);
+          ∙ sym (fold_more (λ state other. put_row other state) c.reserve.new.self.items c.args.added.now c.loop-row.row-index row
+          c.loop-row-test.true);
       rising = subst IsRising (sym c.put.ensures.rows) (rising_put row_key row before c.loop-row.invariant.rising);
       room = omega arith;
     }

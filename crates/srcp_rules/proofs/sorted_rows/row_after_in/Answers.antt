@@ -1,4 +1,5 @@
-use Rattle.std.proofs.Common.{◌≡◌, refl, ℕ, ◌<◌, ◌≤◌, List, length, slice_get, Option, Some, None, option_copied, MatchOption, true, false, sym, ◌∙◌, rules}
+use Rattle.std.proofs.Common.{◌≡◌, refl, ℕ, ◌<◌, ◌≤◌, List, length, slice_get, Option, Some, None, option_copied, MatchOption, true, false}
+use Rattle.std.proofs.Common.{sym, ◌∙◌, rules}
 use Rattle.std.proofs.lemmas.List.Sorted.{IsPartitionPoint-from_clause}
 use Rattle.std.proofs.lemmas.Option.{slice_get_past, slice_get_read}
 use Rattle.std.specs.List.{HoldsAt}
@@ -8,7 +9,8 @@ use Rattle.srcp_rules.proofs.PlaceLaws.{front_each, back_each, find-parted}
 use Rattle.srcp_rules.proofs.RowPlaceLaws.{passed, passed_partitioned}
 use Rattle.srcp_rules.proofs.sorted_rows.row_after_in.Goals as goal
 
-copied : (o : Option (Bor Row)) (rows : List Row) (i : ℕ) → MatchOption o (length rows ≤ i) (λ x. (i < length rows) × HoldsAt (λ y. x.now ≡ y) rows i) → option_copied o ≡ slice_get rows i
+copied : (o : Option (Bor Row)) (rows : List Row) (i : ℕ)
+    → MatchOption o (length rows ≤ i) (λ x. (i < length rows) × HoldsAt (λ y. x.now ≡ y) rows i) → option_copied o ≡ slice_get rows i
 copied None rows i h = sym (slice_get_past rows i h)
 copied (Some x) rows i h = sym (slice_get_read rows (length rows) i x.now refl h.0 (h.1 x.now))
 
@@ -17,6 +19,10 @@ returns c =
     let rows = c.args.rows.now in
     let place = c.partition_point-place.result in
     let cursor = c.args.cursor in
-    let parted = IsPartitionPoint-from_clause (passed cursor) rows place c.partition_point-place.ensures.partitioned (passed_partitioned cursor rows c.requires) (λ a r f' called. search rules) in
+    let parted =
+    IsPartitionPoint-from_clause (passed cursor) rows place c.partition_point-place.ensures.partitioned
+    (passed_partitioned cursor rows c.requires) (λ a r f' called. search rules) in
     copied c.get.result rows place c.get.ensures.lookup.3
-    ∙ sym (find-parted (passed cursor) rows place (front_each (λ row. passed cursor row ≡ true) rows place c.partition_point-place.ensures.bound parted.0) (back_each (λ row. passed cursor row ≡ false) rows place parted.1))
+    ∙ sym (find-parted (passed cursor) rows place
+    (front_each (λ row. passed cursor row ≡ true) rows place c.partition_point-place.ensures.bound parted.0)
+    (back_each (λ row. passed cursor row ≡ false) rows place parted.1))

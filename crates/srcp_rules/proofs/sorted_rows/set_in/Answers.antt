@@ -7,11 +7,13 @@ use Rattle.srcp_rules.proofs.sorted_rows.set_in.Goals as goal
 pub returns-in-Ok : goal.returns-in-Ok
 returns-in-Ok c =
     let items = c.args.rows.now.items in
-    set-put_row items c.requires.rising c.args.row c.in-Ok.place (subst (λ state. IsAt state c.args.row.shown.key c.in-Ok.place) c.deref.ensures.value c.in-Ok.ensures.at)
+    set-put_row items c.requires.rising c.args.row c.in-Ok.place
+    (subst (λ state. IsAt state c.args.row.shown.key c.in-Ok.place) c.deref.ensures.value c.in-Ok.ensures.at)
 
 -- the key is there, so it has a place
 pub returns-in_default : goal.returns-in_default
 returns-in_default c =
     let key = c.args.row.shown.key in
-    let none = ap (row_at key) (sym c.deref.ensures.value) ∙ row_at-gap c.deref.result.now key c.in_default.field-0 c.in_default.ensures.gap in
+    let none =
+    ap (row_at key) (sym c.deref.ensures.value) ∙ row_at-gap c.deref.result.now key c.in_default.field-0 c.in_default.ensures.gap in
     absurd (true≢false (sym c.requires.there ∙ ap is_some none))

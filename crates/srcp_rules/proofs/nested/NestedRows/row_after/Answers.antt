@@ -23,7 +23,9 @@ loop-number-init c =
     record {
       can = tt;
       finite = tt;
-      each = subst (AllByRecursion (λ e. AreRowsOfBus e.0 e.1)) (sym is) (each-between (λ e. AreRowsOfBus e.0 e.1) from es c.self.invariant.each);
+      each =
+          subst (AllByRecursion (λ e. AreRowsOfBus e.0 e.1)) (sym is)
+          (each-between (λ e. AreRowsOfBus e.0 e.1) from es c.self.invariant.each);
       rest = sym (ap (λ (kept : Kept). row_after cursor kept.state) c.self.view_is)
           ∙ row_after-buses c.self.invariant cursor from c.first_bus.ensures
           ∙ ap (λ fs. row_after cursor (listed bus_rows fs)) (sym is);

@@ -91,7 +91,9 @@ returns-in-Fb-clause-bus c =
       power = are.power;
       locomotives = are.locomotives;
       accessories = are.accessories;
-      feedback = subst (AreOfGroup bus group.Fb) (sym c.set_in.ensures) (of_group-put_row bus group.Fb row c.args.self.now.feedback.items (refl, c.in-Fb.is) are.feedback);
+      feedback =
+          subst (AreOfGroup bus group.Fb) (sym c.set_in.ensures)
+          (of_group-put_row bus group.Fb row c.args.self.now.feedback.items (refl, c.in-Fb.is) are.feedback);
       locomotive_locks = are.locomotive_locks;
       accessory_locks = are.accessory_locks;
     }

@@ -12,7 +12,8 @@ returns-in-Ok g c =
     let inside = c.self.inside in
     let kept = c.args.self.now in
     let at : IsAt kept row.shown.key place = subst (λ state. IsAt state row.shown.key place) c.as_slice.ensures c.in-Ok.ensures.at in
-    let within : place < length (take inside.count inside.rows) = subst (λ (state : State). place < length state) (sym c.self.view_is) at.within in
+    let within : place < length (take inside.count inside.rows) =
+    subst (λ (state : State). place < length state) (sym c.self.view_is) at.within in
     take-set inside.count inside.rows place row within
     ∙ ap (λ (state : State). slice_set state place row) c.self.view_is
     ∙ set-put_row kept c.requires.rising row place at
@@ -21,5 +22,6 @@ returns-in-Ok g c =
 pub returns-in_default : goal.returns-in_default
 returns-in_default g c =
     let key = c.args.row.now.shown.key in
-    let none = ap (row_at key) (sym c.as_slice.ensures) ∙ row_at-gap c.as_slice.result.now key c.in_default.field-0 c.in_default.ensures.gap in
+    let none =
+    ap (row_at key) (sym c.as_slice.ensures) ∙ row_at-gap c.as_slice.result.now key c.in_default.field-0 c.in_default.ensures.gap in
     absurd (true≢false (sym c.requires.there ∙ ap is_some none))

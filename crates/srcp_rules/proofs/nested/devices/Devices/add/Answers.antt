@@ -21,6 +21,8 @@ returns-in-Ok-clause-devices g c =
     let of = AreOfDevice key.bus key.group in
     record {
       each = subst (AllByRecursion (λ e. of e.0 e.1)) (sym c.in-Ok.ensures.entries)
-          (each-insert_entry of key.address c.of-device.result (subst (of key.address) (sym c.of-device.ensures) c.requires.device) c.args.self.now.by_address.entries c.requires.devices.each);
+          (each-insert_entry of key.address c.of-device.result
+          (subst (of key.address)
+          (sym c.of-device.ensures) c.requires.device) c.args.self.now.by_address.entries c.requires.devices.each);
       sorted = c.insert.ensures.ordered;
     }
