@@ -1,5 +1,6 @@
 -- Laws of the rows with both indexes: what opening, setting, adding and dropping make of them.
-use Rattle.std.specs.Prelude.{◌≡◌, ℕ, ◌+◌, ◌-◌, ◌<◌, ◌≤◌, Bool, true, false, not, ◌&&◌, cond, nat_lt, is_some, IsTrue, IsSome, IfSome, List, [], ◌∷◌, length, map, filter, Option, Some, None, if◌then◌else◌}
+use Rattle.std.specs.Prelude.{◌≡◌, ℕ, ◌+◌, ◌-◌, ◌<◌, ◌≤◌, Bool, true, false, not, ◌&&◌, cond, nat_lt, is_some, IsTrue, IsSome, IfSome, List}
+use Rattle.std.specs.Prelude.{[], ◌∷◌, length, map, filter, Option, Some, None, if◌then◌else◌}
 use Rattle.std.specs.List.{AllByRecursion, range_with_len}
 use Rattle.std.specs.Ordering.{is_eq}
 use Rattle.std.specs.declared.cmp.Ordering.TheVariants.{Less}
@@ -20,7 +21,8 @@ use Rattle.srcp_info.proofs.ClientLaws.{all_append, all_filter, all_put, filter_
 use Rattle.srcp_info.proofs.KeyLaws.{owns-device_of, device_from_owns}
 use Rattle.srcp_rules.specs.declared.layout.Bus.{Bus}
 use Rattle.srcp_rules.specs.Layout.{IsLayout, row_count}
-use Rattle.srcp_rules.specs.State.{State, IsRising, IsRowOf, MayFall, row_at, key_at, put_row, without, opening, opening_on, first_row, power_device, fb_device, holder_of, holder_in}
+use Rattle.srcp_rules.specs.State.{State, IsRising, IsRowOf, MayFall, row_at, key_at, put_row, without, opening, opening_on, first_row}
+use Rattle.srcp_rules.specs.State.{power_device, fb_device, holder_of, holder_in}
 use Rattle.srcp_rules.specs.Rows.{AreNewRowsOf, put_rows}
 use Rattle.srcp_rules.proofs.KeyLaws.{same_key, same_key-itself, same_key-true}
 use Rattle.srcp_rules.proofs.FindLaws.{each-weaken}
@@ -30,7 +32,8 @@ use Rattle.srcp_rules.proofs.OpeningLaws.{opening_whole}
 use Rattle.srcp_index.specs.declared.indexes.Indexes.{Indexes}
 use Rattle.srcp_index.specs.Pairs.{Held, before}
 use Rattle.srcp_index.specs.Ranked.{ranked}
-use Rattle.srcp_index.specs.Indexed.{IsIndexed, HasPairs, HasRoom, IsRankedRow, due_of, goer, goers, may_go, may_rank, pairs_of, port_count, put_ranked, take_ranked, with_pair, without_pair, with_row, with_rows, without_row}
+use Rattle.srcp_index.specs.Indexed.{IsIndexed, HasPairs, HasRoom, IsRankedRow, due_of, goer, goers, may_go, may_rank, pairs_of, port_count}
+use Rattle.srcp_index.specs.Indexed.{put_ranked, take_ranked, with_pair, without_pair, with_row, with_rows, without_row}
 use Rattle.srcp_index.proofs.Pairs.{before_weak, before_tie}
 use Rattle.srcp_index.proofs.Ranked.{length-put, length-ranked, ranked-ranked}
 use Rattle.srcp_index.proofs.RowSums.{but_at, sum-put_row, sum-there}

@@ -1,5 +1,6 @@
 -- Laws of the least rank of pairs in the order since a moment, and of the rows whose pairs they are.
-use Rattle.std.specs.Prelude.{◌≡◌, ℕ, zero, suc, ◌<◌, ◌≤◌, Bool, true, false, cond, nat_le, nat_lt, min, slice_index_or, IfSome, List, [], ◌∷◌, ◌++◌, length, fold, take_while, Any, Option, Some, None}
+use Rattle.std.specs.Prelude.{◌≡◌, ℕ, zero, suc, ◌<◌, ◌≤◌, Bool, true, false, cond, nat_le, nat_lt, min, slice_index_or, IfSome, List, []}
+use Rattle.std.specs.Prelude.{◌∷◌, ◌++◌, length, fold, take_while, Any, Option, Some, None}
 use Rattle.std.specs.List.{AllByRecursion}
 use Rattle.std.specs.Option.{option_map_or}
 use Rattle.std.proofs.Common.{refl, sym, ap, subst, ◌∙◌, arith, ◌⊎◌, inl, inr, true≢false}

@@ -1,5 +1,6 @@
 -- Laws of an index that has the pairs of rows: a row is put, looked at or taken out, and the first that is sought is found.
-use Rattle.std.specs.Prelude.{◌≡◌, ℕ, ◌+◌, ◌≤◌, Bool, true, false, not, ◌&&◌, cond, nat_le, ◌==◌, IsTrue, IsSome, List, [], ◌∷◌, ◌++◌, length, find, Option, Some, None, option_map, option_and_then}
+use Rattle.std.specs.Prelude.{◌≡◌, ℕ, ◌+◌, ◌≤◌, Bool, true, false, not, ◌&&◌, cond, nat_le, ◌==◌, IsTrue, IsSome, List, [], ◌∷◌, ◌++◌}
+use Rattle.std.specs.Prelude.{length, find, Option, Some, None, option_map, option_and_then}
 use Rattle.std.specs.List.{AllByRecursion, sum_by}
 use Rattle.std.specs.Option.{option_map_or}
 use Rattle.std.specs.declared.cmp.Ordering.TheVariants.{Less, Greater}

@@ -1,5 +1,6 @@
 -- How indexes keep a pair of each row that has a rank: its due moment, or the session that holds it.
-use Rattle.std.specs.Prelude.{◌≡◌, ℕ, ◌<◌, ◌≤◌, Bool, true, false, IsTrue, IsSome, List, [], ◌∷◌, fold, flat_map, length, Option, if◌then◌else◌}
+use Rattle.std.specs.Prelude.{◌≡◌, ℕ, ◌<◌, ◌≤◌, Bool, true, false, IsTrue, IsSome, List, [], ◌∷◌, fold, flat_map}
+use Rattle.std.specs.Prelude.{length, Option, if◌then◌else◌}
 use Rattle.std.specs.List.{AllByRecursion, sum_by}
 use Rattle.std.specs.Option.{option_map_or}
 use Rattle.srcp_info.specs.declared.key.Group.{Group}
@@ -31,15 +32,24 @@ put_ranked since rank k pairs = option_map_or (λ r. put (before since) (record 
 
 -- the pairs without it
 abbrev pub take_ranked : (since : ℕ) → (rank : Option ℕ) → Key → List Pair → List Pair
-take_ranked since rank k pairs = option_map_or (λ r. taken (before since) (record { rank = r; key = k }) pairs) rank pairs
+take_ranked since rank k pairs =
+    option_map_or (λ r. taken (before since) (record { rank = r; key = k }) pairs) rank pairs
 
 -- the index with the pair of the key, if it has a rank
 abbrev pub with_pair : (rank : Option ℕ) → Key → Held → Held
-with_pair rank k index = record { since = index.since; pairs = put_ranked index.since rank k index.pairs; room = index.room }
+with_pair rank k index = record {
+  since = index.since;
+  pairs = put_ranked index.since rank k index.pairs;
+  room = index.room;
+}
 
 -- the index without it
 abbrev pub without_pair : (rank : Option ℕ) → Key → Held → Held
-without_pair rank k index = record { since = index.since; pairs = take_ranked index.since rank k index.pairs; room = index.room }
+without_pair rank k index = record {
+  since = index.since;
+  pairs = take_ranked index.since rank k index.pairs;
+  room = index.room;
+}
 
 -- the moment at which the row is due, if there is one
 abbrev pub due_of : Row → Option ℕ

@@ -9,7 +9,9 @@ use Rattle.srcp_index.specs.declared.index.Pair.{Pair}
 
 -- ranks up to `since` are alike, and pairs of like rank go by their keys
 abbrev pub order : (since : ℕ) → Pair → Pair → Ordering
-order since a b = ordering_then (nat_cmp (a.rank - since) (b.rank - since)) (ordering_then (key_cmp a.key b.key) (nat_cmp a.rank b.rank))
+order since a b =
+    ordering_then (nat_cmp (a.rank - since) (b.rank - since))
+    (ordering_then (key_cmp a.key b.key) (nat_cmp a.rank b.rank))
 
 abbrev pub before : (since : ℕ) → Pair → Pair → Bool
 before since a b = is_lt (order since a b)

@@ -1,5 +1,6 @@
 //! Pairs of a rank and a key in order, in memory that is reserved beforehand.
-ghost use Rattle.std.specs.Prelude.{◌≡◌, ◌+◌, ◌<◌, ◌≤◌, ◌==◌, [], length, take, drop, find, fold, min, nat_le, take_while, true, false, IsTrue, IfOk, OnOk, slice_get};
+ghost use Rattle.std.specs.Prelude.{◌≡◌, ◌+◌, ◌<◌, ◌≤◌, ◌==◌, [], length, take, drop, find, fold, min, nat_le};
+ghost use Rattle.std.specs.Prelude.{take_while, true, false, IsTrue, IfOk, OnOk, slice_get};
 ghost use Rattle.std.specs.VecDeque.{deque_len, deque_capacity};
 ghost use Rattle.std.specs.List.{AllByRecursion};
 ghost use Rattle.std.specs.List.Sorted.{IsPermutation};
@@ -71,7 +72,8 @@ fn take_from(pairs: &mut VecDeque<Pair>, since: u64, pair: Pair)
     }
 }
 
-/// Brings pairs in the order since one moment into that since another. Only those whose rank is up to the later of the two move.
+/// Brings pairs in the order since one moment into that since another. Only those
+/// whose rank is up to the later of the two move.
 fn arrange(pairs: &mut [Pair], since: u64, moment: u64)
     requires { IsRanked (before since) pairs.old }
     ensures { pairs.new ≡ ranked (before moment) pairs.old }
@@ -129,7 +131,8 @@ fn first_in(pairs: &VecDeque<Pair>, rank: u64) -> Option<Pair>
 
 /// Returns the least of this rank and those that have come. Their pairs are at the front, and it looks no further.
 fn least_come(pairs: &VecDeque<Pair>, since: u64, rank: u64) -> u64
-    ensures { result ≡ fold (λ least pair. min least pair.rank) rank (take_while (λ pair. nat_le pair.rank since) pairs.now.items) }
+    ensures { result
+        ≡ fold (λ least pair. min least pair.rank) rank (take_while (λ pair. nat_le pair.rank since) pairs.now.items) }
 {
     pairs
         .iter()

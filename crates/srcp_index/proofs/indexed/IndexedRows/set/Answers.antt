@@ -24,7 +24,8 @@ pub invariant_of-self : goal.invariant_of-self
 invariant_of-self g c =
     subst (λ state. IsIndexed state c.self.inside.indexes c.self.inside.count) (sym c.set.ensures.rows)
     (passed_by (g.R.Rows.buses c.args.self.now) (g.R.Rows.state c.self.inside.rows) c.self.inside.indexes c.self.inside.count
-    c.self.invariant c.args.row (subst (λ rows. IsTrue (has_row c.args.row.shown.key (g.R.Rows.state rows))) (sym c.self.view_is) c.requires.there)
+    c.self.invariant c.args.row
+    (subst (λ rows. IsTrue (has_row c.args.row.shown.key (g.R.Rows.state rows))) (sym c.self.view_is) c.requires.there)
     c.requires.fits (sym c.may_rank.ensures ∙ c.if-not-may_rank.true))
 
 pub invariant_of-self-2 : goal.invariant_of-self-2
