@@ -12,7 +12,8 @@ use Rattle.srcp_layout_file.specs.Output.{bus_line, group_words, port_words, pow
 after_spaces-append : (ws vs : List (List ℕ)) → after_spaces (ws ++ vs) ≡ after_spaces ws ++ after_spaces vs
 after_spaces-append ws vs = flat_map-append (λ v. 32 ∷ v) ws vs
 
-after_spaces-five : (a b c d e : List (List ℕ)) → after_spaces (a ++ b ++ c ++ d ++ e) ≡ after_spaces a ++ after_spaces b ++ after_spaces c ++ after_spaces d ++ after_spaces e
+after_spaces-five : (a b c d e : List (List ℕ))
+    → after_spaces (a ++ b ++ c ++ d ++ e) ≡ after_spaces a ++ after_spaces b ++ after_spaces c ++ after_spaces d ++ after_spaces e
 after_spaces-five a b c d e =
     after_spaces-append (a ++ b ++ c ++ d) e
     ∙ ap (λ front. front ++ after_spaces e) (after_spaces-append (a ++ b ++ c) d
@@ -24,15 +25,22 @@ regrouped t x a b c d e f = simp append_assoc
 
 -- a line of a word, a number, and words in five parts, behind a text
 spaced-parts : (text word number : List ℕ) (a b c d e : List (List ℕ)) → text ++ spaced (word ∷ number ∷ (a ++ b ++ c ++ d ++ e))
-    ≡ text ++ (word ++ (32 ∷ number)) ++ after_spaces a ++ after_spaces b ++ after_spaces c ++ after_spaces d ++ after_spaces e ++ codes "\n"
+    ≡ text ++ (word ++ (32 ∷ number)) ++ after_spaces a ++ after_spaces b ++ after_spaces c ++ after_spaces d ++ after_spaces e
+    ++ codes "\n"
 spaced-parts text word number a b c d e =
     let all : List (List ℕ) = a ++ b ++ c ++ d ++ e in
-    let words : join_with_byte 32 (word ∷ number ∷ all) ≡ (word ++ (32 ∷ number)) ++ after_spaces all = join-cons word (number ∷ all) ∙ sym (append_assoc word (32 ∷ number) (after_spaces all)) in
+    let words : join_with_byte 32 (word ∷ number ∷ all) ≡ (word ++ (32 ∷ number)) ++ after_spaces all =
+    join-cons word (number ∷ all) ∙ sym (append_assoc word (32 ∷ number) (after_spaces all)) in
     ap (λ line. text ++ (line ++ codes "\n")) (words ∙ ap (λ more. (word ++ (32 ∷ number)) ++ more) (after_spaces-five a b c d e))
-    ∙ regrouped text (word ++ (32 ∷ number)) (after_spaces a) (after_spaces b) (after_spaces c) (after_spaces d) (after_spaces e) (codes "\n")
+    ∙ regrouped text (word ++ (32 ∷ number)) (after_spaces a) (after_spaces b) (after_spaces c) (after_spaces d) (after_spaces e)
+    (codes "\n")
 
 -- the line of a bus behind a text, group by group
 pub bus_line-parts : (text : List ℕ) (bus : Bus) → text ++ bus_line bus
-    ≡ text ++ (codes "bus " ++ decimal bus.number) ++ after_spaces (power_words bus.power) ++ after_spaces (group_words (codes "GL") bus.gl_max)
-    ++ after_spaces (group_words (codes "GA") bus.ga_max) ++ after_spaces (port_words bus) ++ after_spaces (group_words (codes "FB") bus.fb_ports) ++ codes "\n"
-bus_line-parts text bus = spaced-parts text (codes "bus") (decimal bus.number) (power_words bus.power) (group_words (codes "GL") bus.gl_max) (group_words (codes "GA") bus.ga_max) (port_words bus) (group_words (codes "FB") bus.fb_ports)
+    ≡ text ++ (codes "bus " ++ decimal bus.number) ++ after_spaces (power_words bus.power)
+    ++ after_spaces (group_words (codes "GL") bus.gl_max)
+    ++ after_spaces (group_words (codes "GA") bus.ga_max) ++ after_spaces (port_words bus)
+    ++ after_spaces (group_words (codes "FB") bus.fb_ports) ++ codes "\n"
+bus_line-parts text bus =
+    spaced-parts text (codes "bus") (decimal bus.number) (power_words bus.power) (group_words (codes "GL") bus.gl_max)
+    (group_words (codes "GA") bus.ga_max) (port_words bus) (group_words (codes "FB") bus.fb_ports)

@@ -15,7 +15,9 @@ with_buses buses = member (codes "bus") (array buses) (member (codes "port") (in
 
 -- a bus with this number, these groups, and the sizes of them
 abbrev bus : (number gl_max : ℕ) (groups : Items) (ports : Members → Members) → Data
-bus number gl_max groups ports = table (member (codes "fb_ports") (integer (pos 2)) (member (codes "ga_max") (integer (pos 2044)) (ports (member (codes "gl_max") (integer (pos gl_max))
+bus number gl_max groups ports =
+    table (member (codes "fb_ports") (integer (pos 2))
+    (member (codes "ga_max") (integer (pos 2044)) (ports (member (codes "gl_max") (integer (pos gl_max))
     (member (codes "groups") (array groups) (member (codes "number") (integer (pos number)) no_members))))))
 
 abbrev four_groups : Items
@@ -27,10 +29,12 @@ four_ports members = member (codes "ga_ports") (integer (pos 4)) members
 abbrev whole_bus : (ports : ℕ) → Bus
 whole_bus ports = record { number = 1; power = true; gl_max = 10239; ga_max = 2044; ga_ports = ports; fb_ports = 2 }
 
-document_is_read : config_in (with_buses (item (bus 1 10239 four_groups (λ members. members)) no_items)) ≡ Ok (record { port = 4303; layout = whole_bus 2 ∷ [] })
+document_is_read : config_in (with_buses (item (bus 1 10239 four_groups (λ members. members)) no_items))
+    ≡ Ok (record { port = 4303; layout = whole_bus 2 ∷ [] })
 document_is_read = refl
 
-ports_are_read : config_in (with_buses (item (bus 1 10239 four_groups four_ports) no_items)) ≡ Ok (record { port = 4303; layout = whole_bus 4 ∷ [] })
+ports_are_read : config_in (with_buses (item (bus 1 10239 four_groups four_ports) no_items))
+    ≡ Ok (record { port = 4303; layout = whole_bus 4 ∷ [] })
 ports_are_read = refl
 
 bus_twice : config_in (with_buses (item (bus 1 5 no_items four_ports) (item (bus 1 5 no_items four_ports) no_items))) ≡ Err (config.Twice 1)
@@ -57,6 +61,7 @@ is_checked : checked (record { port = 4303; layout = whole_bus 2 ∷ [] }) ≡ c
 unfolding digits
 is_checked = refl
 
-is_checked_with_ports : checked (record { port = 4303; layout = whole_bus 4 ∷ [] }) ≡ codes "port 4303\nbus 1 POWER GL 10239 GA 2044 PORTS 4 FB 2\n"
+is_checked_with_ports : checked (record { port = 4303; layout = whole_bus 4 ∷ [] })
+    ≡ codes "port 4303\nbus 1 POWER GL 10239 GA 2044 PORTS 4 FB 2\n"
 unfolding digits
 is_checked_with_ports = refl

@@ -1,8 +1,8 @@
-//! The file that says which layout is served: it reads a TOML document into the port and the buses (`read_layout`), tells
-//! its first fault (`ConfigFault`), and prints what it says (`print_config`).
+//! The file that says which layout is served: it reads a TOML document into the port and the buses (`read_layout`),
+//! tells its first fault (`ConfigFault`), and prints what it says (`print_config`).
 //!
-//! It opens no file; its callers hand it bytes. It makes no registry of the layout, and knows no script, no connection and
-//! none of the program's words.
+//! It opens no file; its callers hand it bytes. It makes no registry of the layout, and knows
+//! no script, no connection and none of the program's words.
 #![tactic(auto)]
 
 mod config;
