@@ -41,14 +41,16 @@ fn a_locomotive_is_made_again(rt: HostRuntime) -> Result<(), Fail> {
                 1,
                 3000,
                 "INIT 1 GL 3 N 2 28 1",
-                "3.000 200 OK\n3.000 102 INFO 1 LOCK GL 3\n3.000 102 INFO 1 GL 3\n3.000 101 INFO 1 GL 3 N 2 28 1\n3.000 100 INFO 1 GL 3 1 0 0 0\n",
+                "3.000 200 OK\n3.000 102 INFO 1 LOCK GL 3\n3.000 102 INFO 1 GL 3\n3.000 101 INFO 1 GL 3 N 2 28 1\n\
+                 3.000 100 INFO 1 GL 3 1 0 0 0\n",
             ),
             (2, 4000, "INIT 1 GL 3 N 2 28 1", "4.000 200 OK\n"),
             (
                 2,
                 4000,
                 "INIT 1 GL 3 N 2 28 2",
-                "4.000 200 OK\n4.000 102 INFO 1 GL 3\n4.000 101 INFO 1 GL 3 N 2 28 2\n4.000 100 INFO 1 GL 3 1 0 0 0 0\n",
+                "4.000 200 OK\n4.000 102 INFO 1 GL 3\n4.000 101 INFO 1 GL 3 N 2 28 2\n\
+                 4.000 100 INFO 1 GL 3 1 0 0 0 0\n",
             ),
         ],
     )
@@ -82,7 +84,8 @@ fn an_accessory_is_made_again(rt: HostRuntime) -> Result<(), Fail> {
                 1,
                 3000,
                 "INIT 1 GA 5 M",
-                "3.000 200 OK\n3.000 102 INFO 1 LOCK GA 5\n3.000 102 INFO 1 GA 5\n3.000 101 INFO 1 GA 5 M\n3.000 100 INFO 1 GA 5 0 0\n3.000 100 INFO 1 GA 5 1 0\n",
+                "3.000 200 OK\n3.000 102 INFO 1 LOCK GA 5\n3.000 102 INFO 1 GA 5\n3.000 101 INFO 1 GA 5 M\n\
+                 3.000 100 INFO 1 GA 5 0 0\n3.000 100 INFO 1 GA 5 1 0\n",
             ),
         ],
     )

@@ -195,7 +195,8 @@ fn a_moment_brings_its_changes_in_key_order(rt: HostRuntime) -> Result<(), Fail>
                 0,
                 5000,
                 "now",
-                "5.000 100 INFO 1 GA 5 0 0\n5.000 100 INFO 1 GA 5 1 0\n5.000 102 INFO 1 LOCK GL 3\n5.000 102 INFO 1 LOCK GA 5\n",
+                "5.000 100 INFO 1 GA 5 0 0\n5.000 100 INFO 1 GA 5 1 0\n5.000 102 INFO 1 LOCK GL 3\n\
+                 5.000 102 INFO 1 LOCK GA 5\n",
             ),
         ],
     )
@@ -213,13 +214,15 @@ fn no_end_lies_beyond_the_greatest_moment(rt: HostRuntime) -> Result<(), Fail> {
                 1,
                 18446744073709551615,
                 "INIT 1 GL 3 N 1 28 0",
-                "18446744073709551.615 200 OK\n18446744073709551.615 101 INFO 1 GL 3 N 1 28 0\n18446744073709551.615 100 INFO 1 GL 3 1 0 0\n",
+                "18446744073709551.615 200 OK\n18446744073709551.615 101 INFO 1 GL 3 N 1 28 0\n\
+                 18446744073709551.615 100 INFO 1 GL 3 1 0 0\n",
             ),
             (
                 1,
                 18446744073709551615,
                 "INIT 1 GA 5 N",
-                "18446744073709551.615 200 OK\n18446744073709551.615 101 INFO 1 GA 5 N\n18446744073709551.615 100 INFO 1 GA 5 0 0\n18446744073709551.615 100 INFO 1 GA 5 1 0\n",
+                "18446744073709551.615 200 OK\n18446744073709551.615 101 INFO 1 GA 5 N\n\
+                 18446744073709551.615 100 INFO 1 GA 5 0 0\n18446744073709551.615 100 INFO 1 GA 5 1 0\n",
             ),
             (
                 1,

@@ -36,7 +36,8 @@ fn an_accessory_has_the_ports_of_its_bus(rt: HostRuntime) -> Result<(), Fail> {
                 1,
                 0,
                 "INIT 2 GA 9 N",
-                "0.000 200 OK\n0.000 101 INFO 2 GA 9 N\n0.000 100 INFO 2 GA 9 0 0\n0.000 100 INFO 2 GA 9 1 0\n0.000 100 INFO 2 GA 9 2 0\n0.000 100 INFO 2 GA 9 3 0\n",
+                "0.000 200 OK\n0.000 101 INFO 2 GA 9 N\n0.000 100 INFO 2 GA 9 0 0\n0.000 100 INFO 2 GA 9 1 0\n\
+                 0.000 100 INFO 2 GA 9 2 0\n0.000 100 INFO 2 GA 9 3 0\n",
             ),
             (
                 1,
@@ -49,7 +50,9 @@ fn an_accessory_has_the_ports_of_its_bus(rt: HostRuntime) -> Result<(), Fail> {
                 1,
                 0,
                 "INIT 3 GA 9 N",
-                "0.000 200 OK\n0.000 101 INFO 3 GA 9 N\n0.000 100 INFO 3 GA 9 0 0\n0.000 100 INFO 3 GA 9 1 0\n0.000 100 INFO 3 GA 9 2 0\n0.000 100 INFO 3 GA 9 3 0\n0.000 100 INFO 3 GA 9 4 0\n0.000 100 INFO 3 GA 9 5 0\n0.000 100 INFO 3 GA 9 6 0\n0.000 100 INFO 3 GA 9 7 0\n",
+                "0.000 200 OK\n0.000 101 INFO 3 GA 9 N\n0.000 100 INFO 3 GA 9 0 0\n0.000 100 INFO 3 GA 9 1 0\n\
+                 0.000 100 INFO 3 GA 9 2 0\n0.000 100 INFO 3 GA 9 3 0\n0.000 100 INFO 3 GA 9 4 0\n\
+                 0.000 100 INFO 3 GA 9 5 0\n0.000 100 INFO 3 GA 9 6 0\n0.000 100 INFO 3 GA 9 7 0\n",
             ),
             (
                 1,

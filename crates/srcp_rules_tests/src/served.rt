@@ -48,7 +48,8 @@ impl Model for Served {
 
     ghost view = { λ s. s.flat };
 
-    ghost invariant = { λ s. IsLayout s.layout × ((s.flat.buses ≡ s.layout) × IsWhole s.flat.buses s.flat.state) × ((s.nested.buses ≡ s.layout) × IsWhole s.nested.buses s.nested.state) };
+    ghost invariant = { λ s. IsLayout s.layout × ((s.flat.buses ≡ s.layout) × IsWhole s.flat.buses s.flat.state)
+        × ((s.nested.buses ≡ s.layout) × IsWhole s.nested.buses s.nested.state) };
 }
 
 impl Served {

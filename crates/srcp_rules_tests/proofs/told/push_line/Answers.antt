@@ -4,4 +4,5 @@ use Rattle.srcp_rules.specs.Command.{IsCommandOf}
 use Rattle.srcp_rules_tests.proofs.told.push_line.Goals as goal
 
 pub obey-obeyed-requires-clause-command : goal.obey-obeyed-requires-clause-command
-obey-obeyed-requires-clause-command g c = subst (λ (buses : List Bus). IsCommandOf buses c.in-Ok.command) (sym c.requires.same) c.in-Ok.ensures.fits
+obey-obeyed-requires-clause-command g c =
+    subst (λ (buses : List Bus). IsCommandOf buses c.in-Ok.command) (sym c.requires.same) c.in-Ok.ensures.fits
