@@ -1,5 +1,6 @@
 -- What an information session is still to be given, and what becomes of a change that it is told.
-use Rattle.std.specs.Prelude.{◌≡◌, ◌⊎◌, ℕ, Bool, not, ◌&&◌, List, [], ◌∷◌, ◌++◌, map, drop, length, nat_lt, if◌then◌else◌}
+use Rattle.std.specs.Prelude.{◌≡◌, ◌⊎◌, ℕ, Bool, not, ◌&&◌, List, [], ◌∷◌, ◌++◌, map, drop, length, nat_lt}
+use Rattle.std.specs.Prelude.{if◌then◌else◌}
 use Rattle.srcp_info.specs.Client.{client}
 use Rattle.srcp_info.specs.Line.{line}
 use Rattle.srcp_info.specs.declared.change.Change.{Change}
@@ -33,7 +34,9 @@ told_answer change feed = if concerns feed.cursor change then (if is_full feed t
 
 -- the feed after it was told the change
 abbrev pub told : Change → Feed → Feed
-told change feed = if concerns feed.cursor change && not (is_full feed) then record feed { queue = feed.queue ++ change ∷ [] } else feed
+told change feed =
+    if concerns feed.cursor change && not (is_full feed) then record feed { queue = feed.queue ++ change ∷ [] }
+    else feed
 
 -- ---- what is given
 

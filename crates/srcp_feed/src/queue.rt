@@ -1,6 +1,7 @@
 //! The changes that wait for one information session.
 
-ghost use Rattle.std.specs.Prelude.{◌≡◌, ◌<◌, ◌≤◌, [], ◌∷◌, ◌++◌, IfOk, drop, length, nat_lt, not, option_copied, slice_get};
+ghost use Rattle.std.specs.Prelude.{◌≡◌, ◌<◌, ◌≤◌, [], ◌∷◌, ◌++◌, IfOk, drop, length, nat_lt, not, option_copied};
+ghost use Rattle.std.specs.Prelude.{slice_get};
 
 use crate::ChangeLine;
 use circular_buffer::HeapCircularBuffer;
@@ -11,12 +12,13 @@ use std::marker::Model;
 /// How many changes may wait for one session. SRCP 0.8 has no such limit.
 pub const MOST_WAITING: usize = 256;
 
-/// The changes that wait, in the order in which they came, each with its line. Contracts see it as the list of the changes.
+/// The changes that wait, in the order in which they came, each with its line.
+/// Contracts see it as the list of the changes.
 #[derive(Drop)]
 pub(crate) struct Queue {
     ring: HeapCircularBuffer<ChangeLine>,
-    // How many in front of the ring wait no more. They leave it together, once no other waits: it then begins again at the
-    // same place, which is still in the processor's cache.
+    // How many in front of the ring wait no more. They leave it together, once no other waits: it then begins again at
+    // the same place, which is still in the processor's cache.
     taken: usize,
 }
 
@@ -29,7 +31,8 @@ impl Model for Queue {
 
     ghost view = { λ q. drop q.taken q.ring.items };
 
-    ghost invariant = { λ q. (q.ring.capacity ≡ MOST_WAITING) × (length q.ring.items ≤ MOST_WAITING) × (q.taken ≤ length q.ring.items) };
+    ghost invariant = { λ q. (q.ring.capacity ≡ MOST_WAITING) × (length q.ring.items ≤ MOST_WAITING)
+        × (q.taken ≤ length q.ring.items) };
 }
 
 impl Queue {
