@@ -1,5 +1,6 @@
 -- The model of the code: what the answers of a core's calls say of the course that it stands for.
-use Rattle.std.specs.Prelude.{◌≡◌, ℕ, ◌+◌, ◌≤◌, Bool, true, false, not, ◌&&◌, ◌||◌, nat_le, if◌then◌else◌, List, [], ◌∷◌, ◌++◌, length, Option, Some, None, is_some, count_by}
+use Rattle.std.specs.Prelude.{◌≡◌, ℕ, ◌+◌, ◌≤◌, Bool, true, false, not, ◌&&◌, ◌||◌, nat_le, if◌then◌else◌, List, []}
+use Rattle.std.specs.Prelude.{◌∷◌, ◌++◌, length, Option, Some, None, is_some, count_by}
 use Rattle.std.specs.Option.{option_map_or}
 use Rattle.srcp_rules.specs.declared.layout.Bus.{Bus}
 use Rattle.srcp_rules.specs.Layout.{IsLayout}
@@ -48,8 +49,8 @@ module _ (buses : List Bus) where
   abbrev pub lent : World → ℕ → List ℕ
   lent w n = option_map_or (lent_of w) (open_connection w n) []
 
-  -- nothing is lent of a connection: it overran, or all its replies are taken and, where it is an information session, it is
-  -- settled
+  -- nothing is lent of a connection: it overran, or all its replies are taken and,
+  -- where it is an information session, it is settled
   abbrev pub lends_none_of : World → Connection → Bool
   lends_none_of w conn =
       overran conn (history buses w)

@@ -1,5 +1,7 @@
--- The model of the code: what a core's calls make of the course that it stands for, by the equations that they promise and no more.
-use Rattle.std.specs.Prelude.{◌≡◌, ℕ, ◌<◌, ◌≤◌, true, false, List, [], ◌∷◌, ◌++◌, map, length, Option, Some, None, is_none, IsSome}
+-- The model of the code: what a core's calls make of the course that it stands for,
+-- by the equations that they promise and no more.
+use Rattle.std.specs.Prelude.{◌≡◌, ℕ, ◌<◌, ◌≤◌, true, false, List, [], ◌∷◌, ◌++◌, map, length, Option, Some, None}
+use Rattle.std.specs.Prelude.{is_none, IsSome}
 use Rattle.srcp_info.specs.declared.limits.TheConstants.{LONGEST_LINE}
 use Rattle.srcp_rules.specs.declared.layout.Bus.{Bus}
 use Rattle.srcp_core.specs.Agrees.{OfCourse, OfConnection, NamesNewest, CountsOpen, TakesPieces, replies_taken}
@@ -18,25 +20,30 @@ use Rattle.srcp_core.specs.Stands.{StandsFor}
 use Rattle.srcp_core.specs.Under.{Open, Bytes, Room, At, Shut, Piece}
 use Rattle.srcp_core.specs.declared.record.CoreFault.{CoreFault}
 
--- as it begins, a core stands for no events; where it stands for the course of any events, it stands after a call for that with
--- the call's event, under what memory answered
+-- as it begins, a core stands for no events; where it stands for the course of any events, it stands after a call
+-- for that with the call's event, under what memory answered
 pub record CallsLead : Type 0 where
-  pub first : (buses : List Bus) (held : Held) → held ≡ opening_held buses 0 0 → StandsFor buses [] held (course buses [])
+  pub first : (buses : List Bus) (held : Held) → held ≡ opening_held buses 0 0
+      → StandsFor buses [] held (course buses [])
   pub moment : (moment : ℕ) (old new : Held) → new ≡ advanced moment old → LeadsTo (At moment) old new
   pub opened : (key : ℕ) (old new : Held) → IsAdmitted key old new → LeadsToOpen key old new
   pub not_opened : (cause : CoreFault) (old new : Held) → IsNotAdmitted cause old new → LeadsTo (Open false) old new
-  pub accepted : (key : ℕ) (piece : List ℕ) (old new : Held) → bytes_fault key piece old ≡ None → IsReceived key piece old new
+  pub accepted : (key : ℕ) (piece : List ℕ) (old new : Held) → bytes_fault key piece old ≡ None
+      → IsReceived key piece old new
       → LeadsOn key piece old new
   pub refused : (key : ℕ) (piece : List ℕ) (old new : Held) (cause : CoreFault) → bytes_fault key piece old ≡ Some cause
       → new ≡ old → LeadsOn key piece old new
   pub lent : (key : ℕ) (held : Held) → LeadsAt key (λ n. Room n 0) held (let_out key held)
-  pub sent : (key count : ℕ) (old new : Held) → count ≤ length (unsent_at key old) → new ≡ changed_at key (without_sent count) old
+  pub sent : (key count : ℕ) (old new : Held) → count ≤ length (unsent_at key old)
+      → new ≡ changed_at key (without_sent count) old
       → 0 < count → LeadsAt key (λ n. Room n count) old new
   -- where no bytes were sent, nothing changes
-  pub none_sent : (key count : ℕ) (old new : Held) → new ≡ changed_at key (without_sent count) old → count ≡ 0 → new ≡ old
+  pub none_sent : (key count : ℕ) (old new : Held) → new ≡ changed_at key (without_sent count) old → count ≡ 0
+      → new ≡ old
   -- of bytes that were just lent, lending and sending are one event, for no bytes too
   pub lent_and_sent : (key count : ℕ) (old new held : Held) → count ≤ length (unsent_at key old)
-      → new ≡ changed_at key (without_sent count) old → old ≡ let_out key held → LeadsAt key (λ n. Room n count) held new
+      → new ≡ changed_at key (without_sent count) old → old ≡ let_out key held
+      → LeadsAt key (λ n. Room n count) held new
   pub shut : (key : ℕ) (old new : Held) → new ≡ hung_up key old → LeadsToFree key old new
 
 -- what is held says what the course says
@@ -49,7 +56,8 @@ pub record CallsAgree : Type 0 where
   pub counted : (held : Held) → CountsOpen held
   pub there : (key : ℕ) (held : Held) → OfConnection key held (λ buses events n. IsSome (at held key))
   pub bytes : (key : ℕ) (piece : Piece) (held : Held)
-      → OfConnection key held (λ buses events n. bytes_fault key piece.bytes held ≡ fault buses (course buses events) (Bytes n piece))
+      → OfConnection key held
+      (λ buses events n. bytes_fault key piece.bytes held ≡ fault buses (course buses events) (Bytes n piece))
   pub takes : (key : ℕ) (held : Held) → is_none (bytes_fault key [] held) ≡ true
       → OfConnection key held (λ buses events n. TakesPieces buses (course buses events) n)
   pub closes : (key : ℕ) (held : Held)
@@ -65,7 +73,8 @@ pub record CallsAgree : Type 0 where
       → OfConnection key held
       (λ buses events n. AllMoments events → replies_taken buses (course buses events) n ≡ true
       → length (unsent_at key (let_out key held)) ≤ LONGEST_LINE)
-  pub shuts : (key : ℕ) (held : Held) → OfConnection key held (λ buses events n. fault buses (course buses events) (Shut n) ≡ None)
+  pub shuts : (key : ℕ) (held : Held)
+      → OfConnection key held (λ buses events n. fault buses (course buses events) (Shut n) ≡ None)
   -- how many more changes may come upon each information session, and when something falls due next
   pub slack : (held : Held)
       → OfCourse held (λ buses events. least (map slack_at held.places) ≡ slack_in_course buses (course buses events))

@@ -1,5 +1,7 @@
--- The model of the code: what is seen of a core: the registry, and a place for each connection. The key of a connection is the index of its place.
-use Rattle.std.specs.Prelude.{◌≡◌, ℕ, ◌<◌, ◌≤◌, Bool, true, false, List, Option, Some, None, is_some, count_by, slice_index_or}
+-- The model of the code: what is seen of a core: the registry, and a place for each
+-- connection. The key of a connection is the index of its place.
+use Rattle.std.specs.Prelude.{◌≡◌, ℕ, ◌<◌, ◌≤◌, Bool, true, false, List, Option, Some, None, is_some, count_by}
+use Rattle.std.specs.Prelude.{slice_index_or}
 use Rattle.srcp_info.specs.WellFormed.{IsMoment}
 use Rattle.srcp_info.specs.declared.value.Mode.{Mode}
 use Rattle.srcp_text.specs.Reading.{Reading}

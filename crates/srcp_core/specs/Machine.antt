@@ -1,5 +1,7 @@
 -- The model of the code: what each call makes of what is held.
-use Rattle.std.specs.Prelude.{⊤, ◌≡◌, ◌≢◌, ℕ, zero, suc, ◌+◌, ◌-◌, ◌*◌, ◌<◌, ◌≤◌, min, max, Bool, true, false, not, ◌&&◌, ◌||◌, ◌==◌, if◌then◌else◌, List, [], ◌∷◌, ◌++◌, map, drop, length, fold, nat_lt, slice_set, Option, Some, None, Result, Ok, Err}
+use Rattle.std.specs.Prelude.{⊤, ◌≡◌, ◌≢◌, ℕ, zero, suc, ◌+◌, ◌-◌, ◌*◌, ◌<◌, ◌≤◌, min, max, Bool, true, false, not}
+use Rattle.std.specs.Prelude.{◌&&◌, ◌||◌, ◌==◌, if◌then◌else◌, List, [], ◌∷◌, ◌++◌, map, drop, length, fold, nat_lt}
+use Rattle.std.specs.Prelude.{slice_set, Option, Some, None, Result, Ok, Err}
 use Rattle.std.specs.Option.{option_map, option_to_list}
 use Rattle.srcp_info.specs.Line.{reply_line}
 use Rattle.srcp_info.specs.WellFormed.{IsWellFormed}
@@ -41,13 +43,21 @@ use Rattle.srcp_core.specs.declared.record.Step.TheVariants.{Obeyed, Began, Ende
 use Rattle.srcp_core.specs.declared.record.Finish.{Finish}
 use Rattle.srcp_core.specs.declared.record.Finish.TheVariants.{Live, Closing as Finishes, Overrun, Shut}
 use Rattle.srcp_core.specs.declared.record.CoreFault.{CoreFault}
-use Rattle.srcp_core.specs.declared.record.CoreFault.TheVariants.{Full, Memory as MemoryFault, NoSuch, Busy, PieceTooLong, Closing}
+use Rattle.srcp_core.specs.declared.record.CoreFault.TheVariants.{Full, Memory as MemoryFault, NoSuch, Busy}
+use Rattle.srcp_core.specs.declared.record.CoreFault.TheVariants.{PieceTooLong, Closing}
 
 -- ---- one place
 
 -- a connection that was just opened
 abbrev pub fresh_place : Place
-fresh_place = record { reader = nothing_read; mode = CommandMode; session = 0; ended = false; unsent = welcome; panel = Absent }
+fresh_place = record {
+  reader = nothing_read;
+  mode = CommandMode;
+  session = 0;
+  ended = false;
+  unsent = welcome;
+  panel = Absent;
+}
 
 -- more bytes are to be sent
 abbrev pub with_unsent : List ℕ → Place → Place
@@ -103,7 +113,10 @@ entered_place id panel p = record p { session = id; panel = panel }
 -- a change is told: what waits, the listing and the unsent bytes are given up where it would have to wait and can not
 abbrev pub told_feed : Change → Place → Option Feed → Place
 told_feed change p None = p
-told_feed change p (Some feed) = if concerns feed.cursor change && is_full feed then record p { unsent = []; panel = Overran } else record p { panel = Listening (told change feed) }
+told_feed change p (Some feed) =
+    if concerns feed.cursor change && is_full feed then record p { unsent = []; panel = Overran } else record p {
+      panel = Listening (told change feed);
+    }
 
 -- and by the feed that the connection has
 abbrev pub told_place : Change → Place → Place
@@ -113,7 +126,10 @@ told_place change p = told_feed change p (feed_in p.panel)
 abbrev pub filled_from : List Shown → Place → List ℕ → Option Feed → Place
 filled_from rows p (byte ∷ bytes) feed = p
 filled_from rows p [] None = p
-filled_from rows p [] (Some feed) = record p { unsent = line_of (next_of rows feed); panel = Listening (after_next rows feed) }
+filled_from rows p [] (Some feed) = record p {
+  unsent = line_of (next_of rows feed);
+  panel = Listening (after_next rows feed);
+}
 
 -- and by the unsent bytes and the feed that the connection has
 abbrev pub filled : List Shown → Place → Place
@@ -141,12 +157,15 @@ IsTellable Settled = ⊤
 
 -- what a line asks for, by how its connection stands; what comes to an information session or after the end is dropped
 abbrev pub asked_of : List Bus → Place → Mark → Asked
-asked_of buses p mark = if is_panel p.panel || p.ended then Dropped else (if p.session == 0 then Greets p.mode (greets mark) else Commands p.session (command_of buses mark))
+asked_of buses p mark =
+    if is_panel p.panel || p.ended then Dropped
+    else (if p.session == 0 then Greets p.mode (greets mark) else Commands p.session (command_of buses mark))
 
 -- what the reader found: the offset after the line and what it asks for, or nothing
 abbrev pub heard_from : List Bus → Place → Fed × Reading → Option (ℕ × Asked) × Place
 heard_from buses p (More, reading) = (None, record p { reader = reading })
-heard_from buses p (FoundLine stop, reading) = (Some (stop, asked_of buses p (Line reading.line)), record p { reader = reading })
+heard_from buses p (FoundLine stop, reading) =
+    (Some (stop, asked_of buses p (Line reading.line)), record p { reader = reading })
 heard_from buses p (FoundTooLong stop, reading) = (Some (stop, asked_of buses p TooLong), record p { reader = reading })
 
 -- the piece is read on from there by the reader of the connection
@@ -193,7 +212,10 @@ told_each changes places = fold (λ told change. told_all change told) places ch
 
 -- updates are made of the registry, and every connection is told them
 abbrev pub carried : List Update → Held → Held
-carried updates held = record held { rows = updated_all updates held.rows; places = told_each (map (λ update. update.change) updates) held.places }
+carried updates held = record held {
+  rows = updated_all updates held.rows;
+  places = told_each (map (λ update. update.change) updates) held.places;
+}
 
 -- the bytes to be sent of a place
 abbrev pub unsent_of : Option Place → List ℕ
@@ -220,19 +242,23 @@ denied_line key held = replied key (Refused C500) (one_denied held)
 
 -- a session begins under the id: its row is told to all, and then it is one of them
 abbrev pub session_begun : ℕ → ℕ → Mode → Held → Held
-session_begun key id mode held = changed_at key (entered_place id (panel_for mode)) (carried (began id held.moment mode ∷ []) (record held { last_id = id }))
+session_begun key id mode held =
+    changed_at key (entered_place id (panel_for mode))
+    (carried (began id held.moment mode ∷ []) (record held { last_id = id }))
 
 -- GO, by whether memory was given to it
 abbrev pub goes : Bool → ℕ → Mode → Held → Held
 goes granted key mode held =
     if nat_lt held.last_id 4294967295
-    then (if granted then replied key (Go (held.last_id + 1)) (session_begun key (held.last_id + 1) mode held) else denied_line key held)
+    then (if granted then replied key (Go (held.last_id + 1)) (session_begun key (held.last_id + 1) mode held)
+    else denied_line key held)
     else replied key (Refused C500) held
 
 -- a line before the session, by whether memory was given to it
 abbrev pub greeted : Bool → ℕ → Mode → Greeting → Held → Held
 greeted granted key mode Speaks held = replied key Protocol held
-greeted granted key mode (Chooses chosen) held = replied key ModeReply (changed_at key (λ p. record p { mode = chosen }) held)
+greeted granted key mode (Chooses chosen) held =
+    replied key ModeReply (changed_at key (λ p. record p { mode = chosen }) held)
 greeted granted key mode Goes held = goes granted key mode held
 greeted granted key mode (Refuses code) held = replied key (Refused code) held
 
@@ -242,17 +268,20 @@ freed_of session held = carried (freed held.rows session held.moment) held
 
 -- the session ends where its own command ends it
 abbrev pub finished : Bool → ℕ → ℕ → Held → Held
-finished ends key session held = if ends then freed_of session (changed_at key (λ p. record p { ended = true }) held) else held
+finished ends key session held =
+    if ends then freed_of session (changed_at key (λ p. record p { ended = true }) held) else held
 
 -- a command is carried out and replied to, and may end its session
 abbrev pub obeyed : ℕ → ℕ → Effect → Held → Held
-obeyed key session result held = finished result.ends key session (replied key result.reply (carried result.updates held))
+obeyed key session result held =
+    finished result.ends key session (replied key result.reply (carried result.updates held))
 
 -- a command, by whether memory was given to it, where it wants memory
 abbrev pub commanded : Bool → ℕ → ℕ → Result Command Code → Held → Held
 commanded granted key session (Err code) held = replied key (Refused code) held
 commanded granted key session (Ok command) held =
-    if granted || not (wants_memory held.rows session held.moment command) then obeyed key session (effect held.rows session held.moment command) held else denied_line key held
+    if granted || not (wants_memory held.rows session held.moment command)
+    then obeyed key session (effect held.rows session held.moment command) held else denied_line key held
 
 -- a line is answered, by whether memory was given to it
 abbrev pub answered : Bool → ℕ → Asked → Held → Held
@@ -268,7 +297,8 @@ steps_in line = option_to_list line.step ++ option_to_list line.end
 
 -- the steps of GO: the beginning of a session, where an id is left and memory was given
 abbrev pub steps_gone : Bool → Mode → Held → List Step
-steps_gone granted mode held = if nat_lt held.last_id 4294967295 && granted then Began (held.last_id + 1) held.moment mode ∷ [] else []
+steps_gone granted mode held =
+    if nat_lt held.last_id 4294967295 && granted then Began (held.last_id + 1) held.moment mode ∷ [] else []
 
 -- the steps of a line before the session
 abbrev pub steps_greeted : Bool → Mode → Greeting → Held → List Step
@@ -281,7 +311,10 @@ steps_greeted granted mode (Refuses code) held = []
 abbrev pub steps_commanded : Bool → ℕ → Result Command Code → Held → List Step
 steps_commanded granted session (Err code) held = []
 steps_commanded granted session (Ok command) held =
-    Obeyed session held.moment command ∷ (if (granted || not (wants_memory held.rows session held.moment command)) && (effect held.rows session held.moment command).ends then Ended session held.moment ∷ [] else [])
+    Obeyed session held.moment command
+    ∷ (if (granted || not (wants_memory held.rows session held.moment command))
+    && (effect held.rows session held.moment command).ends
+    then Ended session held.moment ∷ [] else [])
 
 -- the steps of a line
 abbrev pub steps_answered : Bool → Asked → Held → List Step
@@ -340,17 +373,21 @@ pub record IsAsked (key : ℕ) (asked : Asked) (held : Held) : Type 0 where
   pub here : at held key ≡ Some place
   pub is : asked ≡ asked_of held.buses place mark
 
--- a piece is read on from that offset: the offset after the next line with what that asks for, or nothing where none ends
+-- a piece is read on from that offset: the offset after the next line with what that
+-- asks for, or nothing where none ends
 abbrev pub heard_in : ℕ → List ℕ → ℕ → Held → Option Place → Option (ℕ × Asked) × Held
 heard_in key piece start held None = (None, held)
-heard_in key piece start held (Some p) =
-    ((heard held.buses piece start p).0, record held { places = slice_set held.places key (Some (heard held.buses piece start p).1) })
+heard_in key piece start held (Some p) = (
+  (heard held.buses piece start p).0,
+  record held { places = slice_set held.places key (Some (heard held.buses piece start p).1) },
+)
 
 -- the same, by the connection that is there
 abbrev pub heard_at : ℕ → List ℕ → ℕ → Held → Option (ℕ × Asked) × Held
 heard_at key piece start held = heard_in key piece start held (at held key)
 
--- the next line is answered, by whether memory was given to it, and the offset after it is where to go on; nothing where none ends
+-- the next line is answered, by whether memory was given to it, and the offset after
+-- it is where to go on; nothing where none ends
 abbrev pub line_answered : ℕ → Bool → ℕ × Held → Option (ℕ × Asked) × Held → ℕ × Held
 line_answered key granted before (None, held) = before
 line_answered key granted before (Some (stop, asked), held) = (stop, answered granted key asked held)
@@ -362,7 +399,8 @@ steps_of_line granted (Some (stop, asked), held) = steps_answered granted asked 
 
 -- lines of the piece are answered in turn, each by whether memory was given to it
 abbrev pub lines_answered : ℕ → List ℕ → List Bool → Held → ℕ × Held
-lines_answered key piece grants held = fold (λ before granted. line_answered key granted before (heard_at key piece before.0 before.1)) (0, held) grants
+lines_answered key piece grants held =
+    fold (λ before granted. line_answered key granted before (heard_at key piece before.0 before.1)) (0, held) grants
 
 -- the lines up to an offset in the piece are answered: how many bytes are unsent then, and that no line has begun
 pub record HasRoom (key : ℕ) (piece : List ℕ) (start : ℕ) (held : Held) : Type 0 where
@@ -383,14 +421,17 @@ pub record IsLineAnswered (key : ℕ) (piece : List ℕ) (start stop : ℕ) (did
 abbrev pub CountsEach : ℕ → List ℕ → ℕ × Held → List Bool → Type 0
 CountsEach key piece before [] = ⊤
 CountsEach key piece before (granted ∷ grants) =
-    ((line_answered key granted before (heard_at key piece before.0 before.1)).1.denied ≡ denied_by before.1.denied (granted ∷ []))
+    ((line_answered key granted before (heard_at key piece before.0 before.1)).1.denied
+    ≡ denied_by before.1.denied (granted ∷ []))
     × CountsEach key piece (line_answered key granted before (heard_at key piece before.0 before.1)) grants
 
--- each line that ends in the piece is answered in turn, by whether memory was given to it, and then the front of a line is left
+-- each line that ends in the piece is answered in turn, by whether memory was given
+-- to it, and then the front of a line is left
 pub record IsReceived (key : ℕ) (piece : List ℕ) (old new : Held) : Type 0 where
   pub grants : List Bool
   pub counted : CountsEach key piece (0, old) grants
-  pub rest : (None, new) ≡ heard_at key piece (lines_answered key piece grants old).0 (lines_answered key piece grants old).1
+  pub rest : (None, new)
+      ≡ heard_at key piece (lines_answered key piece grants old).0 (lines_answered key piece grants old).1
 
 -- the session of a connection, where it has one that did not end
 abbrev pub live_session_of : Option Place → Option ℕ
@@ -430,7 +471,8 @@ freed_place key held = record held { places = slice_set held.places key None }
 -- a connection is hung up, by what is there
 abbrev pub hung_up_from : ℕ → Held → Option Place → Held
 hung_up_from key held None = held
-hung_up_from key held (Some p) = if (p.session == 0) || p.ended then freed_place key held else freed_of p.session (freed_place key held)
+hung_up_from key held (Some p) =
+    if (p.session == 0) || p.ended then freed_place key held else freed_of p.session (freed_place key held)
 
 -- the connection of that key is hung up
 abbrev pub hung_up : ℕ → Held → Held

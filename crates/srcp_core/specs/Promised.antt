@@ -5,7 +5,8 @@ use Rattle.srcp_rules.specs.declared.layout.Bus.{Bus}
 use Rattle.srcp_rules.specs.State.{IsWhole}
 use Rattle.srcp_core.specs.Connection.{Connection, recorded}
 use Rattle.srcp_core.specs.Course.{start, course, history, numbered, denied_over}
-use Rattle.srcp_core.specs.Laws.{IsRecordOf, IsSession, IsListedRightly, IsHeldRightly, IsServedRightly, IsSentNoMoreSince, IsWholeWorld, KeepsKeys}
+use Rattle.srcp_core.specs.Laws.{IsRecordOf, IsSession, IsListedRightly, IsHeldRightly, IsServedRightly}
+use Rattle.srcp_core.specs.Laws.{IsSentNoMoreSince, IsWholeWorld, KeepsKeys}
 use Rattle.srcp_core.specs.Under.{Event, all_under, denied_by}
 use Rattle.srcp_core.specs.declared.event.Event.{Event as PlainEvent}
 use Rattle.srcp_core.specs.declared.record.ConnRecord.{ConnRecord}
@@ -20,8 +21,8 @@ module _ (buses : List Bus) where
     pub listed : IsListedRightly buses (course buses events) conn
     pub held : IsHeldRightly buses events number conn
 
-  -- what is told of any connection is what came of a connection of the course, which was served rightly, and was sent nothing
-  -- after an overrun or a shut
+  -- what is told of any connection is what came of a connection of the course, which was served
+  -- rightly, and was sent nothing after an overrun or a shut
   pub record IsRecordedConnection (events : List Event) (number : ℕ) (one : ConnRecord) : Type 0 where
     pub conn : Connection
     pub there : numbered number (course buses events).connections ≡ Some conn
@@ -38,9 +39,9 @@ module _ (buses : List Bus) where
 
 -- ---- a whole run
 
--- what memory answered in each event, with which the record is that of the course of the events, and tells of it what it promises;
--- the record counts exactly the answers that refused, up to the greatest u64, and these are all asked for in that course;
--- where it counts none each answer gave, and the course is that of the events where memory gives all
+-- what memory answered in each event, with which the record is that of the course of the events, and tells of it what
+-- it promises; the record counts exactly the answers that refused, up to the greatest u64, and these are all asked for
+-- in that course; where it counts none each answer gave, and the course is that of the events where memory gives all
 pub record IsPromised (buses : List Bus) (events : List PlainEvent) (run : Record) : Type 0 where
   pub grants : List (List Bool)
   pub count : length grants ≡ length events
@@ -58,11 +59,24 @@ pub record IsPromised (buses : List Bus) (events : List PlainEvent) (run : Recor
 
 -- what is kept of a connection: what it was sent, and how it stands
 abbrev pub connection_outline : ConnRecord → ConnRecord
-connection_outline one = record { session = 0; info = false; go_step = 0; sent = one.sent; items = []; finish = one.finish }
+connection_outline one = record {
+  session = 0;
+  info = false;
+  go_step = 0;
+  sent = one.sent;
+  items = [];
+  finish = one.finish;
+}
 
 -- the outline of a record: no steps, and this of each connection
 abbrev pub outline : Record → Record
-outline run = record { steps = []; connections = map connection_outline run.connections; refused = run.refused; rows = run.rows; denied = run.denied }
+outline run = record {
+  steps = [];
+  connections = map connection_outline run.connections;
+  refused = run.refused;
+  rows = run.rows;
+  denied = run.denied;
+}
 
 -- the record is the outline of one that keeps what a run promises
 pub record IsPromisedOutline (buses : List Bus) (events : List PlainEvent) (run : Record) : Type 0 where

@@ -1,5 +1,6 @@
 -- The model of the code: what a run has told so far.
-use Rattle.std.specs.Prelude.{◌≡◌, ℕ, zero, suc, Bool, true, false, if◌then◌else◌, List, [], ◌∷◌, ◌++◌, map, length, Option, Some, None, fold}
+use Rattle.std.specs.Prelude.{◌≡◌, ℕ, zero, suc, Bool, true, false, if◌then◌else◌, List, [], ◌∷◌, ◌++◌, map, length}
+use Rattle.std.specs.Prelude.{Option, Some, None, fold}
 use Rattle.std.specs.Prelude.{slice_get, slice_set, slice_index_or}
 use Rattle.srcp_feed.specs.declared.next.Next.{Next}
 use Rattle.srcp_feed.specs.declared.next.Next.TheVariants.{Told, Listed, Settled}
@@ -34,7 +35,14 @@ without_key (suc n) keys = slice_set keys n None
 
 -- what is told of a connection before the end
 abbrev pub record_of : Connection → ConnRecord
-record_of conn = record { session = conn.session; info = conn.info; go_step = conn.go_step; sent = sent conn; items = conn.items; finish = if is_open conn then Live else Shut }
+record_of conn = record {
+  session = conn.session;
+  info = conn.info;
+  go_step = conn.go_step;
+  sent = sent conn;
+  items = conn.items;
+  finish = if is_open conn then Live else Shut;
+}
 
 -- what is told of the connection of that number is changed, where there is one
 abbrev pub changed_in : ℕ → (ConnRecord → ConnRecord) → List ConnRecord → Option ConnRecord → List ConnRecord
@@ -56,7 +64,11 @@ nothing_recorded = record { keys = []; steps = []; connections = []; refused = [
 
 -- a connection was opened under a key
 abbrev pub opened : ℕ → Recording → Recording
-opened key r = record r { keys = r.keys ++ Some key ∷ []; connections = r.connections ++ record { session = 0; info = false; go_step = 0; sent = []; items = []; finish = Live } ∷ [] }
+opened key r = record r {
+  keys = r.keys ++ Some key ∷ [];
+  connections =
+      r.connections ++ record { session = 0; info = false; go_step = 0; sent = []; items = []; finish = Live } ∷ [];
+}
 
 -- a connection was shut
 abbrev pub shut : ℕ → Recording → Recording
@@ -69,7 +81,8 @@ stepped steps r = record r { steps = r.steps ++ steps }
 -- a session began, where the step is that
 abbrev pub began : ℕ → Step → Recording → Recording
 began n (Obeyed session moment command) r = r
-began n (Began session moment mode) r = changed n (λ one. record one { session = session; info = is_info mode; go_step = length r.steps }) r
+began n (Began session moment mode) r =
+    changed n (λ one. record one { session = session; info = is_info mode; go_step = length r.steps }) r
 began n (Moment moment) r = r
 began n (Ended session moment) r = r
 
@@ -111,7 +124,12 @@ with_refusal event cause r = record r { refused = r.refused ++ record { event = 
 
 -- the outline of a recording
 abbrev pub recording_outline : Recording → Recording
-recording_outline r = record { keys = r.keys; steps = []; connections = map connection_outline r.connections; refused = r.refused }
+recording_outline r = record {
+  keys = r.keys;
+  steps = [];
+  connections = map connection_outline r.connections;
+  refused = r.refused;
+}
 
 -- the recording in full, or its outline
 abbrev pub kept : (in_full : Bool) → Recording → Recording

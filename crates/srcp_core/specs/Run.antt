@@ -1,5 +1,6 @@
 -- The model of the code: what a run keeps beside the course of its events, and what comes of one more event.
-use Rattle.std.specs.Prelude.{◌≡◌, ◌+◌, ◌++◌, ◌∷◌, [], ℕ, Bool, true, false, IsTrue, List, map, take, fold, length, min, Option, Some, None}
+use Rattle.std.specs.Prelude.{◌≡◌, ◌+◌, ◌++◌, ◌∷◌, [], ℕ, Bool, true, false, IsTrue, List, map, take, fold, length, min}
+use Rattle.std.specs.Prelude.{Option, Some, None}
 use Rattle.std.specs.List.{AllByRecursion}
 use Rattle.srcp_rules.specs.declared.layout.Bus.{Bus}
 use Rattle.srcp_rules.specs.Layout.{IsLayout}
@@ -25,7 +26,8 @@ taken_at key most held = changed_at key (without_sent (count_at key most held)) 
 
 -- and what is told of them
 abbrev pub taking : ℕ → ℕ → ℕ → Held → Recording → Recording
-taking n key most held r = took n (take (count_at key most held) (unsent_at key (let_out key held))) (gave n (item_at key held) r)
+taking n key most held r =
+    took n (take (count_at key most held) (unsent_at key (let_out key held))) (gave n (item_at key held) r)
 
 -- the recording tells of that course
 pub record Tells (r : Recording) (w : World) : Type 0 where
@@ -50,11 +52,14 @@ GivesAll grants held = held.denied ≡ 0 → AllByRecursion IsTrue grants
 
 -- whatever the events were before, what was refused in the event is what was asked for in their course
 abbrev pub CountsAsked : Recording → Held → Held → Event → Type 0
-CountsAsked r held later event = (buses : List Bus) (events : List Event) → IsLayout buses → Runs buses r held (course buses events)
+CountsAsked r held later event =
+    (buses : List Bus) (events : List Event) → IsLayout buses → Runs buses r held (course buses events)
     → later.denied ≡ denied_in buses held.denied (counted (course buses events)) event
 
--- what memory answered, with which, whatever the events were before, the event is carried out or refused as it is in their course
-pub record HappensAs (event : PlainEvent) (refusal : Option CoreFault) (r : Recording) (held : Held) (later_r : Recording) (later : Held) : Type 0 where
+-- what memory answered, with which, whatever the events were before, the event is
+-- carried out or refused as it is in their course
+pub record HappensAs (event : PlainEvent) (refusal : Option CoreFault) (r : Recording) (held : Held)
+    (later_r : Recording) (later : Held) : Type 0 where
   pub grants : List Bool
   pub happens : (buses : List Bus) (events : List Event) → IsLayout buses → Runs buses r held (course buses events)
       → Happened buses (under grants event) refusal later_r later (counted (course buses events))
@@ -62,19 +67,23 @@ pub record HappensAs (event : PlainEvent) (refusal : Option CoreFault) (r : Reco
   pub asked : CountsAsked r held later (under grants event)
 
 -- and so with the number of the event, which is noted where it is refused
-pub record FollowsAs (number : ℕ) (event : PlainEvent) (r : Recording) (held : Held) (later_r : Recording) (later : Held) : Type 0 where
+pub record FollowsAs (number : ℕ) (event : PlainEvent) (r : Recording) (held : Held) (later_r : Recording)
+    (later : Held) : Type 0 where
   pub grants : List Bool
   pub follows : (buses : List Bus) (events : List Event) → IsLayout buses → number ≡ length events + 1
-      → Runs buses r held (course buses events) → Runs buses later_r later (course buses (events ++ under grants event ∷ []))
+      → Runs buses r held (course buses events)
+      → Runs buses later_r later (course buses (events ++ under grants event ∷ []))
   pub counted : later.denied ≡ denied_by held.denied grants
   pub asked : CountsAsked r held later (under grants event)
 
 -- the same of what a recorder keeps, of whichever recording that is
 abbrev pub Happens : (in_full : Bool) → PlainEvent → Option CoreFault → Recording → Held → Recording → Held → Type 0
-Happens in_full event refusal old held new later = Keeps in_full (λ r later_r. HappensAs event refusal r held later_r later) old new
+Happens in_full event refusal old held new later =
+    Keeps in_full (λ r later_r. HappensAs event refusal r held later_r later) old new
 
 abbrev pub Follows : (in_full : Bool) → ℕ → PlainEvent → Recording → Held → Recording → Held → Type 0
-Follows in_full number event old held new later = Keeps in_full (λ r later_r. FollowsAs number event r held later_r later) old new
+Follows in_full number event old held new later =
+    Keeps in_full (λ r later_r. FollowsAs number event r held later_r later) old new
 
 -- a call leads from the course of any events to that with its event
 abbrev pub LeadsTo : Event → Held → Held → Type 0

@@ -1,5 +1,6 @@
 -- The model of the code: what a core holds, and the course that it stands for.
-use Rattle.std.specs.Prelude.{◌≡◌, ℕ, Bool, true, false, ◌&&◌, if◌then◌else◌, List, [], length, filter, nat_lt, Option, Some, None}
+use Rattle.std.specs.Prelude.{◌≡◌, ℕ, Bool, true, false, ◌&&◌, if◌then◌else◌, List, [], length, filter, nat_lt, Option}
+use Rattle.std.specs.Prelude.{Some, None}
 use Rattle.srcp_info.specs.declared.change.Change.{Change}
 use Rattle.srcp_info.specs.declared.change.Cursor.{Cursor}
 use Rattle.srcp_info.specs.declared.value.Mode.{Mode}
@@ -12,22 +13,34 @@ use Rattle.srcp_core.specs.Recording.{key_of}
 use Rattle.srcp_core.specs.declared.connection.Panel.{Panel}
 use Rattle.srcp_core.specs.declared.connection.Panel.TheVariants.{Absent, Listening, Overran}
 
--- what an information session is told of changes, by the cursor and the queue of its feed: nothing where more wait than may
+-- what an information session is told of changes, by the cursor and the queue of its
+-- feed: nothing where more wait than may
 abbrev pub panel_at : (info : Bool) → Cursor → List Change → Panel
 panel_at false cursor queue = Absent
-panel_at true cursor queue = if nat_lt 256 (length queue) then Overran else Listening (record { cursor = cursor; queue = queue })
+panel_at true cursor queue =
+    if nat_lt 256 (length queue) then Overran else Listening (record { cursor = cursor; queue = queue })
 
 -- what is held of a connection; where more changes wait than may, the unsent bytes are given up
 abbrev pub placed : Reading → Mode → ℕ → Bool → Bool → List ℕ → Cursor → List Change → Place
 placed reader mode session info ended bytes cursor queue =
-    record { reader = reader; mode = mode; session = session; ended = ended; unsent = if info && nat_lt 256 (length queue) then [] else bytes; panel = panel_at info cursor queue }
+    record {
+      reader = reader;
+      mode = mode;
+      session = session;
+      ended = ended;
+      unsent = if info && nat_lt 256 (length queue) then [] else bytes;
+      panel = panel_at info cursor queue;
+    }
 
 -- what is held of a connection of a course with that history
 abbrev pub place_of : Reading → History → Connection → Place
-place_of reader history conn = placed reader conn.mode conn.session conn.info conn.ended (unsent conn) (cursor_at conn (length history)) (untold conn history)
+place_of reader history conn =
+    placed reader conn.mode conn.session conn.info conn.ended (unsent conn) (cursor_at conn (length history))
+    (untold conn history)
 
 -- the connection of that number has a place, and its reader has read these bytes
-pub record IsAt (keys : List (Option ℕ)) (places : List (Option Place)) (history : History) (n : ℕ) (conn : Connection) (bytes : List ℕ) : Type 0 where
+pub record IsAt (keys : List (Option ℕ)) (places : List (Option Place)) (history : History) (n : ℕ) (conn : Connection)
+    (bytes : List ℕ) : Type 0 where
   pub key : ℕ
   pub reader : Reading
   pub named : key_of n keys ≡ Some key
@@ -51,7 +64,8 @@ module _ (buses : List Bus) where
     pub long : length keys ≡ length w.connections
     pub opens : (n : ℕ) (conn : Connection) → numbered n w.connections ≡ Some conn → is_open conn ≡ true
         → IsAt keys held.places (history buses w) n conn (read n conn.fed)
-    pub closed : (n : ℕ) (conn : Connection) → numbered n w.connections ≡ Some conn → is_open conn ≡ false → key_of n keys ≡ None
+    pub closed : (n : ℕ) (conn : Connection) → numbered n w.connections ≡ Some conn → is_open conn ≡ false
+        → key_of n keys ≡ None
     pub apart : (m n key : ℕ) → key_of m keys ≡ Some key → key_of n keys ≡ Some key → m ≡ n
     pub owned : (key : ℕ) (place : Place) → place_at held.places key ≡ Some place → IsOwned keys key
 

@@ -1,5 +1,6 @@
 -- To be believed: what memory answers in each event, and what of that the course of the events takes in.
-use Rattle.std.specs.Prelude.{ℕ, ◌+◌, min, fold, Bool, true, false, not, ◌&&◌, ◌||◌, if◌then◌else◌, List, [], ◌∷◌, nat_lt, Result, Ok, Err}
+use Rattle.std.specs.Prelude.{ℕ, ◌+◌, min, fold, Bool, true, false, not, ◌&&◌, ◌||◌, if◌then◌else◌, List, [], ◌∷◌}
+use Rattle.std.specs.Prelude.{nat_lt, Result, Ok, Err}
 use Rattle.srcp_info.specs.declared.change.Code.{Code}
 use Rattle.srcp_info.specs.declared.change.Code.TheVariants.{C500}
 use Rattle.srcp_info.specs.declared.change.Reply.{Reply}
@@ -42,7 +43,8 @@ first_of (granted ∷ grants) = granted
 
 -- how many growths were refused, after these answers too; the count stays at the greatest u64
 abbrev pub denied_by : ℕ → List Bool → ℕ
-denied_by denied grants = fold (λ count granted. if granted then count else min (count + 1) 18446744073709551615) denied grants
+denied_by denied grants =
+    fold (λ count granted. if granted then count else min (count + 1) 18446744073709551615) denied grants
 
 -- the event, with these answers
 abbrev pub under : List Bool → PlainEvent → Event
@@ -94,7 +96,8 @@ is_accepted _ = false
 
 -- the command wants memory: it adds rows, and nothing else refuses it
 abbrev pub wants_memory : State → (session moment : ℕ) → Command → Bool
-wants_memory state session moment command = adds_rows state command && is_accepted (effect_of state session moment command).reply
+wants_memory state session moment command =
+    adds_rows state command && is_accepted (effect_of state session moment command).reply
 
 -- a line before the session wants memory: it is GO, and an id is left
 abbrev pub greeting_wants : (last_id : ℕ) → Greeting → Bool
@@ -109,7 +112,8 @@ reading_wants state session moment (Ok command) = wants_memory state session mom
 -- what the command does: nothing where it wants memory, which is refused to it
 abbrev pub effect : State → (session moment : ℕ) → Order → Effect
 effect state session moment order =
-    if order.granted || not (wants_memory state session moment order.command) then effect_of state session moment order.command else refused C500
+    if order.granted || not (wants_memory state session moment order.command)
+    then effect_of state session moment order.command else refused C500
 
 -- what the registry goes through, one thing at a time
 pub data Step : Type 0 where

@@ -1,5 +1,6 @@
 -- To be believed: how many changes wait for information sessions, and what that says of overruns.
-use Rattle.std.specs.Prelude.{◌≡◌, ℕ, ◌+◌, ◌-◌, ◌≤◌, min, ◌&&◌, if◌then◌else◌, true, false, List, [], ◌∷◌, ◌++◌, map, drop, length, flat_map, Option, Some, None}
+use Rattle.std.specs.Prelude.{◌≡◌, ℕ, ◌+◌, ◌-◌, ◌≤◌, min, ◌&&◌, if◌then◌else◌, true, false, List, [], ◌∷◌, ◌++◌, map}
+use Rattle.std.specs.Prelude.{drop, length, flat_map, Option, Some, None}
 use Rattle.std.specs.List.{sum_by}
 use Rattle.std.specs.Option.{option_map_or}
 use Rattle.srcp_rules.specs.Due.{due, freed}
@@ -9,7 +10,8 @@ use Rattle.srcp_rules.specs.Weight.{weight}
 use Rattle.srcp_rules.specs.declared.layout.Bus.{Bus}
 use Rattle.srcp_text.specs.Marks.{Mark, Line, TooLong}
 use Rattle.srcp_core.specs.Connection.{Connection, History, waiting, is_open, overran}
-use Rattle.srcp_core.specs.Course.{World, course, happens, history, new_marks, numbered, open_connection, state, stepped}
+use Rattle.srcp_core.specs.Course.{World, course, happens, history, new_marks, numbered, open_connection, state}
+use Rattle.srcp_core.specs.Course.{stepped}
 use Rattle.srcp_core.specs.Under.{Event, Bytes, Step, Obeyed, Began, Moment, Ended}
 
 -- the lesser number, or the only one

@@ -1,5 +1,6 @@
 //! What is kept of one connection.
-ghost use Rattle.std.specs.Prelude.{◌≡◌, ◌≤◌, ◌+◌, ◌++◌, ◌⊎◌, [], length, drop, true, ◌&&◌, ◌||◌, IfOk, Some, vec_capacity};
+ghost use Rattle.std.specs.Prelude.{◌≡◌, ◌≤◌, ◌+◌, ◌++◌, ◌⊎◌, [], length, drop, true, ◌&&◌, ◌||◌, IfOk, Some};
+ghost use Rattle.std.specs.Prelude.{vec_capacity};
 ghost use Rattle.srcp_rules.specs.State.{shown_rows};
 ghost use Rattle.std.specs.List.{AllByRecursion};
 ghost use Rattle.srcp_info.specs.Line.{line as change_line, reply_line};
@@ -7,7 +8,9 @@ ghost use Rattle.srcp_info.specs.WellFormed.{IsWellFormed, IsWellFormedReply, Is
 ghost use Rattle.srcp_feed.specs.Feed.{next_of, after_next};
 ghost use Rattle.srcp_text.specs.Marks.{Line, TooLong};
 ghost use Rattle.srcp_core.specs.Connection.{is_nil, line_of};
-ghost use Rattle.srcp_core.specs.Machine.{queue_of, fresh_place, with_unsent, without_sent, entered_place, panel_for, feed_in, has_overrun, is_panel, told_place, filled, item_from, IsTellable, asked_of, heard, live_session_of, longest, slack_in};
+ghost use Rattle.srcp_core.specs.Machine.{queue_of, fresh_place, with_unsent, without_sent, entered_place, panel_for};
+ghost use Rattle.srcp_core.specs.Machine.{feed_in, has_overrun, is_panel, told_place, filled, item_from, IsTellable};
+ghost use Rattle.srcp_core.specs.Machine.{asked_of, heard, live_session_of, longest, slack_in};
 
 use crate::handshake::{Greeting, greet};
 use crate::limits::MOST_UNSENT;
@@ -54,7 +57,8 @@ pub struct Connection {
     mode: Mode,
     session: u32,
     ended: bool,
-    // The line of an information session, or else the replies: one of the two is empty. The bytes from `start` on are unsent.
+    // The line of an information session, or else the replies: one of the two is
+    // empty. The bytes from `start` on are unsent.
     line: InfoLine,
     reply: Vec<u8>,
     start: usize,
@@ -71,9 +75,19 @@ impl Model for Connection {
 
     ghost Value = { Place };
 
-    ghost view = { λ c. record { reader = c.reader; mode = c.mode; session = c.session; ended = c.ended; unsent = drop c.start (c.line.items ++ c.reply.items); panel = c.panel } };
+    ghost view = { λ c.
+        record {
+          reader = c.reader;
+          mode = c.mode;
+          session = c.session;
+          ended = c.ended;
+          unsent = drop c.start (c.line.items ++ c.reply.items);
+          panel = c.panel;
+        } };
 
-    ghost invariant = { λ c. ((c.line.items ≡ []) ⊎ (c.reply.items ≡ [])) × (c.start ≤ length (c.line.items ++ c.reply.items)) × (length (c.line.items ++ c.reply.items) ≤ MOST_UNSENT) × (MOST_UNSENT ≤ vec_capacity c.reply) × AllByRecursion IsWellFormed (queue_of c.panel) };
+    ghost invariant = { λ c. ((c.line.items ≡ []) ⊎ (c.reply.items ≡ []))
+        × (c.start ≤ length (c.line.items ++ c.reply.items)) × (length (c.line.items ++ c.reply.items) ≤ MOST_UNSENT)
+        × (MOST_UNSENT ≤ vec_capacity c.reply) × AllByRecursion IsWellFormed (queue_of c.panel) };
 }
 
 impl Connection {

@@ -6,7 +6,8 @@ pub const MOST_CONNECTIONS: usize = 64;
 /// How many bytes a piece may have.
 pub const MOST_IN_PIECE: usize = 256;
 
-/// How many bytes of a connection may be unsent: 64 for each byte of a piece, and 256 for a line that was begun before it.
+/// How many bytes of a connection may be unsent: 64 for each byte of a piece, and
+/// 256 for a line that was begun before it.
 pub const MOST_UNSENT: usize = 16_640;
 
 /// The greatest session id.

@@ -4,7 +4,8 @@ ghost use Rattle.std.specs.List.{AllByRecursion};
 ghost use Rattle.srcp_info.specs.WellFormed.{IsWellFormedShown};
 ghost use Rattle.srcp_core.specs.Course.{is_info};
 ghost use Rattle.srcp_core.specs.Machine.{steps_in};
-ghost use Rattle.srcp_core.specs.Recording.{key_of, nothing_recorded, opened, shut, began, noted, stepped, gave, took, with_item, with_refusal, without_key, changed_record, finished, Becomes};
+ghost use Rattle.srcp_core.specs.Recording.{key_of, nothing_recorded, opened, shut, began, noted, stepped, gave, took};
+ghost use Rattle.srcp_core.specs.Recording.{with_item, with_refusal, without_key, changed_record, finished, Becomes};
 
 use crate::entries::Entries;
 use crate::line::LineRecord;
@@ -65,7 +66,13 @@ impl<D: Detail> Model for Recorder<D> {
 
     ghost Value = { Recording };
 
-    ghost view = { λ r. record { keys = r.keys.items; steps = r.steps.items; connections = r.connections.items; refused = r.refused.items } };
+    ghost view = { λ r.
+        record {
+          keys = r.keys.items;
+          steps = r.steps.items;
+          connections = r.connections.items;
+          refused = r.refused.items;
+        } };
 }
 
 impl<D: Detail> Recorder<D> {
@@ -236,7 +243,9 @@ fn free(keys: &mut Vec<Option<usize>>, conn: usize)
 
 /// A session of the connection of the number began.
 fn begin(connections: &mut Vec<ConnRecord>, conn: usize, session: u32, mode: Mode, go_step: usize)
-    ensures { connections.new.items ≡ changed_record conn (λ one. record one { session = session; info = is_info mode; go_step = go_step }) connections.old.items }
+    ensures { connections.new.items
+        ≡ changed_record conn (λ one. record one { session = session; info = is_info mode; go_step = go_step })
+        connections.old.items }
 {
     let Some(index) = conn.checked_sub(1) else {
         return;
@@ -268,7 +277,9 @@ fn give(
 
 /// Bytes of the connection of the number were taken.
 fn take(connections: &mut Vec<ConnRecord>, conn: usize, bytes: &[u8]) -> Result<(), Memory>
-    ensures { OnOk result (connections.new.items ≡ changed_record conn (λ one. record one { sent = one.sent ++ bytes.now }) connections.old.items) }
+    ensures { OnOk result
+        (connections.new.items
+        ≡ changed_record conn (λ one. record one { sent = one.sent ++ bytes.now }) connections.old.items) }
 {
     let Some(index) = conn.checked_sub(1) else {
         return Ok(());
@@ -281,7 +292,8 @@ fn take(connections: &mut Vec<ConnRecord>, conn: usize, bytes: &[u8]) -> Result<
 
 /// How the connection of the number stands.
 fn finish(connections: &mut Vec<ConnRecord>, conn: usize, finish: Finish)
-    ensures { connections.new.items ≡ changed_record conn (λ one. record one { finish = finish }) connections.old.items }
+    ensures { connections.new.items
+        ≡ changed_record conn (λ one. record one { finish = finish }) connections.old.items }
 {
     let Some(index) = conn.checked_sub(1) else {
         return;

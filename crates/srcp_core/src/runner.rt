@@ -28,19 +28,21 @@ impl From<Memory> for RunFault {
     }
 }
 
-/// Carries out the events over the registry of the layout, from moment 0 on and with session ids from 1 on, and returns what
-/// came of them. An event that is refused changes nothing, and the run goes on.
+/// Carries out the events over the registry of the layout, from moment 0 on and with session ids from 1 on, and returns
+/// what came of them. An event that is refused changes nothing, and the run goes on.
 ///
-/// `promised` says of every run that there is what memory answered in each event (`grants`), and of the events under it:
+/// `promised` says of every run that there is what memory answered in each event
+/// (`grants`), and of the events under it:
 /// - The record is that of their course (`is`).
-/// - Each information session was told rightly, however its writes were cut (`sessions`). On a still registry it was sent its
-///   listing, each device that was there all the time is listed exactly once, and a client that applies all lines holds the
-///   registry once it is settled.
-/// - Each connection was served rightly (`connections`). One that is no information session was sent its replies alone, rooms
-///   add up, and nothing was sent after an overrun.
+/// - Each information session was told rightly, however its writes were cut (`sessions`). On a still registry it
+///   was sent its listing, each device that was there all the time is listed exactly once, and a client that
+///   applies all lines holds the registry once it is settled.
+/// - Each connection was served rightly (`connections`). One that is no information session was sent its replies
+///   alone, rooms add up, and nothing was sent after an overrun.
 /// - The registry stayed whole (`registry`).
-/// - The record counts exactly the answers that refused (`counted`), each of which was asked for (`asked`). If it counts none,
-///   memory gave in each event (`given`), and the course is the one with ample memory (`laws::ample_memory`).
+/// - The record counts exactly the answers that refused (`counted`), each of which was
+///   asked for (`asked`). If it counts none, memory gave in each event (`given`), and the
+///   course is the one with ample memory (`laws::ample_memory`).
 ///
 /// # Errors
 /// `Memory` if memory was refused to the core when it was made, or to the record.
@@ -51,8 +53,8 @@ pub fn run<R: Rows>(alloc: Global, layout: &Layout, events: &[Event]) -> Result<
     carry_out::<R, Full>(alloc, layout, events)
 }
 
-/// Carries out the events as `run` does, and returns the outline of its record: no steps, and of each connection only what it
-/// was sent and how it stands. The rows and the refused events are the same.
+/// Carries out the events as `run` does, and returns the outline of its record: no steps, and of each connection only
+/// what it was sent and how it stands. The rows and the refused events are the same.
 ///
 /// It takes less memory, since it keeps no change beside each line that a panel was sent.
 ///
@@ -112,7 +114,8 @@ fn happen<R: Rows, D: Detail>(
     recorder: &mut Recorder<D>,
     event: &Event,
 ) -> Result<Option<CoreFault>, Memory>
-    ensures course { IfOk result (λ refusal. Happens D.IN_FULL event.now refusal recorder.old core.old recorder.new core.new) }
+    ensures course { IfOk result
+        (λ refusal. Happens D.IN_FULL event.now refusal recorder.old core.old recorder.new core.new) }
     ensures moment { HasPlainMoment event.now }
 {
     match event {
@@ -129,7 +132,8 @@ fn open<R: Rows, D: Detail>(
     core: &mut Core<'_, R>,
     recorder: &mut Recorder<D>,
 ) -> Result<Option<CoreFault>, Memory>
-    ensures { IfOk result (λ refusal. Happens D.IN_FULL Event.Open refusal recorder.old core.old recorder.new core.new) }
+    ensures { IfOk result
+        (λ refusal. Happens D.IN_FULL Event.Open refusal recorder.old core.old recorder.new core.new) }
 {
     match core.connect() {
         Ok(key) => {
@@ -147,7 +151,9 @@ fn bytes<R: Rows, D: Detail>(
     conn: usize,
     piece: &[u8],
 ) -> Result<Option<CoreFault>, Memory>
-    ensures { IfOk result (λ refusal. Happens D.IN_FULL (Event.Bytes conn piece.now) refusal recorder.old core.old recorder.new core.new) }
+    ensures { IfOk result
+        (λ refusal.
+        Happens D.IN_FULL (Event.Bytes conn piece.now) refusal recorder.old core.old recorder.new core.new) }
 {
     let Some(key) = recorder.key(conn) else {
         return Ok(Some(CoreFault::NoSuch));
@@ -170,7 +176,8 @@ fn room<R: Rows, D: Detail>(
     conn: usize,
     bytes: usize,
 ) -> Result<Option<CoreFault>, Memory>
-    ensures { IfOk result (λ refusal. Happens D.IN_FULL (Event.Room conn bytes) refusal recorder.old core.old recorder.new core.new) }
+    ensures { IfOk result
+        (λ refusal. Happens D.IN_FULL (Event.Room conn bytes) refusal recorder.old core.old recorder.new core.new) }
 {
     let Some(key) = recorder.key(conn) else {
         return Ok(Some(CoreFault::NoSuch));
@@ -222,7 +229,8 @@ fn advance<R: Rows, D: Detail>(
     recorder: &mut Recorder<D>,
     moment: u64,
 ) -> Result<Option<CoreFault>, Memory>
-    ensures course { IfOk result (λ refusal. Happens D.IN_FULL (Event.At moment) refusal recorder.old core.old recorder.new core.new) }
+    ensures course { IfOk result
+        (λ refusal. Happens D.IN_FULL (Event.At moment) refusal recorder.old core.old recorder.new core.new) }
     ensures fits { IsMoment moment }
 {
     core.advance(moment);
@@ -236,7 +244,8 @@ fn shut<R: Rows, D: Detail>(
     recorder: &mut Recorder<D>,
     conn: usize,
 ) -> Result<Option<CoreFault>, Memory>
-    ensures { IfOk result (λ refusal. Happens D.IN_FULL (Event.Shut conn) refusal recorder.old core.old recorder.new core.new) }
+    ensures { IfOk result
+        (λ refusal. Happens D.IN_FULL (Event.Shut conn) refusal recorder.old core.old recorder.new core.new) }
 {
     let Some(key) = recorder.key(conn) else {
         return Ok(Some(CoreFault::NoSuch));

@@ -65,15 +65,33 @@ impl<'a, R: Rows> Model for Core<'a, R> {
 
     ghost Value = { Held };
 
-    ghost view = { λ c. record { buses = c.layout.now; rows = R.state c.rows; moment = c.moment; last_id = c.last_id; places = c.connections.slots; denied = c.denied } };
+    ghost view = { λ c.
+        record {
+          buses = c.layout.now;
+          rows = R.state c.rows;
+          moment = c.moment;
+          last_id = c.last_id;
+          places = c.connections.slots;
+          denied = c.denied;
+        } };
 
-    ghost invariant = { λ c. IsSound (record { buses = c.layout.now; rows = R.state c.rows; moment = c.moment; last_id = c.last_id; places = c.connections.slots; denied = c.denied }) × (R.buses c.rows ≡ c.layout.now) × (MOST_CONNECTIONS ≤ c.connections.capacity) × (c.panels ≡ list_any has_panel c.connections.slots) };
+    ghost invariant = { λ c.
+        IsSound (record {
+          buses = c.layout.now;
+          rows = R.state c.rows;
+          moment = c.moment;
+          last_id = c.last_id;
+          places = c.connections.slots;
+          denied = c.denied;
+        })
+        × (R.buses c.rows ≡ c.layout.now) × (MOST_CONNECTIONS ≤ c.connections.capacity)
+        × (c.panels ≡ list_any has_panel c.connections.slots) };
 }
 
 impl<'a, R: Rows> Core<'a, R> {
-    /// Returns a core with the registry of the layout as it begins, at a moment in milliseconds, and with no connection. Each
-    /// bus with power has it off and each feedback port is 0, stamped with that moment. `last_id` is the session id that was
-    /// used last, or 0. Its law is `first` of `laws::calls_follow`.
+    /// Returns a core with the registry of the layout as it begins, at a moment in milliseconds, and with no
+    /// connection. Each bus with power has it off and each feedback port is 0, stamped with that moment. `last_id` is
+    /// the session id that was used last, or 0. Its law is `first` of `laws::calls_follow`.
     ///
     /// # Errors
     /// `Memory` if memory is refused to the registry or to the 64 places of connections.
@@ -103,9 +121,9 @@ impl<'a, R: Rows> Core<'a, R> {
         })
     }
 
-    /// Opens a connection, and returns its key. Its reply buffer holds the welcome line, which is of SRCP 0.8, and takes all
-    /// its memory before anything changes. Its laws are `opened`, `not_opened`, `accepts`, `refuses`, `named` and `counted` of
-    /// `laws::calls_follow`.
+    /// Opens a connection, and returns its key. Its reply buffer holds the welcome line, which is of SRCP 0.8,
+    /// and takes all its memory before anything changes. Its laws are `opened`, `not_opened`, `accepts`,
+    /// `refuses`, `named` and `counted` of `laws::calls_follow`.
     ///
     /// # Errors
     /// `Full` if 64 connections are open, and `Memory` if memory is refused, which is counted. All else stays as it is.
@@ -126,8 +144,8 @@ impl<'a, R: Rows> Core<'a, R> {
         }
     }
 
-    /// Returns whether `receive` would take a piece of at most 256 bytes: the connection is there, goes on and has nothing
-    /// unsent. Its laws are `bytes` and `takes` of `laws::calls_follow`.
+    /// Returns whether `receive` would take a piece of at most 256 bytes: the connection is there, goes on and has
+    /// nothing unsent. Its laws are `bytes` and `takes` of `laws::calls_follow`.
     pub fn ready(&self, conn: usize) -> bool
         ensures { result ≡ is_none (bytes_fault conn [] self.now) }
     {
@@ -137,8 +155,8 @@ impl<'a, R: Rows> Core<'a, R> {
         }
     }
 
-    /// Returns whether the connection is to be closed: it overran, or its session ended by its own command and all replies
-    /// are taken. False if there is no such connection. Its law is `closes` of `laws::calls_follow`.
+    /// Returns whether the connection is to be closed: it overran, or its session ended by its own command and all
+    /// replies are taken. False if there is no such connection. Its law is `closes` of `laws::calls_follow`.
     pub fn closing(&self, conn: usize) -> bool
         ensures { result ≡ is_last (finish_at conn self.now) }
     {

@@ -4,7 +4,8 @@ use Rattle.std.proofs.lemmas.Option.{none-some}
 use Rattle.std.proofs.lemmas.Bool.{le-ltb}
 use Rattle.std.specs.List.{filter}
 use Rattle.std.specs.Option.{option_map_or}
-use Rattle.std.specs.Prelude.{Option, Some, None, is_none, is_some, count_by, nat_lt, slice_get, slice_index_or, not, ◌||◌, if◌then◌else◌, IsSome}
+use Rattle.std.specs.Prelude.{Option, Some, None, is_none, is_some, count_by, nat_lt, slice_get, slice_index_or, not, ◌||◌, if◌then◌else◌}
+use Rattle.std.specs.Prelude.{IsSome}
 use Rattle.srcp_rules.specs.declared.layout.Bus.{Bus}
 use Rattle.srcp_rules.specs.Layout.{IsLayout}
 use Rattle.srcp_rules.specs.State.{opening, shown_rows}
@@ -13,7 +14,8 @@ use Rattle.srcp_core.specs.Agrees.{OfCourse, OfConnection, NamesNewest, CountsOp
 use Rattle.srcp_core.specs.Connection.{Connection, is_open, is_nil, overran, unsent, finish, is_last}
 use Rattle.srcp_core.specs.Course.{World, course, fault, absent_fault, history, open_connection}
 use Rattle.srcp_core.specs.Held.{Place, Held, at}
-use Rattle.srcp_core.specs.Machine.{IsAdmitted, IsNotAdmitted, bytes_fault, bytes_fault_from, finish_at, unsent_at, unsent_of, let_out, has_overrun}
+use Rattle.srcp_core.specs.Machine.{IsAdmitted, IsNotAdmitted, bytes_fault, bytes_fault_from, finish_at, unsent_at, unsent_of, let_out}
+use Rattle.srcp_core.specs.Machine.{has_overrun}
 use Rattle.srcp_core.specs.Recording.{key_of}
 use Rattle.srcp_core.specs.Stands.{StandsFor, place_of}
 use Rattle.srcp_core.specs.declared.record.CoreFault.{CoreFault}
@@ -30,7 +32,8 @@ use Rattle.srcp_core.proofs.Invariants.EveryPlaceIsTold.{count_by_cons}
 use Rattle.srcp_core.proofs.CourseLaws.SessionsAreKept.{sound}
 
 -- every course has sound connections
-fine : (buses : List Bus) (layout : IsLayout buses) (events : List Event) → IsFine buses (opening_in_order buses layout) (course buses events)
+fine : (buses : List Bus) (layout : IsLayout buses) (events : List Event)
+    → IsFine buses (opening_in_order buses layout) (course buses events)
 fine buses layout events = sound buses (opening_in_order buses layout) Anything (anything (shown_rows (opening buses 0))) events
 
 -- ---- a connection is opened
@@ -51,25 +54,31 @@ names_newest key held buses events keys s =
     ap (λ k. key_of k (keys ++ Some key ∷ [])) last ∙ key_push_last keys (Some key)
 
 -- keys and connections side by side
-count_keys : (keys : List (Option ℕ)) (conns : List Connection) → length keys ≡ length conns → ((k : ℕ) (conn : Connection) → slice_get conns k ≡ Some conn → is_some (slice_index_or keys k None) ≡ is_open conn) → count_by is_some keys ≡ length (filter is_open conns)
+count_keys : (keys : List (Option ℕ)) (conns : List Connection) → length keys ≡ length conns
+    → ((k : ℕ) (conn : Connection) → slice_get conns k ≡ Some conn → is_some (slice_index_or keys k None) ≡ is_open conn)
+    → count_by is_some keys ≡ length (filter is_open conns)
 count_keys [] [] l law = refl
 count_keys [] (conn ∷ conns) l law = absurd (omega (arith, l))
 count_keys (key ∷ keys) [] l law = absurd (omega (arith, l))
 count_keys (key ∷ keys) (conn ∷ conns) l law =
     let less : length keys ≡ length conns = omega (arith, l) in
     let more = count_keys keys conns less (λ k other e. law (suc k) other e) in
-    count_by_cons is_some key keys ∙ ap (λ n. (if is_some key then 1 else 0) + n) more ∙ ap (λ t. (if t then 1 else 0) + length (filter is_open conns)) (law 0 conn refl) ∙ sym (opens_cons conn conns)
+    count_by_cons is_some key keys ∙ ap (λ n. (if is_some key then 1 else 0) + n) more
+    ∙ ap (λ t. (if t then 1 else 0) + length (filter is_open conns)) (law 0 conn refl) ∙ sym (opens_cons conn conns)
 
 pub counts_open : (held : Held) → CountsOpen held
-counts_open held buses events keys s = count_keys keys (course buses events).connections s.long (λ k conn e. by k conn e (is_open conn) refl) ∙ sym s.count
+counts_open held buses events keys s =
+    count_keys keys (course buses events).connections s.long (λ k conn e. by k conn e (is_open conn) refl) ∙ sym s.count
   where
-    by : (k : ℕ) (conn : Connection) → slice_get (course buses events).connections k ≡ Some conn → (o : Bool) → is_open conn ≡ o → is_some (key_of (suc k) keys) ≡ is_open conn
+    by : (k : ℕ) (conn : Connection) → slice_get (course buses events).connections k ≡ Some conn → (o : Bool) → is_open conn ≡ o
+        → is_some (key_of (suc k) keys) ≡ is_open conn
     by k conn e true o = ap is_some (s.opens (suc k) conn e o).named ∙ sym o
     by k conn e false o = ap is_some (s.closed (suc k) conn e o) ∙ sym o
 
 -- ---- a connection that has a key
 
-module _ (buses : List Bus) (layout : IsLayout buses) (events : List Event) (keys : List (Option ℕ)) (n key : ℕ) (named : key_of n keys ≡ Some key) (held : Held) (s : StandsFor buses keys held (course buses events)) where
+module _ (buses : List Bus) (layout : IsLayout buses) (events : List Event) (keys : List (Option ℕ)) (n key : ℕ)
+    (named : key_of n keys ≡ Some key) (held : Held) (s : StandsFor buses keys held (course buses events)) where
   abbrev w : World
   w = course buses events
 
@@ -77,7 +86,9 @@ module _ (buses : List Bus) (layout : IsLayout buses) (events : List Event) (key
   its = found_at buses (λ n fed. fed) keys held w n key s named
 
   its_over : overran its.conn (history buses w) ≡ is_over_place (history buses w) its.conn
-  its_over = over_is buses (history buses w) its.conn its.shut (at_number (Fine buses (history buses w)) n w.connections its.conn (fine buses layout events) its.there)
+  its_over =
+      over_is buses (history buses w) its.conn its.shut
+      (at_number (Fine buses (history buses w)) n w.connections its.conn (fine buses layout events) its.there)
 
   fault_is : (piece : Piece) → bytes_fault key piece.bytes held ≡ fault buses w (Bytes n piece)
   fault_is piece =
@@ -134,7 +145,9 @@ takes_agrees key held accepts buses events keys n layout named s piece few =
     from (Some p) e = by (p.ended || has_overrun p.panel) (is_nil p.unsent) e
       where
         by : (over idle : Bool) → is_none (if over then Some ClosingFault else (if not idle then Some Busy else None)) ≡ true
-            → (if over then Some ClosingFault else (if not idle then Some Busy else (if nat_lt 256 (length piece.bytes) then Some PieceTooLong else None))) ≡ None
+            → (if over then Some ClosingFault
+            else (if not idle then Some Busy else (if nat_lt 256 (length piece.bytes) then Some PieceTooLong else None)))
+            ≡ None
         by true idle e = cc
         by false false e = cc
         by false true e = ap (λ t. if t then Some PieceTooLong else None) (le-ltb 256 (length piece.bytes) few)

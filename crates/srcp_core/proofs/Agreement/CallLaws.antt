@@ -5,7 +5,8 @@ use Rattle.srcp_core.specs.Held.{Held}
 use Rattle.srcp_core.specs.Machine.{IsNotAdmitted}
 use Rattle.srcp_core.specs.declared.record.CoreFault.{CoreFault}
 use Rattle.srcp_core.specs.declared.record.CoreFault.TheVariants.{Full, Memory as MemoryFault}
-use Rattle.srcp_core.proofs.Agreement.AnswersAgree.{there_agrees, accepts_agrees, refuses_agrees, names_newest, counts_open, bytes_agree, takes_agrees}
+use Rattle.srcp_core.proofs.Agreement.AnswersAgree.{there_agrees, accepts_agrees, refuses_agrees, names_newest, counts_open, bytes_agree}
+use Rattle.srcp_core.proofs.Agreement.AnswersAgree.{takes_agrees}
 use Rattle.srcp_core.proofs.Agreement.AnswersAgree.{closes_agrees, lends_agrees, shuts_agrees}
 use Rattle.srcp_core.proofs.Agreement.SlackAgrees.{slack_agrees, due_agrees}
 use Rattle.srcp_core.proofs.Agreement.MemoryAnswers.{counts}

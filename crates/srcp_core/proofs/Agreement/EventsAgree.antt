@@ -1,5 +1,6 @@
 -- A core that stands for a course, and the events of connections and moments.
-use Rattle.std.proofs.Common.{◌≡◌, ◌≢◌, ⊎_elim, inl, inr, ◌⊎◌, ℕ, zero, suc, ◌+◌, ◌<◌, max, Bool, true, false, cond, List, [], ◌∷◌, ◌++◌, length, length-append, refl, ap, sym, ◌∙◌, subst, arith}
+use Rattle.std.proofs.Common.{◌≡◌, ◌≢◌, ⊎_elim, inl, inr, ◌⊎◌, ℕ, zero, suc, ◌+◌, ◌<◌, max, Bool, true, false, cond, List, [], ◌∷◌, ◌++◌}
+use Rattle.std.proofs.Common.{length, length-append, refl, ap, sym, ◌∙◌, subst, arith}
 use Rattle.std.proofs.lemmas.Bool.Decides.{nat_tests}
 use Rattle.std.proofs.lemmas.Bool.{false≢true}
 use Rattle.std.specs.List.{filter}
@@ -11,16 +12,20 @@ use Rattle.srcp_info.proofs.ClientLaws.{key_at}
 use Rattle.srcp_info.specs.Client.{IsRisingBy}
 use Rattle.srcp_core.specs.Under.{Open, At, Shut, Moment, Ended}
 use Rattle.srcp_core.specs.Connection.{Connection, History, is_open, is_nil, overran, unsent, untold}
-use Rattle.srcp_core.specs.Course.{World, numbered, at_connection, open_connection, if_open, did, history, fresh, counted, fault, bytes_fault as course_fault, accepted, shut_as}
+use Rattle.srcp_core.specs.Course.{World, numbered, at_connection, open_connection, if_open, did, history, fresh, counted, fault}
+use Rattle.srcp_core.specs.Course.{bytes_fault as course_fault, accepted, shut_as}
 use Rattle.srcp_core.specs.Held.{Place, Held, at, place_at, open_count}
-use Rattle.srcp_core.specs.Machine.{IsAdmitted, bytes_fault, bytes_fault_from, freed_place, freed_of, hung_up, hung_up_from, advanced, has_overrun}
+use Rattle.srcp_core.specs.Machine.{IsAdmitted, bytes_fault, bytes_fault_from, freed_place, freed_of, hung_up, hung_up_from, advanced}
+use Rattle.srcp_core.specs.Machine.{has_overrun}
 use Rattle.srcp_core.specs.Recording.{key_of, without_key}
 use Rattle.srcp_core.specs.Stands.{StandsBy, StandsFor, IsAt, IsOwned, place_of}
 use Rattle.srcp_core.specs.declared.record.CoreFault.TheVariants.{Full, Memory as MemoryFault, Busy, PieceTooLong, Closing}
 use Rattle.srcp_core.specs.declared.record.Refusal.{Refusal}
 use Rattle.srcp_core.proofs.Agreement.LinesAgree.{IsFine}
 use Rattle.srcp_core.proofs.Invariants.PlacesCover.{Where, Here, Away, where_is, place_set, place_set_here, no_place}
-use Rattle.srcp_core.proofs.Agreement.NumbersAndKeys.{opens, one_if, opens_with, opens_push, length_with, length_without, without_here, without_other, key_within, key_push, key_push_last, key_push_is, numbered_push_is, numbered_within}
+use Rattle.srcp_core.proofs.Agreement.NumbersAndKeys.{opens, one_if, opens_with, opens_push, length_with, length_without, without_here}
+use Rattle.srcp_core.proofs.Agreement.NumbersAndKeys.{without_other, key_within, key_push, key_push_last, key_push_is, numbered_push_is}
+use Rattle.srcp_core.proofs.Agreement.NumbersAndKeys.{numbered_within}
 use Rattle.srcp_core.proofs.Agreement.PlacesChange.{is_over_place, untold_shut, place_overran, place_unsent}
 use Rattle.srcp_core.proofs.CourseLaws.ShownRegistry.{length_history}
 use Rattle.srcp_core.proofs.CourseLaws.SessionsOfACourse.{anything, at_number}
@@ -33,7 +38,8 @@ use Rattle.srcp_core.proofs.CourseLaws.SessionsAreKept.{sound_at, stands_shut, c
 -- ---- what an overrun is
 
 -- a connection that is no information session never overran
-pub over_is : (buses : List Bus) (history : History) (conn : Connection) → conn.shut ≡ None → Fine buses history conn → overran conn history ≡ is_over_place history conn
+pub over_is : (buses : List Bus) (history : History) (conn : Connection) → conn.shut ≡ None → Fine buses history conn
+    → overran conn history ≡ is_over_place history conn
 over_is buses history conn shut f = by conn.info refl
   where
     by : (info : Bool) → conn.info ≡ info → nat_lt 256 (length (untold conn history)) ≡ (info && nat_lt 256 (length (untold conn history)))
@@ -41,13 +47,15 @@ over_is buses history conn shut f = by conn.info refl
     by false e =
         let p = f.plain e in
         ap (λ cs. nat_lt 256 (length cs))
-        (untold_shut conn history shut ∙ ap (λ d. untold_by conn.go_step conn.items d history) p.1 ∙ ap (λ is. untold_by conn.go_step is None history) p.0 ∙ concerning_start conn.go_step 0 history)
+        (untold_shut conn history shut ∙ ap (λ d. untold_by conn.go_step conn.items d history) p.1
+        ∙ ap (λ is. untold_by conn.go_step is None history) p.0 ∙ concerning_start conn.go_step 0 history)
 
 module _ (buses : List Bus) where
   -- ---- what is refused
 
   -- a number that has no key is of no open connection
-  pub absent_at : (read : ℕ → List ℕ → List ℕ) (keys : List (Option ℕ)) (held : Held) (w : World) (n : ℕ) → StandsBy buses read keys held w → key_of n keys ≡ None → open_connection w n ≡ None
+  pub absent_at : (read : ℕ → List ℕ → List ℕ) (keys : List (Option ℕ)) (held : Held) (w : World) (n : ℕ) → StandsBy buses read keys held w
+      → key_of n keys ≡ None → open_connection w n ≡ None
   absent_at read keys held w n s k = by (numbered n w.connections) refl
     where
       with : (conn : Connection) (o : Bool) → numbered n w.connections ≡ Some conn → is_open conn ≡ o → cond o (Some conn) None ≡ None
@@ -58,7 +66,9 @@ module _ (buses : List Bus) where
       by None e = refl
       by (Some conn) e = with conn (is_open conn) e refl
 
-  pub fault_same : (order : IsRisingBy key_at (shown_rows (opening buses 0))) (read : ℕ → List ℕ → List ℕ) (keys : List (Option ℕ)) (held : Held) (w : World) (n key : ℕ) (piece : List ℕ) → IsFine buses order w → StandsBy buses read keys held w → key_of n keys ≡ Some key
+  pub fault_same : (order : IsRisingBy key_at (shown_rows (opening buses 0))) (read : ℕ → List ℕ → List ℕ) (keys : List (Option ℕ))
+      (held : Held) (w : World) (n key : ℕ) (piece : List ℕ)
+      → IsFine buses order w → StandsBy buses read keys held w → key_of n keys ≡ Some key
       → bytes_fault key piece held ≡ course_fault buses w (open_connection w n) piece
   fault_same order read keys held w n key piece a s k =
       let h = found_at buses read keys held w n key s k in
@@ -66,51 +76,102 @@ module _ (buses : List Bus) where
       let over = over_is buses (history buses w) h.conn h.shut f in
       let p = place_of h.reader (history buses w) h.conn in
       ap (bytes_fault_from piece) h.place
-      ∙ ap (λ t. if t || has_overrun p.panel then Some Closing else (if not (is_nil p.unsent) then Some Busy else (if nat_lt 256 (length piece) then Some PieceTooLong else None))) refl
-      ∙ ap (λ t. if h.conn.ended || t then Some Closing else (if not (is_nil p.unsent) then Some Busy else (if nat_lt 256 (length piece) then Some PieceTooLong else None))) (place_overran h.reader (history buses w) h.conn)
+      ∙ ap (λ t. if t || has_overrun p.panel then Some Closing
+      else (if not (is_nil p.unsent) then Some Busy else (if nat_lt 256 (length piece) then Some PieceTooLong else None)))
+      refl
+      ∙ ap (λ t. if h.conn.ended || t then Some Closing
+      else (if not (is_nil p.unsent) then Some Busy else (if nat_lt 256 (length piece) then Some PieceTooLong else None)))
+      (place_overran h.reader (history buses w) h.conn)
       ∙ by h.conn.ended (is_over_place (history buses w) h.conn) (λ e. place_unsent h.reader (history buses w) h.conn e) refl
-      ∙ ap (λ t. if h.conn.ended || t then Some Closing else (if not (is_nil (unsent h.conn)) then Some Busy else (if nat_lt 256 (length piece) then Some PieceTooLong else None))) (sym over)
+      ∙ ap (λ t. if h.conn.ended || t then Some Closing
+      else (if not (is_nil (unsent h.conn)) then Some Busy else (if nat_lt 256 (length piece) then Some PieceTooLong else None)))
+      (sym over)
       ∙ ap (λ o. course_fault buses w o piece) (sym h.opened)
     where
       by : {bytes other : List ℕ} (ended over : Bool) → (over ≡ false → bytes ≡ other) → over ≡ over
-          → (if ended || over then Some Closing else (if not (is_nil bytes) then Some Busy else (if nat_lt 256 (length piece) then Some PieceTooLong else None)))
-          ≡ (if ended || over then Some Closing else (if not (is_nil other) then Some Busy else (if nat_lt 256 (length piece) then Some PieceTooLong else None)))
+          → (if ended || over then Some Closing
+          else (if not (is_nil bytes) then Some Busy else (if nat_lt 256 (length piece) then Some PieceTooLong else None)))
+          ≡ (if ended || over then Some Closing
+          else (if not (is_nil other) then Some Busy else (if nat_lt 256 (length piece) then Some PieceTooLong else None)))
       by true over h e = refl
       by false true h e = refl
-      by false false h e = ap (λ bytes. if not (is_nil bytes) then Some Busy else (if nat_lt 256 (length piece) then Some PieceTooLong else None)) (h refl)
+      by false false h e =
+          ap (λ bytes. if not (is_nil bytes) then Some Busy else (if nat_lt 256 (length piece) then Some PieceTooLong else None)) (h refl)
 
-  pub full_fault : (keys : List (Option ℕ)) (held : Held) (w : World) → StandsFor buses keys held w → open_count held ≡ 64 → (granted : Bool) → fault buses w (Open granted) ≡ Some Full
+  pub full_fault : (keys : List (Option ℕ)) (held : Held) (w : World) → StandsFor buses keys held w → open_count held ≡ 64
+      → (granted : Bool) → fault buses w (Open granted) ≡ Some Full
   full_fault keys held w s e granted = ap (λ t. if t then (if granted then None else Some MemoryFault) else Some Full) many
     where
       many : nat_lt (length (filter is_open w.connections)) 64 ≡ false
       many = let c = s.count in grind (arith, nat_tests)
 
   -- where fewer than 64 connections are open in the core, so many are in the course
-  pub free_room : (keys : List (Option ℕ)) (held : Held) (w : World) → StandsFor buses keys held w → open_count held < 64 → nat_lt (length (filter is_open w.connections)) 64 ≡ true
+  pub free_room : (keys : List (Option ℕ)) (held : Held) (w : World) → StandsFor buses keys held w → open_count held < 64
+      → nat_lt (length (filter is_open w.connections)) 64 ≡ true
   free_room keys held w s e = let c = s.count in grind (arith, nat_tests)
 
-  pub free_fault : (keys : List (Option ℕ)) (held : Held) (w : World) → StandsFor buses keys held w → open_count held < 64 → (granted : Bool) → fault buses w (Open granted) ≡ (if granted then None else Some MemoryFault)
-  free_fault keys held w s e granted = ap (λ t. if t then (if granted then None else Some MemoryFault) else Some Full) (free_room keys held w s e)
+  pub free_fault : (keys : List (Option ℕ)) (held : Held) (w : World) → StandsFor buses keys held w → open_count held < 64
+      → (granted : Bool) → fault buses w (Open granted) ≡ (if granted then None else Some MemoryFault)
+  free_fault keys held w s e granted =
+      ap (λ t. if t then (if granted then None else Some MemoryFault) else Some Full) (free_room keys held w s e)
 
   -- ---- one more event, and what is refused
 
-  pub stands_counted : (keys : List (Option ℕ)) (held : Held) (w : World) → StandsFor buses keys held w → StandsFor buses keys held (counted w)
-  stands_counted keys held w s = record { layout = s.layout; rows = s.rows; moment = s.moment; last_id = s.last_id; count = s.count; long = s.long; opens = s.opens; closed = s.closed; apart = s.apart; owned = s.owned }
+  pub stands_counted : (keys : List (Option ℕ)) (held : Held) (w : World) → StandsFor buses keys held w
+      → StandsFor buses keys held (counted w)
+  stands_counted keys held w s = record {
+    layout = s.layout;
+    rows = s.rows;
+    moment = s.moment;
+    last_id = s.last_id;
+    count = s.count;
+    long = s.long;
+    opens = s.opens;
+    closed = s.closed;
+    apart = s.apart;
+    owned = s.owned;
+  }
 
-  pub stands_refused : (keys : List (Option ℕ)) (held : Held) (w : World) (more : List Refusal) → StandsFor buses keys held w → StandsFor buses keys held (record w { refused = more })
-  stands_refused keys held w more s = record { layout = s.layout; rows = s.rows; moment = s.moment; last_id = s.last_id; count = s.count; long = s.long; opens = s.opens; closed = s.closed; apart = s.apart; owned = s.owned }
+  pub stands_refused : (keys : List (Option ℕ)) (held : Held) (w : World) (more : List Refusal) → StandsFor buses keys held w
+      → StandsFor buses keys held (record w { refused = more })
+  stands_refused keys held w more s = record {
+    layout = s.layout;
+    rows = s.rows;
+    moment = s.moment;
+    last_id = s.last_id;
+    count = s.count;
+    long = s.long;
+    opens = s.opens;
+    closed = s.closed;
+    apart = s.apart;
+    owned = s.owned;
+  }
 
   -- ---- a moment
 
-  pub stands_advanced : (keys : List (Option ℕ)) (held : Held) (w : World) (moment : ℕ) → AllFine buses w → StandsFor buses keys held w → StandsFor buses keys (advanced moment held) (accepted buses (At moment) w)
+  pub stands_advanced : (keys : List (Option ℕ)) (held : Held) (w : World) (moment : ℕ) → AllFine buses w → StandsFor buses keys held w
+      → StandsFor buses keys (advanced moment held) (accepted buses (At moment) w)
   stands_advanced keys held w moment fine s =
       subst (λ m. StandsFor buses keys (advanced moment held) (did (Moment (max m moment)) (record w { moment = max m moment }))) s.moment
-      (stands_did buses (λ n fed. fed) keys (record held { moment = max held.moment moment }) (record w { moment = max held.moment moment }) (Moment (max held.moment moment)) fine
-      (record { layout = s.layout; rows = s.rows; moment = refl; last_id = s.last_id; count = s.count; long = s.long; opens = s.opens; closed = s.closed; apart = s.apart; owned = s.owned }))
+      (stands_did buses (λ n fed. fed) keys (record held { moment = max held.moment moment }) (record w { moment = max held.moment moment })
+      (Moment (max held.moment moment)) fine
+      (record {
+        layout = s.layout;
+        rows = s.rows;
+        moment = refl;
+        last_id = s.last_id;
+        count = s.count;
+        long = s.long;
+        opens = s.opens;
+        closed = s.closed;
+        apart = s.apart;
+        owned = s.owned;
+      }))
 
   -- ---- a connection is opened
 
-  pub stands_opened : (keys : List (Option ℕ)) (key : ℕ) (old new : Held) (w : World) → IsAdmitted key old new → StandsFor buses keys old w → StandsFor buses (keys ++ Some key ∷ []) new (accepted buses (Open true) w)
+  pub stands_opened : (keys : List (Option ℕ)) (key : ℕ) (old new : Held) (w : World) → IsAdmitted key old new → StandsFor buses keys old w
+      → StandsFor buses (keys ++ Some key ∷ []) new (accepted buses (Open true) w)
   stands_opened keys key old new w a s = record {
     layout = ap (λ (h : Held). h.buses) a.rest ∙ s.layout;
     rows = ap (λ (h : Held). h.rows) a.rest ∙ s.rows;
@@ -119,7 +180,10 @@ module _ (buses : List Bus) where
     count = a.count ∙ ap (λ k. k + 1) s.count ∙ sym (opens_push w.connections fresh refl);
     long = length-append keys (Some key ∷ []) ∙ ap (λ k. k + 1) s.long ∙ sym (length-append w.connections (fresh ∷ []));
     opens = λ m conn e o. ⊎_elim (λ h. before m conn h o) (λ h. last m conn h.0 h.1) (numbered_push_is m w.connections fresh conn e);
-    closed = λ m conn e o. ⊎_elim (λ h. shuts m conn h o) (λ h. let bad : true ≡ false = ap is_open h.1 ∙ o in cc) (numbered_push_is m w.connections fresh conn e);
+    closed =
+        λ m conn e o.
+        ⊎_elim (λ h. shuts m conn h o) (λ h. let bad : true ≡ false = ap is_open h.1 ∙ o in cc)
+        (numbered_push_is m w.connections fresh conn e);
     apart = λ m n other e f. apart m n other (key_push_is m keys key other e) (key_push_is n keys key other f);
     owned = λ other p e. owner other p e (where_is other key);
   }
@@ -131,13 +195,21 @@ module _ (buses : List Bus) where
           let bad : Some (place_of h.reader (history buses w) h.conn) ≡ None = sym h.place ∙ ap (at old) z ∙ a.was_free in
           cc
 
-      before : (m : ℕ) (conn : Connection) → numbered m w.connections ≡ Some conn → is_open conn ≡ true → IsAt (keys ++ Some key ∷ []) new.places (history buses w) m conn conn.fed
+      before : (m : ℕ) (conn : Connection) → numbered m w.connections ≡ Some conn → is_open conn ≡ true
+          → IsAt (keys ++ Some key ∷ []) new.places (history buses w) m conn conn.fed
       before m conn e o =
           let b = s.opens m conn e o in
           let l = (key_within m keys b.key b.named).1 in
-          record { key = b.key; reader = b.reader; named = key_push m keys (Some key) l ∙ b.named; place = a.others b.key (used m b.key b.named) ∙ b.place; reads = b.reads }
+          record {
+            key = b.key;
+            reader = b.reader;
+            named = key_push m keys (Some key) l ∙ b.named;
+            place = a.others b.key (used m b.key b.named) ∙ b.place;
+            reads = b.reads;
+          }
 
-      last : (m : ℕ) (conn : Connection) → m ≡ suc (length w.connections) → fresh ≡ conn → IsAt (keys ++ Some key ∷ []) new.places (history buses w) m conn conn.fed
+      last : (m : ℕ) (conn : Connection) → m ≡ suc (length w.connections) → fresh ≡ conn
+          → IsAt (keys ++ Some key ∷ []) new.places (history buses w) m conn conn.fed
       last m conn e same =
           subst (λ (c : Connection). IsAt (keys ++ Some key ∷ []) new.places (history buses w) m c c.fed) same
           (record {
@@ -148,13 +220,15 @@ module _ (buses : List Bus) where
             reads = refl;
           })
 
-      shuts : (m : ℕ) (conn : Connection) → numbered m w.connections ≡ Some conn → is_open conn ≡ false → key_of m (keys ++ Some key ∷ []) ≡ None
+      shuts : (m : ℕ) (conn : Connection) → numbered m w.connections ≡ Some conn → is_open conn ≡ false
+          → key_of m (keys ++ Some key ∷ []) ≡ None
       shuts m conn e o =
           let l = (numbered_within m w.connections conn e).1 in
           let g = s.long in
           key_push m keys (Some key) (omega (arith, l, g)) ∙ s.closed m conn e o
 
-      apart : (m n other : ℕ) → (key_of m keys ≡ Some other) ⊎ ((m ≡ suc (length keys)) × (other ≡ key)) → (key_of n keys ≡ Some other) ⊎ ((n ≡ suc (length keys)) × (other ≡ key)) → m ≡ n
+      apart : (m n other : ℕ) → (key_of m keys ≡ Some other) ⊎ ((m ≡ suc (length keys)) × (other ≡ key))
+          → (key_of n keys ≡ Some other) ⊎ ((n ≡ suc (length keys)) × (other ≡ key)) → m ≡ n
       apart m n other (inl e) (inl f) = s.apart m n other e f
       apart m n other (inl e) (inr f) = absurd (used m other e f.1)
       apart m n other (inr e) (inl f) = absurd (used n other f e.1)
@@ -169,7 +243,8 @@ module _ (buses : List Bus) where
 
   -- ---- a connection is shut
 
-  none_count : (places : List (Option Place)) (key : ℕ) (p : Place) → place_at places key ≡ Some p → count_by is_some (slice_set places key None) + 1 ≡ count_by is_some places
+  none_count : (places : List (Option Place)) (key : ℕ) (p : Place) → place_at places key ≡ Some p
+      → count_by is_some (slice_set places key None) + 1 ≡ count_by is_some places
   none_count [] key p h = absurd (no_place key p h)
   none_count (None ∷ places) zero p h = cc
   none_count (Some x ∷ places) zero p h =
@@ -217,13 +292,22 @@ module _ (buses : List Bus) where
           let o = ap one_if found.up in
           omega (arith, a, b, c, o)
 
-      at_all : (m : ℕ) (conn : Connection) → is_open conn ≡ true → Source m n f w.connections conn → IsAt (without_key n keys) (slice_set held.places key None) (history buses w) m conn conn.fed
+      at_all : (m : ℕ) (conn : Connection) → is_open conn ≡ true → Source m n f w.connections conn
+          → IsAt (without_key n keys) (slice_set held.places key None) (history buses w) m conn conn.fed
       at_all m conn o from =
           ⊎_elim
           (λ h.
           let a = s.opens m from.x from.there (ap is_open (sym h.1) ∙ o) in
           subst (λ (c : Connection). IsAt (without_key n keys) (slice_set held.places key None) (history buses w) m c c.fed) (sym h.1)
-          (record { key = a.key; reader = a.reader; named = without_other n m keys h.0 ∙ a.named; place = place_set held.places key a.key None (other_key buses (λ n fed. fed) keys held w n key s named m a.key h.0 a.named) ∙ a.place; reads = a.reads }))
+          (record {
+            key = a.key;
+            reader = a.reader;
+            named = without_other n m keys h.0 ∙ a.named;
+            place =
+                place_set held.places key a.key None (other_key buses (λ n fed. fed) keys held w n key s named m a.key h.0 a.named)
+                ∙ a.place;
+            reads = a.reads;
+          }))
           (λ h. let bad : false ≡ true = ap is_open (sym h.1) ∙ o in absurd (false≢true bad))
           from.from
 
@@ -235,24 +319,36 @@ module _ (buses : List Bus) where
           from.from
 
       was : (m other : ℕ) → key_of m (without_key n keys) ≡ Some other → Where m n → key_of m keys ≡ Some other
-      was m other e (Here z) = let bad : None ≡ Some other = sym (without_here n keys) ∙ ap (λ j. key_of j (without_key n keys)) (sym z) ∙ e in cc
+      was m other e (Here z) =
+          let bad : None ≡ Some other = sym (without_here n keys) ∙ ap (λ j. key_of j (without_key n keys)) (sym z) ∙ e in cc
       was m other e (Away d) = sym (without_other n m keys d) ∙ e
 
-      owner : (other : ℕ) (p : Place) → place_at (slice_set held.places key None) other ≡ Some p → Where other key → IsOwned (without_key n keys) other
+      owner : (other : ℕ) (p : Place) → place_at (slice_set held.places key None) other ≡ Some p → Where other key
+          → IsOwned (without_key n keys) other
       owner other p e (Here z) =
-          let bad : None ≡ Some p = sym (place_set_here held.places key old None there) ∙ ap (place_at (slice_set held.places key None)) (sym z) ∙ e in
+          let bad : None ≡ Some p =
+          sym (place_set_here held.places key old None there) ∙ ap (place_at (slice_set held.places key None)) (sym z) ∙ e in
           cc
       owner other p e (Away d) =
           let o = s.owned other p (sym (place_set held.places key other None d) ∙ e) in
-          record { number = o.number; named = without_other n o.number keys (λ z. d (let both : Some other ≡ Some key = sym o.named ∙ ap (λ j. key_of j keys) z ∙ named in cc)) ∙ o.named }
+          record {
+            number = o.number;
+            named =
+                without_other n o.number keys
+                (λ z. d (let both : Some other ≡ Some key = sym o.named ∙ ap (λ j. key_of j keys) z ∙ named in cc))
+                ∙ o.named;
+          }
 
-  pub stands_hung_up : (order : IsRisingBy key_at (shown_rows (opening buses 0))) (keys : List (Option ℕ)) (held : Held) (w : World) (n key : ℕ) → IsFine buses order w → StandsFor buses keys held w → key_of n keys ≡ Some key
+  pub stands_hung_up : (order : IsRisingBy key_at (shown_rows (opening buses 0))) (keys : List (Option ℕ)) (held : Held) (w : World)
+      (n key : ℕ)
+      → IsFine buses order w → StandsFor buses keys held w → key_of n keys ≡ Some key
       → StandsFor buses (without_key n keys) (hung_up key held) (accepted buses (Shut n) w)
   stands_hung_up order keys held w n key a s named =
       let h = found_at buses (λ n fed. fed) keys held w n key s named in
       let p = place_of h.reader (history buses w) h.conn in
       subst (λ (o : Option Place). StandsFor buses (without_key n keys) (hung_up_from key held o) (accepted buses (Shut n) w)) (sym h.place)
-      (subst (λ (o : Option Connection). StandsFor buses (without_key n keys) (hung_up_from key held (Some p)) (shut_as buses n o w)) (sym h.opened)
+      (subst (λ (o : Option Connection). StandsFor buses (without_key n keys) (hung_up_from key held (Some p)) (shut_as buses n o w))
+      (sym h.opened)
       (by h.conn h.there h.shut p (h.conn.session == 0) h.conn.ended (ap (λ k. k == 0) refl) refl refl refl refl))
     where
       closed : World
@@ -263,19 +359,48 @@ module _ (buses : List Bus) where
           sound_at buses order Anything (anything (shown_rows (opening buses 0))) n (λ c. record c { shut = Some (length w.steps) }) w
           (λ other k g.
           let same : conn ≡ other = let both : Some conn ≡ Some other = sym e ∙ k in cc in
-          stands_shut (shown_rows (opening buses 0)) order Anything (anything (shown_rows (opening buses 0))) (history buses w) (length w.steps) other (sym (length_history (opening buses 0) w.steps)) (ap (λ (c : Connection). c.shut) (sym same) ∙ shut) g) a
+          stands_shut (shown_rows (opening buses 0)) order Anything (anything (shown_rows (opening buses 0))) (history buses w)
+          (length w.steps) other (sym (length_history (opening buses 0) w.steps))
+          (ap (λ (c : Connection). c.shut) (sym same) ∙ shut) g)
+          a
 
-      by : (conn : Connection) → numbered n w.connections ≡ Some conn → conn.shut ≡ None → (p : Place) (first ended : Bool) → (p.session == 0) ≡ first → p.ended ≡ ended → p.session ≡ conn.session → (conn.session == 0) ≡ first → conn.ended ≡ ended
+      by : (conn : Connection) → numbered n w.connections ≡ Some conn → conn.shut ≡ None → (p : Place) (first ended : Bool)
+          → (p.session == 0) ≡ first → p.ended ≡ ended → p.session ≡ conn.session → (conn.session == 0) ≡ first → conn.ended ≡ ended
           → StandsFor buses (without_key n keys) (hung_up_from key held (Some p)) (shut_as buses n (Some conn) w)
       by conn there shut p first ended f e z cf ce =
-          subst (λ t. StandsFor buses (without_key n keys) (if t || p.ended then freed_place key held else freed_of p.session (freed_place key held)) (shut_as buses n (Some conn) w)) (sym f)
-          (subst (λ t. StandsFor buses (without_key n keys) (if first || t then freed_place key held else freed_of p.session (freed_place key held)) (shut_as buses n (Some conn) w)) (sym e)
-          (subst (λ t. StandsFor buses (without_key n keys) (if first || ended then freed_place key held else freed_of p.session (freed_place key held)) (if t || conn.ended then closed else did (Ended conn.session w.moment) closed)) (sym cf)
-          (subst (λ t. StandsFor buses (without_key n keys) (if first || ended then freed_place key held else freed_of p.session (freed_place key held)) (if first || t then closed else did (Ended conn.session w.moment) closed)) (sym ce)
-          (elim (first || ended) as (λ t. StandsFor buses (without_key n keys) (if t then freed_place key held else freed_of p.session (freed_place key held)) (if t then closed else did (Ended conn.session w.moment) closed)) [
+          subst (λ t.
+          StandsFor buses (without_key n keys)
+          (if t || p.ended then freed_place key held else freed_of p.session (freed_place key held))
+          (shut_as buses n (Some conn) w))
+          (sym f)
+          (subst (λ t.
+          StandsFor buses (without_key n keys)
+          (if first || t then freed_place key held else freed_of p.session (freed_place key held))
+          (shut_as buses n (Some conn) w))
+          (sym e)
+          (subst (λ t.
+          StandsFor buses (without_key n keys)
+          (if first || ended then freed_place key held else freed_of p.session (freed_place key held))
+          (if t || conn.ended then closed else did (Ended conn.session w.moment) closed))
+          (sym cf)
+          (subst (λ t.
+          StandsFor buses (without_key n keys)
+          (if first || ended then freed_place key held else freed_of p.session (freed_place key held))
+          (if first || t then closed else did (Ended conn.session w.moment) closed))
+          (sym ce)
+          (elim (first
+          || ended) as (λ t.
+          StandsFor buses (without_key n keys) (if t then freed_place key held else freed_of p.session (freed_place key held))
+          (if t then closed else did (Ended conn.session w.moment) closed)) [
             | true ↦ freed
-            | false ↦ subst (λ m. StandsFor buses (without_key n keys) (freed_of p.session (freed_place key held)) (did (Ended conn.session m) closed)) s.moment
-                (subst (λ k. StandsFor buses (without_key n keys) (freed_of p.session (freed_place key held)) (did (Ended k held.moment) closed)) z
+            | false ↦
+                subst (λ m.
+                StandsFor buses (without_key n keys) (freed_of p.session (freed_place key held))
+                (did (Ended conn.session m) closed))
+                s.moment
+                (subst (λ k.
+                StandsFor buses (without_key n keys) (freed_of p.session (freed_place key held)) (did (Ended k held.moment) closed))
+                z
                 (stands_did buses (λ n fed. fed) (without_key n keys) (freed_place key held) closed (Ended p.session held.moment)
                 (λ m c e. at_number (Fine buses (history buses closed)) m closed.connections c (fine conn there shut) e) freed))
           ]))))

@@ -19,15 +19,20 @@ use Rattle.srcp_info.proofs.ClientLaws.{key_at}
 use Rattle.srcp_info.specs.Client.{IsRisingBy}
 use Rattle.srcp_core.specs.Under.{Obeyed, Began, Ended, Order, effect, greeting_under, wants_memory}
 use Rattle.srcp_core.specs.Connection.{Connection, is_open, given, untold}
-use Rattle.srcp_core.specs.Course.{World, numbered, at_connection, did, is_info, state, history, command_of, ordered, replied as course_replied, entered, goes as course_goes, greeted as course_greeted, ended as course_ended, obeyed as course_obeyed, commanded as course_commanded, answered_as, answered as course_answered, open_connection}
+use Rattle.srcp_core.specs.Course.{World, numbered, at_connection, did, is_info, state, history, command_of, ordered}
+use Rattle.srcp_core.specs.Course.{replied as course_replied, entered, goes as course_goes, greeted as course_greeted}
+use Rattle.srcp_core.specs.Course.{ended as course_ended, obeyed as course_obeyed, commanded as course_commanded, answered_as}
+use Rattle.srcp_core.specs.Course.{answered as course_answered, open_connection}
 use Rattle.srcp_core.specs.Handshake.{Greeting, Speaks, Chooses, Goes, Refuses, greets as greets_of}
 use Rattle.srcp_core.specs.Held.{Place, Held, at}
-use Rattle.srcp_core.specs.Machine.{with_unsent, entered_place, carried, changed_at, replied, session_begun, goes, greeted, freed_of, finished, obeyed, one_denied, denied_line, commanded, asked_of, answered, panel_for}
+use Rattle.srcp_core.specs.Machine.{with_unsent, entered_place, carried, changed_at, replied, session_begun, goes, greeted, freed_of}
+use Rattle.srcp_core.specs.Machine.{finished, obeyed, one_denied, denied_line, commanded, asked_of, answered, panel_for}
 use Rattle.srcp_core.specs.Recording.{key_of}
 use Rattle.srcp_core.specs.Stands.{StandsBy, place_of}
 use Rattle.srcp_core.specs.declared.line.Asked.{Asked}
 use Rattle.srcp_core.specs.declared.line.Asked.TheVariants.{Dropped, Greets, Commands}
-use Rattle.srcp_core.proofs.Agreement.PlacesChange.{replied_still, chosen_place, ended_place, entered_place_of, is_over_place, untold_shut, place_info}
+use Rattle.srcp_core.proofs.Agreement.PlacesChange.{replied_still, chosen_place, ended_place, entered_place_of, is_over_place, untold_shut}
+use Rattle.srcp_core.proofs.Agreement.PlacesChange.{place_info}
 use Rattle.srcp_core.proofs.CourseLaws.SessionsOfACourse.{anything, at_number}
 use Rattle.srcp_core.proofs.CourseLaws.ClientHoldsPassedRows.{untold_by}
 use Rattle.srcp_core.proofs.Agreement.NumbersAndKeys.{numbered_with}
@@ -39,7 +44,9 @@ IsFine buses order w = IsSound buses order Anything (anything (shown_rows (openi
 
 -- what a line asks for, by how its connection stands
 abbrev pub asked_as : List Bus → Connection → Mark → Asked
-asked_as buses conn mark = if conn.info || conn.ended then Dropped else (if conn.session == 0 then Greets conn.mode (greets_of mark) else Commands conn.session (command_of buses mark))
+asked_as buses conn mark =
+    if conn.info || conn.ended then Dropped
+    else (if conn.session == 0 then Greets conn.mode (greets_of mark) else Commands conn.session (command_of buses mark))
 
 -- the open connection of the number has the place, and a line asks the same of both
 pub record AsksOf (buses held_buses : List Bus) (w : World) (n : ℕ) (p : Place) (mark : Mark) : Type 0 where
@@ -49,7 +56,9 @@ pub record AsksOf (buses held_buses : List Bus) (w : World) (n : ℕ) (p : Place
   pub opened : open_connection w n ≡ Some conn
   pub asks : asked_of held_buses p mark ≡ asked_as buses conn mark
 
-pub asks_of : (buses : List Bus) (read : ℕ → List ℕ → List ℕ) (keys : List (Option ℕ)) (held : Held) (w : World) (n key : ℕ) (mark : Mark) (p : Place) → StandsBy buses read keys held w → key_of n keys ≡ Some key → at held key ≡ Some p
+pub asks_of : (buses : List Bus) (read : ℕ → List ℕ → List ℕ) (keys : List (Option ℕ)) (held : Held) (w : World) (n key : ℕ) (mark : Mark)
+    (p : Place)
+    → StandsBy buses read keys held w → key_of n keys ≡ Some key → at held key ≡ Some p
     → AsksOf buses held.buses w n p mark
 asks_of buses read keys held w n key mark p s named here =
     let h = found_at buses read keys held w n key s named in
@@ -61,46 +70,74 @@ asks_of buses read keys held w n key mark p s named here =
       shut = h.shut;
       opened = h.opened;
       asks = sym (ap (λ (p : Place). asked_of held.buses p mark) same) ∙ ap (λ b. asked_of b q mark) s.layout
-          ∙ ap (λ t. if t || h.conn.ended then Dropped else (if h.conn.session == 0 then Greets h.conn.mode (greets_of mark) else Commands h.conn.session (command_of buses mark))) (place_info h.reader (history buses w) h.conn);
+          ∙ ap (λ t. if t || h.conn.ended then Dropped
+          else (if h.conn.session == 0 then Greets h.conn.mode (greets_of mark)
+          else Commands h.conn.session (command_of buses mark)))
+          (place_info h.reader (history buses w) h.conn);
     }
 
-module _ (buses : List Bus) (order : IsRisingBy key_at (shown_rows (opening buses 0))) (read : ℕ → List ℕ → List ℕ) (keys : List (Option ℕ)) (n key : ℕ) (named : key_of n keys ≡ Some key) where
+module _ (buses : List Bus) (order : IsRisingBy key_at (shown_rows (opening buses 0))) (read : ℕ → List ℕ → List ℕ) (keys : List (Option ℕ))
+    (n key : ℕ) (named : key_of n keys ≡ Some key) where
   pub fine_of : (w : World) → IsFine buses order w → AllFine buses w
   fine_of w a m conn e = at_number (Fine buses (history buses w)) m w.connections conn a e
 
   -- the place and the connection of the number change alike
   pub stands_of : (held : Held) (w : World) (conn : Connection) (f : Connection → Connection) (change : Place → Place)
       → StandsBy buses read keys held w → numbered n w.connections ≡ Some conn
-      → is_open (f conn) ≡ is_open conn → (f conn).fed ≡ conn.fed → ((reader : Reading) → conn.shut ≡ None → change (place_of reader (history buses w) conn) ≡ place_of reader (history buses w) (f conn))
+      → is_open (f conn) ≡ is_open conn → (f conn).fed ≡ conn.fed
+      → ((reader : Reading) → conn.shut ≡ None
+      → change (place_of reader (history buses w) conn) ≡ place_of reader (history buses w) (f conn))
       → StandsBy buses read keys (changed_at key change held) (at_connection n f w)
   stands_of held w conn f change s there up fed law =
       stands_at buses read keys held w n key f change s named
       (λ other reader e shut.
       let same : conn ≡ other = let both : Some conn ≡ Some other = sym there ∙ e in cc in
-      subst (λ (c : Connection). (is_open (f c) ≡ is_open c) × (((f c).fed ≡ c.fed) × (change (place_of reader (history buses w) c) ≡ place_of reader (history buses w) (f c)))) same
+      subst (λ (c : Connection). (is_open (f c) ≡ is_open c)
+      × (((f c).fed ≡ c.fed) × (change (place_of reader (history buses w) c) ≡ place_of reader (history buses w) (f c))))
+      same
       (up, (fed, law reader (ap (λ (c : Connection). c.shut) same ∙ shut))))
 
-  numbered_at : (w : World) (conn : Connection) (f : Connection → Connection) → numbered n w.connections ≡ Some conn → numbered n (at_connection n f w).connections ≡ Some (f conn)
+  numbered_at : (w : World) (conn : Connection) (f : Connection → Connection) → numbered n w.connections ≡ Some conn
+      → numbered n (at_connection n f w).connections ≡ Some (f conn)
   numbered_at w conn f e = numbered_with n f w.connections ∙ ap (option_map f) e
 
   -- ---- a reply
 
-  pub stands_replied : (held : Held) (w : World) (conn : Connection) (reply : Reply) → StandsBy buses read keys held w → numbered n w.connections ≡ Some conn
-      → conn.items ≡ [] → is_over_place (history buses w) conn ≡ false → conn.taken ≤ length (given conn) → StandsBy buses read keys (replied key reply held) (course_replied n reply w)
+  pub stands_replied : (held : Held) (w : World) (conn : Connection) (reply : Reply) → StandsBy buses read keys held w
+      → numbered n w.connections ≡ Some conn
+      → conn.items ≡ [] → is_over_place (history buses w) conn ≡ false → conn.taken ≤ length (given conn)
+      → StandsBy buses read keys (replied key reply held) (course_replied n reply w)
   stands_replied held w conn reply s there none still within =
-      stands_of held w conn (λ conn. record conn { out = conn.out ++ reply_line w.moment reply }) (with_unsent (reply_line held.moment reply)) s there refl refl
-      (λ reader shut. ap (λ m. with_unsent (reply_line m reply) (place_of reader (history buses w) conn)) s.moment ∙ replied_still reader (history buses w) conn (reply_line w.moment reply) still none within)
+      stands_of held w conn (λ conn. record conn { out = conn.out ++ reply_line w.moment reply })
+      (with_unsent (reply_line held.moment reply)) s there refl refl
+      (λ reader shut. ap (λ m. with_unsent (reply_line m reply) (place_of reader (history buses w) conn)) s.moment
+      ∙ replied_still reader (history buses w) conn (reply_line w.moment reply) still none within)
 
   -- a reply to a connection that is no information session
-  stands_plainly : (held : Held) (w : World) (conn : Connection) (reply : Reply) → IsFine buses order w → StandsBy buses read keys held w → numbered n w.connections ≡ Some conn → conn.info ≡ false → StandsBy buses read keys (replied key reply held) (course_replied n reply w)
+  stands_plainly : (held : Held) (w : World) (conn : Connection) (reply : Reply) → IsFine buses order w → StandsBy buses read keys held w
+      → numbered n w.connections ≡ Some conn → conn.info ≡ false
+      → StandsBy buses read keys (replied key reply held) (course_replied n reply w)
   stands_plainly held w conn reply a s there plain =
       let f = fine_of w a n conn there in
-      stands_replied held w conn reply s there (f.plain plain).0 (ap (λ i. i && nat_lt 256 (length (untold conn (history buses w)))) plain) f.within
+      stands_replied held w conn reply s there (f.plain plain).0
+      (ap (λ i. i && nat_lt 256 (length (untold conn (history buses w)))) plain) f.within
 
   -- ---- before the session
 
-  stands_last : (held : Held) (w : World) (id : ℕ) → StandsBy buses read keys held w → StandsBy buses read keys (record held { last_id = id }) (record w { last_id = id })
-  stands_last held w id s = record { layout = s.layout; rows = s.rows; moment = s.moment; last_id = refl; count = s.count; long = s.long; opens = s.opens; closed = s.closed; apart = s.apart; owned = s.owned }
+  stands_last : (held : Held) (w : World) (id : ℕ) → StandsBy buses read keys held w
+      → StandsBy buses read keys (record held { last_id = id }) (record w { last_id = id })
+  stands_last held w id s = record {
+    layout = s.layout;
+    rows = s.rows;
+    moment = s.moment;
+    last_id = refl;
+    count = s.count;
+    long = s.long;
+    opens = s.opens;
+    closed = s.closed;
+    apart = s.apart;
+    owned = s.owned;
+  }
 
   -- the world with the moment and the id that the core has
   abbrev timed : Held → World → World
@@ -110,67 +147,125 @@ module _ (buses : List Bus) (order : IsRisingBy key_at (shown_rows (opening buse
   timed_is held w s = ap (λ m. record w { moment = m; last_id = held.last_id }) s.moment ∙ ap (λ l. record w { last_id = l }) s.last_id
 
   stands_timed : (held : Held) (w : World) → StandsBy buses read keys held w → StandsBy buses read keys held (timed held w)
-  stands_timed held w s = record { layout = s.layout; rows = s.rows; moment = refl; last_id = refl; count = s.count; long = s.long; opens = s.opens; closed = s.closed; apart = s.apart; owned = s.owned }
+  stands_timed held w s = record {
+    layout = s.layout;
+    rows = s.rows;
+    moment = refl;
+    last_id = refl;
+    count = s.count;
+    long = s.long;
+    opens = s.opens;
+    closed = s.closed;
+    apart = s.apart;
+    owned = s.owned;
+  }
 
-  stands_begun : (held : Held) (w : World) (conn : Connection) (id : ℕ) → IsFine buses order w → StandsBy buses read keys held w → numbered n w.connections ≡ Some conn → conn.shut ≡ None → conn.info ≡ false
-      → StandsBy buses read keys (replied key (Go id) (session_begun key id conn.mode held)) (course_replied n (Go id) (entered buses n id (did (Began id held.moment conn.mode) (record (timed held w) { last_id = id }))))
+  stands_begun : (held : Held) (w : World) (conn : Connection) (id : ℕ) → IsFine buses order w → StandsBy buses read keys held w
+      → numbered n w.connections ≡ Some conn → conn.shut ≡ None → conn.info ≡ false
+      → StandsBy buses read keys (replied key (Go id) (session_begun key id conn.mode held))
+      (course_replied n (Go id) (entered buses n id (did (Began id held.moment conn.mode) (record (timed held w) { last_id = id }))))
   stands_begun held w conn id a s there shut plain =
       let f = fine_of w a n conn there in
       let p = f.plain plain in
       let w2 = did (Began id held.moment conn.mode) (record (timed held w) { last_id = id }) in
-      let d : StandsBy buses read keys (carried (updates held) (record held { last_id = id })) w2 = stands_did buses read keys (record held { last_id = id }) (record (timed held w) { last_id = id }) (Began id held.moment conn.mode) (fine_of w a) (stands_last held (timed held w) id (stands_timed held w s)) in
+      let d : StandsBy buses read keys (carried (updates held) (record held { last_id = id })) w2 =
+      stands_did buses read keys (record held { last_id = id }) (record (timed held w) { last_id = id })
+      (Began id held.moment conn.mode) (fine_of w a) (stands_last held (timed held w) id (stands_timed held w s)) in
       let e : StandsBy buses read keys (session_begun key id conn.mode held) (entered buses n id w2) =
-      stands_of (carried (updates held) (record held { last_id = id })) w2 conn (λ conn. record conn { session = id; info = is_info conn.mode; go_step = length w2.steps }) (entered_place id (panel_for conn.mode)) d there refl refl
+      stands_of (carried (updates held) (record held { last_id = id })) w2 conn
+      (λ conn. record conn { session = id; info = is_info conn.mode; go_step = length w2.steps })
+      (entered_place id (panel_for conn.mode)) d there refl refl
       (λ reader up. entered_place_of reader (history buses w2) conn id (length w2.steps) shut plain p.0 p.1) in
       let begins : Connection = record conn { session = id; info = is_info conn.mode; go_step = length w2.steps } in
       let nothing : untold begins (history buses w2) ≡ [] =
-      untold_shut begins (history buses w2) shut ∙ ap (λ d. untold_by (length w2.steps) conn.items d (history buses w2)) p.1 ∙ ap (λ is. untold_by (length w2.steps) is None (history buses w2)) p.0 ∙ concerning_start (length w2.steps) 0 (history buses w2) in
-      stands_replied (session_begun key id conn.mode held) (entered buses n id w2) begins (Go id) e (numbered_at w2 conn (λ conn. record conn { session = id; info = is_info conn.mode; go_step = length w2.steps }) there) p.0
+      untold_shut begins (history buses w2) shut ∙ ap (λ d. untold_by (length w2.steps) conn.items d (history buses w2)) p.1
+      ∙ ap (λ is. untold_by (length w2.steps) is None (history buses w2)) p.0
+      ∙ concerning_start (length w2.steps) 0 (history buses w2) in
+      stands_replied (session_begun key id conn.mode held) (entered buses n id w2) begins (Go id) e
+      (numbered_at w2 conn (λ conn. record conn { session = id; info = is_info conn.mode; go_step = length w2.steps }) there) p.0
       (ap (λ cs. is_info conn.mode && nat_lt 256 (length cs)) nothing ∙ and-false (is_info conn.mode)) f.within
     where
       updates : Held → List Update
       updates held = began id held.moment conn.mode ∷ []
 
-  stands_goes : (held : Held) (w : World) (conn : Connection) → IsFine buses order w → StandsBy buses read keys held w → numbered n w.connections ≡ Some conn → conn.shut ≡ None → conn.info ≡ false
+  stands_goes : (held : Held) (w : World) (conn : Connection) → IsFine buses order w → StandsBy buses read keys held w
+      → numbered n w.connections ≡ Some conn → conn.shut ≡ None → conn.info ≡ false
       → StandsBy buses read keys (goes true key conn.mode held) (course_goes buses n conn.mode w)
   stands_goes held w conn a s there shut plain =
       subst (λ (v : World). StandsBy buses read keys (goes true key conn.mode held) (course_goes buses n conn.mode v)) (timed_is held w s)
-      (elim (nat_lt held.last_id 4294967295) as (λ t. StandsBy buses read keys (if t then replied key (Go (held.last_id + 1)) (session_begun key (held.last_id + 1) conn.mode held) else replied key (Refused C500) held)
-      (if t then course_replied n (Go (held.last_id + 1)) (entered buses n (held.last_id + 1) (did (Began (held.last_id + 1) held.moment conn.mode) (record (timed held w) { last_id = held.last_id + 1 }))) else course_replied n (Refused C500) (timed held w))) [
+      (elim (nat_lt held.last_id 4294967295)
+      as (λ t.
+      StandsBy buses read keys
+      (if t then replied key (Go (held.last_id + 1)) (session_begun key (held.last_id + 1) conn.mode held)
+      else replied key (Refused C500) held)
+      (if t
+      then course_replied n (Go (held.last_id + 1))
+      (entered buses n (held.last_id + 1)
+      (did (Began (held.last_id + 1) held.moment conn.mode) (record (timed held w) { last_id = held.last_id + 1 })))
+      else course_replied n (Refused C500) (timed held w))) [
         | true ↦ stands_begun held w conn (held.last_id + 1) a s there shut plain
         | false ↦ stands_plainly held (timed held w) conn (Refused C500) a (stands_timed held w s) there plain
       ])
 
-  stands_greeted : (held : Held) (w : World) (conn : Connection) (greeting : Greeting) → IsFine buses order w → StandsBy buses read keys held w → numbered n w.connections ≡ Some conn → conn.shut ≡ None → conn.info ≡ false
+  stands_greeted : (held : Held) (w : World) (conn : Connection) (greeting : Greeting) → IsFine buses order w
+      → StandsBy buses read keys held w → numbered n w.connections ≡ Some conn → conn.shut ≡ None → conn.info ≡ false
       → StandsBy buses read keys (greeted true key conn.mode greeting held) (course_greeted buses n conn.mode greeting w)
   stands_greeted held w conn Speaks a s there shut plain = stands_plainly held w conn Protocol a s there plain
   stands_greeted held w conn (Chooses chosen) a s there shut plain =
       let f = fine_of w a n conn there in
-      stands_replied (changed_at key (λ p. record p { mode = chosen }) held) (at_connection n (λ conn. record conn { mode = chosen }) w) (record conn { mode = chosen }) ModeReply
-      (stands_of held w conn (λ conn. record conn { mode = chosen }) (λ p. record p { mode = chosen }) s there refl refl (λ reader up. chosen_place reader (history buses w) conn chosen plain))
-      (numbered_at w conn (λ conn. record conn { mode = chosen }) there) (f.plain plain).0 (ap (λ i. i && nat_lt 256 (length (untold conn (history buses w)))) plain) f.within
+      stands_replied (changed_at key (λ p. record p { mode = chosen }) held) (at_connection n (λ conn. record conn { mode = chosen }) w)
+      (record conn { mode = chosen }) ModeReply
+      (stands_of held w conn (λ conn. record conn { mode = chosen }) (λ p. record p { mode = chosen }) s there refl refl
+      (λ reader up. chosen_place reader (history buses w) conn chosen plain))
+      (numbered_at w conn (λ conn. record conn { mode = chosen }) there) (f.plain plain).0
+      (ap (λ i. i && nat_lt 256 (length (untold conn (history buses w)))) plain) f.within
   stands_greeted held w conn Goes a s there shut plain = stands_goes held w conn a s there shut plain
   stands_greeted held w conn (Refuses code) a s there shut plain = stands_plainly held w conn (Refused code) a s there plain
 
   -- ---- commands
 
-  stands_ended : (held : Held) (w : World) (conn : Connection) (session : ℕ) → IsFine buses order w → StandsBy buses read keys held w → numbered n w.connections ≡ Some conn → conn.info ≡ false
+  stands_ended : (held : Held) (w : World) (conn : Connection) (session : ℕ) → IsFine buses order w → StandsBy buses read keys held w
+      → numbered n w.connections ≡ Some conn → conn.info ≡ false
       → StandsBy buses read keys (freed_of session (changed_at key (λ p. record p { ended = true }) held)) (course_ended buses n session w)
   stands_ended held w conn session a s there plain =
       let ends : World = at_connection n (λ conn. record conn { ended = true }) w in
-      let e = stands_of held w conn (λ conn. record conn { ended = true }) (λ p. record p { ended = true }) s there refl refl (λ reader up. ended_place reader (history buses w) conn plain) in
-      let b = sound_at buses order Anything (anything (shown_rows (opening buses 0))) n (λ conn. record conn { ended = true }) w (λ other k f. record { fits = f.fits; before = f.before; plain = f.plain; within = f.within }) a in
-      subst (λ m. StandsBy buses read keys (freed_of session (changed_at key (λ p. record p { ended = true }) held)) (did (Ended session m) ends)) s.moment
-      (stands_did buses read keys (changed_at key (λ p. record p { ended = true }) held) ends (Ended session held.moment) (fine_of ends b) e)
+      let e =
+      stands_of held w conn (λ conn. record conn { ended = true }) (λ p. record p { ended = true }) s there refl refl
+      (λ reader up. ended_place reader (history buses w) conn plain) in
+      let b =
+      sound_at buses order Anything (anything (shown_rows (opening buses 0))) n (λ conn. record conn { ended = true }) w
+      (λ other k f. record { fits = f.fits; before = f.before; plain = f.plain; within = f.within }) a in
+      subst (λ m.
+      StandsBy buses read keys (freed_of session (changed_at key (λ p. record p { ended = true }) held))
+      (did (Ended session m) ends))
+      s.moment
+      (stands_did buses read keys (changed_at key (λ p. record p { ended = true }) held) ends (Ended session held.moment)
+      (fine_of ends b) e)
 
-  stands_obeyed : (held : Held) (w : World) (conn : Connection) (session : ℕ) (command : Order) → IsFine buses order w → StandsBy buses read keys held w → numbered n w.connections ≡ Some conn → conn.info ≡ false
-      → StandsBy buses read keys (obeyed key session (effect held.rows session held.moment command) held) (course_obeyed buses n session command (effect (state buses w) session w.moment command) w)
+  stands_obeyed : (held : Held) (w : World) (conn : Connection) (session : ℕ) (command : Order) → IsFine buses order w
+      → StandsBy buses read keys held w → numbered n w.connections ≡ Some conn → conn.info ≡ false
+      → StandsBy buses read keys (obeyed key session (effect held.rows session held.moment command) held)
+      (course_obeyed buses n session command (effect (state buses w) session w.moment command) w)
   stands_obeyed held w conn session command a s there plain =
-      subst (λ (state : State). StandsBy buses read keys (obeyed key session (effect held.rows session held.moment command) held) (course_obeyed buses n session command (effect state session w.moment command) w)) s.rows
-      (subst (λ m. StandsBy buses read keys (obeyed key session (effect held.rows session held.moment command) held) (finishes m (effect held.rows session m command) (effect held.rows session m command).ends)) s.moment
-      (elim (effect held.rows session held.moment command).ends as (λ t. StandsBy buses read keys (finished t key session (replied key result.reply (carried result.updates held))) (finishes held.moment result t)) [
-        | true ↦ stands_ended (replied key result.reply (carried result.updates held)) (course_replied n result.reply (did (Obeyed session held.moment command) w)) (record conn { out = conn.out ++ reply_line w.moment result.reply }) session sound_two two
-            (numbered_at (did (Obeyed session held.moment command) w) conn (λ conn. record conn { out = conn.out ++ reply_line w.moment result.reply }) there) plain
+      subst (λ (state : State).
+      StandsBy buses read keys (obeyed key session (effect held.rows session held.moment command) held)
+      (course_obeyed buses n session command (effect state session w.moment command) w))
+      s.rows
+      (subst (λ m.
+      StandsBy buses read keys (obeyed key session (effect held.rows session held.moment command) held)
+      (finishes m (effect held.rows session m command) (effect held.rows session m command).ends))
+      s.moment
+      (elim (effect held.rows session held.moment command).ends
+      as (λ t.
+      StandsBy buses read keys (finished t key session (replied key result.reply (carried result.updates held)))
+      (finishes held.moment result t)) [
+        | true ↦
+            stands_ended (replied key result.reply (carried result.updates held))
+            (course_replied n result.reply (did (Obeyed session held.moment command) w))
+            (record conn { out = conn.out ++ reply_line w.moment result.reply }) session sound_two two
+            (numbered_at (did (Obeyed session held.moment command) w) conn
+            (λ conn. record conn { out = conn.out ++ reply_line w.moment result.reply }) there)
+            plain
         | false ↦ two
       ]))
     where
@@ -178,7 +273,9 @@ module _ (buses : List Bus) (order : IsRisingBy key_at (shown_rows (opening buse
       result = effect held.rows session held.moment command
 
       finishes : ℕ → Effect → Bool → World
-      finishes m result t = if t then course_ended buses n session (course_replied n result.reply (did (Obeyed session m command) w)) else course_replied n result.reply (did (Obeyed session m command) w)
+      finishes m result t =
+          if t then course_ended buses n session (course_replied n result.reply (did (Obeyed session m command) w))
+          else course_replied n result.reply (did (Obeyed session m command) w)
 
       sound_one : IsFine buses order (did (Obeyed session held.moment command) w)
       sound_one = sound_did buses order Anything (anything (shown_rows (opening buses 0))) (Obeyed session held.moment command) w a
@@ -186,37 +283,67 @@ module _ (buses : List Bus) (order : IsRisingBy key_at (shown_rows (opening buse
       one : StandsBy buses read keys (carried result.updates held) (did (Obeyed session held.moment command) w)
       one = stands_did buses read keys held w (Obeyed session held.moment command) (fine_of w a) s
 
-      two : StandsBy buses read keys (replied key result.reply (carried result.updates held)) (course_replied n result.reply (did (Obeyed session held.moment command) w))
-      two = stands_plainly (carried result.updates held) (did (Obeyed session held.moment command) w) conn result.reply sound_one one there plain
+      two : StandsBy buses read keys (replied key result.reply (carried result.updates held))
+          (course_replied n result.reply (did (Obeyed session held.moment command) w))
+      two =
+          stands_plainly (carried result.updates held)
+          (did (Obeyed session held.moment command) w) conn result.reply sound_one one there plain
 
       sound_two : IsFine buses order (course_replied n result.reply (did (Obeyed session held.moment command) w))
-      sound_two = sound_replied buses order Anything (anything (shown_rows (opening buses 0))) n result.reply (did (Obeyed session held.moment command) w) sound_one
+      sound_two =
+          sound_replied buses order Anything (anything (shown_rows (opening buses 0))) n result.reply
+          (did (Obeyed session held.moment command) w) sound_one
 
   -- ---- what memory answers
 
   -- a growth that was refused is nothing to the course
   stands_denied : (held : Held) (w : World) → StandsBy buses read keys held w → StandsBy buses read keys (one_denied held) w
-  stands_denied held w s = record { layout = s.layout; rows = s.rows; moment = s.moment; last_id = s.last_id; count = s.count; long = s.long; opens = s.opens; closed = s.closed; apart = s.apart; owned = s.owned }
+  stands_denied held w s = record {
+    layout = s.layout;
+    rows = s.rows;
+    moment = s.moment;
+    last_id = s.last_id;
+    count = s.count;
+    long = s.long;
+    opens = s.opens;
+    closed = s.closed;
+    apart = s.apart;
+    owned = s.owned;
+  }
 
-  stands_commanded : (granted : Bool) (held : Held) (w : World) (conn : Connection) (session : ℕ) (command : Result Command Code) → IsFine buses order w → StandsBy buses read keys held w → numbered n w.connections ≡ Some conn → conn.info ≡ false
-      → StandsBy buses read keys (commanded granted key session command held) (course_commanded buses n session (ordered buses granted command) w)
+  stands_commanded : (granted : Bool) (held : Held) (w : World) (conn : Connection) (session : ℕ) (command : Result Command Code)
+      → IsFine buses order w → StandsBy buses read keys held w → numbered n w.connections ≡ Some conn → conn.info ≡ false
+      → StandsBy buses read keys (commanded granted key session command held)
+      (course_commanded buses n session (ordered buses granted command) w)
   stands_commanded granted held w conn session (Err code) a s there plain = stands_plainly held w conn (Refused code) a s there plain
   stands_commanded granted held w conn session (Ok command) a s there plain =
-      by (granted || not (wants_memory held.rows session held.moment command)) (stands_obeyed held w conn session (record { command = command; granted = granted }) a s there plain)
+      by (granted || not (wants_memory held.rows session held.moment command))
+      (stands_obeyed held w conn session (record { command = command; granted = granted }) a s there plain)
     where
-      by : (t : Bool) → StandsBy buses read keys (obeyed key session (if t then effect_of held.rows session held.moment command else refused C500) held) (course_commanded buses n session (ordered buses granted (Ok command)) w)
-          → StandsBy buses read keys (if t then obeyed key session (effect_of held.rows session held.moment command) held else denied_line key held) (course_commanded buses n session (ordered buses granted (Ok command)) w)
+      by : (t : Bool)
+          → StandsBy buses read keys (obeyed key session (if t then effect_of held.rows session held.moment command else refused C500) held)
+          (course_commanded buses n session (ordered buses granted (Ok command)) w)
+          → StandsBy buses read keys
+          (if t then obeyed key session (effect_of held.rows session held.moment command) held else denied_line key held)
+          (course_commanded buses n session (ordered buses granted (Ok command)) w)
       by true h = h
       by false h = stands_denied (replied key (Refused C500) held) _ h
 
-  stands_greeted_under : (granted : Bool) (held : Held) (w : World) (conn : Connection) (greeting : Greeting) → IsFine buses order w → StandsBy buses read keys held w → numbered n w.connections ≡ Some conn → conn.shut ≡ None → conn.info ≡ false
-      → StandsBy buses read keys (greeted granted key conn.mode greeting held) (course_greeted buses n conn.mode (greeting_under granted greeting) w)
+  stands_greeted_under : (granted : Bool) (held : Held) (w : World) (conn : Connection) (greeting : Greeting) → IsFine buses order w
+      → StandsBy buses read keys held w → numbered n w.connections ≡ Some conn → conn.shut ≡ None → conn.info ≡ false
+      → StandsBy buses read keys (greeted granted key conn.mode greeting held)
+      (course_greeted buses n conn.mode (greeting_under granted greeting) w)
   stands_greeted_under true held w conn greeting a s there shut plain = stands_greeted held w conn greeting a s there shut plain
   stands_greeted_under false held w conn Speaks a s there shut plain = stands_greeted held w conn Speaks a s there shut plain
-  stands_greeted_under false held w conn (Chooses chosen) a s there shut plain = stands_greeted held w conn (Chooses chosen) a s there shut plain
-  stands_greeted_under false held w conn (Refuses code) a s there shut plain = stands_greeted held w conn (Refuses code) a s there shut plain
+  stands_greeted_under false held w conn (Chooses chosen) a s there shut plain =
+      stands_greeted held w conn (Chooses chosen) a s there shut plain
+  stands_greeted_under false held w conn (Refuses code) a s there shut plain =
+      stands_greeted held w conn (Refuses code) a s there shut plain
   stands_greeted_under false held w conn Goes a s there shut plain =
-      elim (nat_lt held.last_id 4294967295) as (λ t. StandsBy buses read keys (if t then denied_line key held else replied key (Refused C500) held) (course_replied n (Refused C500) w)) [
+      elim (nat_lt held.last_id 4294967295)
+      as (λ t.
+      StandsBy buses read keys (if t then denied_line key held else replied key (Refused C500) held)
+      (course_replied n (Refused C500) w)) [
         | true ↦ stands_denied (replied key (Refused C500) held) _ refuses
         | false ↦ refuses
       ]
@@ -226,19 +353,36 @@ module _ (buses : List Bus) (order : IsRisingBy key_at (shown_rows (opening buse
 
   -- ---- any line
 
-  stands_asked : (held : Held) (w : World) (conn : Connection) (granted : Bool) (mark : Mark) (info ended first : Bool) → IsFine buses order w → StandsBy buses read keys held w → numbered n w.connections ≡ Some conn → conn.shut ≡ None → conn.info ≡ info
-      → StandsBy buses read keys (answered granted key (if info || ended then Dropped else (if first then Greets conn.mode (greets_of mark) else Commands conn.session (command_of buses mark))) held)
-      (if info || ended then w else (if first then course_greeted buses n conn.mode (greeting_under granted (greets_of mark)) w else course_commanded buses n conn.session (ordered buses granted (command_of buses mark)) w))
+  stands_asked : (held : Held) (w : World) (conn : Connection) (granted : Bool) (mark : Mark) (info ended first : Bool)
+      → IsFine buses order w → StandsBy buses read keys held w → numbered n w.connections ≡ Some conn → conn.shut ≡ None → conn.info ≡ info
+      → StandsBy buses read keys
+      (answered granted key
+      (if info || ended then Dropped
+      else (if first then Greets conn.mode (greets_of mark) else Commands conn.session (command_of buses mark)))
+      held)
+      (if info || ended then w
+      else (if first then course_greeted buses n conn.mode (greeting_under granted (greets_of mark)) w
+      else course_commanded buses n conn.session (ordered buses granted (command_of buses mark)) w))
   stands_asked held w conn granted mark true ended first a s there shut i = s
   stands_asked held w conn granted mark false true first a s there shut i = s
-  stands_asked held w conn granted mark false false true a s there shut i = stands_greeted_under granted held w conn (greets_of mark) a s there shut i
-  stands_asked held w conn granted mark false false false a s there shut i = stands_commanded granted held w conn conn.session (command_of buses mark) a s there i
+  stands_asked held w conn granted mark false false true a s there shut i =
+      stands_greeted_under granted held w conn (greets_of mark) a s there shut i
+  stands_asked held w conn granted mark false false false a s there shut i =
+      stands_commanded granted held w conn conn.session (command_of buses mark) a s there i
 
   -- what a line asks for is answered as in the course
-  pub stands_answered : (held : Held) (w : World) (granted : Bool) (mark : Mark) (p : Place) → IsFine buses order w → StandsBy buses read keys held w → at held key ≡ Some p
-      → StandsBy buses read keys (answered granted key (asked_of held.buses p mark) held) (course_answered buses n w (record { mark = mark; granted = granted }))
+  pub stands_answered : (held : Held) (w : World) (granted : Bool) (mark : Mark) (p : Place) → IsFine buses order w
+      → StandsBy buses read keys held w → at held key ≡ Some p
+      → StandsBy buses read keys (answered granted key (asked_of held.buses p mark) held)
+      (course_answered buses n w (record { mark = mark; granted = granted }))
   stands_answered held w granted mark p a s here =
       let h = asks_of buses read keys held w n key mark p s named here in
-      subst (λ (o : Option Connection). StandsBy buses read keys (answered granted key (asked_of held.buses p mark) held) (answered_as buses n o (record { mark = mark; granted = granted }) w)) (sym h.opened)
-      (subst (λ (asked : Asked). StandsBy buses read keys (answered granted key asked held) (answered_as buses n (Some h.conn) (record { mark = mark; granted = granted }) w)) (sym h.asks)
+      subst (λ (o : Option Connection).
+      StandsBy buses read keys (answered granted key (asked_of held.buses p mark) held)
+      (answered_as buses n o (record { mark = mark; granted = granted }) w))
+      (sym h.opened)
+      (subst (λ (asked : Asked).
+      StandsBy buses read keys (answered granted key asked held)
+      (answered_as buses n (Some h.conn) (record { mark = mark; granted = granted }) w))
+      (sym h.asks)
       (stands_asked held w h.conn granted mark h.conn.info h.conn.ended (h.conn.session == 0) a s h.there h.shut refl))

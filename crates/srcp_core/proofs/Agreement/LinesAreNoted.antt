@@ -1,5 +1,6 @@
 -- What the recorder notes of the answer to a line is what the course gains.
-use Rattle.std.proofs.Common.{◌≡◌, ℕ, zero, suc, ◌+◌, ◌≤◌, Bool, true, false, List, [], ◌∷◌, ◌++◌, map, take, length, refl, ap, sym, ◌∙◌, subst}
+use Rattle.std.proofs.Common.{◌≡◌, ℕ, zero, suc, ◌+◌, ◌≤◌, Bool, true, false, List, [], ◌∷◌, ◌++◌, map, take, length, refl, ap, sym, ◌∙◌}
+use Rattle.std.proofs.Common.{subst}
 use Rattle.std.proofs.lemmas.List.{take-append-le, map-append, length-map}
 use Rattle.std.specs.Option.{option_map}
 use Rattle.std.specs.Prelude.{Option, Some, None, not, ◌||◌, ◌&&◌, ◌==◌, nat_lt, slice_get, Result, Ok, Err, if◌then◌else◌}
@@ -20,7 +21,8 @@ use Rattle.srcp_core.specs.Under.{Step, Obeyed, Began, Ended, Order, greeting_un
 use Rattle.srcp_core.specs.declared.record.Step.{Step as PlainStep}
 use Rattle.srcp_core.specs.declared.record.Step.TheVariants as told
 use Rattle.srcp_core.specs.Connection.{Connection, given, sent}
-use Rattle.srcp_core.specs.Course.{World, numbered, with_numbered, at_connection, did, is_info, state, history, command_of, ordered, replied, entered, goes, greeted, ended, obeyed, commanded, answered_as, answered}
+use Rattle.srcp_core.specs.Course.{World, numbered, with_numbered, at_connection, did, is_info, state, history, command_of, ordered}
+use Rattle.srcp_core.specs.Course.{replied, entered, goes, greeted, ended, obeyed, commanded, answered_as, answered}
 use Rattle.srcp_core.specs.Handshake.{Greeting, Speaks, Chooses, Goes, Refuses, greets as greets_of}
 use Rattle.srcp_core.specs.Held.{Place, Held, at}
 use Rattle.srcp_core.specs.Machine.{asked_of, steps_gone, steps_greeted, steps_commanded, steps_answered}
@@ -38,55 +40,77 @@ use Rattle.srcp_core.proofs.Agreement.StandsAfterAChange.{Fine}
 
 -- ---- the records of connections
 
-pub told_with : (n : ℕ) (f : Connection → Connection) (g : ConnRecord → ConnRecord) (xs : List Connection) (conn : Connection) → numbered n xs ≡ Some conn → record_of (f conn) ≡ g (record_of conn)
+pub told_with : (n : ℕ) (f : Connection → Connection) (g : ConnRecord → ConnRecord) (xs : List Connection) (conn : Connection)
+    → numbered n xs ≡ Some conn → record_of (f conn) ≡ g (record_of conn)
     → map record_of (with_numbered n f xs) ≡ changed_record n g (map record_of xs)
 told_with zero f g xs conn e h = cc
 told_with (suc n) f g [] conn e h = cc
 told_with (suc zero) f g (x ∷ xs) conn e h =
     let same : conn ≡ x = cc in
     ap (λ t. t ∷ map record_of xs) (subst (λ (c : Connection). record_of (f c) ≡ g (record_of c)) same h)
-told_with (suc (suc n)) f g (x ∷ xs) conn e h = ap (λ ts. record_of x ∷ ts) (told_with (suc n) f g xs conn e h) ∙ front (slice_get (map record_of xs) n)
+told_with (suc (suc n)) f g (x ∷ xs) conn e h =
+    ap (λ ts. record_of x ∷ ts) (told_with (suc n) f g xs conn e h) ∙ front (slice_get (map record_of xs) n)
   where
     front : (o : Option ConnRecord) → record_of x ∷ changed_in n g (map record_of xs) o ≡ changed_in (suc n) g (map record_of (x ∷ xs)) o
     front None = refl
     front (Some told) = refl
 
-pub told_same : (n : ℕ) (f : Connection → Connection) (xs : List Connection) → ((conn : Connection) → numbered n xs ≡ Some conn → record_of (f conn) ≡ record_of conn) → map record_of (with_numbered n f xs) ≡ map record_of xs
+pub told_same : (n : ℕ) (f : Connection → Connection) (xs : List Connection)
+    → ((conn : Connection) → numbered n xs ≡ Some conn → record_of (f conn) ≡ record_of conn)
+    → map record_of (with_numbered n f xs) ≡ map record_of xs
 told_same n f [] h = refl
 told_same zero f (x ∷ xs) h = refl
 told_same (suc zero) f (x ∷ xs) h = ap (λ t. t ∷ map record_of xs) (h x refl)
 told_same (suc (suc n)) f (x ∷ xs) h = ap (λ ts. record_of x ∷ ts) (told_same (suc n) f xs h)
 
 -- a reply does not change what was sent
-pub sent_reply : (conn : Connection) (line : List ℕ) → conn.items ≡ [] → conn.taken ≤ length (given conn) → sent (record conn { out = conn.out ++ line }) ≡ sent conn
+pub sent_reply : (conn : Connection) (line : List ℕ) → conn.items ≡ [] → conn.taken ≤ length (given conn)
+    → sent (record conn { out = conn.out ++ line }) ≡ sent conn
 sent_reply conn line none within = ap (take conn.taken) (given_reply conn line none) ∙ take-append-le conn.taken (given conn) line within
 
-told_reply : (conn : Connection) (line : List ℕ) → conn.items ≡ [] → conn.taken ≤ length (given conn) → record_of (record conn { out = conn.out ++ line }) ≡ record_of conn
+told_reply : (conn : Connection) (line : List ℕ) → conn.items ≡ [] → conn.taken ≤ length (given conn)
+    → record_of (record conn { out = conn.out ++ line }) ≡ record_of conn
 told_reply conn line none within = ap (λ bytes. record (record_of conn) { sent = bytes }) (sent_reply conn line none within)
 
 -- ---- what a run has told of a course
 
-pub tells_same : (r : Recording) (w : World) (n : ℕ) (f : Connection → Connection) → ((conn : Connection) → numbered n w.connections ≡ Some conn → record_of (f conn) ≡ record_of conn) → Tells r w → Tells r (at_connection n f w)
+pub tells_same : (r : Recording) (w : World) (n : ℕ) (f : Connection → Connection)
+    → ((conn : Connection) → numbered n w.connections ≡ Some conn → record_of (f conn) ≡ record_of conn) → Tells r w
+    → Tells r (at_connection n f w)
 tells_same r w n f h t = record { steps = t.steps; refused = t.refused; connections = t.connections ∙ sym (told_same n f w.connections h) }
 
 pub tells_did : (r : Recording) (w : World) (step : Step) → Tells r w → Tells (stepped (step_told step ∷ []) r) (did step w)
-tells_did r w step t = record { steps = ap (λ steps. steps ++ step_told step ∷ []) t.steps ∙ sym (map-append step_told w.steps (step ∷ [])); refused = t.refused; connections = t.connections }
+tells_did r w step t = record {
+  steps = ap (λ steps. steps ++ step_told step ∷ []) t.steps ∙ sym (map-append step_told w.steps (step ∷ []));
+  refused = t.refused;
+  connections = t.connections;
+}
 
-pub tells_changed : (r : Recording) (w : World) (n : ℕ) (conn : Connection) (f : Connection → Connection) (g : ConnRecord → ConnRecord) → numbered n w.connections ≡ Some conn → record_of (f conn) ≡ g (record_of conn) → Tells r w
+pub tells_changed : (r : Recording) (w : World) (n : ℕ) (conn : Connection) (f : Connection → Connection) (g : ConnRecord → ConnRecord)
+    → numbered n w.connections ≡ Some conn → record_of (f conn) ≡ g (record_of conn) → Tells r w
     → Tells (record r { connections = changed_record n g r.connections }) (at_connection n f w)
-tells_changed r w n conn f g e h t = record { steps = t.steps; refused = t.refused; connections = ap (changed_record n g) t.connections ∙ sym (told_with n f g w.connections conn e h) }
+tells_changed r w n conn f g e h t = record {
+  steps = t.steps;
+  refused = t.refused;
+  connections = ap (changed_record n g) t.connections ∙ sym (told_with n f g w.connections conn e h);
+}
 
 -- ---- the answer to a line
 
 module _ (buses : List Bus) (n : ℕ) (r : Recording) where
-  tells_replied : (r : Recording) (w : World) (reply : Reply) → ((conn : Connection) → numbered n w.connections ≡ Some conn → (conn.items ≡ []) × (conn.taken ≤ length (given conn))) → Tells r w → Tells r (replied n reply w)
-  tells_replied r w reply h t = tells_same r w n (λ conn. record conn { out = conn.out ++ reply_line w.moment reply }) (λ conn e. told_reply conn (reply_line w.moment reply) (h conn e).0 (h conn e).1) t
+  tells_replied : (r : Recording) (w : World) (reply : Reply)
+      → ((conn : Connection) → numbered n w.connections ≡ Some conn → (conn.items ≡ []) × (conn.taken ≤ length (given conn))) → Tells r w
+      → Tells r (replied n reply w)
+  tells_replied r w reply h t =
+      tells_same r w n (λ conn. record conn { out = conn.out ++ reply_line w.moment reply })
+      (λ conn e. told_reply conn (reply_line w.moment reply) (h conn e).0 (h conn e).1) t
 
   -- no line was put into the connection of the number, and no more was taken of it than it was given
   abbrev IsPlain : World → Connection → Type 0
   IsPlain w conn = (numbered n w.connections ≡ Some conn) × ((conn.items ≡ []) × (conn.taken ≤ length (given conn)))
 
-  plain_at : (w : World) (conn : Connection) → IsPlain w conn → (other : Connection) → numbered n w.connections ≡ Some other → (other.items ≡ []) × (other.taken ≤ length (given other))
+  plain_at : (w : World) (conn : Connection) → IsPlain w conn → (other : Connection) → numbered n w.connections ≡ Some other
+      → (other.items ≡ []) × (other.taken ≤ length (given other))
   plain_at w conn p other e =
       let there = p.0 in
       let same : conn ≡ other = let both : Some conn ≡ Some other = sym there ∙ e in cc in
@@ -99,41 +123,66 @@ module _ (buses : List Bus) (n : ℕ) (r : Recording) where
       let d = tells_did r w step t in
       let f : Connection → Connection = λ c. record c { session = id; info = is_info c.mode; go_step = length (w.steps ++ step ∷ []) } in
       let there_after = numbered_with n f w.connections ∙ ap (option_map f) p.0 in
-      tells_replied (noted n (step_told step ∷ []) r) (entered buses n id (did step w)) (Go id) (plain_at (entered buses n id (did step w)) (f conn) (there_after, p.1))
-      (tells_changed (stepped (step_told step ∷ []) r) (did step w) n conn f (λ told. record told { session = id; info = is_info conn.mode; go_step = length (r.steps ++ step_told step ∷ []) }) p.0
-      (ap (λ k. record (record_of conn) { session = id; info = is_info conn.mode; go_step = k }) (sym (length-map (w.steps ++ step ∷ []) step_told) ∙ sym (ap length d.steps))) d)
+      tells_replied (noted n (step_told step ∷ []) r) (entered buses n id (did step w)) (Go id)
+      (plain_at (entered buses n id (did step w)) (f conn) (there_after, p.1))
+      (tells_changed (stepped (step_told step ∷ []) r) (did step w) n conn f
+      (λ told. record told { session = id; info = is_info conn.mode; go_step = length (r.steps ++ step_told step ∷ []) }) p.0
+      (ap (λ k. record (record_of conn) { session = id; info = is_info conn.mode; go_step = k })
+      (sym (length-map (w.steps ++ step ∷ []) step_told) ∙ sym (ap length d.steps)))
+      d)
 
-  tells_goes : (w : World) (conn : Connection) (held : Held) → held.moment ≡ w.moment → held.last_id ≡ w.last_id → IsPlain w conn → Tells r w → Tells (noted n (steps_gone true conn.mode held) r) (goes buses n conn.mode w)
+  tells_goes : (w : World) (conn : Connection) (held : Held) → held.moment ≡ w.moment → held.last_id ≡ w.last_id → IsPlain w conn
+      → Tells r w → Tells (noted n (steps_gone true conn.mode held) r) (goes buses n conn.mode w)
   tells_goes w conn held m l p t =
-      subst (λ k. Tells (noted n (if nat_lt k 4294967295 && true then told.Began (k + 1) held.moment conn.mode ∷ [] else []) r) (goes buses n conn.mode w)) (sym l)
-      (subst (λ k. Tells (noted n (if nat_lt w.last_id 4294967295 && true then told.Began (w.last_id + 1) k conn.mode ∷ [] else []) r) (goes buses n conn.mode w)) (sym m)
-      (elim (nat_lt w.last_id 4294967295) as (λ b. Tells (noted n (if b && true then told.Began (w.last_id + 1) w.moment conn.mode ∷ [] else []) r)
-      (if b then replied n (Go (w.last_id + 1)) (entered buses n (w.last_id + 1) (did (Began (w.last_id + 1) w.moment conn.mode) (record w { last_id = w.last_id + 1 }))) else replied n (Refused C500) w)) [
-        | true ↦ tells_begun (record w { last_id = w.last_id + 1 }) conn (w.last_id + 1) w.moment p (record { steps = t.steps; refused = t.refused; connections = t.connections })
+      subst (λ k.
+      Tells (noted n (if nat_lt k 4294967295 && true then told.Began (k + 1) held.moment conn.mode ∷ [] else []) r)
+      (goes buses n conn.mode w))
+      (sym l)
+      (subst (λ k.
+      Tells (noted n (if nat_lt w.last_id 4294967295 && true then told.Began (w.last_id + 1) k conn.mode ∷ [] else []) r)
+      (goes buses n conn.mode w))
+      (sym m)
+      (elim (nat_lt w.last_id 4294967295)
+      as (λ b. Tells (noted n (if b && true then told.Began (w.last_id + 1) w.moment conn.mode ∷ [] else []) r)
+      (if b
+      then replied n (Go (w.last_id + 1))
+      (entered buses n (w.last_id + 1) (did (Began (w.last_id + 1) w.moment conn.mode) (record w { last_id = w.last_id + 1 })))
+      else replied n (Refused C500) w)) [
+        | true ↦
+            tells_begun (record w { last_id = w.last_id + 1 }) conn (w.last_id + 1) w.moment p
+            (record { steps = t.steps; refused = t.refused; connections = t.connections })
         | false ↦ tells_replied r w (Refused C500) (plain_at w conn p) t
       ]))
 
-  tells_greeted : (w : World) (conn : Connection) (held : Held) (greeting : Greeting) → held.moment ≡ w.moment → held.last_id ≡ w.last_id → IsPlain w conn → Tells r w → Tells (noted n (steps_greeted true conn.mode greeting held) r) (greeted buses n conn.mode greeting w)
+  tells_greeted : (w : World) (conn : Connection) (held : Held) (greeting : Greeting) → held.moment ≡ w.moment → held.last_id ≡ w.last_id
+      → IsPlain w conn → Tells r w → Tells (noted n (steps_greeted true conn.mode greeting held) r) (greeted buses n conn.mode greeting w)
   tells_greeted w conn held Speaks m l p t = tells_replied r w Protocol (plain_at w conn p) t
   tells_greeted w conn held (Chooses chosen) m l p t =
       let f : Connection → Connection = λ c. record c { mode = chosen } in
-      tells_replied r (at_connection n f w) ModeReply (plain_at (at_connection n f w) (f conn) (numbered_with n f w.connections ∙ ap (option_map f) p.0, p.1)) (tells_same r w n f (λ c e. refl) t)
+      tells_replied r (at_connection n f w) ModeReply
+      (plain_at (at_connection n f w) (f conn) (numbered_with n f w.connections ∙ ap (option_map f) p.0, p.1))
+      (tells_same r w n f (λ c e. refl) t)
   tells_greeted w conn held Goes m l p t = tells_goes w conn held m l p t
   tells_greeted w conn held (Refuses code) m l p t = tells_replied r w (Refused code) (plain_at w conn p) t
 
-  tells_greeted_under : (granted : Bool) (w : World) (conn : Connection) (held : Held) (greeting : Greeting) → held.moment ≡ w.moment → held.last_id ≡ w.last_id → IsPlain w conn → Tells r w
+  tells_greeted_under : (granted : Bool) (w : World) (conn : Connection) (held : Held) (greeting : Greeting) → held.moment ≡ w.moment
+      → held.last_id ≡ w.last_id → IsPlain w conn → Tells r w
       → Tells (noted n (steps_greeted granted conn.mode greeting held) r) (greeted buses n conn.mode (greeting_under granted greeting) w)
   tells_greeted_under true w conn held greeting m l p t = tells_greeted w conn held greeting m l p t
   tells_greeted_under false w conn held Speaks m l p t = tells_greeted w conn held Speaks m l p t
   tells_greeted_under false w conn held (Chooses chosen) m l p t = tells_greeted w conn held (Chooses chosen) m l p t
   tells_greeted_under false w conn held (Refuses code) m l p t = tells_greeted w conn held (Refuses code) m l p t
   tells_greeted_under false w conn held Goes m l p t =
-      elim (nat_lt held.last_id 4294967295) as (λ b. Tells (noted n (if b && false then told.Began (held.last_id + 1) held.moment conn.mode ∷ [] else []) r) (replied n (Refused C500) w)) [
+      elim (nat_lt held.last_id 4294967295)
+      as (λ b.
+      Tells (noted n (if b && false then told.Began (held.last_id + 1) held.moment conn.mode ∷ [] else []) r)
+      (replied n (Refused C500) w)) [
         | true ↦ tells_replied r w (Refused C500) (plain_at w conn p) t
         | false ↦ tells_replied r w (Refused C500) (plain_at w conn p) t
       ]
 
-  tells_commanded : (granted : Bool) (w : World) (conn : Connection) (held : Held) (session : ℕ) (command : Result Command Code) → held.moment ≡ w.moment → held.rows ≡ state buses w → IsPlain w conn → Tells r w
+  tells_commanded : (granted : Bool) (w : World) (conn : Connection) (held : Held) (session : ℕ) (command : Result Command Code)
+      → held.moment ≡ w.moment → held.rows ≡ state buses w → IsPlain w conn → Tells r w
       → Tells (noted n (steps_commanded granted session command held) r) (commanded buses n session (ordered buses granted command) w)
   tells_commanded granted w conn held session (Err code) m s p t = tells_replied r w (Refused code) (plain_at w conn p) t
   tells_commanded granted w conn held session (Ok command) m s p t =
@@ -145,38 +194,74 @@ module _ (buses : List Bus) (n : ℕ) (r : Recording) where
       ordering = record { command = command; granted = granted }
 
       steps_by : State → ℕ → List PlainStep
-      steps_by k moment = told.Obeyed session moment command ∷ (if (granted || not (wants_memory k session moment command)) && (effect_of k session moment command).ends then told.Ended session moment ∷ [] else [])
+      steps_by k moment =
+          told.Obeyed session moment command
+          ∷ (if (granted || not (wants_memory k session moment command)) && (effect_of k session moment command).ends
+          then told.Ended session moment ∷ [] else [])
 
-      one : (result : Effect) → Tells (stepped (told.Obeyed session w.moment command ∷ []) r) (replied n result.reply (did (Obeyed session w.moment ordering) w))
-      one result = tells_replied (stepped (told.Obeyed session w.moment command ∷ []) r) (did (Obeyed session w.moment ordering) w) result.reply (plain_at (did (Obeyed session w.moment ordering) w) conn p) (tells_did r w (Obeyed session w.moment ordering) t)
+      one : (result : Effect)
+          → Tells (stepped (told.Obeyed session w.moment command ∷ []) r)
+          (replied n result.reply (did (Obeyed session w.moment ordering) w))
+      one result =
+          tells_replied (stepped (told.Obeyed session w.moment command ∷ []) r) (did (Obeyed session w.moment ordering) w) result.reply
+          (plain_at (did (Obeyed session w.moment ordering) w) conn p) (tells_did r w (Obeyed session w.moment ordering) t)
 
-      by : (result : Effect) (b : Bool) → Tells (noted n (told.Obeyed session w.moment command ∷ (if b then told.Ended session w.moment ∷ [] else [])) r)
-          (if b then ended buses n session (replied n result.reply (did (Obeyed session w.moment ordering) w)) else replied n result.reply (did (Obeyed session w.moment ordering) w))
+      by : (result : Effect) (b : Bool)
+          → Tells (noted n (told.Obeyed session w.moment command ∷ (if b then told.Ended session w.moment ∷ [] else [])) r)
+          (if b then ended buses n session (replied n result.reply (did (Obeyed session w.moment ordering) w))
+          else replied n result.reply (did (Obeyed session w.moment ordering) w))
       by result false = one result
       by result true =
-          tells_did (stepped (told.Obeyed session w.moment command ∷ []) r) (at_connection n (λ c. record c { ended = true }) (replied n result.reply (did (Obeyed session w.moment ordering) w))) (Ended session w.moment)
-          (tells_same (stepped (told.Obeyed session w.moment command ∷ []) r) (replied n result.reply (did (Obeyed session w.moment ordering) w)) n (λ c. record c { ended = true }) (λ c e. refl) (one result))
+          tells_did (stepped (told.Obeyed session w.moment command ∷ []) r)
+          (at_connection n (λ c. record c { ended = true }) (replied n result.reply (did (Obeyed session w.moment ordering) w)))
+          (Ended session w.moment)
+          (tells_same (stepped (told.Obeyed session w.moment command ∷ []) r)
+          (replied n result.reply (did (Obeyed session w.moment ordering) w)) n (λ c. record c { ended = true }) (λ c e. refl)
+          (one result))
 
-      split : (g : Bool) → Tells (noted n (told.Obeyed session w.moment command ∷ (if g && (effect_of (state buses w) session w.moment command).ends then told.Ended session w.moment ∷ [] else [])) r)
+      split : (g : Bool)
+          → Tells (noted n
+          (told.Obeyed session w.moment command
+          ∷ (if g && (effect_of (state buses w) session w.moment command).ends then told.Ended session w.moment ∷ [] else []))
+          r)
           (obeyed buses n session ordering (if g then effect_of (state buses w) session w.moment command else refused C500) w)
       split true = by (effect_of (state buses w) session w.moment command) (effect_of (state buses w) session w.moment command).ends
       split false = by (refused C500) false
 
-  tells_asked : (w : World) (conn : Connection) (held : Held) (granted : Bool) (mark : Mark) (info over first : Bool) → held.moment ≡ w.moment → held.last_id ≡ w.last_id → held.rows ≡ state buses w → (info ≡ false → IsPlain w conn) → Tells r w
-      → Tells (noted n (steps_answered granted (if info || over then Dropped else (if first then Greets conn.mode (greets_of mark) else Commands conn.session (command_of buses mark))) held) r)
-      (if info || over then w else (if first then greeted buses n conn.mode (greeting_under granted (greets_of mark)) w else commanded buses n conn.session (ordered buses granted (command_of buses mark)) w))
+  tells_asked : (w : World) (conn : Connection) (held : Held) (granted : Bool) (mark : Mark) (info over first : Bool)
+      → held.moment ≡ w.moment → held.last_id ≡ w.last_id → held.rows ≡ state buses w → (info ≡ false → IsPlain w conn) → Tells r w
+      → Tells (noted n
+      (steps_answered granted
+      (if info || over then Dropped
+      else (if first then Greets conn.mode (greets_of mark) else Commands conn.session (command_of buses mark)))
+      held)
+      r)
+      (if info || over then w
+      else (if first then greeted buses n conn.mode (greeting_under granted (greets_of mark)) w
+      else commanded buses n conn.session (ordered buses granted (command_of buses mark)) w))
   tells_asked w conn held granted mark true over first m l s plain t = t
   tells_asked w conn held granted mark false true first m l s plain t = t
-  tells_asked w conn held granted mark false false true m l s plain t = tells_greeted_under granted w conn held (greets_of mark) m l (plain refl) t
-  tells_asked w conn held granted mark false false false m l s plain t = tells_commanded granted w conn held conn.session (command_of buses mark) m s (plain refl) t
+  tells_asked w conn held granted mark false false true m l s plain t =
+      tells_greeted_under granted w conn held (greets_of mark) m l (plain refl) t
+  tells_asked w conn held granted mark false false false m l s plain t =
+      tells_commanded granted w conn held conn.session (command_of buses mark) m s (plain refl) t
 
 -- what is noted of the answer to a line
-pub tells_answered : (buses : List Bus) (order : IsRisingBy key_at (shown_rows (opening buses 0))) (read : ℕ → List ℕ → List ℕ) (keys : List (Option ℕ)) (n key : ℕ) (r : Recording) (held : Held) (w : World) (granted : Bool) (mark : Mark) (p : Place)
+pub tells_answered : (buses : List Bus) (order : IsRisingBy key_at (shown_rows (opening buses 0))) (read : ℕ → List ℕ → List ℕ)
+    (keys : List (Option ℕ)) (n key : ℕ) (r : Recording) (held : Held) (w : World) (granted : Bool) (mark : Mark) (p : Place)
     → IsFine buses order w → StandsBy buses read keys held w → key_of n keys ≡ Some key → at held key ≡ Some p → Tells r w
-    → Tells (noted n (steps_answered granted (asked_of held.buses p mark) held) r) (answered buses n w (record { mark = mark; granted = granted }))
+    → Tells (noted n (steps_answered granted (asked_of held.buses p mark) held) r)
+    (answered buses n w (record { mark = mark; granted = granted }))
 tells_answered buses order read keys n key r held w granted mark p a s named here t =
     let h = asks_of buses read keys held w n key mark p s named here in
     let f : Fine buses (history buses w) h.conn = at_number (Fine buses (history buses w)) n w.connections h.conn a h.there in
-    subst (λ (o : Option Connection). Tells (noted n (steps_answered granted (asked_of held.buses p mark) held) r) (answered_as buses n o (record { mark = mark; granted = granted }) w)) (sym h.opened)
-    (subst (λ (asked : Asked). Tells (noted n (steps_answered granted asked held) r) (answered_as buses n (Some h.conn) (record { mark = mark; granted = granted }) w)) (sym h.asks)
-    (tells_asked buses n r w h.conn held granted mark h.conn.info h.conn.ended (h.conn.session == 0) s.moment s.last_id s.rows (λ plain. (h.there, ((f.plain plain).0, f.within))) t))
+    subst (λ (o : Option Connection).
+    Tells (noted n (steps_answered granted (asked_of held.buses p mark) held) r)
+    (answered_as buses n o (record { mark = mark; granted = granted }) w))
+    (sym h.opened)
+    (subst (λ (asked : Asked).
+    Tells (noted n (steps_answered granted asked held) r)
+    (answered_as buses n (Some h.conn) (record { mark = mark; granted = granted }) w))
+    (sym h.asks)
+    (tells_asked buses n r w h.conn held granted mark h.conn.info h.conn.ended (h.conn.session == 0) s.moment s.last_id s.rows
+    (λ plain. (h.there, ((f.plain plain).0, f.within))) t))

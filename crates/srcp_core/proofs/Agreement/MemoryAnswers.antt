@@ -9,13 +9,15 @@ use Rattle.srcp_rules.specs.declared.command.Command.{Command}
 use Rattle.srcp_rules.specs.Effect.{Effect, effect as effect_of, adds_rows, refused}
 use Rattle.srcp_rules.specs.State.{State}
 use Rattle.srcp_core.specs.Connection.{Connection}
-use Rattle.srcp_core.specs.Course.{World, start, at_connection, open_connection, counted, ordered, new_marks, fed_to, answered, bytes_fault, or_refused, happens, course, replied, goes, greeted}
+use Rattle.srcp_core.specs.Course.{World, start, at_connection, open_connection, counted, ordered, new_marks, fed_to, answered, bytes_fault}
+use Rattle.srcp_core.specs.Course.{or_refused, happens, course, replied, goes, greeted}
 use Rattle.srcp_core.specs.Laws.{HasMoment, AllMoments}
 use Rattle.srcp_core.specs.Run.{HasPlainMoment, PlainMoments}
 use Rattle.srcp_core.specs.declared.event.Event.TheVariants as plain
 use Rattle.srcp_core.specs.declared.record.CoreFault.{CoreFault}
 use Rattle.srcp_text.specs.Marks.{Mark}
-use Rattle.srcp_core.specs.Under.{Order, Heard, greets, effect, wants_memory, is_accepted, Open, lines_under, under, all_under, first_of, giving, denied_by}
+use Rattle.srcp_core.specs.Under.{Order, Heard, greets, effect, wants_memory, is_accepted, Open, lines_under, under, all_under, first_of}
+use Rattle.srcp_core.specs.Under.{giving, denied_by}
 use Rattle.srcp_core.specs.declared.event.Event.{Event as PlainEvent}
 use Rattle.srcp_rules.specs.declared.layout.Bus.{Bus}
 use Rattle.srcp_info.specs.declared.change.Reply.TheVariants.{Protocol, Mode as ModeReply, Refused}
@@ -23,22 +25,30 @@ use Rattle.srcp_info.specs.declared.value.Mode.{Mode}
 use Rattle.srcp_core.specs.Handshake.{Greeting, Speaks, Chooses, Goes, Refuses}
 
 -- what holds of the command's effect and of a refusal holds of what the order does
-pub effect_law : (P : Effect → Type 0) (state : State) (session moment : ℕ) (order : Order) → P (effect_of state session moment order.command) → P (refused C500) → P (effect state session moment order)
+pub effect_law : (P : Effect → Type 0) (state : State) (session moment : ℕ) (order : Order)
+    → P (effect_of state session moment order.command) → P (refused C500) → P (effect state session moment order)
 effect_law P state session moment order e r =
-    elim (order.granted || not (wants_memory state session moment order.command)) as (λ t. P (if t then effect_of state session moment order.command else refused C500)) [ true ↦ e | false ↦ r ]
+    elim (order.granted || not (wants_memory state session moment order.command))
+    as (λ t. P (if t then effect_of state session moment order.command else refused C500)) [ true ↦ e | false ↦ r ]
 
 -- what holds of the command holds of the order
 -- a command that another rule refuses has that refusal
-pub refusals_stand : (state : State) (session moment : ℕ) (order : Order) (code : Code) → (effect_of state session moment order.command).reply ≡ Refused code → effect state session moment order ≡ effect_of state session moment order.command
-refusals_stand state session moment order code e = by order.granted (adds_rows state order.command) (is_accepted (effect_of state session moment order.command).reply) (ap is_accepted e)
+pub refusals_stand : (state : State) (session moment : ℕ) (order : Order) (code : Code)
+    → (effect_of state session moment order.command).reply ≡ Refused code
+    → effect state session moment order ≡ effect_of state session moment order.command
+refusals_stand state session moment order code e =
+    by order.granted (adds_rows state order.command) (is_accepted (effect_of state session moment order.command).reply) (ap is_accepted e)
   where
-    by : (granted adds accepted : Bool) → accepted ≡ false → (if granted || not (adds && accepted) then effect_of state session moment order.command else refused C500) ≡ effect_of state session moment order.command
+    by : (granted adds accepted : Bool) → accepted ≡ false
+        → (if granted || not (adds && accepted) then effect_of state session moment order.command else refused C500)
+        ≡ effect_of state session moment order.command
     by true adds accepted h = refl
     by false false accepted h = refl
     by false true true h = cc
     by false true false h = refl
 
-pub ordered_law : (buses : List Bus) (P : Command → Type 0) (granted : Bool) (command : Result Command Code) → IfOk command P → IfOk (ordered buses granted command) (λ order. P order.command)
+pub ordered_law : (buses : List Bus) (P : Command → Type 0) (granted : Bool) (command : Result Command Code) → IfOk command P
+    → IfOk (ordered buses granted command) (λ order. P order.command)
 ordered_law buses P granted (Ok command) h = h
 ordered_law buses P granted (Err code) h = tt
 
@@ -48,15 +58,19 @@ pub lines_push : (grants : List Bool) (marks : List Mark) (granted : Bool) (mark
 lines_push [] [] granted mark e = refl
 lines_push [] (m ∷ marks) granted mark e = absurd (omega (arith, e))
 lines_push (g ∷ grants) [] granted mark e = absurd (omega (arith, e))
-lines_push (g ∷ grants) (m ∷ marks) granted mark e = let less : length grants ≡ length marks = omega (arith, e) in ap (λ lines. record { mark = m; granted = g } ∷ lines) (lines_push grants marks granted mark less)
+lines_push (g ∷ grants) (m ∷ marks) granted mark e =
+    let less : length grants ≡ length marks = omega (arith, e) in
+    ap (λ lines. record { mark = m; granted = g } ∷ lines) (lines_push grants marks granted mark less)
 
 -- one event more with its answers
-pub under_push : (grants : List (List Bool)) (events : List PlainEvent) (more : List Bool) (event : PlainEvent) → length grants ≡ length events
+pub under_push : (grants : List (List Bool)) (events : List PlainEvent) (more : List Bool) (event : PlainEvent)
+    → length grants ≡ length events
     → all_under (grants ++ more ∷ []) (events ++ event ∷ []) ≡ all_under grants events ++ under more event ∷ []
 under_push [] [] more event e = refl
 under_push [] (x ∷ events) more event e = absurd (omega (arith, e))
 under_push (g ∷ grants) [] more event e = absurd (omega (arith, e))
-under_push (g ∷ grants) (x ∷ events) more event e = let less : length grants ≡ length events = omega (arith, e) in ap (λ es. under g x ∷ es) (under_push grants events more event less)
+under_push (g ∷ grants) (x ∷ events) more event e =
+    let less : length grants ≡ length events = omega (arith, e) in ap (λ es. under g x ∷ es) (under_push grants events more event less)
 
 pub under_length : (grants : List (List Bool)) (events : List PlainEvent) → length (all_under grants events) ≡ length events
 under_length grants [] = refl
@@ -70,9 +84,11 @@ pub counts : (k : ℕ) → min (k + 1) 18446744073709551615 ≡ 0 → ⊥
 counts k e = omega (arith, e)
 
 -- a line more, with its answer
-pub counted_more : (first now later : ℕ) (grants : List Bool) (granted : Bool) → now ≡ denied_by first grants → later ≡ denied_by now (granted ∷ []) → later ≡ denied_by first (grants ++ granted ∷ [])
+pub counted_more : (first now later : ℕ) (grants : List Bool) (granted : Bool) → now ≡ denied_by first grants
+    → later ≡ denied_by now (granted ∷ []) → later ≡ denied_by first (grants ++ granted ∷ [])
 counted_more first now later grants granted e f =
-    f ∙ ap (λ k. denied_by k (granted ∷ [])) e ∙ sym (fold-append (λ count granted. if granted then count else min (count + 1) 18446744073709551615) first grants (granted ∷ []))
+    f ∙ ap (λ k. denied_by k (granted ∷ [])) e
+    ∙ sym (fold-append (λ count granted. if granted then count else min (count + 1) 18446744073709551615) first grants (granted ∷ []))
 
 -- where the count is 0, it was 0 before and each answer gave
 pub none_denied : (grants : List Bool) (k : ℕ) → denied_by k grants ≡ 0 → (k ≡ 0) × AllByRecursion IsTrue grants
@@ -81,7 +97,8 @@ none_denied (true ∷ grants) k e = let n = none_denied grants k e in (n.0, (ref
 none_denied (false ∷ grants) k e = absurd (counts k (none_denied grants (min (k + 1) 18446744073709551615) e).0)
 
 -- and so in each event
-pub none_of_all : (grants : List (List Bool)) (k : ℕ) → fold denied_by k grants ≡ 0 → (k ≡ 0) × AllByRecursion (AllByRecursion IsTrue) grants
+pub none_of_all : (grants : List (List Bool)) (k : ℕ) → fold denied_by k grants ≡ 0
+    → (k ≡ 0) × AllByRecursion (AllByRecursion IsTrue) grants
 none_of_all [] k e = (e, tt)
 none_of_all (g ∷ grants) k e =
     let later = none_of_all grants (denied_by k g) e in
@@ -111,19 +128,25 @@ pub lines_all : (grants : List Bool) (marks : List Mark) → AllByRecursion IsTr
 lines_all [] marks a = refl
 lines_all (g ∷ grants) [] a = refl
 lines_all (g ∷ grants) (mark ∷ marks) a =
-    ap (λ t. record { mark = mark; granted = t } ∷ lines_under grants marks) a.0 ∙ ap (λ lines. record { mark = mark; granted = true } ∷ lines) (lines_all grants marks a.1)
+    ap (λ t. record { mark = mark; granted = t } ∷ lines_under grants marks) a.0
+    ∙ ap (λ lines. record { mark = mark; granted = true } ∷ lines) (lines_all grants marks a.1)
 
-fed_all : (buses : List Bus) (n : ℕ) (bytes : List ℕ) (grants : List Bool) (o : Option Connection) (w : World) → AllByRecursion IsTrue grants → fed_to buses n (record { bytes = bytes; grants = grants }) o w ≡ fed_to buses n (giving bytes) o w
+fed_all : (buses : List Bus) (n : ℕ) (bytes : List ℕ) (grants : List Bool) (o : Option Connection) (w : World)
+    → AllByRecursion IsTrue grants → fed_to buses n (record { bytes = bytes; grants = grants }) o w ≡ fed_to buses n (giving bytes) o w
 fed_all buses n bytes grants None w a = refl
 fed_all buses n bytes grants (Some conn) w a =
-    ap (λ lines. fold (answered buses n) (at_connection n (λ c. record c { fed = c.fed ++ bytes }) w) lines) (lines_all grants (new_marks buses conn.fed bytes) a)
+    ap (λ lines. fold (answered buses n) (at_connection n (λ c. record c { fed = c.fed ++ bytes }) w) lines)
+    (lines_all grants (new_marks buses conn.fed bytes) a)
 
 -- an event happens as where memory gives all
-pub happens_all : (buses : List Bus) (w : World) (grants : List Bool) (event : PlainEvent) → AllByRecursion IsTrue grants → happens buses w (under grants event) ≡ happens buses w (under [] event)
+pub happens_all : (buses : List Bus) (w : World) (grants : List Bool) (event : PlainEvent) → AllByRecursion IsTrue grants
+    → happens buses w (under grants event) ≡ happens buses w (under [] event)
 happens_all buses w grants plain.Open a = ap (λ t. happens buses w (Open t)) (all_first grants a)
 happens_all buses w grants (plain.Bytes n piece) a = by (bytes_fault buses (counted w) (open_connection (counted w) n) piece)
   where
-    by : (o : Option CoreFault) → or_refused buses o (under grants (plain.Bytes n piece)) (counted w) ≡ or_refused buses o (under [] (plain.Bytes n piece)) (counted w)
+    by : (o : Option CoreFault)
+        → or_refused buses o (under grants (plain.Bytes n piece)) (counted w)
+        ≡ or_refused buses o (under [] (plain.Bytes n piece)) (counted w)
     by None = fed_all buses n piece grants (open_connection (counted w) n) (counted w) a
     by (Some cause) = refl
 happens_all buses w grants (plain.Room n bytes) a = refl
@@ -131,24 +154,30 @@ happens_all buses w grants (plain.At moment) a = refl
 happens_all buses w grants (plain.Shut n) a = refl
 
 -- with all answers given the course is that of the events where memory gives all
-course_all : (buses : List Bus) (grants : List (List Bool)) (events : List PlainEvent) (w : World) → AllByRecursion (AllByRecursion IsTrue) grants → fold (happens buses) w (all_under grants events) ≡ fold (happens buses) w (all_under [] events)
+course_all : (buses : List Bus) (grants : List (List Bool)) (events : List PlainEvent) (w : World)
+    → AllByRecursion (AllByRecursion IsTrue) grants
+    → fold (happens buses) w (all_under grants events) ≡ fold (happens buses) w (all_under [] events)
 course_all buses grants [] w a = refl
 course_all buses [] (event ∷ events) w a = refl
 course_all buses (g ∷ grants) (event ∷ events) w a =
-    ap (λ v. fold (happens buses) v (all_under grants events)) (happens_all buses w g event a.0) ∙ course_all buses grants events (happens buses w (under [] event)) a.1
+    ap (λ v. fold (happens buses) v (all_under grants events)) (happens_all buses w g event a.0)
+    ∙ course_all buses grants events (happens buses w (under [] event)) a.1
 
-pub gives_as_if : (buses : List Bus) (grants : List (List Bool)) (events : List PlainEvent) → AllByRecursion (AllByRecursion IsTrue) grants → course buses (all_under grants events) ≡ course buses (all_under [] events)
+pub gives_as_if : (buses : List Bus) (grants : List (List Bool)) (events : List PlainEvent) → AllByRecursion (AllByRecursion IsTrue) grants
+    → course buses (all_under grants events) ≡ course buses (all_under [] events)
 gives_as_if buses grants events a = course_all buses grants events start a
 
 -- ---- a line before the session, by what it does
 
-greeting_law : (P : World → Type 0) (buses : List Bus) (n : ℕ) (mode : Mode) (greeting : Greeting) (w : World) → P (replied n Protocol w) → ((chosen : Mode) → P (replied n ModeReply (at_connection n (λ conn. record conn { mode = chosen }) w)))
+greeting_law : (P : World → Type 0) (buses : List Bus) (n : ℕ) (mode : Mode) (greeting : Greeting) (w : World) → P (replied n Protocol w)
+    → ((chosen : Mode) → P (replied n ModeReply (at_connection n (λ conn. record conn { mode = chosen }) w)))
     → P (goes buses n mode w) → ((code : Code) → P (replied n (Refused code) w)) → P (greeted buses n mode greeting w)
 greeting_law P buses n mode Speaks w speaks chooses begins refuses = speaks
 greeting_law P buses n mode (Chooses chosen) w speaks chooses begins refuses = chooses chosen
 greeting_law P buses n mode Goes w speaks chooses begins refuses = begins
 greeting_law P buses n mode (Refuses code) w speaks chooses begins refuses = refuses code
 
-pub line_law : (P : World → Type 0) (buses : List Bus) (n : ℕ) (mode : Mode) (line : Heard) (w : World) → P (replied n Protocol w) → ((chosen : Mode) → P (replied n ModeReply (at_connection n (λ conn. record conn { mode = chosen }) w)))
+pub line_law : (P : World → Type 0) (buses : List Bus) (n : ℕ) (mode : Mode) (line : Heard) (w : World) → P (replied n Protocol w)
+    → ((chosen : Mode) → P (replied n ModeReply (at_connection n (λ conn. record conn { mode = chosen }) w)))
     → P (goes buses n mode w) → ((code : Code) → P (replied n (Refused code) w)) → P (greeted buses n mode (greets line) w)
 line_law P buses n mode line w speaks chooses begins refuses = greeting_law P buses n mode (greets line) w speaks chooses begins refuses

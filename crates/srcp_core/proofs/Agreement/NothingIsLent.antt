@@ -1,5 +1,6 @@
 -- Where nothing is lent of a connection.
-use Rattle.std.proofs.Common.{◌≡◌, ℕ, ◌+◌, ◌-◌, ◌<◌, Bool, true, false, List, [], ◌∷◌, ◌++◌, length, map, take, refl, ap, sym, ◌∙◌, arith, append-nil, length-append, length-drop}
+use Rattle.std.proofs.Common.{◌≡◌, ℕ, ◌+◌, ◌-◌, ◌<◌, Bool, true, false, List, [], ◌∷◌, ◌++◌, length, map, take, refl, ap, sym, ◌∙◌, arith}
+use Rattle.std.proofs.Common.{append-nil, length-append, length-drop}
 use Rattle.std.proofs.lemmas.Bool.{le-leb, lt-leb}
 use Rattle.std.proofs.lemmas.List.Sums.{fold-append}
 use Rattle.std.specs.List.{flat_map}
@@ -12,8 +13,10 @@ use Rattle.srcp_rules.specs.declared.layout.Bus.{Bus}
 use Rattle.srcp_rules.specs.Layout.{IsLayout}
 use Rattle.srcp_core.specs.Under.{Event, Room}
 use Rattle.srcp_core.specs.Agrees.{OfConnection, lent, lent_of, lends_none, lends_none_of}
-use Rattle.srcp_core.specs.Connection.{Connection, cursor_at, fitting, given, given_room, is_nil, is_open, is_settled, line_of, overran, owed, text, took, unsent, untold}
-use Rattle.srcp_core.specs.Course.{World, absent_fault, accepted, counted, course, happens, history, if_open, numbered, open_connection, or_refused, rows, start}
+use Rattle.srcp_core.specs.Connection.{Connection, cursor_at, fitting, given, given_room, is_nil, is_open, is_settled, line_of, overran}
+use Rattle.srcp_core.specs.Connection.{owed, text, took, unsent, untold}
+use Rattle.srcp_core.specs.Course.{World, absent_fault, accepted, counted, course, happens, history, if_open, numbered, open_connection}
+use Rattle.srcp_core.specs.Course.{or_refused, rows, start}
 use Rattle.srcp_core.specs.Held.{Held}
 use Rattle.srcp_core.specs.Machine.{let_out, unsent_at}
 use Rattle.srcp_core.proofs.Agreement.AnswersAgree.{lends_agrees}
@@ -33,7 +36,8 @@ next_nil [] full = refl
 next_nil (what ∷ nexts) full = some_bytes (line_of what) [] full.0
 
 -- where no item was given, replies are left exactly where bytes are
-replies_left : (conn : Connection) (byte : ℕ) (bytes : List ℕ) → conn.items ≡ [] → unsent conn ≡ byte ∷ bytes → nat_le (length conn.out) conn.taken ≡ false
+replies_left : (conn : Connection) (byte : ℕ) (bytes : List ℕ) → conn.items ≡ [] → unsent conn ≡ byte ∷ bytes
+    → nat_le (length conn.out) conn.taken ≡ false
 replies_left conn byte bytes items u =
     let all : given conn ≡ conn.out = ap (λ is. conn.out ++ text is) items ∙ append-nil conn.out in
     let size : length (given conn) ≡ length conn.out = ap (λ (xs : List ℕ). length xs) all in
@@ -56,7 +60,9 @@ module _ (buses : List Bus) (w : World) (conn : Connection) (up : is_open conn �
   settled = is_settled conn (history buses w) (rows buses w)
 
   abbrev Rests : Type 0
-  Rests = is_nil (unsent conn ++ flat_map line_of (fitting 0 (unsent conn) nexts)) ≡ (nat_le (length conn.out) conn.taken && (not conn.info || settled))
+  Rests =
+      is_nil (unsent conn ++ flat_map line_of (fitting 0 (unsent conn) nexts))
+      ≡ (nat_le (length conn.out) conn.taken && (not conn.info || settled))
 
   and_false : (t : Bool) → false ≡ t && false
   and_false true = refl
@@ -70,7 +76,10 @@ module _ (buses : List Bus) (w : World) (conn : Connection) (up : is_open conn �
       by : (info : Bool) → conn.info ≡ info → false ≡ (nat_le (length conn.out) conn.taken && (not conn.info || settled))
       by true i =
           and_false (nat_le (length conn.out) conn.taken)
-          ∙ ap (λ t. nat_le (length conn.out) conn.taken && (false || t)) (sym (ap (λ left. is_open conn && (conn.info && (is_nil left && is_nil nexts))) u ∙ ap (λ t. t && (conn.info && false)) up ∙ ap (λ t. t && false) i))
+          ∙ ap (λ t. nat_le (length conn.out) conn.taken && (false || t))
+          (sym
+          (ap (λ left. is_open conn && (conn.info && (is_nil left && is_nil nexts))) u ∙ ap (λ t. t && (conn.info && false)) up
+          ∙ ap (λ t. t && false) i))
           ∙ ap (λ t. nat_le (length conn.out) conn.taken && (not t || settled)) (sym i)
       by false i = ap (λ t. t && (not conn.info || settled)) (sym (replies_left conn byte bytes (plain i) u))
 
@@ -83,10 +92,16 @@ module _ (buses : List Bus) (w : World) (conn : Connection) (up : is_open conn �
     where
       by : (info : Bool) → conn.info ≡ info → is_nil nexts ≡ (not conn.info || settled)
       by true i =
-          sym (ap (λ left. is_open conn && (conn.info && (is_nil left && is_nil nexts))) u ∙ ap (λ t. t && (conn.info && is_nil nexts)) up ∙ ap (λ t. t && is_nil nexts) i)
+          sym (ap (λ left. is_open conn && (conn.info && (is_nil left && is_nil nexts))) u ∙ ap (λ t. t && (conn.info && is_nil nexts)) up
+          ∙ ap (λ t. t && is_nil nexts) i)
           ∙ ap (λ t. not t || settled) (sym i)
       by false i =
-          ap (λ t. is_nil (if t then map Told (untold conn (history buses w)) ++ map Listed (beyond (cursor_at conn (length (history buses w))) (rows buses w)) else [])) (ap (λ t. t && conn.info) up ∙ i)
+          ap (λ t.
+          is_nil (if t
+          then map Told (untold conn (history buses w))
+          ++ map Listed (beyond (cursor_at conn (length (history buses w))) (rows buses w))
+          else []))
+          (ap (λ t. t && conn.info) up ∙ i)
           ∙ ap (λ t. not t || settled) (sym i)
 
   rests : (conn.info ≡ false → conn.items ≡ []) → Rests
@@ -96,7 +111,8 @@ module _ (buses : List Bus) (w : World) (conn : Connection) (up : is_open conn �
       by [] u = none_left u
       by (byte ∷ bytes) u = some_left plain byte bytes u
 
-module _ (buses : List Bus) (layout : IsLayout buses) (events : List Event) (n : ℕ) (conn : Connection) (there : numbered n (course buses events).connections ≡ Some conn) (up : is_open conn ≡ true) where
+module _ (buses : List Bus) (layout : IsLayout buses) (events : List Event) (n : ℕ) (conn : Connection)
+    (there : numbered n (course buses events).connections ≡ Some conn) (up : is_open conn ≡ true) where
   abbrev w : World
   w = course buses events
 
@@ -106,7 +122,8 @@ module _ (buses : List Bus) (layout : IsLayout buses) (events : List Event) (n :
   stays_open : is_open (room conn) ≡ true
   stays_open = by (overran conn (history buses w)) ∙ up
     where
-      by : (t : Bool) → is_open (if t then conn else took 0 (length (history buses w)) (owed conn (history buses w) (rows buses w)) conn) ≡ is_open conn
+      by : (t : Bool)
+          → is_open (if t then conn else took 0 (length (history buses w)) (owed conn (history buses w) (rows buses w)) conn) ≡ is_open conn
       by true = refl
       by false = refl
 
@@ -137,13 +154,19 @@ module _ (buses : List Bus) (layout : IsLayout buses) (events : List Event) (n :
       by : (t : Bool) → overran conn (history buses w) ≡ t → is_nil (lent_of buses w (room conn)) ≡ lends_none_of buses w conn
       by true e =
           ap (λ t. is_nil (if t then [] else unsent (room conn))) (adds ∙ e)
-          ∙ ap (λ t. t || (nat_le (length conn.out) conn.taken && (not conn.info || is_settled conn (history buses w) (rows buses w)))) (sym e)
+          ∙ ap (λ t. t || (nat_le (length conn.out) conn.taken && (not conn.info || is_settled conn (history buses w) (rows buses w))))
+          (sym e)
       by false e =
           ap (λ t. is_nil (if t then [] else unsent (room conn))) (adds ∙ e)
-          ∙ ap (λ t. is_nil (unsent (if t then conn else took 0 (length (history buses w)) (owed conn (history buses w) (rows buses w)) conn))) e
-          ∙ ap is_nil (left_after (length (history buses w)) (owed conn (history buses w) (rows buses w)) conn (takes_within buses layout events n conn there))
+          ∙ ap (λ t.
+          is_nil (unsent (if t then conn else took 0 (length (history buses w)) (owed conn (history buses w) (rows buses w)) conn)))
+          e
+          ∙ ap is_nil
+          (left_after (length (history buses w)) (owed conn (history buses w) (rows buses w)) conn
+          (takes_within buses layout events n conn there))
           ∙ rests buses w conn up (λ plain. (sends_replies buses layout events n conn there plain).no_items)
-          ∙ ap (λ t. t || (nat_le (length conn.out) conn.taken && (not conn.info || is_settled conn (history buses w) (rows buses w)))) (sym e)
+          ∙ ap (λ t. t || (nat_le (length conn.out) conn.taken && (not conn.info || is_settled conn (history buses w) (rows buses w))))
+          (sym e)
 
   lends_none_is : is_nil (lent buses (course buses (events ++ Room n 0 ∷ [])) n) ≡ lends_none buses w n
   lends_none_is = ap is_nil lent_is ∙ nothing ∙ ap (λ o. option_map_or (lends_none_of buses w) o true) (sym opened)

@@ -1,5 +1,6 @@
 -- Keys and connections by their numbers, the first being 1.
-use Rattle.std.proofs.Common.{◌≡◌, ◌≢◌, ℕ, zero, suc, ◌+◌, ◌<◌, ◌≤◌, ⊎_elim, inl, inr, ◌⊎◌, Bool, true, false, cond, List, [], ◌∷◌, ◌++◌, length, length-append, refl, ap, sym, ◌∙◌, arith}
+use Rattle.std.proofs.Common.{◌≡◌, ◌≢◌, ℕ, zero, suc, ◌+◌, ◌<◌, ◌≤◌, ⊎_elim, inl, inr, ◌⊎◌, Bool, true, false, cond, List, [], ◌∷◌, ◌++◌}
+use Rattle.std.proofs.Common.{length, length-append, refl, ap, sym, ◌∙◌, arith}
 use Rattle.std.proofs.lemmas.List.Elements.{filter-append}
 use Rattle.std.specs.List.{filter}
 use Rattle.std.specs.Prelude.{Option, Some, None, option_map}
@@ -15,7 +16,8 @@ length_with zero f (x ∷ xs) = refl
 length_with (suc zero) f (x ∷ xs) = refl
 length_with (suc (suc n)) f (x ∷ xs) = ap (λ k. suc k) (length_with (suc n) f xs)
 
-pub numbered_with : (n : ℕ) (f : Connection → Connection) (xs : List Connection) → numbered n (with_numbered n f xs) ≡ option_map f (numbered n xs)
+pub numbered_with : (n : ℕ) (f : Connection → Connection) (xs : List Connection)
+    → numbered n (with_numbered n f xs) ≡ option_map f (numbered n xs)
 numbered_with zero f [] = refl
 numbered_with zero f (x ∷ xs) = refl
 numbered_with (suc n) f [] = refl
@@ -47,7 +49,8 @@ opens_cons x xs = by (is_open x) refl
     by true e = rw e (omega arith)
     by false e = rw e (omega arith)
 
-pub opens_with : (n : ℕ) (f : Connection → Connection) (xs : List Connection) (x : Connection) → numbered n xs ≡ Some x → opens (with_numbered n f xs) + one_if (is_open x) ≡ opens xs + one_if (is_open (f x))
+pub opens_with : (n : ℕ) (f : Connection → Connection) (xs : List Connection) (x : Connection) → numbered n xs ≡ Some x
+    → opens (with_numbered n f xs) + one_if (is_open x) ≡ opens xs + one_if (is_open (f x))
 opens_with zero f xs x e = cc
 opens_with (suc n) f [] x e = cc
 opens_with (suc zero) f (y ∷ xs) x e =
@@ -63,7 +66,8 @@ opens_with (suc (suc n)) f (y ∷ xs) x e =
     let b = opens_cons y xs in
     omega (arith, a, b, ih)
 
-pub opens_same : (n : ℕ) (f : Connection → Connection) (xs : List Connection) (x : Connection) → numbered n xs ≡ Some x → is_open (f x) ≡ is_open x → opens (with_numbered n f xs) ≡ opens xs
+pub opens_same : (n : ℕ) (f : Connection → Connection) (xs : List Connection) (x : Connection) → numbered n xs ≡ Some x
+    → is_open (f x) ≡ is_open x → opens (with_numbered n f xs) ≡ opens xs
 opens_same n f xs x e o =
     let k = opens_with n f xs x e in
     let s = ap one_if o in
@@ -71,7 +75,8 @@ opens_same n f xs x e o =
 
 pub opens_push : (xs : List Connection) (x : Connection) → is_open x ≡ true → opens (xs ++ x ∷ []) ≡ opens xs + 1
 opens_push xs x o =
-    ap length (filter-append is_open xs (x ∷ [])) ∙ length-append (filter is_open xs) (filter is_open (x ∷ [])) ∙ ap (λ k. opens xs + k) (opens_cons x [] ∙ ap (λ t. one_if t + 0) o)
+    ap length (filter-append is_open xs (x ∷ [])) ∙ length-append (filter is_open xs) (filter is_open (x ∷ []))
+    ∙ ap (λ k. opens xs + k) (opens_cons x [] ∙ ap (λ t. one_if t + 0) o)
 
 pub numbered_within : (n : ℕ) (xs : List Connection) (x : Connection) → numbered n xs ≡ Some x → (0 < n) × (n ≤ length xs)
 numbered_within zero xs x e = cc
@@ -131,20 +136,24 @@ pub key_push_last : (keys : List (Option ℕ)) (key : Option ℕ) → key_of (su
 key_push_last [] key = refl
 key_push_last (k ∷ keys) key = key_push_last keys key
 
-pub key_push_is : (n : ℕ) (keys : List (Option ℕ)) (key other : ℕ) → key_of n (keys ++ Some key ∷ []) ≡ Some other → (key_of n keys ≡ Some other) ⊎ ((n ≡ suc (length keys)) × (other ≡ key))
+pub key_push_is : (n : ℕ) (keys : List (Option ℕ)) (key other : ℕ) → key_of n (keys ++ Some key ∷ []) ≡ Some other
+    → (key_of n keys ≡ Some other) ⊎ ((n ≡ suc (length keys)) × (other ≡ key))
 key_push_is zero keys key other e = cc
 key_push_is (suc zero) [] key other e = let same : key ≡ other = cc in inr (refl, sym same)
 key_push_is (suc (suc n)) [] key other e = absurd (no_key (suc n) other e)
 key_push_is (suc zero) (k ∷ keys) key other e = inl e
-key_push_is (suc (suc n)) (k ∷ keys) key other e = ⊎_elim (λ h. inl h) (λ h. inr (ap (λ k. suc k) h.0, h.1)) (key_push_is (suc n) keys key other e)
+key_push_is (suc (suc n)) (k ∷ keys) key other e =
+    ⊎_elim (λ h. inl h) (λ h. inr (ap (λ k. suc k) h.0, h.1)) (key_push_is (suc n) keys key other e)
 
 pub numbered_last : (xs : List Connection) (x : Connection) → numbered (suc (length xs)) (xs ++ x ∷ []) ≡ Some x
 numbered_last [] x = refl
 numbered_last (y ∷ xs) x = numbered_last xs x
 
-pub numbered_push_is : (n : ℕ) (xs : List Connection) (x y : Connection) → numbered n (xs ++ x ∷ []) ≡ Some y → (numbered n xs ≡ Some y) ⊎ ((n ≡ suc (length xs)) × (x ≡ y))
+pub numbered_push_is : (n : ℕ) (xs : List Connection) (x y : Connection) → numbered n (xs ++ x ∷ []) ≡ Some y
+    → (numbered n xs ≡ Some y) ⊎ ((n ≡ suc (length xs)) × (x ≡ y))
 numbered_push_is zero xs x y e = cc
 numbered_push_is (suc zero) [] x y e = let same : x ≡ y = cc in inr (refl, same)
 numbered_push_is (suc (suc n)) [] x y e = cc
 numbered_push_is (suc zero) (z ∷ xs) x y e = inl e
-numbered_push_is (suc (suc n)) (z ∷ xs) x y e = ⊎_elim (λ h. inl h) (λ h. inr (ap (λ k. suc k) h.0, h.1)) (numbered_push_is (suc n) xs x y e)
+numbered_push_is (suc (suc n)) (z ∷ xs) x y e =
+    ⊎_elim (λ h. inl h) (λ h. inr (ap (λ k. suc k) h.0, h.1)) (numbered_push_is (suc n) xs x y e)

@@ -9,7 +9,8 @@ use Rattle.srcp_rules.specs.declared.layout.Bus.{Bus}
 use Rattle.srcp_rules.specs.Layout.{IsLayout}
 use Rattle.srcp_core.specs.Held.{Held}
 use Rattle.srcp_core.specs.Promised.{connection_outline, IsPromised, IsPromisedOutline}
-use Rattle.srcp_core.specs.Recording.{Recording, Keeps, Becomes, recording_outline, kept, changed_in, changed_record, shut, began, gave, took, finished, finished_by, nothing_recorded}
+use Rattle.srcp_core.specs.Recording.{Recording, Keeps, Becomes, recording_outline, kept, changed_in, changed_record, shut, began, gave}
+use Rattle.srcp_core.specs.Recording.{took, finished, finished_by, nothing_recorded}
 use Rattle.srcp_core.specs.Run.{RunsTold, PlainMoments, told_in}
 use Rattle.srcp_core.specs.declared.event.Event.{Event as PlainEvent}
 use Rattle.srcp_core.specs.declared.record.ConnRecord.{ConnRecord}

@@ -1,5 +1,6 @@
 -- A core that stands for a course takes a piece as the course does.
-use Rattle.std.proofs.Common.{◌≡◌, ◌≢◌, ℕ, zero, suc, ◌+◌, ◌<◌, ◌≤◌, Bool, true, false, List, [], ◌∷◌, ◌++◌, take, drop, length, refl, ap, sym, ◌∙◌, subst, arith, append-nil, length-append}
+use Rattle.std.proofs.Common.{◌≡◌, ◌≢◌, ℕ, zero, suc, ◌+◌, ◌<◌, ◌≤◌, Bool, true, false, List, [], ◌∷◌, ◌++◌, take, drop, length, refl, ap}
+use Rattle.std.proofs.Common.{sym, ◌∙◌, subst, arith, append-nil, length-append}
 use Rattle.std.proofs.lemmas.Bool.{eqb-true, eq-eqb}
 use Rattle.std.proofs.lemmas.List.{drop_all}
 use Rattle.std.proofs.lemmas.List.Sums.{fold-append}
@@ -27,7 +28,9 @@ use Rattle.srcp_info.proofs.ClientLaws.{key_at}
 use Rattle.srcp_info.specs.Client.{IsRisingBy}
 use Rattle.srcp_core.specs.Under.{Obeyed, Began, Heard, Order, effect, greets, lines_under}
 use Rattle.srcp_core.specs.Connection.{Connection}
-use Rattle.srcp_core.specs.Course.{World, numbered, at_connection, did, is_info, state, history, order_of, replied, entered, goes, greeted, ended, obeyed, commanded, answered_as, answered as course_answered, open_connection, new_marks, wants_as, denied_lines}
+use Rattle.srcp_core.specs.Course.{World, numbered, at_connection, did, is_info, state, history, order_of, replied, entered, goes, greeted}
+use Rattle.srcp_core.specs.Course.{ended, obeyed, commanded, answered_as, answered as course_answered, open_connection, new_marks, wants_as}
+use Rattle.srcp_core.specs.Course.{denied_lines}
 use Rattle.srcp_core.specs.Handshake.{Greeting, Speaks, Chooses, Goes, Refuses}
 use Rattle.srcp_core.specs.Held.{Place, Held, at, place_at}
 use Rattle.srcp_core.specs.Machine.{asked_of, heard_from, heard_in, heard_at, line_answered, steps_of_line, answered, steps_answered}
@@ -67,13 +70,19 @@ partly_other n m bytes fed d = by (m == n) refl
 
 module _ (buses : List Bus) (keys : List (Option ℕ)) (n key : ℕ) (named : key_of n keys ≡ Some key) where
   -- the reader reads on
-  stands_read : (read later : ℕ → List ℕ → List ℕ) (held : Held) (w : World) (p : Place) (reader : Reading) → StandsBy buses read keys held w → at held key ≡ Some p
-      → ((conn : Connection) → numbered n w.connections ≡ Some conn → StandsAt (later n conn.fed) reader) → ((m : ℕ) (bytes : List ℕ) → m ≢ n → later m bytes ≡ read m bytes)
+  stands_read : (read later : ℕ → List ℕ → List ℕ) (held : Held) (w : World) (p : Place) (reader : Reading)
+      → StandsBy buses read keys held w → at held key ≡ Some p
+      → ((conn : Connection) → numbered n w.connections ≡ Some conn → StandsAt (later n conn.fed) reader)
+      → ((m : ℕ) (bytes : List ℕ) → m ≢ n → later m bytes ≡ read m bytes)
       → StandsBy buses later keys (record held { places = slice_set held.places key (Some (record p { reader = reader })) }) w
   stands_read read later held w p reader s here reads others =
       let h = found_at buses read keys held w n key s named in
-      let same : place_of h.reader (history buses w) h.conn ≡ p = let both : Some (place_of h.reader (history buses w) h.conn) ≡ Some p = sym h.place ∙ here in cc in
-      subst (λ (conns : List Connection). StandsBy buses later keys (record held { places = slice_set held.places key (Some (record p { reader = reader })) }) (record w { connections = conns })) (with_itself n w.connections)
+      let same : place_of h.reader (history buses w) h.conn ≡ p =
+      let both : Some (place_of h.reader (history buses w) h.conn) ≡ Some p = sym h.place ∙ here in cc in
+      subst (λ (conns : List Connection).
+      StandsBy buses later keys (record held { places = slice_set held.places key (Some (record p { reader = reader })) })
+      (record w { connections = conns }))
+      (with_itself n w.connections)
       (stands_changed buses read later keys held w n key h.conn (λ c. c) (record p { reader = reader }) reader s named h.there h.up h.up
       (ap (λ (q : Place). record q { reader = reader }) (sym same)) (reads h.conn h.there) others)
 
@@ -92,22 +101,47 @@ module _ (buses : List Bus) (n : ℕ) where
 
   fed_goes : (mode : Mode) (w : World) → fed_of n (goes buses n mode w) ≡ fed_of n w
   fed_goes mode w =
-      elim (nat_lt w.last_id 4294967295) as (λ t. fed_of n (if t then replied n (Go (w.last_id + 1)) (entered buses n (w.last_id + 1) (did (Began (w.last_id + 1) w.moment mode) (record w { last_id = w.last_id + 1 }))) else replied n (Refused C500) w) ≡ fed_of n w) [
-        | true ↦ fed_replied (Go (w.last_id + 1)) (entered buses n (w.last_id + 1) (did (Began (w.last_id + 1) w.moment mode) (record w { last_id = w.last_id + 1 })))
-            ∙ fed_at (λ conn. record conn { session = w.last_id + 1; info = is_info conn.mode; go_step = length (did (Began (w.last_id + 1) w.moment mode) (record w { last_id = w.last_id + 1 })).steps }) (did (Began (w.last_id + 1) w.moment mode) (record w { last_id = w.last_id + 1 })) (λ c. refl)
+      elim (nat_lt w.last_id 4294967295)
+      as (λ t.
+      fed_of n
+      (if t
+      then replied n (Go (w.last_id + 1))
+      (entered buses n (w.last_id + 1)
+      (did (Began (w.last_id + 1) w.moment mode) (record w { last_id = w.last_id + 1 })))
+      else replied n (Refused C500) w)
+      ≡ fed_of n w) [
+        | true ↦
+            fed_replied (Go (w.last_id + 1))
+            (entered buses n (w.last_id + 1) (did (Began (w.last_id + 1) w.moment mode) (record w { last_id = w.last_id + 1 })))
+            ∙ fed_at (λ conn.
+            record conn {
+              session = w.last_id + 1;
+              info = is_info conn.mode;
+              go_step = length (did (Began (w.last_id + 1) w.moment mode) (record w { last_id = w.last_id + 1 })).steps;
+            })
+            (did (Began (w.last_id + 1) w.moment mode) (record w { last_id = w.last_id + 1 })) (λ c. refl)
         | false ↦ fed_replied (Refused C500) w
       ]
 
   fed_greeted : (mode : Mode) (greeting : Greeting) (w : World) → fed_of n (greeted buses n mode greeting w) ≡ fed_of n w
   fed_greeted mode Speaks w = fed_replied Protocol w
-  fed_greeted mode (Chooses chosen) w = fed_replied ModeReply (at_connection n (λ conn. record conn { mode = chosen }) w) ∙ fed_at (λ conn. record conn { mode = chosen }) w (λ c. refl)
+  fed_greeted mode (Chooses chosen) w =
+      fed_replied ModeReply (at_connection n (λ conn. record conn { mode = chosen }) w)
+      ∙ fed_at (λ conn. record conn { mode = chosen }) w (λ c. refl)
   fed_greeted mode Goes w = fed_goes mode w
   fed_greeted mode (Refuses code) w = fed_replied (Refused code) w
 
-  fed_obeyed : (session : ℕ) (command : Order) (result : Effect) (w : World) → fed_of n (obeyed buses n session command result w) ≡ fed_of n w
+  fed_obeyed : (session : ℕ) (command : Order) (result : Effect) (w : World)
+      → fed_of n (obeyed buses n session command result w) ≡ fed_of n w
   fed_obeyed session command result w =
-      elim result.ends as (λ t. fed_of n (if t then ended buses n session (replied n result.reply (did (Obeyed session w.moment command) w)) else replied n result.reply (did (Obeyed session w.moment command) w)) ≡ fed_of n w) [
-        | true ↦ fed_at (λ conn. record conn { ended = true }) (replied n result.reply (did (Obeyed session w.moment command) w)) (λ c. refl) ∙ fed_replied result.reply (did (Obeyed session w.moment command) w)
+      elim result.ends as (λ t.
+      fed_of n
+      (if t then ended buses n session (replied n result.reply (did (Obeyed session w.moment command) w))
+      else replied n result.reply (did (Obeyed session w.moment command) w))
+      ≡ fed_of n w) [
+        | true ↦
+            fed_at (λ conn. record conn { ended = true }) (replied n result.reply (did (Obeyed session w.moment command) w)) (λ c. refl)
+            ∙ fed_replied result.reply (did (Obeyed session w.moment command) w)
         | false ↦ fed_replied result.reply (did (Obeyed session w.moment command) w)
       ]
 
@@ -118,18 +152,31 @@ module _ (buses : List Bus) (n : ℕ) where
   fed_answered_as : (o : Option Connection) (mark : Heard) (w : World) → fed_of n (answered_as buses n o mark w) ≡ fed_of n w
   fed_answered_as None mark w = refl
   fed_answered_as (Some conn) mark w =
-      elim (conn.info || conn.ended) as (λ t. fed_of n (if t then w else (if conn.session == 0 then greeted buses n conn.mode (greets mark) w else commanded buses n conn.session (order_of buses mark) w)) ≡ fed_of n w) [
+      elim (conn.info || conn.ended)
+      as (λ t.
+      fed_of n
+      (if t then w
+      else (if conn.session == 0 then greeted buses n conn.mode (greets mark) w
+      else commanded buses n conn.session (order_of buses mark) w))
+      ≡ fed_of n w) [
         | true ↦ refl
-        | false ↦ elim (conn.session == 0) as (λ t. fed_of n (if t then greeted buses n conn.mode (greets mark) w else commanded buses n conn.session (order_of buses mark) w) ≡ fed_of n w) [
-          | true ↦ fed_greeted conn.mode (greets mark) w
-          | false ↦ fed_commanded conn.session (order_of buses mark) w
-        ]
+        | false ↦
+            elim (conn.session == 0)
+            as (λ t.
+            fed_of n
+            (if t then greeted buses n conn.mode (greets mark) w
+            else commanded buses n conn.session (order_of buses mark) w)
+            ≡ fed_of n w) [
+              | true ↦ fed_greeted conn.mode (greets mark) w
+              | false ↦ fed_commanded conn.session (order_of buses mark) w
+            ]
       ]
 
 -- ---- the lines of a piece
 
 -- the piece was read up to a place, and its lines up to there were answered; w is the course with all of it accepted
-module _ (buses : List Bus) (order : IsRisingBy key_at (shown_rows (opening buses 0))) (keys : List (Option ℕ)) (n key : ℕ) (named : key_of n keys ≡ Some key) (fed piece : List ℕ) (w : World) (before : ℕ) where
+module _ (buses : List Bus) (order : IsRisingBy key_at (shown_rows (opening buses 0))) (keys : List (Option ℕ)) (n key : ℕ)
+    (named : key_of n keys ≡ Some key) (fed piece : List ℕ) (w : World) (before : ℕ) where
   -- the lines up to a place
   abbrev pub marks_upto : ℕ → List Mark
   marks_upto start = drop (length (marks fed)) (marks (fed ++ take start piece))
@@ -145,42 +192,72 @@ module _ (buses : List Bus) (order : IsRisingBy key_at (shown_rows (opening buse
     pub counts : held.denied ≡ denied_lines buses n w before (lines_under grants (marks_upto start))
 
   -- one line more
-  line_is_answered : (grants : List Bool) (granted : Bool) (start stop : ℕ) (mark : Mark) (held : Held) (p : Place) (reader : Reading) (r : Recording) → start < stop → at held key ≡ Some p
+  line_is_answered : (grants : List Bool) (granted : Bool) (start stop : ℕ) (mark : Mark) (held : Held) (p : Place) (reader : Reading)
+      (r : Recording)
+      → start < stop → at held key ≡ Some p
       → ((bytes : List ℕ) → StandsAt bytes p.reader → marks (bytes ++ slice_range piece start stop) ≡ marks bytes ++ mark ∷ [])
       → ((bytes : List ℕ) → StandsAt bytes p.reader → StandsAt (bytes ++ slice_range piece start stop) reader)
       → IsUpTo grants start held → Tells r (world_upto grants start)
-      → IsUpTo (grants ++ granted ∷ []) stop (answered granted key (asked_of held.buses p mark) (record held { places = slice_set held.places key (Some (record p { reader = reader })) }))
-      × Tells (noted n (steps_answered granted (asked_of held.buses p mark) (record held { places = slice_set held.places key (Some (record p { reader = reader })) })) r) (world_upto (grants ++ granted ∷ []) stop)
+      → IsUpTo (grants ++ granted ∷ []) stop
+      (answered granted key (asked_of held.buses p mark)
+      (record held { places = slice_set held.places key (Some (record p { reader = reader })) }))
+      × Tells (noted n
+      (steps_answered granted (asked_of held.buses p mark)
+      (record held { places = slice_set held.places key (Some (record p { reader = reader })) }))
+      r)
+      (world_upto (grants ++ granted ∷ []) stop)
   line_is_answered grants granted start stop mark held p reader r onward here adds moves u t =
       let h = found_at buses (partly n (fed ++ take start piece)) keys held (world_upto grants start) n key u.stands named in
-      let same : place_of h.reader (history buses (world_upto grants start)) h.conn ≡ p = let both : Some (place_of h.reader (history buses (world_upto grants start)) h.conn) ≡ Some p = sym h.place ∙ here in cc in
+      let same : place_of h.reader (history buses (world_upto grants start)) h.conn ≡ p =
+      let both : Some (place_of h.reader (history buses (world_upto grants start)) h.conn) ≡ Some p = sym h.place ∙ here in cc in
       let its : h.reader ≡ p.reader = ap (λ (q : Place). q.reader) same in
-      let stood : StandsAt (fed ++ take start piece) p.reader = subst (λ r. StandsAt (fed ++ take start piece) r) its (subst (λ bytes. StandsAt bytes h.reader) (partly_here n (fed ++ take start piece) h.conn.fed) h.reads) in
+      let stood : StandsAt (fed ++ take start piece) p.reader =
+      subst (λ r. StandsAt (fed ++ take start piece) r) its
+      (subst (λ bytes. StandsAt bytes h.reader) (partly_here n (fed ++ take start piece) h.conn.fed) h.reads) in
       let le : start ≤ stop = omega (arith, onward) in
       let both = fed_to_stop fed piece start stop (mark ∷ []) p.reader reader le adds moves stood in
-      let more : marks_upto stop ≡ marks_upto start ++ mark ∷ [] = later_marks fed (take start piece) (marks (fed ++ take stop piece)) (mark ∷ []) both.0 in
+      let more : marks_upto stop ≡ marks_upto start ++ mark ∷ [] =
+      later_marks fed (take start piece) (marks (fed ++ take stop piece)) (mark ∷ []) both.0 in
       let line : Heard = record { mark = mark; granted = granted } in
-      let lines : lines_under (grants ++ granted ∷ []) (marks_upto stop) ≡ lines_under grants (marks_upto start) ++ line ∷ [] = ap (lines_under (grants ++ granted ∷ [])) more ∙ lines_push grants (marks_upto start) granted mark u.count in
+      let lines : lines_under (grants ++ granted ∷ []) (marks_upto stop) ≡ lines_under grants (marks_upto start) ++ line ∷ [] =
+      ap (lines_under (grants ++ granted ∷ [])) more ∙ lines_push grants (marks_upto start) granted mark u.count in
       let next : world_upto (grants ++ granted ∷ []) stop ≡ course_answered buses n (world_upto grants start) line =
-      ap (fold (course_answered buses n) w) lines ∙ fold-append (course_answered buses n) w (lines_under grants (marks_upto start)) (line ∷ []) in
+      ap (fold (course_answered buses n) w) lines
+      ∙ fold-append (course_answered buses n) w (lines_under grants (marks_upto start)) (line ∷ []) in
       let mid = record held { places = slice_set held.places key (Some (record p { reader = reader })) } in
       let reads : StandsBy buses (partly n (fed ++ take stop piece)) keys mid (world_upto grants start) =
-      stands_read buses keys n key named (partly n (fed ++ take start piece)) (partly n (fed ++ take stop piece)) held (world_upto grants start) p reader u.stands here
+      stands_read buses keys n key named (partly n (fed ++ take start piece)) (partly n (fed ++ take stop piece)) held
+      (world_upto grants start) p reader u.stands here
       (λ conn e. subst (λ bytes. StandsAt bytes reader) (sym (partly_here n (fed ++ take stop piece) conn.fed)) both.1)
       (λ m bytes d. partly_other n m (fed ++ take stop piece) bytes d ∙ sym (partly_other n m (fed ++ take start piece) bytes d)) in
-      let here_now : at mid key ≡ Some (record p { reader = reader }) = place_set_here held.places key p (Some (record p { reader = reader })) here in (
+      let here_now : at mid key ≡ Some (record p { reader = reader }) =
+      place_set_here held.places key p (Some (record p { reader = reader })) here in (
         record {
-          count = length-append grants (granted ∷ []) ∙ ap (λ k. k + 1) u.count ∙ sym (ap length more ∙ length-append (marks_upto start) (mark ∷ []));
-          fine = subst (λ (v : World). IsFine buses order v) (sym next) (sound_answered buses order Anything (anything (shown_rows (opening buses 0))) n (world_upto grants start) line u.fine);
-          fed_is = ap (fed_of n) next ∙ fed_answered_as buses n (open_connection (world_upto grants start) n) line (world_upto grants start) ∙ u.fed_is;
-          stands = subst (λ (v : World). StandsBy buses (partly n (fed ++ take stop piece)) keys (answered granted key (asked_of held.buses p mark) mid) v) (sym next)
-              (stands_answered buses order (partly n (fed ++ take stop piece)) keys n key named mid (world_upto grants start) granted mark (record p { reader = reader }) u.fine reads here_now);
-          counts = denied_answered buses (partly n (fed ++ take stop piece)) keys n key named mid (world_upto grants start) granted mark (record p { reader = reader }) reads here_now
-              ∙ ap (λ k. after k granted (wants_as buses (world_upto grants start) (open_connection (world_upto grants start) n) mark)) u.counts
+          count =
+              length-append grants (granted ∷ []) ∙ ap (λ k. k + 1) u.count
+              ∙ sym (ap length more ∙ length-append (marks_upto start) (mark ∷ []));
+          fine =
+              subst (λ (v : World). IsFine buses order v) (sym next)
+              (sound_answered buses order Anything (anything (shown_rows (opening buses 0))) n (world_upto grants start) line u.fine);
+          fed_is =
+              ap (fed_of n) next ∙ fed_answered_as buses n (open_connection (world_upto grants start) n) line (world_upto grants start)
+              ∙ u.fed_is;
+          stands =
+              subst (λ (v : World).
+              StandsBy buses (partly n (fed ++ take stop piece)) keys (answered granted key (asked_of held.buses p mark) mid) v)
+              (sym next)
+              (stands_answered buses order (partly n (fed ++ take stop piece)) keys n key named mid (world_upto grants start) granted mark
+              (record p { reader = reader }) u.fine reads here_now);
+          counts =
+              denied_answered buses (partly n (fed ++ take stop piece)) keys n key named mid (world_upto grants start) granted mark
+              (record p { reader = reader }) reads here_now
+              ∙ ap (λ k. after k granted (wants_as buses (world_upto grants start) (open_connection (world_upto grants start) n) mark))
+              u.counts
               ∙ sym (ap (denied_lines buses n w before) lines ∙ denied_push buses n w before (lines_under grants (marks_upto start)) line);
         },
         subst (λ (v : World). Tells (noted n (steps_answered granted (asked_of held.buses p mark) mid) r) v) (sym next)
-            (tells_answered buses order (partly n (fed ++ take stop piece)) keys n key r mid (world_upto grants start) granted mark (record p { reader = reader }) u.fine reads named here_now t),
+            (tells_answered buses order (partly n (fed ++ take stop piece)) keys n key r mid (world_upto grants start) granted mark
+            (record p { reader = reader }) u.fine reads named here_now t),
       )
 
   -- after one more line of the piece
@@ -190,53 +267,79 @@ module _ (buses : List Bus) (order : IsRisingBy key_at (shown_rows (opening buse
 
   -- what the reader finds
   abbrev finds : Held → Place → Fed → Reading → Option (ℕ × Asked) × Held
-  finds held p result reading = ((heard_from held.buses p (result, reading)).0, record held { places = slice_set held.places key (Some (heard_from held.buses p (result, reading)).1) })
+  finds held p result reading = (
+    (heard_from held.buses p (result, reading)).0,
+    record held { places = slice_set held.places key (Some (heard_from held.buses p (result, reading)).1) },
+  )
 
-  lined_at : (grants : List Bool) (start stop : ℕ) (granted : Bool) (held new : Held) (r : Recording) (p : Place) (mark : Mark) (s : ℕ) (reading : Reading) → start < stop → at held key ≡ Some p
+  lined_at : (grants : List Bool) (start stop : ℕ) (granted : Bool) (held new : Held) (r : Recording) (p : Place) (mark : Mark) (s : ℕ)
+      (reading : Reading)
+      → start < stop → at held key ≡ Some p
       → ((bytes : List ℕ) → StandsAt bytes p.reader → marks (bytes ++ slice_range piece start s) ≡ marks bytes ++ mark ∷ [])
       → ((bytes : List ℕ) → StandsAt bytes p.reader → StandsAt (bytes ++ slice_range piece start s) reading)
-      → ◌≡◌ {A = ℕ × Held} (stop, new) (s, answered granted key (asked_of held.buses p mark) (record held { places = slice_set held.places key (Some (record p { reader = reading })) }))
-      → ◌≡◌ {A = Option (ℕ × Asked) × Held} (heard_at key piece start held) (Some (s, asked_of held.buses p mark), record held { places = slice_set held.places key (Some (record p { reader = reading })) })
+      → ◌≡◌ {A = ℕ × Held} (stop, new) (
+        s,
+        answered granted key (asked_of held.buses p mark)
+            (record held { places = slice_set held.places key (Some (record p { reader = reading })) }),
+      )
+      → ◌≡◌ {A = Option (ℕ × Asked) × Held} (heard_at key piece start held)
+      (Some (s, asked_of held.buses p mark), record held { places = slice_set held.places key (Some (record p { reader = reading })) })
       → IsUpTo grants start held → Tells r (world_upto grants start) → IsLined grants start stop granted held new r
   lined_at grants start stop granted held new r p mark s reading onward here adds moves is finding u t =
-      let both = line_is_answered grants granted start s mark held p reading r (subst (λ k. start < k) stop_is onward) here adds moves u t in
+      let both =
+      line_is_answered grants granted start s mark held p reading r (subst (λ k. start < k) stop_is onward) here adds moves u t in
       record {
-        upto = subst (λ k. IsUpTo (grants ++ granted ∷ []) k new) (sym stop_is) (subst (λ (x : Held). IsUpTo (grants ++ granted ∷ []) s x) (sym (ap (λ (x : ℕ × Held). x.1) is)) both.0);
-        tells = subst (λ k. Tells (noted n (steps_of_line granted (heard_at key piece start held)) r) (world_upto (grants ++ granted ∷ []) k)) (sym stop_is)
-            (subst (λ steps. Tells (noted n steps r) (world_upto (grants ++ granted ∷ []) s)) (sym (ap (steps_of_line granted) finding)) both.1);
+        upto =
+            subst (λ k. IsUpTo (grants ++ granted ∷ []) k new) (sym stop_is)
+            (subst (λ (x : Held). IsUpTo (grants ++ granted ∷ []) s x) (sym (ap (λ (x : ℕ × Held). x.1) is)) both.0);
+        tells =
+            subst (λ k. Tells (noted n (steps_of_line granted (heard_at key piece start held)) r) (world_upto (grants ++ granted ∷ []) k))
+            (sym stop_is)
+            (subst (λ steps. Tells (noted n steps r) (world_upto (grants ++ granted ∷ []) s))
+            (sym (ap (steps_of_line granted) finding)) both.1);
       }
     where
       stop_is : stop ≡ s
       stop_is = ap (λ (x : ℕ × Held). x.0) is
 
-  pub lined : (grants : List Bool) (start stop : ℕ) (granted : Bool) (held new : Held) (r : Recording) → start < stop → ◌≡◌ {A = ℕ × Held} (stop, new) (line_answered key granted (start, held) (heard_at key piece start held))
+  pub lined : (grants : List Bool) (start stop : ℕ) (granted : Bool) (held new : Held) (r : Recording) → start < stop
+      → ◌≡◌ {A = ℕ × Held} (stop, new) (line_answered key granted (start, held) (heard_at key piece start held))
       → IsUpTo grants start held → Tells r (world_upto grants start) → IsLined grants start stop granted held new r
   lined grants start stop granted held new r onward is u t =
       let h = found_at buses (partly n (fed ++ take start piece)) keys held (world_upto grants start) n key u.stands named in
-      from (place_of h.reader (history buses (world_upto grants start)) h.conn) h.place (feed_of (place_of h.reader (history buses (world_upto grants start)) h.conn).reader piece start).0 (feed_of (place_of h.reader (history buses (world_upto grants start)) h.conn).reader piece start).1 refl
+      from (place_of h.reader (history buses (world_upto grants start)) h.conn) h.place
+      (feed_of (place_of h.reader (history buses (world_upto grants start)) h.conn).reader piece start).0
+      (feed_of (place_of h.reader (history buses (world_upto grants start)) h.conn).reader piece start).1 refl
     where
-      from : (p : Place) → at held key ≡ Some p → (result : Fed) (reading : Reading) → ◌≡◌ {A = Fed × Reading} (feed_of p.reader piece start) (result, reading) → IsLined grants start stop granted held new r
+      from : (p : Place) → at held key ≡ Some p → (result : Fed) (reading : Reading)
+          → ◌≡◌ {A = Fed × Reading} (feed_of p.reader piece start) (result, reading) → IsLined grants start stop granted held new r
       from p here result reading e = by result reading e
-          (ap (λ (o : Option Place). heard_in key piece start held o) here ∙ ap (λ (x : Fed × Reading). let y : Option (ℕ × Asked) × Held = finds held p x.0 x.1 in y) e)
+          (ap (λ (o : Option Place). heard_in key piece start held o) here
+          ∙ ap (λ (x : Fed × Reading). let y : Option (ℕ × Asked) × Held = finds held p x.0 x.1 in y) e)
         where
-          by : (result : Fed) (reading : Reading) → ◌≡◌ {A = Fed × Reading} (feed_of p.reader piece start) (result, reading) → ◌≡◌ {A = Option (ℕ × Asked) × Held} (heard_at key piece start held) (finds held p result reading) → IsLined grants start stop granted held new r
+          by : (result : Fed) (reading : Reading) → ◌≡◌ {A = Fed × Reading} (feed_of p.reader piece start) (result, reading)
+              → ◌≡◌ {A = Option (ℕ × Asked) × Held} (heard_at key piece start held) (finds held p result reading)
+              → IsLined grants start stop granted held new r
           by More reading e finding =
               let both : ◌≡◌ {A = ℕ × Held} (stop, new) (start, held) = is ∙ ap (line_answered key granted (start, held)) finding in
               let same : stop ≡ start = ap (λ (x : ℕ × Held). x.0) both in
               absurd (omega (arith, onward, same))
           by (FoundLine s) reading e finding =
               lined_at grants start stop granted held new r p (Line reading.line) s reading onward here
-              (λ bytes stood. marks-fed bytes p.reader reading piece start (FoundLine s) (sym e) stood) (λ bytes stood. stands-fed bytes p.reader reading piece start (FoundLine s) (sym e) stood)
+              (λ bytes stood. marks-fed bytes p.reader reading piece start (FoundLine s) (sym e) stood)
+              (λ bytes stood. stands-fed bytes p.reader reading piece start (FoundLine s) (sym e) stood)
               (is ∙ ap (line_answered key granted (start, held)) finding) finding u t
           by (FoundTooLong s) reading e finding =
               lined_at grants start stop granted held new r p TooLong s reading onward here
-              (λ bytes stood. marks-fed bytes p.reader reading piece start (FoundTooLong s) (sym e) stood) (λ bytes stood. stands-fed bytes p.reader reading piece start (FoundTooLong s) (sym e) stood)
+              (λ bytes stood. marks-fed bytes p.reader reading piece start (FoundTooLong s) (sym e) stood)
+              (λ bytes stood. stands-fed bytes p.reader reading piece start (FoundTooLong s) (sym e) stood)
               (is ∙ ap (line_answered key granted (start, held)) finding) finding u t
 
   -- ---- the end of a piece
 
   -- all bytes were read
-  stands_all : (held : Held) (v : World) (bytes : List ℕ) → fed_of n v ≡ Some bytes → StandsBy buses (partly n bytes) keys held v → StandsFor buses keys held v
+  stands_all : (held : Held) (v : World) (bytes : List ℕ) → fed_of n v ≡ Some bytes → StandsBy buses (partly n bytes) keys held v
+      → StandsFor buses keys held v
   stands_all held v bytes whole s = record {
     layout = s.layout;
     rows = s.rows;
@@ -244,7 +347,15 @@ module _ (buses : List Bus) (order : IsRisingBy key_at (shown_rows (opening buse
     last_id = s.last_id;
     count = s.count;
     long = s.long;
-    opens = λ m conn e o. let a = s.opens m conn e o in record { key = a.key; reader = a.reader; named = a.named; place = a.place; reads = subst (λ read. StandsAt read a.reader) (read_is m conn e (where_is m n)) a.reads };
+    opens =
+        λ m conn e o. let a = s.opens m conn e o in
+        record {
+          key = a.key;
+          reader = a.reader;
+          named = a.named;
+          place = a.place;
+          reads = subst (λ read. StandsAt read a.reader) (read_is m conn e (where_is m n)) a.reads;
+        };
     closed = s.closed;
     apart = s.apart;
     owned = s.owned;
@@ -252,7 +363,8 @@ module _ (buses : List Bus) (order : IsRisingBy key_at (shown_rows (opening buse
     where
       read_is : (m : ℕ) (conn : Connection) → numbered m v.connections ≡ Some conn → Where m n → partly n bytes m conn.fed ≡ conn.fed
       read_is m conn e (Here same) =
-          let its : Some conn.fed ≡ Some bytes = sym (ap (option_map (λ (c : Connection). c.fed)) (ap (λ j. numbered j v.connections) (sym same) ∙ e)) ∙ whole in
+          let its : Some conn.fed ≡ Some bytes =
+          sym (ap (option_map (λ (c : Connection). c.fed)) (ap (λ j. numbered j v.connections) (sym same) ∙ e)) ∙ whole in
           let equal : conn.fed ≡ bytes = cc in
           ap (λ j. partly n bytes j conn.fed) same ∙ partly_here n bytes conn.fed ∙ sym equal
       read_is m conn e (Away d) = partly_other n m bytes conn.fed d
@@ -263,7 +375,9 @@ module _ (buses : List Bus) (order : IsRisingBy key_at (shown_rows (opening buse
     pub world_is : v ≡ fold (course_answered buses n) w (lines_under grants (new_marks buses fed piece))
     pub counts : new.denied ≡ denied_lines buses n w before (lines_under grants (new_marks buses fed piece))
 
-  pub lines_ended : (grants : List Bool) (start : ℕ) (held new : Held) → ◌≡◌ {A = Option (ℕ × Asked) × Held} (None, new) (heard_at key piece start held) → IsUpTo grants start held → IsEnded grants new (world_upto grants start)
+  pub lines_ended : (grants : List Bool) (start : ℕ) (held new : Held)
+      → ◌≡◌ {A = Option (ℕ × Asked) × Held} (None, new) (heard_at key piece start held) → IsUpTo grants start held
+      → IsEnded grants new (world_upto grants start)
   lines_ended grants start held new is u =
       let h = found_at buses (partly n (fed ++ take start piece)) keys held (world_upto grants start) n key u.stands named in
       let p = place_of h.reader (history buses (world_upto grants start)) h.conn in
@@ -271,27 +385,46 @@ module _ (buses : List Bus) (order : IsRisingBy key_at (shown_rows (opening buse
       subst (λ bytes. StandsAt bytes h.reader) (partly_here n (fed ++ take start piece) h.conn.fed) h.reads in
       from p h.place stood (feed_of p.reader piece start).0 (feed_of p.reader piece start).1 refl
     where
-      from : (p : Place) → at held key ≡ Some p → StandsAt (fed ++ take start piece) p.reader → (result : Fed) (reading : Reading) → ◌≡◌ {A = Fed × Reading} (feed_of p.reader piece start) (result, reading) → IsEnded grants new (world_upto grants start)
+      from : (p : Place) → at held key ≡ Some p → StandsAt (fed ++ take start piece) p.reader → (result : Fed) (reading : Reading)
+          → ◌≡◌ {A = Fed × Reading} (feed_of p.reader piece start) (result, reading) → IsEnded grants new (world_upto grants start)
       from p here stood result reading e = by result reading e
-          (is ∙ ap (λ (o : Option Place). heard_in key piece start held o) here ∙ ap (λ (x : Fed × Reading). let y : Option (ℕ × Asked) × Held = finds held p x.0 x.1 in y) e)
+          (is ∙ ap (λ (o : Option Place). heard_in key piece start held o) here
+          ∙ ap (λ (x : Fed × Reading). let y : Option (ℕ × Asked) × Held = finds held p x.0 x.1 in y) e)
         where
-          by : (result : Fed) (reading : Reading) → ◌≡◌ {A = Fed × Reading} (feed_of p.reader piece start) (result, reading) → ◌≡◌ {A = Option (ℕ × Asked) × Held} (None, new) (finds held p result reading) → IsEnded grants new (world_upto grants start)
-          by (FoundLine s) reading e finding = absurd (none-some (s, asked_of held.buses p (Line reading.line)) (ap (λ (x : Option (ℕ × Asked) × Held). x.0) finding))
-          by (FoundTooLong s) reading e finding = absurd (none-some (s, asked_of held.buses p TooLong) (ap (λ (x : Option (ℕ × Asked) × Held). x.0) finding))
+          by : (result : Fed) (reading : Reading) → ◌≡◌ {A = Fed × Reading} (feed_of p.reader piece start) (result, reading)
+              → ◌≡◌ {A = Option (ℕ × Asked) × Held} (None, new) (finds held p result reading) → IsEnded grants new (world_upto grants start)
+          by (FoundLine s) reading e finding =
+              absurd (none-some (s, asked_of held.buses p (Line reading.line)) (ap (λ (x : Option (ℕ × Asked) × Held). x.0) finding))
+          by (FoundTooLong s) reading e finding =
+              absurd (none-some (s, asked_of held.buses p TooLong) (ap (λ (x : Option (ℕ × Asked) × Held). x.0) finding))
           by More reading e finding =
-              let new_is : new ≡ record held { places = slice_set held.places key (Some (record p { reader = reading })) } = ap (λ (x : Option (ℕ × Asked) × Held). x.1) finding in
-              let both = fed_to_end fed piece start [] p.reader reading (λ bytes stood. marks-fed bytes p.reader reading piece start More (sym e) stood) (λ bytes stood. stands-fed bytes p.reader reading piece start More (sym e) stood) stood in
-              let last : new_marks buses fed piece ≡ marks_upto start = later_marks fed (take start piece) (marks (fed ++ piece)) [] both.0 ∙ append-nil (marks_upto start) in
-              let world : world_upto grants start ≡ fold (course_answered buses n) w (lines_under grants (new_marks buses fed piece)) = ap (λ ms. fold (course_answered buses n) w (lines_under grants ms)) (sym last) in
-              let reads : StandsBy buses (partly n (fed ++ piece)) keys (record held { places = slice_set held.places key (Some (record p { reader = reading })) }) (world_upto grants start) =
-              stands_read buses keys n key named (partly n (fed ++ take start piece)) (partly n (fed ++ piece)) held (world_upto grants start) p reading u.stands here
+              let new_is : new ≡ record held { places = slice_set held.places key (Some (record p { reader = reading })) } =
+              ap (λ (x : Option (ℕ × Asked) × Held). x.1) finding in
+              let both =
+              fed_to_end fed piece start [] p.reader reading
+              (λ bytes stood. marks-fed bytes p.reader reading piece start More (sym e) stood)
+              (λ bytes stood. stands-fed bytes p.reader reading piece start More (sym e) stood) stood in
+              let last : new_marks buses fed piece ≡ marks_upto start =
+              later_marks fed (take start piece) (marks (fed ++ piece)) [] both.0 ∙ append-nil (marks_upto start) in
+              let world : world_upto grants start ≡ fold (course_answered buses n) w (lines_under grants (new_marks buses fed piece)) =
+              ap (λ ms. fold (course_answered buses n) w (lines_under grants ms)) (sym last) in
+              let reads : StandsBy buses (partly n (fed ++ piece)) keys
+              (record held { places = slice_set held.places key (Some (record p { reader = reading })) }) (world_upto grants start) =
+              stands_read buses keys n key named (partly n (fed ++ take start piece)) (partly n (fed ++ piece)) held
+              (world_upto grants start) p reading u.stands here
               (λ conn e. subst (λ bytes. StandsAt bytes reading) (sym (partly_here n (fed ++ piece) conn.fed)) both.1)
               (λ m bytes d. partly_other n m (fed ++ piece) bytes d ∙ sym (partly_other n m (fed ++ take start piece) bytes d)) in
               record {
                 fine = subst (λ (v : World). IsFine buses order v) world u.fine;
-                stands = subst (λ (v : World). StandsFor buses keys new v) world (subst (λ (x : Held). StandsFor buses keys x (world_upto grants start)) (sym new_is) (stands_all (record held { places = slice_set held.places key (Some (record p { reader = reading })) }) (world_upto grants start) (fed ++ piece) u.fed_is reads));
+                stands =
+                    subst (λ (v : World). StandsFor buses keys new v) world
+                    (subst (λ (x : Held). StandsFor buses keys x (world_upto grants start)) (sym new_is)
+                    (stands_all (record held { places = slice_set held.places key (Some (record p { reader = reading })) })
+                    (world_upto grants start) (fed ++ piece) u.fed_is reads));
                 world_is = world;
-                counts = ap (λ (x : Held). x.denied) new_is ∙ u.counts ∙ ap (λ ms. denied_lines buses n w before (lines_under grants ms)) (sym last);
+                counts =
+                    ap (λ (x : Held). x.denied) new_is ∙ u.counts
+                    ∙ ap (λ ms. denied_lines buses n w before (lines_under grants ms)) (sym last);
               }
 
 -- ---- the beginning of a piece
@@ -305,27 +438,41 @@ set_same (x ∷ places) (suc key) p h = ap (λ ys. x ∷ ys) (set_same places ke
 abbrev pub accepting : ℕ → List ℕ → World → World
 accepting n piece w = at_connection n (λ c. record c { fed = c.fed ++ piece }) w
 
-pub piece_begun : (buses : List Bus) (order : IsRisingBy key_at (shown_rows (opening buses 0))) (keys : List (Option ℕ)) (n key : ℕ) (named : key_of n keys ≡ Some key) (piece : List ℕ) (held : Held) (w : World) (conn : Connection)
+pub piece_begun : (buses : List Bus) (order : IsRisingBy key_at (shown_rows (opening buses 0))) (keys : List (Option ℕ)) (n key : ℕ)
+    (named : key_of n keys ≡ Some key) (piece : List ℕ) (held : Held) (w : World) (conn : Connection)
     → IsFine buses order w → StandsFor buses keys held w → numbered n w.connections ≡ Some conn
-    → IsUpTo buses order keys n key named conn.fed piece (accepting n piece w) held.denied [] 0 held × (world_upto buses order keys n key named conn.fed piece (accepting n piece w) held.denied [] 0 ≡ accepting n piece w)
+    → IsUpTo buses order keys n key named conn.fed piece (accepting n piece w) held.denied [] 0 held
+    × (world_upto buses order keys n key named conn.fed piece (accepting n piece w) held.denied [] 0 ≡ accepting n piece w)
 piece_begun buses order keys n key named piece held w conn a s there =
     let h = found_at buses (λ n fed. fed) keys held w n key s named in
     let f : Connection → Connection = λ c. record c { fed = c.fed ++ piece } in
     let same : h.conn ≡ conn = let both : Some h.conn ≡ Some conn = sym h.there ∙ there in cc in
-    let none : drop (length (marks conn.fed)) (marks (conn.fed ++ [])) ≡ [] = ap (λ bytes. drop (length (marks conn.fed)) (marks bytes)) (append-nil conn.fed) ∙ drop_all (length (marks conn.fed)) (marks conn.fed) (le_refl (length (marks conn.fed))) in
-    let world : fold (course_answered buses n) (accepting n piece w) (lines_under [] (drop (length (marks conn.fed)) (marks (conn.fed ++ [])))) ≡ accepting n piece w = ap (λ ms. fold (course_answered buses n) (accepting n piece w) (lines_under [] ms)) none in
+    let none : drop (length (marks conn.fed)) (marks (conn.fed ++ [])) ≡ [] =
+    ap (λ bytes. drop (length (marks conn.fed)) (marks bytes)) (append-nil conn.fed)
+    ∙ drop_all (length (marks conn.fed)) (marks conn.fed) (le_refl (length (marks conn.fed))) in
+    let world : fold (course_answered buses n) (accepting n piece w)
+    (lines_under [] (drop (length (marks conn.fed)) (marks (conn.fed ++ []))))
+    ≡ accepting n piece w =
+    ap (λ ms. fold (course_answered buses n) (accepting n piece w) (lines_under [] ms)) none in
     let p = place_of h.reader (history buses w) h.conn in
-    let changed : StandsBy buses (partly n (conn.fed ++ [])) keys (record held { places = slice_set held.places key (Some p) }) (accepting n piece w) =
+    let changed : StandsBy buses (partly n (conn.fed ++ [])) keys (record held { places = slice_set held.places key (Some p) })
+    (accepting n piece w) =
     stands_changed buses (λ n fed. fed) (partly n (conn.fed ++ [])) keys held w n key h.conn f p h.reader s named h.there h.up h.up refl
-    (subst (λ bytes. StandsAt bytes h.reader) (ap (λ (c : Connection). c.fed) same ∙ sym (append-nil conn.fed) ∙ sym (partly_here n (conn.fed ++ []) (f h.conn).fed)) h.reads)
+    (subst (λ bytes. StandsAt bytes h.reader)
+    (ap (λ (c : Connection). c.fed) same ∙ sym (append-nil conn.fed) ∙ sym (partly_here n (conn.fed ++ []) (f h.conn).fed)) h.reads)
     (λ m bytes d. partly_other n m (conn.fed ++ []) bytes d) in
     let stands : StandsBy buses (partly n (conn.fed ++ [])) keys held (accepting n piece w) =
-    subst (λ (places : List (Option Place)). StandsBy buses (partly n (conn.fed ++ [])) keys (record held { places = places }) (accepting n piece w)) (set_same held.places key p h.place) changed in
-    let fine : IsFine buses order (accepting n piece w) = sound_at buses order Anything (anything (shown_rows (opening buses 0))) n f w (λ other k g. record { fits = g.fits; before = g.before; plain = g.plain; within = g.within }) a in (
+    subst (λ (places : List (Option Place)).
+    StandsBy buses (partly n (conn.fed ++ [])) keys (record held { places = places }) (accepting n piece w))
+    (set_same held.places key p h.place) changed in
+    let fine : IsFine buses order (accepting n piece w) =
+    sound_at buses order Anything (anything (shown_rows (opening buses 0))) n f w
+    (λ other k g. record { fits = g.fits; before = g.before; plain = g.plain; within = g.within }) a in (
       record {
         count = sym (ap length none);
         fine = subst (λ (v : World). IsFine buses order v) (sym world) fine;
-        fed_is = ap (fed_of n) world ∙ ap (option_map (λ (c : Connection). c.fed)) (numbered_with n f w.connections ∙ ap (option_map f) there);
+        fed_is =
+            ap (fed_of n) world ∙ ap (option_map (λ (c : Connection). c.fed)) (numbered_with n f w.connections ∙ ap (option_map f) there);
         stands = subst (λ (v : World). StandsBy buses (partly n (conn.fed ++ [])) keys held v) (sym world) stands;
         counts = sym (denied_none buses n (accepting n piece w) held.denied (drop (length (marks conn.fed)) (marks (conn.fed ++ []))));
       },

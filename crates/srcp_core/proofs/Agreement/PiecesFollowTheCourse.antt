@@ -17,7 +17,8 @@ use Rattle.srcp_core.proofs.Agreement.CallsFollowTheCourse.{telling, runs_tellin
 use Rattle.srcp_core.proofs.Agreement.RecordIsOfTheCourse.{runs_on}
 use Rattle.srcp_core.proofs.Agreement.MemoryAnswers.{counted_more, none_denied}
 use Rattle.srcp_core.proofs.Agreement.RefusalsAreCounted.{denied_in_none}
-use Rattle.srcp_core.proofs.Agreement.RunsBytes.{ReadsWith, reads_with_none, reads_with_more, bytes_asked, bytes_with, bytes_refused, noted_keys}
+use Rattle.srcp_core.proofs.Agreement.RunsBytes.{ReadsWith, reads_with_none, reads_with_more, bytes_asked, bytes_with, bytes_refused}
+use Rattle.srcp_core.proofs.Agreement.RunsBytes.{noted_keys}
 
 -- a line of a piece, taken at a place of it
 abbrev line_on : ℕ → List ℕ → ℕ × Held → Bool → ℕ × Held
@@ -36,10 +37,14 @@ record AreRead (key : ℕ) (piece : List ℕ) (first : Held) (reached : ℕ × H
   counted : reached.1.denied ≡ denied_by first.denied grants
   is : (n : ℕ) (first_r : Recording) → key_of n first_r.keys ≡ Some key → IsRead n key piece grants first_r first reached
 
-line_read : (key : ℕ) (piece : List ℕ) (first : Held) (before : ℕ × Held) (granted : Bool) → (line_on key piece before granted).1.denied ≡ denied_by before.1.denied (granted ∷ []) → AreRead key piece first before → AreRead key piece first (line_on key piece before granted)
-line_read key piece first before granted counted a = by (heard_at key piece before.0 before.1).0 (heard_at key piece before.0 before.1).1 refl
+line_read : (key : ℕ) (piece : List ℕ) (first : Held) (before : ℕ × Held) (granted : Bool)
+    → (line_on key piece before granted).1.denied ≡ denied_by before.1.denied (granted ∷ []) → AreRead key piece first before
+    → AreRead key piece first (line_on key piece before granted)
+line_read key piece first before granted counted a =
+    by (heard_at key piece before.0 before.1).0 (heard_at key piece before.0 before.1).1 refl
   where
-    by : (found : Option (ℕ × Asked)) (mid : Held) → ◌≡◌ {A = Option (ℕ × Asked) × Held} (heard_at key piece before.0 before.1) (found, mid) → AreRead key piece first (line_on key piece before granted)
+    by : (found : Option (ℕ × Asked)) (mid : Held) → ◌≡◌ {A = Option (ℕ × Asked) × Held} (heard_at key piece before.0 before.1) (found, mid)
+        → AreRead key piece first (line_on key piece before granted)
     by None mid e =
         let same : ◌≡◌ {A = ℕ × Held} (line_on key piece before granted) before = ap (line_answered key granted before) e in
         subst (λ (reached : ℕ × Held). AreRead key piece first reached) (sym same) a
@@ -50,19 +55,25 @@ line_read key piece first before granted counted a = by (heard_at key piece befo
         subst (λ (reached : ℕ × Held). AreRead key piece first reached) is
         (record {
           grants = a.grants ++ granted ∷ [];
-          counted = counted_more first.denied before.1.denied new.denied a.grants granted a.counted (ap (λ (x : ℕ × Held). x.1.denied) is ∙ counted);
+          counted =
+              counted_more first.denied before.1.denied new.denied a.grants granted a.counted
+              (ap (λ (x : ℕ × Held). x.1.denied) is ∙ counted);
           is = λ n first_r named.
               let i = a.is n first_r named in
               record {
                 told = noted n steps i.told;
                 keys = noted_keys n steps i.told ∙ i.keys;
-                reads = reads_with_more a.grants n key piece first_r first before.0 stop granted steps i.told before.1 new (line_found key piece before.0 stop asked before.1 mid (sym e)).onward is refl i.reads;
+                reads =
+                    reads_with_more a.grants n key piece first_r first before.0 stop granted steps i.told before.1 new
+                    (line_found key piece before.0 stop asked before.1 mid (sym e)).onward is refl i.reads;
               };
         })
 
-lines_read : (key : ℕ) (piece : List ℕ) (first : Held) (grants : List Bool) (before : ℕ × Held) → CountsEach key piece before grants → AreRead key piece first before → AreRead key piece first (fold (line_on key piece) before grants)
+lines_read : (key : ℕ) (piece : List ℕ) (first : Held) (grants : List Bool) (before : ℕ × Held) → CountsEach key piece before grants
+    → AreRead key piece first before → AreRead key piece first (fold (line_on key piece) before grants)
 lines_read key piece first [] before counted a = a
-lines_read key piece first (granted ∷ grants) before counted a = lines_read key piece first grants (line_on key piece before granted) counted.1 (line_read key piece first before granted counted.0 a)
+lines_read key piece first (granted ∷ grants) before counted a =
+    lines_read key piece first grants (line_on key piece before granted) counted.1 (line_read key piece first before granted counted.0 a)
 
 -- ---- the whole piece
 
@@ -70,8 +81,18 @@ pub accepted_leads : (key : ℕ) (piece : List ℕ) (old new : Held) → bytes_f
     → LeadsOn key piece old new
 accepted_leads key piece old new free received =
     let reached = lines_answered key piece received.grants old in
-    let a = lines_read key piece old received.grants (0, old) received.counted (record { grants = []; counted = refl; is = λ n first_r named. record { told = first_r; keys = refl; reads = reads_with_none n key piece first_r old named free } }) in
-    let counted : new.denied ≡ denied_by old.denied a.grants = ap (λ (x : Option (ℕ × Asked) × Held). x.1.denied) received.rest ∙ heard_denied key piece reached.0 reached.1 (at reached.1 key) ∙ a.counted in
+    let a =
+    lines_read key piece old received.grants (0, old) received.counted
+    (record {
+      grants = [];
+      counted = refl;
+      is =
+          λ n first_r named.
+          record { told = first_r; keys = refl; reads = reads_with_none n key piece first_r old named free };
+    }) in
+    let counted : new.denied ≡ denied_by old.denied a.grants =
+    ap (λ (x : Option (ℕ × Asked) × Held). x.1.denied) received.rest ∙ heard_denied key piece reached.0 reached.1 (at reached.1 key)
+    ∙ a.counted in
     record {
       grants = a.grants;
       counted = counted;
@@ -79,12 +100,15 @@ accepted_leads key piece old new free received =
       asked = λ buses events keys n layout named s.
           let first_r = telling keys (course buses events) in
           let i = a.is n first_r named in
-          bytes_asked a.grants n key piece first_r old reached.0 i.told reached.1 new received.rest i.reads buses events layout (runs_telling buses keys old (course buses events) s);
+          bytes_asked a.grants n key piece first_r old reached.0 i.told reached.1 new received.rest i.reads buses events layout
+          (runs_telling buses keys old (course buses events) s);
       leads = λ buses events keys n layout named s.
           let first_r = telling keys (course buses events) in
           let i = a.is n first_r named in
           let p : Piece = record { bytes = piece; grants = a.grants } in
-          let h = bytes_with a.grants n key piece first_r old reached.0 i.told reached.1 new received.rest i.reads buses events layout (runs_telling buses keys old (course buses events) s) in
+          let h =
+          bytes_with a.grants n key piece first_r old reached.0 i.told reached.1 new received.rest i.reads buses events layout
+          (runs_telling buses keys old (course buses events) s) in
           subst (λ (ks : List (Option ℕ)). StandsFor buses ks new (course buses (events ++ Bytes n p ∷ []))) i.keys
           (runs_on buses events (Bytes n p) None (length events + 1) i.told new refl h).stands;
     }
@@ -95,10 +119,14 @@ refused_leads key piece old new cause e same = record {
   grants = [];
   counted = ap (λ (x : Held). x.denied) same;
   given = λ d. tt;
-  asked = λ buses events keys n layout named s. ap (λ (x : Held). x.denied) same ∙ sym (denied_in_none buses (counted (course buses events)) old.denied (plain.Bytes n piece));
+  asked =
+      λ buses events keys n layout named s. ap (λ (x : Held). x.denied) same
+      ∙ sym (denied_in_none buses (counted (course buses events)) old.denied (plain.Bytes n piece));
   leads = λ buses events keys n layout named s.
       let first_r = telling keys (course buses events) in
-      let h = (bytes_refused n key piece first_r old cause named e).happens buses events layout (runs_telling buses keys old (course buses events) s) in
+      let h =
+      (bytes_refused n key piece first_r old cause named e).happens buses events layout
+      (runs_telling buses keys old (course buses events) s) in
       subst (λ (x : Held). StandsFor buses keys x (course buses (events ++ Bytes n (giving piece) ∷ []))) (sym same)
       (runs_on buses events (Bytes n (giving piece)) (Some cause) (length events + 1) first_r old refl h).stands;
 }

@@ -1,5 +1,6 @@
 -- What a call makes of the place of one connection.
-use Rattle.std.proofs.Common.{◌≡◌, ℕ, ◌+◌, ◌≤◌, Bool, true, false, List, [], ◌∷◌, ◌++◌, length, length-append, drop, refl, ap, sym, ◌∙◌, arith, append-nil, append_assoc}
+use Rattle.std.proofs.Common.{◌≡◌, ℕ, ◌+◌, ◌≤◌, Bool, true, false, List, [], ◌∷◌, ◌++◌, length, length-append, drop, refl, ap, sym, ◌∙◌}
+use Rattle.std.proofs.Common.{arith, append-nil, append_assoc}
 use Rattle.std.proofs.lemmas.Bool.Decides.{nat_tests}
 use Rattle.std.proofs.lemmas.List.{length_push, drop-append-le}
 use Rattle.std.specs.List.{filter, fold}
@@ -39,117 +40,158 @@ full_more queue change h = let e = length-append queue (change ∷ []) in grind 
 room_more : (queue : List Change) (change : Change) → nat_lt (length queue) 256 ≡ true → nat_lt 256 (length (queue ++ change ∷ [])) ≡ false
 room_more queue change h = let e = length-append queue (change ∷ []) in grind (arith, nat_tests)
 
-told_placed : (change : Change) (reader : Reading) (mode : Mode) (session : ℕ) (info ended : Bool) (bytes : List ℕ) (cursor : Cursor) (queue : List Change)
-    → told_place change (placed reader mode session info ended bytes cursor queue) ≡ placed reader mode session info ended bytes cursor (queue ++ one cursor change)
+told_placed : (change : Change) (reader : Reading) (mode : Mode) (session : ℕ) (info ended : Bool) (bytes : List ℕ) (cursor : Cursor)
+    (queue : List Change)
+    → told_place change (placed reader mode session info ended bytes cursor queue)
+    ≡ placed reader mode session info ended bytes cursor (queue ++ one cursor change)
 told_placed change reader mode session false ended bytes cursor queue = refl
-told_placed change reader mode session true ended bytes cursor queue = by (nat_lt 256 (length queue)) (concerns cursor change) (nat_lt (length queue) 256) refl refl refl where
-  by : (over told room : Bool) → nat_lt 256 (length queue) ≡ over → concerns cursor change ≡ told → nat_lt (length queue) 256 ≡ room
-      → told_place change (placed reader mode session true ended bytes cursor queue) ≡ placed reader mode session true ended bytes cursor (queue ++ one cursor change)
-  by true told room o t r = let m = more_than queue (one cursor change) o in rw (o, m) refl
-  by false false room o t r = let e = append-nil queue in rw (o, t, e, o) refl
-  by false true true o t r = let m = room_more queue change r in rw (o, t, r, m) refl
-  by false true false o t r = let m = full_more queue change r in rw (o, t, r, m) refl
+told_placed change reader mode session true ended bytes cursor queue =
+    by (nat_lt 256 (length queue)) (concerns cursor change) (nat_lt (length queue) 256) refl refl refl where
+      by : (over told room : Bool) → nat_lt 256 (length queue) ≡ over → concerns cursor change ≡ told → nat_lt (length queue) 256 ≡ room
+          → told_place change (placed reader mode session true ended bytes cursor queue)
+          ≡ placed reader mode session true ended bytes cursor (queue ++ one cursor change)
+      by true told room o t r = let m = more_than queue (one cursor change) o in rw (o, m) refl
+      by false false room o t r = let e = append-nil queue in rw (o, t, e, o) refl
+      by false true true o t r = let m = room_more queue change r in rw (o, t, r, m) refl
+      by false true false o t r = let m = full_more queue change r in rw (o, t, r, m) refl
 
 -- a place that is told each change in turn
 abbrev pub told_places : List Change → Place → Place
 told_places changes p = fold (λ p change. told_place change p) p changes
 
-pub told_each_at : (changes : List Change) (places : List (Option Place)) (key : ℕ) → place_at (told_each changes places) key ≡ option_map (told_places changes) (place_at places key)
+pub told_each_at : (changes : List Change) (places : List (Option Place)) (key : ℕ)
+    → place_at (told_each changes places) key ≡ option_map (told_places changes) (place_at places key)
 told_each_at [] places key = sym (same (place_at places key))
   where
     same : (o : Option Place) → option_map (told_places []) o ≡ o
     same None = refl
     same (Some p) = refl
-told_each_at (change ∷ changes) places key = told_each_at changes (told_all change places) key ∙ ap (option_map (told_places changes)) (told_all_at change places key) ∙ both (place_at places key)
+told_each_at (change ∷ changes) places key =
+    told_each_at changes (told_all change places) key ∙ ap (option_map (told_places changes)) (told_all_at change places key)
+    ∙ both (place_at places key)
   where
-    both : (o : Option Place) → option_map (told_places changes) (option_map (told_place change) o) ≡ option_map (told_places (change ∷ changes)) o
+    both : (o : Option Place)
+        → option_map (told_places changes) (option_map (told_place change) o) ≡ option_map (told_places (change ∷ changes)) o
     both None = refl
     both (Some p) = refl
 
-told_places_placed : (changes : List Change) (reader : Reading) (mode : Mode) (session : ℕ) (info ended : Bool) (bytes : List ℕ) (cursor : Cursor) (queue : List Change)
-    → told_places changes (placed reader mode session info ended bytes cursor queue) ≡ placed reader mode session info ended bytes cursor (queue ++ filter (concerns cursor) changes)
-told_places_placed [] reader mode session info ended bytes cursor queue = ap (placed reader mode session info ended bytes cursor) (sym (append-nil queue))
+told_places_placed : (changes : List Change) (reader : Reading) (mode : Mode) (session : ℕ) (info ended : Bool) (bytes : List ℕ)
+    (cursor : Cursor) (queue : List Change)
+    → told_places changes (placed reader mode session info ended bytes cursor queue)
+    ≡ placed reader mode session info ended bytes cursor (queue ++ filter (concerns cursor) changes)
+told_places_placed [] reader mode session info ended bytes cursor queue =
+    ap (placed reader mode session info ended bytes cursor) (sym (append-nil queue))
 told_places_placed (change ∷ changes) reader mode session info ended bytes cursor queue =
     ap (told_places changes) (told_placed change reader mode session info ended bytes cursor queue)
     ∙ told_places_placed changes reader mode session info ended bytes cursor (queue ++ one cursor change)
-    ∙ ap (placed reader mode session info ended bytes cursor) (append_assoc queue (one cursor change) (filter (concerns cursor) changes) ∙ ap (λ cs. queue ++ cs) (joined (concerns cursor change) refl))
+    ∙ ap (placed reader mode session info ended bytes cursor)
+    (append_assoc queue (one cursor change) (filter (concerns cursor) changes)
+    ∙ ap (λ cs. queue ++ cs) (joined (concerns cursor change) refl))
   where
-    joined : (t : Bool) → concerns cursor change ≡ t → one cursor change ++ filter (concerns cursor) changes ≡ filter (concerns cursor) (change ∷ changes)
+    joined : (t : Bool) → concerns cursor change ≡ t
+        → one cursor change ++ filter (concerns cursor) changes ≡ filter (concerns cursor) (change ∷ changes)
     joined true e = rw e refl
     joined false e = rw e refl
 
 -- ---- what was not told of an open connection
 
-pub untold_shut : (conn : Connection) (history : History) → conn.shut ≡ None → untold conn history ≡ untold_by conn.go_step conn.items conn.done history
-untold_shut conn history e = ap (λ s. drop (length (tolds conn.items)) (concerning_by conn.go_step (cursor_by conn.done conn.items) (heard s history))) e
+pub untold_shut : (conn : Connection) (history : History) → conn.shut ≡ None
+    → untold conn history ≡ untold_by conn.go_step conn.items conn.done history
+untold_shut conn history e =
+    ap (λ s. drop (length (tolds conn.items)) (concerning_by conn.go_step (cursor_by conn.done conn.items) (heard s history))) e
 
-untold_push : (first : List Shown) (conn : Connection) (history : History) (changes : List Change) → conn.shut ≡ None → Fits first history conn.go_step conn.items conn.done
+untold_push : (first : List Shown) (conn : Connection) (history : History) (changes : List Change) → conn.shut ≡ None
+    → Fits first history conn.go_step conn.items conn.done
     → untold conn (history ++ changes ∷ []) ≡ untold conn history ++ filter (concerns (cursor_at conn (length history))) changes
 untold_push first conn history changes shut f =
     untold_shut conn (history ++ changes ∷ []) shut
     ∙ ap (drop (length (tolds conn.items))) (concerning_push conn.go_step (cursor_by conn.done conn.items) history changes f.began)
-    ∙ drop-append-le (length (tolds conn.items)) (concerning_by conn.go_step (cursor_by conn.done conn.items) history) (filter (concerns (cursor_by conn.done conn.items (length history))) changes) f.enough
+    ∙ drop-append-le (length (tolds conn.items)) (concerning_by conn.go_step (cursor_by conn.done conn.items) history)
+    (filter (concerns (cursor_by conn.done conn.items (length history))) changes) f.enough
     ∙ ap (λ cs. cs ++ filter (concerns (cursor_by conn.done conn.items (length history))) changes) (sym (untold_shut conn history shut))
 
 -- a step
-pub told_place_of : (first : List Shown) (reader : Reading) (conn : Connection) (history : History) (changes : List Change) → conn.shut ≡ None → Fits first history conn.go_step conn.items conn.done
+pub told_place_of : (first : List Shown) (reader : Reading) (conn : Connection) (history : History) (changes : List Change)
+    → conn.shut ≡ None → Fits first history conn.go_step conn.items conn.done
     → told_places changes (place_of reader history conn) ≡ place_of reader (history ++ changes ∷ []) conn
 told_place_of first reader conn history changes shut f =
     let len : length (history ++ changes ∷ []) ≡ length history + 1 = length_push history changes in
     let up : length history ≤ length (history ++ changes ∷ []) = omega arith in
-    let cur : cursor_at conn (length (history ++ changes ∷ [])) ≡ cursor_at conn (length history) = cursor_later (length history) (length (history ++ changes ∷ [])) conn.done conn.items up f.finished f.numbers in
-    told_places_placed changes reader conn.mode conn.session conn.info conn.ended (unsent conn) (cursor_at conn (length history)) (untold conn history)
-    ∙ ap (λ q. placed reader conn.mode conn.session conn.info conn.ended (unsent conn) (cursor_at conn (length history)) q) (sym (untold_push first conn history changes shut f))
+    let cur : cursor_at conn (length (history ++ changes ∷ [])) ≡ cursor_at conn (length history) =
+    cursor_later (length history) (length (history ++ changes ∷ [])) conn.done conn.items up f.finished f.numbers in
+    told_places_placed changes reader conn.mode conn.session conn.info conn.ended (unsent conn) (cursor_at conn (length history))
+    (untold conn history)
+    ∙ ap (λ q. placed reader conn.mode conn.session conn.info conn.ended (unsent conn) (cursor_at conn (length history)) q)
+    (sym (untold_push first conn history changes shut f))
     ∙ ap (λ c. placed reader conn.mode conn.session conn.info conn.ended (unsent conn) c (untold conn (history ++ changes ∷ []))) (sym cur)
 
 -- ---- a connection that is no information session
 
 -- what is held of it
 abbrev pub plain_place : Reading → Mode → ℕ → Bool → List ℕ → Place
-plain_place reader mode session ended bytes = record { reader = reader; mode = mode; session = session; ended = ended; unsent = bytes; panel = Absent }
+plain_place reader mode session ended bytes = record {
+  reader = reader;
+  mode = mode;
+  session = session;
+  ended = ended;
+  unsent = bytes;
+  panel = Absent;
+}
 
-pub plain_is : (reader : Reading) (history : History) (conn : Connection) → conn.info ≡ false → place_of reader history conn ≡ plain_place reader conn.mode conn.session conn.ended (unsent conn)
-plain_is reader history conn e = ap (λ i. placed reader conn.mode conn.session i conn.ended (unsent conn) (cursor_at conn (length history)) (untold conn history)) e
+pub plain_is : (reader : Reading) (history : History) (conn : Connection) → conn.info ≡ false
+    → place_of reader history conn ≡ plain_place reader conn.mode conn.session conn.ended (unsent conn)
+plain_is reader history conn e =
+    ap (λ i. placed reader conn.mode conn.session i conn.ended (unsent conn) (cursor_at conn (length history)) (untold conn history)) e
 
 -- a reply to a connection that was given no lines is put at the end of what was given to it
-pub given_reply : (conn : Connection) (line : List ℕ) → conn.items ≡ [] → given (record conn { out = conn.out ++ line }) ≡ given conn ++ line
+pub given_reply : (conn : Connection) (line : List ℕ) → conn.items ≡ []
+    → given (record conn { out = conn.out ++ line }) ≡ given conn ++ line
 given_reply conn line none =
     let bare : text conn.items ≡ [] = ap text none in
     let before : given conn ≡ conn.out = ap (λ t. conn.out ++ t) bare ∙ append-nil conn.out in
     ap (λ t. (conn.out ++ line) ++ t) bare ∙ append-nil (conn.out ++ line) ∙ ap (λ bytes. bytes ++ line) (sym before)
 
 -- and of what is unsent
-pub unsent_reply : (conn : Connection) (line : List ℕ) → conn.items ≡ [] → conn.taken ≤ length (given conn) → unsent (record conn { out = conn.out ++ line }) ≡ unsent conn ++ line
+pub unsent_reply : (conn : Connection) (line : List ℕ) → conn.items ≡ [] → conn.taken ≤ length (given conn)
+    → unsent (record conn { out = conn.out ++ line }) ≡ unsent conn ++ line
 unsent_reply conn line none within = ap (drop conn.taken) (given_reply conn line none) ∙ drop-append-le conn.taken (given conn) line within
 
-pub replied_place : (reader : Reading) (history : History) (conn : Connection) (line : List ℕ) → conn.info ≡ false → conn.items ≡ [] → conn.taken ≤ length (given conn)
+pub replied_place : (reader : Reading) (history : History) (conn : Connection) (line : List ℕ) → conn.info ≡ false → conn.items ≡ []
+    → conn.taken ≤ length (given conn)
     → with_unsent line (place_of reader history conn) ≡ place_of reader history (record conn { out = conn.out ++ line })
 replied_place reader history conn line plain none within =
     ap (with_unsent line) (plain_is reader history conn plain)
     ∙ ap (plain_place reader conn.mode conn.session conn.ended) (sym (unsent_reply conn line none within))
     ∙ sym (plain_is reader history (record conn { out = conn.out ++ line }) plain)
 
-pub chosen_place : (reader : Reading) (history : History) (conn : Connection) (mode : Mode) → conn.info ≡ false → record (place_of reader history conn) { mode = mode } ≡ place_of reader history (record conn { mode = mode })
+pub chosen_place : (reader : Reading) (history : History) (conn : Connection) (mode : Mode) → conn.info ≡ false
+    → record (place_of reader history conn) { mode = mode } ≡ place_of reader history (record conn { mode = mode })
 chosen_place reader history conn mode plain =
     ap (λ (p : Place). record p { mode = mode }) (plain_is reader history conn plain)
     ∙ sym (plain_is reader history (record conn { mode = mode }) plain)
 
-pub ended_place : (reader : Reading) (history : History) (conn : Connection) → conn.info ≡ false → record (place_of reader history conn) { ended = true } ≡ place_of reader history (record conn { ended = true })
+pub ended_place : (reader : Reading) (history : History) (conn : Connection) → conn.info ≡ false
+    → record (place_of reader history conn) { ended = true } ≡ place_of reader history (record conn { ended = true })
 ended_place reader history conn plain =
     ap (λ (p : Place). record p { ended = true }) (plain_is reader history conn plain)
     ∙ sym (plain_is reader history (record conn { ended = true }) plain)
 
 -- a session begins
-entered_plain : (reader : Reading) (mode : Mode) (session id : ℕ) (ended : Bool) (bytes : List ℕ) → entered_place id (panel_for mode) (plain_place reader mode session ended bytes) ≡ placed reader mode id (is_info mode) ended bytes Start []
+entered_plain : (reader : Reading) (mode : Mode) (session id : ℕ) (ended : Bool) (bytes : List ℕ)
+    → entered_place id (panel_for mode) (plain_place reader mode session ended bytes)
+    ≡ placed reader mode id (is_info mode) ended bytes Start []
 entered_plain reader CommandMode session id ended bytes = refl
 entered_plain reader Info session id ended bytes = refl
 
-pub entered_place_of : (reader : Reading) (history : History) (conn : Connection) (id go : ℕ) → conn.shut ≡ None → conn.info ≡ false → conn.items ≡ [] → conn.done ≡ None
-    → entered_place id (panel_for conn.mode) (place_of reader history conn) ≡ place_of reader history (record conn { session = id; info = is_info conn.mode; go_step = go })
+pub entered_place_of : (reader : Reading) (history : History) (conn : Connection) (id go : ℕ) → conn.shut ≡ None → conn.info ≡ false
+    → conn.items ≡ [] → conn.done ≡ None
+    → entered_place id (panel_for conn.mode) (place_of reader history conn)
+    ≡ place_of reader history (record conn { session = id; info = is_info conn.mode; go_step = go })
 entered_place_of reader history conn id go shut plain none undone =
     ap (entered_place id (panel_for conn.mode)) (plain_is reader history conn plain)
     ∙ entered_plain reader conn.mode conn.session id conn.ended (unsent conn)
-    ∙ ap (λ c. placed reader conn.mode id (is_info conn.mode) conn.ended (unsent conn) c []) (sym (ap (λ d. cursor_by d conn.items (length history)) undone ∙ ap (λ is. cursor_by None is (length history)) none))
+    ∙ ap (λ c. placed reader conn.mode id (is_info conn.mode) conn.ended (unsent conn) c [])
+    (sym (ap (λ d. cursor_by d conn.items (length history)) undone ∙ ap (λ is. cursor_by None is (length history)) none))
     ∙ ap (placed reader conn.mode id (is_info conn.mode) conn.ended (unsent conn) (cursor_at conn (length history))) (sym nothing)
   where
     nothing : untold (record conn { session = id; info = is_info conn.mode; go_step = go }) history ≡ []
@@ -171,7 +213,8 @@ module _ (reader : Reading) (history : History) (conn : Connection) where
   pub place_info : is_panel (place_of reader history conn).panel ≡ conn.info
   place_info = by conn.info over refl refl
     where
-      by : (info o : Bool) → conn.info ≡ info → over ≡ o → is_panel (panel_at conn.info (cursor_at conn (length history)) (untold conn history)) ≡ conn.info
+      by : (info o : Bool) → conn.info ≡ info → over ≡ o
+          → is_panel (panel_at conn.info (cursor_at conn (length history)) (untold conn history)) ≡ conn.info
       by false o i e = rw i refl
       by true true i e = rw (i, e) refl
       by true false i e = rw (i, e) refl
@@ -179,7 +222,8 @@ module _ (reader : Reading) (history : History) (conn : Connection) where
   pub place_overran : has_overrun (place_of reader history conn).panel ≡ is_over_place history conn
   place_overran = by conn.info over refl refl
     where
-      by : (info o : Bool) → conn.info ≡ info → over ≡ o → has_overrun (panel_at conn.info (cursor_at conn (length history)) (untold conn history)) ≡ conn.info && over
+      by : (info o : Bool) → conn.info ≡ info → over ≡ o
+          → has_overrun (panel_at conn.info (cursor_at conn (length history)) (untold conn history)) ≡ conn.info && over
       by false o i e = rw i refl
       by true true i e = rw (i, e) refl
       by true false i e = rw (i, e) refl
@@ -196,4 +240,5 @@ module _ (reader : Reading) (history : History) (conn : Connection) where
   replied_still line still none within =
       ap (λ t. record (place_of reader history conn) { unsent = (if t then [] else unsent conn) ++ line }) still
       ∙ ap (λ bytes. record (place_of reader history conn) { unsent = bytes }) (sym (unsent_reply conn line none within))
-      ∙ ap (λ t. record (place_of reader history conn) { unsent = if t then [] else unsent (record conn { out = conn.out ++ line }) }) (sym still)
+      ∙ ap (λ t. record (place_of reader history conn) { unsent = if t then [] else unsent (record conn { out = conn.out ++ line }) })
+      (sym still)

@@ -1,5 +1,6 @@
 -- The record of a run is that of the course of its events.
-use Rattle.std.proofs.Common.{◌≡◌, ℕ, zero, suc, ◌+◌, ◌<◌, ◌≤◌, Bool, true, false, List, [], ◌∷◌, ◌++◌, map, take, length, refl, ap, sym, ◌∙◌, subst, arith, add-one, length-append}
+use Rattle.std.proofs.Common.{◌≡◌, ℕ, zero, suc, ◌+◌, ◌<◌, ◌≤◌, Bool, true, false, List, [], ◌∷◌, ◌++◌, map, take, length, refl, ap, sym}
+use Rattle.std.proofs.Common.{◌∙◌, subst, arith, add-one, length-append}
 use Rattle.std.proofs.lemmas.List.{take_all}
 use Rattle.std.proofs.lemmas.List.Sums.{fold-append}
 use Rattle.std.specs.List.{fold}
@@ -12,16 +13,20 @@ use Rattle.srcp_rules.specs.declared.layout.Bus.{Bus}
 use Rattle.srcp_rules.specs.Layout.{IsLayout}
 use Rattle.srcp_rules.specs.State.{opening, shown_rows}
 use Rattle.srcp_rules.specs.Effect.{Effect}
-use Rattle.srcp_core.specs.Under.{Event, Open, Bytes, Room, At, Shut, Obeyed, Began, Ended, Heard, Order, effect, greets, Piece, under, all_under, denied_by}
+use Rattle.srcp_core.specs.Under.{Event, Open, Bytes, Room, At, Shut, Obeyed, Began, Ended, Heard, Order, effect, greets, Piece, under}
+use Rattle.srcp_core.specs.Under.{all_under, denied_by}
 use Rattle.srcp_core.specs.declared.event.Event.{Event as PlainEvent}
 use Rattle.srcp_core.specs.Connection.{Connection, History, is_open, is_nil, overran, unsent, finish, recorded}
-use Rattle.srcp_core.specs.Course.{World, start, numbered, at_connection, did, state, history, counted, fault, open_connection, order_of, replied, entered, goes, greeted, ended, obeyed, commanded, answered_as, answered, new_lines, fed_to, shut_as, accepted, or_refused, happens, course, denied_in, denied_over}
+use Rattle.srcp_core.specs.Course.{World, start, numbered, at_connection, did, state, history, counted, fault, open_connection, order_of}
+use Rattle.srcp_core.specs.Course.{replied, entered, goes, greeted, ended, obeyed, commanded, answered_as, answered, new_lines, fed_to}
+use Rattle.srcp_core.specs.Course.{shut_as, accepted, or_refused, happens, course, denied_in, denied_over}
 use Rattle.srcp_text.specs.Reading.{Reading}
 use Rattle.srcp_core.specs.Handshake.{Greeting, Speaks, Chooses, Goes, Refuses}
 use Rattle.srcp_core.specs.Held.{Held, at}
 use Rattle.srcp_core.specs.Laws.{IsRecordOf}
 use Rattle.srcp_core.specs.Machine.{opening_held, finish_at, finish_from}
-use Rattle.srcp_core.specs.Recording.{Recording, key_of, record_of, changed_record, changed_in, finished, finished_by, with_refusal, nothing_recorded}
+use Rattle.srcp_core.specs.Recording.{Recording, key_of, record_of, changed_record, changed_in, finished, finished_by, with_refusal}
+use Rattle.srcp_core.specs.Recording.{nothing_recorded}
 use Rattle.srcp_core.specs.Run.{Runs, Happened, HappensAs, FollowsAs, RunsUnder}
 use Rattle.srcp_core.proofs.Agreement.RefusalsAreCounted.{denied_over_push}
 use Rattle.srcp_core.proofs.Agreement.MemoryAnswers.{under_push, under_length}
@@ -41,33 +46,46 @@ use Rattle.srcp_core.proofs.Invariants.PlacesCover.{no_place}
 
 -- ---- how each connection stands in the end
 
-finish_step_none : (held : Held) (i : ℕ) (keys : List (Option ℕ)) (tolds : List ConnRecord) → slice_get keys i ≡ Some None → finished held (take (suc i) keys) tolds ≡ finished held (take i keys) tolds
+finish_step_none : (held : Held) (i : ℕ) (keys : List (Option ℕ)) (tolds : List ConnRecord) → slice_get keys i ≡ Some None
+    → finished held (take (suc i) keys) tolds ≡ finished held (take i keys) tolds
 finish_step_none held i [] tolds e = cc
 finish_step_none held zero (None ∷ keys) [] e = refl
 finish_step_none held zero (None ∷ keys) (told ∷ tolds) e = refl
 finish_step_none held zero (Some key ∷ keys) tolds e = cc
 finish_step_none held (suc i) (key ∷ keys) [] e = refl
-finish_step_none held (suc i) (key ∷ keys) (told ∷ tolds) e = ap (λ ts. finished_by held key told ∷ ts) (finish_step_none held i keys tolds e)
+finish_step_none held (suc i) (key ∷ keys) (told ∷ tolds) e =
+    ap (λ ts. finished_by held key told ∷ ts) (finish_step_none held i keys tolds e)
 
 finish_step_some : (held : Held) (i key : ℕ) (keys : List (Option ℕ)) (tolds : List ConnRecord) → slice_get keys i ≡ Some (Some key)
-    → finished held (take (suc i) keys) tolds ≡ changed_record (suc i) (λ told. record told { finish = finish_at key held }) (finished held (take i keys) tolds)
+    → finished held (take (suc i) keys) tolds
+    ≡ changed_record (suc i) (λ told. record told { finish = finish_at key held }) (finished held (take i keys) tolds)
 finish_step_some held i key [] tolds e = cc
 finish_step_some held zero key (None ∷ keys) tolds e = cc
 finish_step_some held zero key (Some other ∷ keys) [] e = refl
-finish_step_some held zero key (Some other ∷ keys) (told ∷ tolds) e = let same : other ≡ key = cc in ap (λ k. record told { finish = finish_at k held } ∷ tolds) same
+finish_step_some held zero key (Some other ∷ keys) (told ∷ tolds) e =
+    let same : other ≡ key = cc in ap (λ k. record told { finish = finish_at k held } ∷ tolds) same
 finish_step_some held (suc i) key (other ∷ keys) [] e = refl
-finish_step_some held (suc i) key (other ∷ keys) (told ∷ tolds) e = ap (λ ts. finished_by held other told ∷ ts) (finish_step_some held i key keys tolds e) ∙ front (slice_get (finished held (take i keys) tolds) i)
+finish_step_some held (suc i) key (other ∷ keys) (told ∷ tolds) e =
+    ap (λ ts. finished_by held other told ∷ ts) (finish_step_some held i key keys tolds e)
+    ∙ front (slice_get (finished held (take i keys) tolds) i)
   where
-    front : (o : Option ConnRecord) → finished_by held other told ∷ changed_in i (λ told. record told { finish = finish_at key held }) (finished held (take i keys) tolds) o
-        ≡ changed_in (suc i) (λ told. record told { finish = finish_at key held }) (finished_by held other told ∷ finished held (take i keys) tolds) o
+    front : (o : Option ConnRecord)
+        → finished_by held other told
+        ∷ changed_in i (λ told. record told { finish = finish_at key held }) (finished held (take i keys) tolds) o
+        ≡ changed_in (suc i) (λ told. record told { finish = finish_at key held })
+        (finished_by held other told ∷ finished held (take i keys) tolds) o
     front None = refl
     front (Some x) = refl
 
-pub finish_none : (held : Held) (i : ℕ) (keys : List (Option ℕ)) (tolds now : List ConnRecord) → slice_get keys i ≡ Some None → now ≡ finished held (take i keys) tolds → now ≡ finished held (take (i + 1) keys) tolds
-finish_none held i keys tolds now e is = is ∙ sym (finish_step_none held i keys tolds e) ∙ ap (λ k. finished held (take k keys) tolds) (sym (add-one i))
+pub finish_none : (held : Held) (i : ℕ) (keys : List (Option ℕ)) (tolds now : List ConnRecord) → slice_get keys i ≡ Some None
+    → now ≡ finished held (take i keys) tolds → now ≡ finished held (take (i + 1) keys) tolds
+finish_none held i keys tolds now e is =
+    is ∙ sym (finish_step_none held i keys tolds e) ∙ ap (λ k. finished held (take k keys) tolds) (sym (add-one i))
 
-pub finish_some : (held : Held) (i key : ℕ) (keys : List (Option ℕ)) (tolds now later : List ConnRecord) → slice_get keys i ≡ Some (Some key) → now ≡ finished held (take i keys) tolds
-    → later ≡ changed_record (i + 1) (λ told. record told { finish = finish_at key held }) now → later ≡ finished held (take (i + 1) keys) tolds
+pub finish_some : (held : Held) (i key : ℕ) (keys : List (Option ℕ)) (tolds now later : List ConnRecord)
+    → slice_get keys i ≡ Some (Some key) → now ≡ finished held (take i keys) tolds
+    → later ≡ changed_record (i + 1) (λ told. record told { finish = finish_at key held }) now
+    → later ≡ finished held (take (i + 1) keys) tolds
 finish_some held i key keys tolds now later e is step =
     step ∙ ap (changed_record (i + 1) (λ told. record told { finish = finish_at key held })) is
     ∙ ap (λ k. changed_record k (λ told. record told { finish = finish_at key held }) (finished held (take i keys) tolds)) (add-one i)
@@ -84,24 +102,31 @@ get_none [] i h e = absurd (omega (arith, h))
 get_none (y ∷ xs) zero h e = ap Some e
 get_none (y ∷ xs) (suc i) h e = let l : i < length xs = omega (arith, h) in get_none xs i l e
 
-pub finish_kept : (held : Held) (i : ℕ) (keys : List (Option ℕ)) (tolds now : List ConnRecord) → i < length keys → slice_index_or keys i None ≡ None → now ≡ finished held (take i keys) tolds → now ≡ finished held (take (i + 1) keys) tolds
+pub finish_kept : (held : Held) (i : ℕ) (keys : List (Option ℕ)) (tolds now : List ConnRecord) → i < length keys
+    → slice_index_or keys i None ≡ None → now ≡ finished held (take i keys) tolds → now ≡ finished held (take (i + 1) keys) tolds
 finish_kept held i keys tolds now h e is = finish_none held i keys tolds now (get_none keys i h e) is
 
-pub finish_noted : (held : Held) (i key : ℕ) (keys : List (Option ℕ)) (tolds now later : List ConnRecord) (ends : Finish) → slice_index_or keys i None ≡ Some key → ends ≡ finish_at key held → now ≡ finished held (take i keys) tolds
+pub finish_noted : (held : Held) (i key : ℕ) (keys : List (Option ℕ)) (tolds now later : List ConnRecord) (ends : Finish)
+    → slice_index_or keys i None ≡ Some key → ends ≡ finish_at key held → now ≡ finished held (take i keys) tolds
     → later ≡ changed_record (i + 1) (λ told. record told { finish = ends }) now → later ≡ finished held (take (i + 1) keys) tolds
 finish_noted held i key keys tolds now later ends e f is step =
-    finish_some held i key keys tolds now later (get_some keys i key e) is (step ∙ ap (λ (x : Finish). changed_record (i + 1) (λ told. record told { finish = x }) now) f)
+    finish_some held i key keys tolds now later (get_some keys i key e) is
+    (step ∙ ap (λ (x : Finish). changed_record (i + 1) (λ told. record told { finish = x }) now) f)
 
 finished_is : (history : History) (held : Held) (keys : List (Option ℕ)) (conns : List Connection) → length keys ≡ length conns
-    → ((k : ℕ) (conn : Connection) → slice_get conns k ≡ Some conn → finished_by held (slice_index_or keys k None) (record_of conn) ≡ recorded history conn) → finished held keys (map record_of conns) ≡ map (recorded history) conns
+    → ((k : ℕ) (conn : Connection) → slice_get conns k ≡ Some conn
+    → finished_by held (slice_index_or keys k None) (record_of conn) ≡ recorded history conn)
+    → finished held keys (map record_of conns) ≡ map (recorded history) conns
 finished_is history held [] [] l law = refl
 finished_is history held [] (conn ∷ conns) l law = absurd (omega (arith, l))
 finished_is history held (key ∷ keys) [] l law = absurd (omega (arith, l))
 finished_is history held (key ∷ keys) (conn ∷ conns) l law =
     let less : length keys ≡ length conns = omega (arith, l) in
-    ap (λ t. t ∷ finished held keys (map record_of conns)) (law 0 conn refl) ∙ ap (λ ts. recorded history conn ∷ ts) (finished_is history held keys conns less (λ k other e. law (suc k) other e))
+    ap (λ t. t ∷ finished held keys (map record_of conns)) (law 0 conn refl)
+    ∙ ap (λ ts. recorded history conn ∷ ts) (finished_is history held keys conns less (λ k other e. law (suc k) other e))
 
-module _ (buses : List Bus) (layout : IsLayout buses) (keys : List (Option ℕ)) (held : Held) (events : List Event) (s : StandsFor buses keys held (course buses events)) where
+module _ (buses : List Bus) (layout : IsLayout buses) (keys : List (Option ℕ)) (held : Held) (events : List Event)
+    (s : StandsFor buses keys held (course buses events)) where
   abbrev w : World
   w = course buses events
 
@@ -114,9 +139,13 @@ module _ (buses : List Bus) (layout : IsLayout buses) (keys : List (Option ℕ))
       let f : Fine buses (history buses w) conn = at_number (Fine buses (history buses w)) n w.connections conn fine e in
       let over = over_is buses (history buses w) conn (open_shut conn.shut o) f in
       ap finish_from here
-      ∙ ap (λ t. if t then Overrun else (if conn.ended && is_nil p.unsent then Closing else Live)) (place_overran reader (history buses w) conn ∙ sym over)
+      ∙ ap (λ t. if t then Overrun else (if conn.ended && is_nil p.unsent then Closing else Live))
+      (place_overran reader (history buses w) conn ∙ sym over)
       ∙ by (overran conn (history buses w)) (λ still. place_unsent reader (history buses w) conn (sym over ∙ still))
-      ∙ ap (λ t. if t then (if overran conn (history buses w) then Overrun else (if conn.ended && is_nil (unsent conn) then Closing else Live)) else ShutFinish) (sym o)
+      ∙ ap (λ t. if t
+      then (if overran conn (history buses w) then Overrun else (if conn.ended && is_nil (unsent conn) then Closing else Live))
+      else ShutFinish)
+      (sym o)
     where
       by : (t : Bool) → (t ≡ false → (place_of reader (history buses w) conn).unsent ≡ unsent conn)
           → (if t then Overrun else (if conn.ended && is_nil (place_of reader (history buses w) conn).unsent then Closing else Live))
@@ -124,14 +153,23 @@ module _ (buses : List Bus) (layout : IsLayout buses) (keys : List (Option ℕ))
       by true h = refl
       by false h = ap (λ bytes. if conn.ended && is_nil bytes then Closing else Live) (h refl)
 
-  one_finished : (n : ℕ) (conn : Connection) → numbered n w.connections ≡ Some conn → finished_by held (key_of n keys) (record_of conn) ≡ recorded (history buses w) conn
+  one_finished : (n : ℕ) (conn : Connection) → numbered n w.connections ≡ Some conn
+      → finished_by held (key_of n keys) (record_of conn) ≡ recorded (history buses w) conn
   one_finished n conn e = by (is_open conn) refl
     where
       by : (o : Bool) → is_open conn ≡ o → finished_by held (key_of n keys) (record_of conn) ≡ recorded (history buses w) conn
       by false o =
           ap (λ k. finished_by held k (record_of conn)) (s.closed n conn e o)
           ∙ ap (λ t. record (record_of conn) { finish = if t then Live else ShutFinish }) o
-          ∙ ap (λ t. record (record_of conn) { finish = if t then (if overran conn (history buses w) then Overrun else (if conn.ended && is_nil (unsent conn) then Closing else Live)) else ShutFinish }) (sym o)
+          ∙ ap (λ t.
+          record (record_of conn) {
+            finish =
+                if t
+                then (if overran conn (history buses w) then Overrun
+                else (if conn.ended && is_nil (unsent conn) then Closing else Live))
+                else ShutFinish;
+          })
+          (sym o)
       by true o =
           let a = s.opens n conn e o in
           ap (λ k. finished_by held k (record_of conn)) a.named
@@ -145,7 +183,14 @@ module _ (buses : List Bus) (layout : IsLayout buses) (keys : List (Option ℕ))
 module _ (buses : List Bus) (n : ℕ) where
   events_goes : (mode : Mode) (w : World) → (goes buses n mode w).events ≡ w.events
   events_goes mode w =
-      elim (nat_lt w.last_id 4294967295) as (λ t. (if t then replied n (Go (w.last_id + 1)) (entered buses n (w.last_id + 1) (did (Began (w.last_id + 1) w.moment mode) (record w { last_id = w.last_id + 1 }))) else replied n (Refused C500) w).events ≡ w.events) [
+      elim (nat_lt w.last_id 4294967295)
+      as (λ t.
+      (if t
+      then replied n (Go (w.last_id + 1))
+      (entered buses n (w.last_id + 1)
+      (did (Began (w.last_id + 1) w.moment mode) (record w { last_id = w.last_id + 1 })))
+      else replied n (Refused C500) w).events
+      ≡ w.events) [
         | true ↦ refl
         | false ↦ refl
       ]
@@ -161,17 +206,34 @@ module _ (buses : List Bus) (n : ℕ) where
   events_commanded session (Ok command) w = by (effect (state buses w) session w.moment command)
     where
       by : (result : Effect) → (obeyed buses n session command result w).events ≡ w.events
-      by result = elim result.ends as (λ t. (if t then ended buses n session (replied n result.reply (did (Obeyed session w.moment command) w)) else replied n result.reply (did (Obeyed session w.moment command) w)).events ≡ w.events) [ true ↦ refl | false ↦ refl ]
+      by result =
+          elim result.ends as (λ t.
+          (if t then ended buses n session (replied n result.reply (did (Obeyed session w.moment command) w))
+          else replied n result.reply (did (Obeyed session w.moment command) w)).events
+          ≡ w.events) [
+            | true ↦ refl
+            | false ↦ refl
+          ]
 
   events_answered_as : (o : Option Connection) (mark : Heard) (w : World) → (answered_as buses n o mark w).events ≡ w.events
   events_answered_as None mark w = refl
   events_answered_as (Some conn) mark w =
-      elim (conn.info || conn.ended) as (λ t. (if t then w else (if conn.session == 0 then greeted buses n conn.mode (greets mark) w else commanded buses n conn.session (order_of buses mark) w)).events ≡ w.events) [
+      elim (conn.info || conn.ended)
+      as (λ t.
+      (if t then w
+      else (if conn.session == 0 then greeted buses n conn.mode (greets mark) w
+      else commanded buses n conn.session (order_of buses mark) w)).events
+      ≡ w.events) [
         | true ↦ refl
-        | false ↦ elim (conn.session == 0) as (λ t. (if t then greeted buses n conn.mode (greets mark) w else commanded buses n conn.session (order_of buses mark) w).events ≡ w.events) [
-          | true ↦ events_greeted conn.mode (greets mark) w
-          | false ↦ events_commanded conn.session (order_of buses mark) w
-        ]
+        | false ↦
+            elim (conn.session == 0)
+            as (λ t.
+            (if t then greeted buses n conn.mode (greets mark) w
+            else commanded buses n conn.session (order_of buses mark) w).events
+            ≡ w.events) [
+              | true ↦ events_greeted conn.mode (greets mark) w
+              | false ↦ events_commanded conn.session (order_of buses mark) w
+            ]
       ]
 
   events_marks : (marks : List Heard) (w : World) → (fold (answered buses n) w marks).events ≡ w.events
@@ -180,12 +242,21 @@ module _ (buses : List Bus) (n : ℕ) where
 
   events_fed : (piece : Piece) (o : Option Connection) (w : World) → (fed_to buses n piece o w).events ≡ w.events
   events_fed piece None w = refl
-  events_fed piece (Some conn) w = events_marks (new_lines buses conn.fed piece) (at_connection n (λ c. record c { fed = c.fed ++ piece.bytes }) w)
+  events_fed piece (Some conn) w =
+      events_marks (new_lines buses conn.fed piece) (at_connection n (λ c. record c { fed = c.fed ++ piece.bytes }) w)
 
   events_shut : (o : Option Connection) (w : World) → (shut_as buses n o w).events ≡ w.events
   events_shut None w = refl
   events_shut (Some conn) w =
-      elim ((conn.session == 0) || conn.ended) as (λ t. (if t then at_connection n (λ c. record c { shut = Some (length w.steps) }) w else did (Ended conn.session w.moment) (at_connection n (λ c. record c { shut = Some (length w.steps) }) w)).events ≡ w.events) [ true ↦ refl | false ↦ refl ]
+      elim ((conn.session == 0) || conn.ended)
+      as (λ t.
+      (if t then at_connection n (λ c. record c { shut = Some (length w.steps) }) w
+      else did (Ended conn.session w.moment)
+      (at_connection n (λ c. record c { shut = Some (length w.steps) }) w)).events
+      ≡ w.events) [
+        | true ↦ refl
+        | false ↦ refl
+      ]
 
 events_accepted : (buses : List Bus) (event : Event) (w : World) → (accepted buses event w).events ≡ w.events
 events_accepted buses (Open granted) w = refl
@@ -206,7 +277,8 @@ events_from buses [] w = none w.events
   where
     none : (n : ℕ) → n ≡ n + 0
     none n = omega arith
-events_from buses (event ∷ events) w = let a = events_from buses events (happens buses w event) in let b = events_happens buses w event in omega (arith, a, b)
+events_from buses (event ∷ events) w =
+    let a = events_from buses events (happens buses w event) in let b = events_happens buses w event in omega (arith, a, b)
 
 pub events_course : (buses : List Bus) (events : List Event) → (course buses events).events ≡ length events
 events_course buses events = let a = events_from buses events start in omega (arith, a)
@@ -218,35 +290,60 @@ abbrev pub with_fault : ℕ → Option CoreFault → Recording → Recording
 with_fault number None r = r
 with_fault number (Some cause) r = with_refusal number cause r
 
-pub runs_on : (buses : List Bus) (events : List Event) (event : Event) (refusal : Option CoreFault) (number : ℕ) (r : Recording) (held : Held) → number ≡ length events + 1
-    → Happened buses event refusal r held (counted (course buses events)) → Runs buses (with_fault number refusal r) held (course buses (events ++ event ∷ []))
+pub runs_on : (buses : List Bus) (events : List Event) (event : Event) (refusal : Option CoreFault) (number : ℕ) (r : Recording)
+    (held : Held)
+    → number ≡ length events + 1
+    → Happened buses event refusal r held (counted (course buses events))
+    → Runs buses (with_fault number refusal r) held (course buses (events ++ event ∷ []))
 runs_on buses events event None number r held e h =
     let w = counted (course buses events) in
-    let is : course buses (events ++ event ∷ []) ≡ accepted buses event w = fold-append (happens buses) start events (event ∷ []) ∙ ap (λ o. or_refused buses o event w) h.0 in
+    let is : course buses (events ++ event ∷ []) ≡ accepted buses event w =
+    fold-append (happens buses) start events (event ∷ []) ∙ ap (λ o. or_refused buses o event w) h.0 in
     subst (λ (v : World). Runs buses r held v) (sym is) h.1
 runs_on buses events event (Some cause) number r held e h =
     let w = counted (course buses events) in
     let now : w.events ≡ number = ap (λ k. k + 1) (events_course buses events) ∙ sym e in
-    let is : course buses (events ++ event ∷ []) ≡ record w { refused = w.refused ++ record { event = w.events; fault = cause } ∷ [] } = fold-append (happens buses) start events (event ∷ []) ∙ ap (λ o. or_refused buses o event w) h.0 in
+    let is : course buses (events ++ event ∷ []) ≡ record w { refused = w.refused ++ record { event = w.events; fault = cause } ∷ [] } =
+    fold-append (happens buses) start events (event ∷ []) ∙ ap (λ o. or_refused buses o event w) h.0 in
     let s = h.1.stands in
     let t = h.1.tells in
     subst (λ (v : World). Runs buses (with_refusal number cause r) held v) (sym is)
     (record {
-      stands = record { layout = s.layout; rows = s.rows; moment = s.moment; last_id = s.last_id; count = s.count; long = s.long; opens = s.opens; closed = s.closed; apart = s.apart; owned = s.owned };
-      tells = record { steps = t.steps; refused = ap (λ refused. refused ++ record { event = number; fault = cause } ∷ []) t.refused ∙ ap (λ k. w.refused ++ record { event = k; fault = cause } ∷ []) (sym now); connections = t.connections };
+      stands = record {
+        layout = s.layout;
+        rows = s.rows;
+        moment = s.moment;
+        last_id = s.last_id;
+        count = s.count;
+        long = s.long;
+        opens = s.opens;
+        closed = s.closed;
+        apart = s.apart;
+        owned = s.owned;
+      };
+      tells = record {
+        steps = t.steps;
+        refused =
+            ap (λ refused. refused ++ record { event = number; fault = cause } ∷ []) t.refused
+            ∙ ap (λ k. w.refused ++ record { event = k; fault = cause } ∷ []) (sym now);
+        connections = t.connections;
+      };
     })
 
 -- an event that was carried out or refused, with what was noted of that
-pub follows : (number : ℕ) (event : PlainEvent) (refusal : Option CoreFault) (r mid later_r : Recording) (held later : Held) → HappensAs event refusal r held mid later → later_r ≡ with_fault number refusal mid → FollowsAs number event r held later_r later
+pub follows : (number : ℕ) (event : PlainEvent) (refusal : Option CoreFault) (r mid later_r : Recording) (held later : Held)
+    → HappensAs event refusal r held mid later → later_r ≡ with_fault number refusal mid → FollowsAs number event r held later_r later
 follows number event refusal r mid later_r held later h e = record {
   grants = h.grants;
   counted = h.counted;
   asked = h.asked;
   follows = λ buses events layout n s.
-      subst (λ (x : Recording). Runs buses x later (course buses (events ++ under h.grants event ∷ []))) (sym e) (runs_on buses events (under h.grants event) refusal number mid later n (h.happens buses events layout s));
+      subst (λ (x : Recording). Runs buses x later (course buses (events ++ under h.grants event ∷ []))) (sym e)
+      (runs_on buses events (under h.grants event) refusal number mid later n (h.happens buses events layout s));
 }
 
-take_one : (events : List PlainEvent) (index : ℕ) (event : PlainEvent) → slice_get events index ≡ Some event → (take (index + 1) events ≡ take index events ++ event ∷ []) × (length (take index events) ≡ index)
+take_one : (events : List PlainEvent) (index : ℕ) (event : PlainEvent) → slice_get events index ≡ Some event
+    → (take (index + 1) events ≡ take index events ++ event ∷ []) × (length (take index events) ≡ index)
 take_one [] index event e = cc
 take_one (x ∷ events) zero event e = let same : x ≡ event = cc in (ap (λ y. y ∷ []) same, refl)
 take_one (x ∷ events) (suc index) event e =
@@ -255,7 +352,9 @@ take_one (x ∷ events) (suc index) event e =
     (ap (λ k. take k (x ∷ events)) one ∙ ap (λ es. x ∷ es) ih.0, ap (λ k. suc k) ih.1)
 
 -- one event more of a list
-pub follows_more : (buses : List Bus) (events : List PlainEvent) (index : ℕ) (event : PlainEvent) (r later_r : Recording) (held later : Held) → IsLayout buses → slice_get events index ≡ Some event → FollowsAs (index + 1) event r held later_r later
+pub follows_more : (buses : List Bus) (events : List PlainEvent) (index : ℕ) (event : PlainEvent) (r later_r : Recording)
+    (held later : Held)
+    → IsLayout buses → slice_get events index ≡ Some event → FollowsAs (index + 1) event r held later_r later
     → RunsUnder buses (take index events) r held → RunsUnder buses (take (index + 1) events) later_r later
 follows_more buses events index event r later_r held later layout at f u =
     let t = take_one events index event at in
@@ -266,8 +365,12 @@ follows_more buses events index event r later_r held later layout at f u =
       count = length-append u.grants (f.grants ∷ []) ∙ ap (λ k. k + 1) u.count ∙ sym (length-append (take index events) (event ∷ []));
       counted = f.counted ∙ ap (λ k. denied_by k f.grants) u.counted ∙ sym (fold-append denied_by 0 u.grants (f.grants ∷ []));
       asked = f.asked buses all layout u.runs ∙ ap (λ k. denied_in buses k (counted (course buses all)) (under f.grants event)) u.asked
-          ∙ sym (ap (denied_over buses 0 start) (under_push u.grants (take index events) f.grants event u.count) ∙ denied_over_push buses 0 start all (under f.grants event));
-      runs = subst (λ (es : List Event). Runs buses later_r later (course buses es)) (sym (under_push u.grants (take index events) f.grants event u.count)) (f.follows buses all layout (ap (λ k. k + 1) long) u.runs);
+          ∙ sym (ap (denied_over buses 0 start) (under_push u.grants (take index events) f.grants event u.count)
+          ∙ denied_over_push buses 0 start all (under f.grants event));
+      runs =
+          subst (λ (es : List Event). Runs buses later_r later (course buses es))
+          (sym (under_push u.grants (take index events) f.grants event u.count))
+          (f.follows buses all layout (ap (λ k. k + 1) long) u.runs);
     })
 
 -- before all events
@@ -291,17 +394,27 @@ runs_start buses r held e h =
       tells = record { steps = refl; refused = refl; connections = refl };
     }))
 
-pub runs_none : (buses : List Bus) (events : List PlainEvent) (r : Recording) (held : Held) → r ≡ nothing_recorded → held ≡ opening_held buses 0 0
+pub runs_none : (buses : List Bus) (events : List PlainEvent) (r : Recording) (held : Held) → r ≡ nothing_recorded
+    → held ≡ opening_held buses 0 0
     → RunsUnder buses (take 0 events) r held
-runs_none buses events r held e h = record { grants = []; count = refl; counted = ap (λ (x : Held). x.denied) h; asked = ap (λ (x : Held). x.denied) h; runs = runs_start buses r held e h }
+runs_none buses events r held e h = record {
+  grants = [];
+  count = refl;
+  counted = ap (λ (x : Held). x.denied) h;
+  asked = ap (λ (x : Held). x.denied) h;
+  runs = runs_start buses r held e h;
+}
 
 -- once all events happened
-pub runs_all : (buses : List Bus) (events : List PlainEvent) (index : ℕ) (r : Recording) (held : Held) → length events ≤ index → RunsUnder buses (take index events) r held → RunsUnder buses events r held
+pub runs_all : (buses : List Bus) (events : List PlainEvent) (index : ℕ) (r : Recording) (held : Held) → length events ≤ index
+    → RunsUnder buses (take index events) r held → RunsUnder buses events r held
 runs_all buses events index r held h runs = subst (λ (es : List PlainEvent). RunsUnder buses es r held) (take_all index events h) runs
 
 -- the record of a run
-pub record_is : (buses : List Bus) (events : List Event) (r : Recording) (held : Held) (told : Record) → IsLayout buses → Runs buses r held (course buses events)
-    → told.steps ≡ r.steps → told.refused ≡ r.refused → told.connections ≡ finished held r.keys r.connections → told.rows ≡ held.rows → IsRecordOf buses events told
+pub record_is : (buses : List Bus) (events : List Event) (r : Recording) (held : Held) (told : Record) → IsLayout buses
+    → Runs buses r held (course buses events)
+    → told.steps ≡ r.steps → told.refused ≡ r.refused → told.connections ≡ finished held r.keys r.connections → told.rows ≡ held.rows
+    → IsRecordOf buses events told
 record_is buses events r held told layout s steps refused connections rows = record {
   steps = steps ∙ s.tells.steps;
   refused = refused ∙ s.tells.refused;

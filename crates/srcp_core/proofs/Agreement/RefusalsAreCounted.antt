@@ -12,10 +12,12 @@ use Rattle.srcp_rules.specs.declared.layout.Bus.{Bus}
 use Rattle.srcp_rules.specs.Effect.{Effect, effect as effect_of}
 use Rattle.srcp_rules.specs.State.{State}
 use Rattle.srcp_core.specs.Connection.{Connection}
-use Rattle.srcp_core.specs.Course.{World, open_connection, command_of, counted, fault, answered as course_answered, happens, new_marks, at_connection, wants_as, denied_lines, denied_fed, denied_in, denied_over}
+use Rattle.srcp_core.specs.Course.{World, open_connection, command_of, counted, fault, answered as course_answered, happens, new_marks}
+use Rattle.srcp_core.specs.Course.{at_connection, wants_as, denied_lines, denied_fed, denied_in, denied_over}
 use Rattle.srcp_core.specs.Handshake.{Greeting, Speaks, Chooses, Goes, Refuses, greets as greets_of}
 use Rattle.srcp_core.specs.Held.{Place, Held, at}
-use Rattle.srcp_core.specs.Machine.{obeyed, freed_of, changed_at, carried, replied, goes, greeted, session_begun, denied_line, commanded, answered, asked_of}
+use Rattle.srcp_core.specs.Machine.{obeyed, freed_of, changed_at, carried, replied, goes, greeted, session_begun, denied_line, commanded}
+use Rattle.srcp_core.specs.Machine.{answered, asked_of}
 use Rattle.srcp_core.specs.Recording.{key_of}
 use Rattle.srcp_core.specs.Stands.{StandsBy}
 use Rattle.srcp_core.specs.Under.{Event, Heard, lines_under, under, denied_by, wants_memory, greeting_wants, reading_wants}
@@ -39,9 +41,18 @@ unwanted denied false = refl
 
 denied_obeyed : (key session : ℕ) (did : Effect) (held : Held) → (obeyed key session did held).denied ≡ held.denied
 denied_obeyed key session did held =
-    elim did.ends as (λ t. (if t then freed_of session (changed_at key (λ p. record p { ended = true }) (replied key did.reply (carried did.updates held))) else replied key did.reply (carried did.updates held)).denied ≡ held.denied) [ true ↦ refl | false ↦ refl ]
+    elim did.ends as (λ t.
+    (if t
+    then freed_of session
+    (changed_at key (λ p. record p { ended = true }) (replied key did.reply (carried did.updates held)))
+    else replied key did.reply (carried did.updates held)).denied
+    ≡ held.denied) [
+      | true ↦ refl
+      | false ↦ refl
+    ]
 
-denied_commanded : (granted : Bool) (key session : ℕ) (command : Result Command Code) (held : Held) → (commanded granted key session command held).denied ≡ after held.denied granted (reading_wants held.rows session held.moment command)
+denied_commanded : (granted : Bool) (key session : ℕ) (command : Result Command Code) (held : Held)
+    → (commanded granted key session command held).denied ≡ after held.denied granted (reading_wants held.rows session held.moment command)
 denied_commanded granted key session (Err code) held = unwanted held.denied granted
 denied_commanded granted key session (Ok command) held = by granted (wants_memory held.rows session held.moment command)
   where
@@ -53,38 +64,73 @@ denied_commanded granted key session (Ok command) held = by granted (wants_memor
     by false true = refl
     by false false = denied_obeyed key session (effect_of held.rows session held.moment command) held
 
-denied_goes : (granted : Bool) (key : ℕ) (mode : Mode) (held : Held) → (goes granted key mode held).denied ≡ after held.denied granted (nat_lt held.last_id 4294967295)
+denied_goes : (granted : Bool) (key : ℕ) (mode : Mode) (held : Held)
+    → (goes granted key mode held).denied ≡ after held.denied granted (nat_lt held.last_id 4294967295)
 denied_goes true key mode held =
-    elim (nat_lt held.last_id 4294967295) as (λ t. (if t then replied key (Go (held.last_id + 1)) (session_begun key (held.last_id + 1) mode held) else replied key (Refused C500) held).denied ≡ after held.denied true t) [ true ↦ refl | false ↦ refl ]
+    elim (nat_lt held.last_id 4294967295)
+    as (λ t.
+    (if t then replied key (Go (held.last_id + 1)) (session_begun key (held.last_id + 1) mode held)
+    else replied key (Refused C500) held).denied
+    ≡ after held.denied true t) [
+      | true ↦ refl
+      | false ↦ refl
+    ]
 denied_goes false key mode held =
-    elim (nat_lt held.last_id 4294967295) as (λ t. (if t then denied_line key held else replied key (Refused C500) held).denied ≡ after held.denied false t) [ true ↦ refl | false ↦ refl ]
+    elim (nat_lt held.last_id 4294967295)
+    as (λ t. (if t then denied_line key held else replied key (Refused C500) held).denied ≡ after held.denied false t) [
+      | true ↦ refl
+      | false ↦ refl
+    ]
 
-denied_greeted : (granted : Bool) (key : ℕ) (mode : Mode) (greeting : Greeting) (held : Held) → (greeted granted key mode greeting held).denied ≡ after held.denied granted (greeting_wants held.last_id greeting)
+denied_greeted : (granted : Bool) (key : ℕ) (mode : Mode) (greeting : Greeting) (held : Held)
+    → (greeted granted key mode greeting held).denied ≡ after held.denied granted (greeting_wants held.last_id greeting)
 denied_greeted granted key mode Speaks held = unwanted held.denied granted
 denied_greeted granted key mode (Chooses chosen) held = unwanted held.denied granted
 denied_greeted granted key mode Goes held = denied_goes granted key mode held
 denied_greeted granted key mode (Refuses code) held = unwanted held.denied granted
 
 denied_asked : (buses : List Bus) (granted : Bool) (key : ℕ) (mark : Mark) (held : Held) (conn : Connection) (over first : Bool)
-    → (answered granted key (if over then Dropped else (if first then Greets conn.mode (greets_of mark) else Commands conn.session (command_of buses mark))) held).denied
-    ≡ after held.denied granted (if over then false else (if first then greeting_wants held.last_id (greets_of mark) else reading_wants held.rows conn.session held.moment (command_of buses mark)))
+    → (answered granted key
+    (if over then Dropped else (if first then Greets conn.mode (greets_of mark) else Commands conn.session (command_of buses mark)))
+    held).denied
+    ≡ after held.denied granted
+    (if over then false
+    else (if first then greeting_wants held.last_id (greets_of mark)
+    else reading_wants held.rows conn.session held.moment (command_of buses mark)))
 denied_asked buses granted key mark held conn true first = unwanted held.denied granted
 denied_asked buses granted key mark held conn false true = denied_greeted granted key conn.mode (greets_of mark) held
 denied_asked buses granted key mark held conn false false = denied_commanded granted key conn.session (command_of buses mark) held
 
 -- a line is refused memory in the core where it is in the course
-pub denied_answered : (buses : List Bus) (read : ℕ → List ℕ → List ℕ) (keys : List (Option ℕ)) (n key : ℕ) (named : key_of n keys ≡ Some key) (held : Held) (w : World) (granted : Bool) (mark : Mark) (p : Place)
+pub denied_answered : (buses : List Bus) (read : ℕ → List ℕ → List ℕ) (keys : List (Option ℕ)) (n key : ℕ)
+    (named : key_of n keys ≡ Some key) (held : Held) (w : World) (granted : Bool) (mark : Mark) (p : Place)
     → StandsBy buses read keys held w → at held key ≡ Some p
-    → (answered granted key (asked_of held.buses p mark) held).denied ≡ after held.denied granted (wants_as buses w (open_connection w n) mark)
+    → (answered granted key (asked_of held.buses p mark) held).denied
+    ≡ after held.denied granted (wants_as buses w (open_connection w n) mark)
 denied_answered buses read keys n key named held w granted mark p s here =
     let h = asks_of buses read keys held w n key mark p s named here in
     let over : Bool = h.conn.info || h.conn.ended in
     let first : Bool = h.conn.session == 0 in
     ap (λ (asked : Asked). (answered granted key asked held).denied) h.asks
     ∙ denied_asked buses granted key mark held h.conn over first
-    ∙ ap (λ k. after held.denied granted (if over then false else (if first then greeting_wants k (greets_of mark) else reading_wants held.rows h.conn.session held.moment (command_of buses mark)))) s.last_id
-    ∙ ap (λ k. after held.denied granted (if over then false else (if first then greeting_wants w.last_id (greets_of mark) else reading_wants held.rows h.conn.session k (command_of buses mark)))) s.moment
-    ∙ ap (λ (k : State). after held.denied granted (if over then false else (if first then greeting_wants w.last_id (greets_of mark) else reading_wants k h.conn.session w.moment (command_of buses mark)))) s.rows
+    ∙ ap (λ k.
+    after held.denied granted
+    (if over then false
+    else (if first then greeting_wants k (greets_of mark)
+    else reading_wants held.rows h.conn.session held.moment (command_of buses mark))))
+    s.last_id
+    ∙ ap (λ k.
+    after held.denied granted
+    (if over then false
+    else (if first then greeting_wants w.last_id (greets_of mark)
+    else reading_wants held.rows h.conn.session k (command_of buses mark))))
+    s.moment
+    ∙ ap (λ (k : State).
+    after held.denied granted
+    (if over then false
+    else (if first then greeting_wants w.last_id (greets_of mark)
+    else reading_wants k h.conn.session w.moment (command_of buses mark))))
+    s.rows
     ∙ ap (λ (o : Option Connection). after held.denied granted (wants_as buses w o mark)) (sym h.opened)
 
 -- ---- lines and events, one after another
@@ -92,32 +138,41 @@ denied_answered buses read keys n key named held w granted mark p s here =
 -- after one more line
 pub denied_push : (buses : List Bus) (n : ℕ) (w : World) (denied : ℕ) (lines : List Heard) (line : Heard)
     → denied_lines buses n w denied (lines ++ line ∷ [])
-    ≡ after (denied_lines buses n w denied lines) line.granted (wants_as buses (fold (course_answered buses n) w lines) (open_connection (fold (course_answered buses n) w lines) n) line.mark)
+    ≡ after (denied_lines buses n w denied lines) line.granted
+    (wants_as buses (fold (course_answered buses n) w lines) (open_connection (fold (course_answered buses n) w lines) n) line.mark)
 denied_push buses n w denied [] line = refl
 denied_push buses n w denied (other ∷ lines) line =
-    denied_push buses n (course_answered buses n w other) (after denied other.granted (wants_as buses w (open_connection w n) other.mark)) lines line
+    denied_push buses n (course_answered buses n w other)
+    (after denied other.granted (wants_as buses w (open_connection w n) other.mark)) lines line
 
 -- after one more event
 pub denied_over_push : (buses : List Bus) (denied : ℕ) (w : World) (events : List Event) (event : Event)
-    → denied_over buses denied w (events ++ event ∷ []) ≡ denied_in buses (denied_over buses denied w events) (counted (fold (happens buses) w events)) event
+    → denied_over buses denied w (events ++ event ∷ [])
+    ≡ denied_in buses (denied_over buses denied w events) (counted (fold (happens buses) w events)) event
 denied_over_push buses denied w [] event = refl
-denied_over_push buses denied w (other ∷ events) event = denied_over_push buses (denied_in buses denied (counted w) other) (happens buses w other) events event
+denied_over_push buses denied w (other ∷ events) event =
+    denied_over_push buses (denied_in buses denied (counted w) other) (happens buses w other) events event
 
 -- ---- where memory gives
 
-pub denied_none : (buses : List Bus) (n : ℕ) (w : World) (denied : ℕ) (marks : List Mark) → denied_lines buses n w denied (lines_under [] marks) ≡ denied
+pub denied_none : (buses : List Bus) (n : ℕ) (w : World) (denied : ℕ) (marks : List Mark)
+    → denied_lines buses n w denied (lines_under [] marks) ≡ denied
 denied_none buses n w denied [] = refl
-denied_none buses n w denied (mark ∷ marks) = denied_none buses n (course_answered buses n w (record { mark = mark; granted = true })) denied marks
+denied_none buses n w denied (mark ∷ marks) =
+    denied_none buses n (course_answered buses n w (record { mark = mark; granted = true })) denied marks
 
-fed_none : (buses : List Bus) (n : ℕ) (bytes : List ℕ) (w : World) (denied : ℕ) (cause : Option CoreFault) (conn : Option Connection) → denied_fed buses n (record { bytes = bytes; grants = [] }) w denied cause conn ≡ denied
+fed_none : (buses : List Bus) (n : ℕ) (bytes : List ℕ) (w : World) (denied : ℕ) (cause : Option CoreFault) (conn : Option Connection)
+    → denied_fed buses n (record { bytes = bytes; grants = [] }) w denied cause conn ≡ denied
 fed_none buses n bytes w denied (Some cause) conn = refl
 fed_none buses n bytes w denied None None = refl
-fed_none buses n bytes w denied None (Some conn) = denied_none buses n (at_connection n (λ c. record c { fed = c.fed ++ bytes }) w) denied (new_marks buses conn.fed bytes)
+fed_none buses n bytes w denied None (Some conn) =
+    denied_none buses n (at_connection n (λ c. record c { fed = c.fed ++ bytes }) w) denied (new_marks buses conn.fed bytes)
 
 -- nothing is refused in an event where memory gives
 pub denied_in_none : (buses : List Bus) (w : World) (denied : ℕ) (event : PlainEvent) → denied_in buses denied w (under [] event) ≡ denied
 denied_in_none buses w denied plain.Open = refl
-denied_in_none buses w denied (plain.Bytes n piece) = fed_none buses n piece w denied (fault buses w (under [] (plain.Bytes n piece))) (open_connection w n)
+denied_in_none buses w denied (plain.Bytes n piece) =
+    fed_none buses n piece w denied (fault buses w (under [] (plain.Bytes n piece))) (open_connection w n)
 denied_in_none buses w denied (plain.Room n bytes) = refl
 denied_in_none buses w denied (plain.At moment) = refl
 denied_in_none buses w denied (plain.Shut n) = refl

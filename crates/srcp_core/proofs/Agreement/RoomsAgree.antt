@@ -1,5 +1,6 @@
 -- Room for bytes, as many takings of what is unsent, each after the next line is put in.
-use Rattle.std.proofs.Common.{◌≡◌, ℕ, zero, suc, min, ◌+◌, ◌-◌, ◌<◌, ◌≤◌, Bool, true, false, List, [], ◌∷◌, ◌++◌, take, drop, length, length-append, refl, ap, sym, ◌∙◌, subst, arith, append-nil}
+use Rattle.std.proofs.Common.{◌≡◌, ℕ, zero, suc, min, ◌+◌, ◌-◌, ◌<◌, ◌≤◌, Bool, true, false, List, [], ◌∷◌, ◌++◌, take, drop, length}
+use Rattle.std.proofs.Common.{length-append, refl, ap, sym, ◌∙◌, subst, arith, append-nil}
 use Rattle.std.proofs.lemmas.Bool.{le-ltb}
 use Rattle.std.proofs.lemmas.List.{drop-drop, length-map}
 use Rattle.std.specs.List.{flat_map}
@@ -15,11 +16,13 @@ use Rattle.srcp_feed.specs.declared.next.Next.TheVariants.{Told, Listed, Settled
 use Rattle.srcp_info.proofs.ClientLaws.{key_at}
 use Rattle.srcp_info.specs.Client.{IsRisingBy}
 use Rattle.srcp_core.specs.Under.{step_told}
-use Rattle.srcp_core.specs.Connection.{Connection, History, unsent, sent, given, line_of, is_nil, is_open, owed, front, available, items_of, took as took_room, given_room, overran}
+use Rattle.srcp_core.specs.Connection.{Connection, History, unsent, sent, given, line_of, is_nil, is_open, owed, front, available, items_of}
+use Rattle.srcp_core.specs.Connection.{took as took_room, given_room, overran}
 use Rattle.srcp_core.specs.Course.{World, numbered, with_numbered, at_connection, history, rows}
 use Rattle.srcp_core.specs.Held.{Place, Held}
 use Rattle.srcp_core.specs.Laws.{AddsUp}
-use Rattle.srcp_core.specs.Machine.{filled, item_from, item_of, item_at, let_out, without_sent, changed_at, changed_in, unsent_of, unsent_at, feed_in}
+use Rattle.srcp_core.specs.Machine.{filled, item_from, item_of, item_at, let_out, without_sent, changed_at, changed_in, unsent_of}
+use Rattle.srcp_core.specs.Machine.{unsent_at, feed_in}
 use Rattle.srcp_core.specs.Recording.{Recording, key_of, record_of, with_item, gave, took}
 use Rattle.srcp_core.specs.Stands.{StandsFor, place_of}
 use Rattle.srcp_core.specs.declared.record.Item.{Item}
@@ -63,21 +66,37 @@ abbrev pub with_taken : ℕ → Connection → Connection
 with_taken count conn = record conn { taken = conn.taken + count }
 
 -- room for no more than is unsent
-room_unsent : (count : ℕ) (history : History) (rows : List Shown) (conn : Connection) → overran conn history ≡ false → 0 < count → count ≤ length (unsent conn) → given_room count history rows conn ≡ with_taken count conn
+room_unsent : (count : ℕ) (history : History) (rows : List Shown) (conn : Connection) → overran conn history ≡ false → 0 < count
+    → count ≤ length (unsent conn) → given_room count history rows conn ≡ with_taken count conn
 room_unsent count history rows conn still some few =
     ap (λ t. if t then conn else took_room count (length history) (owed conn history rows) conn) still
-    ∙ ap (λ (items : List Item). record conn { items = items; taken = conn.taken + min count (length (available (unsent conn) (owed conn history rows))); done = (took_room count (length history) (owed conn history rows) conn).done })
-    (ap (λ t. conn.items ++ items_of (length history) (if t && is_nil (unsent conn) then take 1 (owed conn history rows) else front (count - length (unsent conn)) (owed conn history rows))) (pos-eqb count some)
+    ∙ ap (λ (items : List Item).
+    record conn {
+      items = items;
+      taken = conn.taken + min count (length (available (unsent conn) (owed conn history rows)));
+      done = (took_room count (length history) (owed conn history rows) conn).done;
+    })
+    (ap (λ t. conn.items
+    ++ items_of (length history)
+    (if t && is_nil (unsent conn) then take 1 (owed conn history rows)
+    else front (count - length (unsent conn)) (owed conn history rows)))
+    (pos-eqb count some)
     ∙ ap (λ m. conn.items ++ items_of (length history) (front m (owed conn history rows))) none_left ∙ append-nil conn.items)
     ∙ ap (λ taken. record conn { taken = taken; done = (took_room count (length history) (owed conn history rows) conn).done }) all_taken
     ∙ ap (λ end. record conn { taken = conn.taken + count; done = end })
-    (ap (λ t. if conn.info && (t || ((count == 0) && (is_nil (unsent conn) && is_nil (owed conn history rows)))) then option_or conn.done (Some (length history)) else conn.done) enough
-    ∙ ap (λ t. if conn.info && (t && (is_nil (unsent conn) && is_nil (owed conn history rows))) then option_or conn.done (Some (length history)) else conn.done) (pos-eqb count some) ∙ never conn.info)
+    (ap (λ t. if conn.info && (t || ((count == 0) && (is_nil (unsent conn) && is_nil (owed conn history rows))))
+    then option_or conn.done (Some (length history)) else conn.done)
+    enough
+    ∙ ap (λ t. if conn.info && (t && (is_nil (unsent conn) && is_nil (owed conn history rows)))
+    then option_or conn.done (Some (length history)) else conn.done)
+    (pos-eqb count some)
+    ∙ never conn.info)
   where
     none_left : count - length (unsent conn) ≡ 0
     none_left = omega (arith, few)
 
-    size : length (available (unsent conn) (owed conn history rows)) ≡ length (unsent conn) + length (flat_map line_of (owed conn history rows))
+    size : length (available (unsent conn) (owed conn history rows))
+        ≡ length (unsent conn) + length (flat_map line_of (owed conn history rows))
     size = length-append (unsent conn) (flat_map line_of (owed conn history rows))
 
     all_taken : conn.taken + min count (length (available (unsent conn) (owed conn history rows))) ≡ conn.taken + count
@@ -90,20 +109,29 @@ room_unsent count history rows conn still some few =
     never true = refl
     never false = refl
 
-taken_place : (reader : Reading) (history : History) (conn : Connection) (count : ℕ) → is_over_place history conn ≡ false → without_sent count (place_of reader history conn) ≡ place_of reader history (with_taken count conn)
+taken_place : (reader : Reading) (history : History) (conn : Connection) (count : ℕ) → is_over_place history conn ≡ false
+    → without_sent count (place_of reader history conn) ≡ place_of reader history (with_taken count conn)
 taken_place reader history conn count still =
     rw still (ap (λ bytes. record (place_of reader history conn) { unsent = bytes }) (drop-drop count conn.taken (given conn)))
 
-taken_told : (conn : Connection) (count : ℕ) → record_of (with_taken count conn) ≡ record (record_of conn) { sent = sent conn ++ take count (unsent conn) }
+taken_told : (conn : Connection) (count : ℕ) → record_of (with_taken count conn) ≡ record (record_of conn) {
+  sent = sent conn ++ take count (unsent conn);
+}
 taken_told conn count = ap (λ bytes. record (record_of conn) { sent = bytes }) (take_plus conn.taken count (given conn))
 
 -- room leaves the bytes that were accepted
 fed_room : (bytes : ℕ) (history : History) (rows : List Shown) (conn : Connection) → (given_room bytes history rows conn).fed ≡ conn.fed
-fed_room bytes history rows conn = elim (overran conn history) as (λ t. (if t then conn else took_room bytes (length history) (owed conn history rows) conn).fed ≡ conn.fed) [ true ↦ refl | false ↦ refl ]
+fed_room bytes history rows conn =
+    elim (overran conn history)
+    as (λ t. (if t then conn else took_room bytes (length history) (owed conn history rows) conn).fed ≡ conn.fed) [
+      | true ↦ refl
+      | false ↦ refl
+    ]
 
 -- ---- the core and the course
 
-module _ (buses : List Bus) (layout : IsLayout buses) (order : IsRisingBy key_at (shown_rows (opening buses 0))) (keys : List (Option ℕ)) (n key : ℕ) (named : key_of n keys ≡ Some key) where
+module _ (buses : List Bus) (layout : IsLayout buses) (order : IsRisingBy key_at (shown_rows (opening buses 0))) (keys : List (Option ℕ))
+    (n key : ℕ) (named : key_of n keys ≡ Some key) where
   -- what is kept while bytes are taken
   pub record Kept (r : Recording) (held : Held) (w : World) : Type 0 where
     pub fine : IsFine buses order w
@@ -113,57 +141,88 @@ module _ (buses : List Bus) (layout : IsLayout buses) (order : IsRisingBy key_at
   abbrev pub roomed : ℕ → World → World
   roomed bytes w = at_connection n (given_room bytes (history buses w) (rows buses w)) w
 
-  fine_at : (w : World) (conn : Connection) → IsFine buses order w → numbered n w.connections ≡ Some conn → Fine buses (history buses w) conn
+  fine_at : (w : World) (conn : Connection) → IsFine buses order w → numbered n w.connections ≡ Some conn
+      → Fine buses (history buses w) conn
   fine_at w conn a e = at_number (Fine buses (history buses w)) n w.connections conn a e
 
-  fine_roomed : (bytes : ℕ) (w : World) (conn : Connection) → IsFine buses order w → numbered n w.connections ≡ Some conn → conn.shut ≡ None → IsFine buses order (roomed bytes w)
+  fine_roomed : (bytes : ℕ) (w : World) (conn : Connection) → IsFine buses order w → numbered n w.connections ≡ Some conn → conn.shut ≡ None
+      → IsFine buses order (roomed bytes w)
   fine_roomed bytes w conn a there shut =
       sound_at buses order Anything (anything (shown_rows (opening buses 0))) n (given_room bytes (history buses w) (rows buses w)) w
       (λ other e g.
       let same : conn ≡ other = let both : Some conn ≡ Some other = sym there ∙ e in cc in
-      stands_room (shown_rows (opening buses 0)) order Anything (anything (shown_rows (opening buses 0))) (history buses w) (rows buses w) bytes other
-      (in_order_after (shown_rows (opening buses 0)) (history buses w) order) (shown_after (opening buses 0) w.steps) (ap (λ (c : Connection). c.shut) (sym same) ∙ shut) g) a
+      stands_room (shown_rows (opening buses 0)) order Anything (anything (shown_rows (opening buses 0))) (history buses w)
+      (rows buses w) bytes other
+      (in_order_after (shown_rows (opening buses 0)) (history buses w) order) (shown_after (opening buses 0) w.steps)
+      (ap (λ (c : Connection). c.shut) (sym same) ∙ shut) g)
+      a
 
   open_room : (bytes : ℕ) (w : World) (conn : Connection) → is_open (given_room bytes (history buses w) (rows buses w) conn) ≡ is_open conn
   open_room bytes w conn = ap is_none (shut_after bytes (history buses w) (rows buses w) conn)
 
   -- the next line is put in
-  pub filled_kept : (r : Recording) (held : Held) (w : World) → Kept r held w → Kept (gave n (item_at key held) r) (let_out key held) (roomed 0 w)
+  pub filled_kept : (r : Recording) (held : Held) (w : World) → Kept r held w
+      → Kept (gave n (item_at key held) r) (let_out key held) (roomed 0 w)
   filled_kept r held w k =
       let s = k.stands in
       let h = found_at buses (λ n fed. fed) keys held w n key s named in
       let f = fine_at w h.conn k.fine h.there in
       let fits = (fits_open (shown_rows (opening buses 0)) Anything (history buses w) h.conn h.shut f).0 in
-      let same_rows : rows_after (shown_rows (opening buses 0)) (history buses w) ≡ rows buses w = sym (shown_after (opening buses 0) w.steps) in
-      let fill : (reader : Reading) → IsFilled (shown_rows (opening buses 0)) (history buses w) h.conn h.shut (in_order_after (shown_rows (opening buses 0)) (history buses w) order) fits f.within reader
+      let same_rows : rows_after (shown_rows (opening buses 0)) (history buses w) ≡ rows buses w =
+      sym (shown_after (opening buses 0) w.steps) in
+      let fill : (reader : Reading)
+      → IsFilled (shown_rows (opening buses 0)) (history buses w) h.conn h.shut
+      (in_order_after (shown_rows (opening buses 0)) (history buses w) order) fits f.within reader
       (given_room 0 (history buses w) (rows_after (shown_rows (opening buses 0)) (history buses w)) h.conn) =
-      λ reader. fills (shown_rows (opening buses 0)) (history buses w) h.conn h.shut (in_order_after (shown_rows (opening buses 0)) (history buses w) order) fits f.within reader (over_is buses (history buses w) h.conn h.shut f) in
+      λ reader.
+      fills (shown_rows (opening buses 0)) (history buses w) h.conn h.shut
+      (in_order_after (shown_rows (opening buses 0)) (history buses w) order) fits f.within reader
+      (over_is buses (history buses w) h.conn h.shut f) in
       let held_rows : shown_rows held.rows ≡ rows buses w = ap shown_rows s.rows in
-      let told : record_of (given_room 0 (history buses w) (rows buses w) h.conn) ≡ with_given (length (history buses w)) (item_at key held) (record_of h.conn) =
+      let told : record_of (given_room 0 (history buses w) (rows buses w) h.conn)
+      ≡ with_given (length (history buses w)) (item_at key held) (record_of h.conn) =
       ap (λ rs. record_of (given_room 0 (history buses w) rs h.conn)) (sym same_rows) ∙ (fill h.reader).told
-      ∙ ap (λ rs. with_given (length (history buses w)) (item_from rs (place_of h.reader (history buses w) h.conn).unsent (feed_in (place_of h.reader (history buses w) h.conn).panel)) (record_of h.conn)) (same_rows ∙ sym held_rows)
-      ∙ ap (λ (o : Option Place). with_given (length (history buses w)) (item_of (shown_rows held.rows) o) (record_of h.conn)) (sym h.place) in
-      let steps : length (history buses w) ≡ length r.steps = length_history (opening buses 0) w.steps ∙ sym (length-map w.steps step_told) ∙ ap length (sym k.tells.steps) in
+      ∙ ap (λ rs.
+      with_given (length (history buses w))
+      (item_from rs (place_of h.reader (history buses w) h.conn).unsent
+      (feed_in (place_of h.reader (history buses w) h.conn).panel))
+      (record_of h.conn))
+      (same_rows ∙ sym held_rows)
+      ∙ ap (λ (o : Option Place). with_given (length (history buses w)) (item_of (shown_rows held.rows) o) (record_of h.conn))
+      (sym h.place) in
+      let steps : length (history buses w) ≡ length r.steps =
+      length_history (opening buses 0) w.steps ∙ sym (length-map w.steps step_told) ∙ ap length (sym k.tells.steps) in
       record {
         fine = fine_roomed 0 w h.conn k.fine h.there h.shut;
-        stands = stands_of buses order (λ n fed. fed) keys n key named held w h.conn (given_room 0 (history buses w) (rows buses w)) (filled (shown_rows held.rows)) s h.there
+        stands =
+            stands_of buses order (λ n fed. fed) keys n key named held w h.conn (given_room 0 (history buses w) (rows buses w))
+            (filled (shown_rows held.rows)) s h.there
             (open_room 0 w h.conn) (fed_room 0 (history buses w) (rows buses w) h.conn)
             (λ reader shut.
             ap (λ rs. filled rs (place_of reader (history buses w) h.conn)) (held_rows ∙ sym same_rows)
             ∙ (fill reader).place
             ∙ ap (λ rs. place_of reader (history buses w) (given_room 0 (history buses w) rs h.conn)) same_rows);
-        tells = noted_item (item_at key held) h.conn h.there (told ∙ ap (λ m. with_given m (item_at key held) (record_of h.conn)) steps) k.tells;
+        tells =
+            noted_item (item_at key held) h.conn h.there
+            (told ∙ ap (λ m. with_given m (item_at key held) (record_of h.conn)) steps) k.tells;
       }
     where
-      nothing_noted : (conn : Connection) → numbered n w.connections ≡ Some conn → record_of (given_room 0 (history buses w) (rows buses w) conn) ≡ record_of conn → Tells r w → Tells r (roomed 0 w)
+      nothing_noted : (conn : Connection) → numbered n w.connections ≡ Some conn
+          → record_of (given_room 0 (history buses w) (rows buses w) conn) ≡ record_of conn → Tells r w → Tells r (roomed 0 w)
       nothing_noted conn e t all =
           tells_same r w n (given_room 0 (history buses w) (rows buses w))
-          (λ other o. let is : conn ≡ other = let both : Some conn ≡ Some other = sym e ∙ o in cc in subst (λ (c : Connection). record_of (given_room 0 (history buses w) (rows buses w) c) ≡ record_of c) is t) all
+          (λ other o. let is : conn ≡ other = let both : Some conn ≡ Some other = sym e ∙ o in cc in
+          subst (λ (c : Connection). record_of (given_room 0 (history buses w) (rows buses w) c) ≡ record_of c) is t)
+          all
 
-      noted_item : (item : Option Next) (conn : Connection) → numbered n w.connections ≡ Some conn → record_of (given_room 0 (history buses w) (rows buses w) conn) ≡ with_given (length r.steps) item (record_of conn) → Tells r w → Tells (gave n item r) (roomed 0 w)
+      noted_item : (item : Option Next) (conn : Connection) → numbered n w.connections ≡ Some conn
+          → record_of (given_room 0 (history buses w) (rows buses w) conn) ≡ with_given (length r.steps) item (record_of conn) → Tells r w
+          → Tells (gave n item r) (roomed 0 w)
       noted_item None conn e t all = nothing_noted conn e t all
-      noted_item (Some (Told change)) conn e t all = tells_changed r w n conn (given_room 0 (history buses w) (rows buses w)) (with_item (length r.steps) (Told change)) e t all
-      noted_item (Some (Listed row)) conn e t all = tells_changed r w n conn (given_room 0 (history buses w) (rows buses w)) (with_item (length r.steps) (Listed row)) e t all
+      noted_item (Some (Told change)) conn e t all =
+          tells_changed r w n conn (given_room 0 (history buses w) (rows buses w)) (with_item (length r.steps) (Told change)) e t all
+      noted_item (Some (Listed row)) conn e t all =
+          tells_changed r w n conn (given_room 0 (history buses w) (rows buses w)) (with_item (length r.steps) (Listed row)) e t all
       noted_item (Some Settled) conn e t all = nothing_noted conn e t all
 
   -- bytes are taken
@@ -176,20 +235,28 @@ module _ (buses : List Bus) (layout : IsLayout buses) (order : IsRisingBy key_at
       let f = fine_at w h.conn k.fine h.there in
       let over = over_is buses (history buses w) h.conn h.shut f in
       let here : unsent_at key held ≡ p.unsent = ap unsent_of h.place in
-      let still : is_over_place (history buses w) h.conn ≡ false = not_over h.reader h.conn (is_over_place (history buses w) h.conn) refl (subst (λ bytes. count ≤ length bytes) here few) in
+      let still : is_over_place (history buses w) h.conn ≡ false =
+      not_over h.reader h.conn (is_over_place (history buses w) h.conn) refl (subst (λ bytes. count ≤ length bytes) here few) in
       let bytes_are : unsent_at key held ≡ unsent h.conn = here ∙ place_unsent h.reader (history buses w) h.conn still in
       let within : count ≤ length (unsent h.conn) = subst (λ bytes. count ≤ length bytes) bytes_are few in
       let room = room_unsent count (history buses w) (rows buses w) h.conn (over ∙ still) some within in
       record {
         fine = fine_roomed count w h.conn k.fine h.there h.shut;
-        stands = stands_of buses order (λ n fed. fed) keys n key named held w h.conn (given_room count (history buses w) (rows buses w)) (without_sent count) s h.there
+        stands =
+            stands_of buses order (λ n fed. fed) keys n key named held w h.conn (given_room count (history buses w) (rows buses w))
+            (without_sent count) s h.there
             (open_room count w h.conn) (fed_room count (history buses w) (rows buses w) h.conn)
             (λ reader shut. taken_place reader (history buses w) h.conn count still ∙ ap (place_of reader (history buses w)) (sym room));
-        tells = tells_changed r w n h.conn (given_room count (history buses w) (rows buses w)) (λ told. record told { sent = told.sent ++ take count (unsent_at key held) }) h.there
-            (ap record_of room ∙ taken_told h.conn count ∙ ap (λ bytes. record (record_of h.conn) { sent = sent h.conn ++ take count bytes }) (sym bytes_are)) k.tells;
+        tells =
+            tells_changed r w n h.conn (given_room count (history buses w) (rows buses w))
+            (λ told. record told { sent = told.sent ++ take count (unsent_at key held) }) h.there
+            (ap record_of room ∙ taken_told h.conn count
+            ∙ ap (λ bytes. record (record_of h.conn) { sent = sent h.conn ++ take count bytes }) (sym bytes_are))
+            k.tells;
       }
     where
-      not_over : (reader : Reading) (conn : Connection) (t : Bool) → is_over_place (history buses w) conn ≡ t → count ≤ length (place_of reader (history buses w) conn).unsent → is_over_place (history buses w) conn ≡ false
+      not_over : (reader : Reading) (conn : Connection) (t : Bool) → is_over_place (history buses w) conn ≡ t
+          → count ≤ length (place_of reader (history buses w) conn).unsent → is_over_place (history buses w) conn ≡ false
       not_over reader conn false e few = e
       not_over reader conn true e few =
           let gone : (place_of reader (history buses w) conn).unsent ≡ [] = rw e refl in
@@ -201,8 +268,12 @@ module _ (buses : List Bus) (layout : IsLayout buses) (order : IsRisingBy key_at
   none_kept r held w k =
       let h = found_at buses (λ n fed. fed) keys held w n key k.stands named in
       let p = place_of h.reader (history buses w) h.conn in
-      let same : changed_at key (without_sent 0) held ≡ held = ap (λ (o : Option Place). record held { places = changed_in key (without_sent 0) held.places o }) h.place ∙ ap (λ (places : List (Option Place)). record held { places = places }) (set_same held.places key p h.place) in
-      let t = tells_changed r w n h.conn (λ c. c) (λ told. record told { sent = told.sent ++ [] }) h.there (ap (λ bytes. record (record_of h.conn) { sent = bytes }) (sym (append-nil (sent h.conn)))) k.tells in
+      let same : changed_at key (without_sent 0) held ≡ held =
+      ap (λ (o : Option Place). record held { places = changed_in key (without_sent 0) held.places o }) h.place
+      ∙ ap (λ (places : List (Option Place)). record held { places = places }) (set_same held.places key p h.place) in
+      let t =
+      tells_changed r w n h.conn (λ c. c) (λ told. record told { sent = told.sent ++ [] }) h.there
+      (ap (λ bytes. record (record_of h.conn) { sent = bytes }) (sym (append-nil (sent h.conn)))) k.tells in
       record {
         fine = k.fine;
         stands = subst (λ (x : Held). StandsFor buses keys x w) (sym same) k.stands;
@@ -211,20 +282,27 @@ module _ (buses : List Bus) (layout : IsLayout buses) (order : IsRisingBy key_at
 
   -- ---- rooms one after another
 
-  sums : (w : World) (conn : Connection) → IsFine buses order w → numbered n w.connections ≡ Some conn → conn.shut ≡ None → AddsUp buses w conn
+  sums : (w : World) (conn : Connection) → IsFine buses order w → numbered n w.connections ≡ Some conn → conn.shut ≡ None
+      → AddsUp buses w conn
   sums w conn a there shut =
       let f = fine_at w conn a there in
       adds_up buses layout w conn shut (fits_open (shown_rows (opening buses 0)) Anything (history buses w) conn shut f).0 f.within
 
   roomed_twice : (a b c : ℕ) (w : World) (conn : Connection) → numbered n w.connections ≡ Some conn
-      → given_room b (history buses w) (rows buses w) (given_room a (history buses w) (rows buses w) conn) ≡ given_room c (history buses w) (rows buses w) conn → roomed b (roomed a w) ≡ roomed c w
+      → given_room b (history buses w) (rows buses w) (given_room a (history buses w) (rows buses w) conn)
+      ≡ given_room c (history buses w) (rows buses w) conn
+      → roomed b (roomed a w) ≡ roomed c w
   roomed_twice a b c w conn there e =
       ap (λ (conns : List Connection). record w { connections = conns })
-      (with_twice n (given_room a (history buses w) (rows buses w)) (given_room b (history buses w) (rows buses w)) (given_room c (history buses w) (rows buses w)) w.connections
+      (with_twice n (given_room a (history buses w) (rows buses w)) (given_room b (history buses w) (rows buses w))
+      (given_room c (history buses w) (rows buses w)) w.connections
       (λ other o. let is : conn ≡ other = let both : Some conn ≡ Some other = sym there ∙ o in cc in
-      subst (λ (x : Connection). given_room b (history buses w) (rows buses w) (given_room a (history buses w) (rows buses w) x) ≡ given_room c (history buses w) (rows buses w) x) is e))
+      subst (λ (x : Connection). given_room b (history buses w) (rows buses w) (given_room a (history buses w) (rows buses w) x)
+      ≡ given_room c (history buses w) (rows buses w) x)
+      is e))
 
-  roomed_same : (a b : ℕ) (w : World) (conn : Connection) → numbered n w.connections ≡ Some conn → given_room a (history buses w) (rows buses w) conn ≡ given_room b (history buses w) (rows buses w) conn → roomed a w ≡ roomed b w
+  roomed_same : (a b : ℕ) (w : World) (conn : Connection) → numbered n w.connections ≡ Some conn
+      → given_room a (history buses w) (rows buses w) conn ≡ given_room b (history buses w) (rows buses w) conn → roomed a w ≡ roomed b w
   roomed_same a b w conn there e =
       ap (λ (conns : List Connection). record w { connections = conns })
       (sym (with_itself n (with_numbered n (given_room a (history buses w) (rows buses w)) w.connections))
@@ -233,27 +311,40 @@ module _ (buses : List Bus) (layout : IsLayout buses) (order : IsRisingBy key_at
       subst (λ (x : Connection). given_room a (history buses w) (rows buses w) x ≡ given_room b (history buses w) (rows buses w) x) is e))
 
   -- where nothing is found any room is the same
-  nothing_left : (r : Recording) (held : Held) (w : World) (left : ℕ) → Kept r held w → unsent_at key (let_out key held) ≡ [] → 0 < left → roomed 0 w ≡ roomed left w
+  nothing_left : (r : Recording) (held : Held) (w : World) (left : ℕ) → Kept r held w → unsent_at key (let_out key held) ≡ [] → 0 < left
+      → roomed 0 w ≡ roomed left w
   nothing_left r held w left k none some =
       let h = found_at buses (λ n fed. fed) keys held w n key k.stands named in
       let up = sums w h.conn k.fine h.there h.shut in
       let l = filled_kept r held w k in
       let g = found_at buses (λ n fed. fed) keys (let_out key held) (roomed 0 w) n key l.stands named in
       let its : given_room 0 (history buses w) (rows buses w) h.conn ≡ g.conn =
-      let both : Some (given_room 0 (history buses w) (rows buses w) h.conn) ≡ Some g.conn = sym (numbered_with n (given_room 0 (history buses w) (rows buses w)) w.connections ∙ ap (option_map (given_room 0 (history buses w) (rows buses w))) h.there) ∙ g.there in
+      let both : Some (given_room 0 (history buses w) (rows buses w) h.conn) ≡ Some g.conn =
+      sym (numbered_with n (given_room 0 (history buses w) (rows buses w)) w.connections
+      ∙ ap (option_map (given_room 0 (history buses w) (rows buses w))) h.there)
+      ∙ g.there in
       cc in
       let f = fine_at (roomed 0 w) g.conn l.fine g.there in
       let over = over_is buses (history buses w) g.conn g.shut f in
       let bytes : (place_of g.reader (history buses w) g.conn).unsent ≡ [] = sym (ap unsent_of g.place) ∙ none in
       roomed_same 0 left w h.conn h.there
       (by h.conn (overran h.conn (history buses w)) refl
-      (λ o. sym (up.none (ap unsent its ∙ sym (place_unsent g.reader (history buses w) g.conn (sym over ∙ ap (λ c. overran c (history buses w)) (sym its) ∙ up.overruns 0 ∙ o)) ∙ bytes) left some)))
+      (λ o.
+      sym (up.none
+      (ap unsent its
+      ∙ sym (place_unsent g.reader (history buses w) g.conn
+      (sym over ∙ ap (λ c. overran c (history buses w)) (sym its) ∙ up.overruns 0 ∙ o))
+      ∙ bytes)
+      left some)))
     where
-      by : (conn : Connection) (t : Bool) → overran conn (history buses w) ≡ t → (overran conn (history buses w) ≡ false → given_room 0 (history buses w) (rows buses w) conn ≡ given_room left (history buses w) (rows buses w) conn)
+      by : (conn : Connection) (t : Bool) → overran conn (history buses w) ≡ t
+          → (overran conn (history buses w) ≡ false
+          → given_room 0 (history buses w) (rows buses w) conn ≡ given_room left (history buses w) (rows buses w) conn)
           → given_room 0 (history buses w) (rows buses w) conn ≡ given_room left (history buses w) (rows buses w) conn
       by conn true o h =
           ap (λ t. if t then conn else took_room 0 (length (history buses w)) (owed conn (history buses w) (rows buses w)) conn) o
-          ∙ sym (ap (λ t. if t then conn else took_room left (length (history buses w)) (owed conn (history buses w) (rows buses w)) conn) o)
+          ∙ sym (ap (λ t. if t then conn else took_room left (length (history buses w)) (owed conn (history buses w) (rows buses w)) conn)
+          o)
       by conn false o h = h o
 
   -- after some of a room was taken, what is left to take leads to the same
@@ -272,38 +363,54 @@ module _ (buses : List Bus) (layout : IsLayout buses) (order : IsRisingBy key_at
   abbrev pub held_after : ℕ → Held → Held
   held_after left held = changed_at key (without_sent (count_of left held)) (let_out key held)
 
-  some_taken : (w : World) (bytes left : ℕ) (r : Recording) (held : Held) (k : IsRooming w bytes left r held) → 0 < count_of left held → Kept (recording_after left r held) (held_after left held) (roomed (count_of left held) (roomed 0 k.now))
+  some_taken : (w : World) (bytes left : ℕ) (r : Recording) (held : Held) (k : IsRooming w bytes left r held) → 0 < count_of left held
+      → Kept (recording_after left r held) (held_after left held) (roomed (count_of left held) (roomed 0 k.now))
   some_taken w bytes left r held k some =
       let few : count_of left held ≤ length (unsent_at key (let_out key held)) = omega arith in
-      taken_kept (gave n (item_at key held) r) (let_out key held) (roomed 0 k.now) (count_of left held) some few (filled_kept r held k.now k.kept)
+      taken_kept (gave n (item_at key held) r) (let_out key held) (roomed 0 k.now) (count_of left held) some few
+      (filled_kept r held k.now k.kept)
 
-  pub room_goes_on : (w : World) (bytes left : ℕ) (r : Recording) (held : Held) → IsRooming w bytes left r held → 0 < count_of left held → count_of left held < left → IsRooming w bytes (left - count_of left held) (recording_after left r held) (held_after left held)
+  pub room_goes_on : (w : World) (bytes left : ℕ) (r : Recording) (held : Held) → IsRooming w bytes left r held → 0 < count_of left held
+      → count_of left held < left → IsRooming w bytes (left - count_of left held) (recording_after left r held) (held_after left held)
   room_goes_on w bytes left r held k some less =
       let h = found_at buses (λ n fed. fed) keys held k.now n key k.kept.stands named in
       let up = sums k.now h.conn k.kept.fine h.there h.shut in
       let count = count_of left held in
       let more : 0 < left - count = omega (arith, less) in
       let all : count + (left - count) ≡ left = omega (arith, less) in
-      let both : roomed count (roomed 0 k.now) ≡ roomed count k.now = roomed_twice 0 count count k.now h.conn h.there (up.first count some) in
+      let both : roomed count (roomed 0 k.now) ≡ roomed count k.now =
+      roomed_twice 0 count count k.now h.conn h.there (up.first count some) in
       record {
         now = roomed count (roomed 0 k.now);
         kept = some_taken w bytes left r held k some;
-        to_come = ap (roomed (left - count)) both ∙ roomed_twice count (left - count) left k.now h.conn h.there (up.adds count (left - count) more ∙ ap (λ m. given_room m (history buses k.now) (rows buses k.now) h.conn) all) ∙ k.to_come;
+        to_come =
+            ap (roomed (left - count)) both
+            ∙ roomed_twice count (left - count) left k.now h.conn h.there
+            (up.adds count (left - count) more ∙ ap (λ m. given_room m (history buses k.now) (rows buses k.now) h.conn) all)
+            ∙ k.to_come;
       }
 
-  pub room_taken : (w : World) (bytes left : ℕ) (r : Recording) (held : Held) → IsRooming w bytes left r held → 0 < count_of left held → left ≡ count_of left held → Kept (recording_after left r held) (held_after left held) (roomed bytes w)
+  pub room_taken : (w : World) (bytes left : ℕ) (r : Recording) (held : Held) → IsRooming w bytes left r held → 0 < count_of left held
+      → left ≡ count_of left held → Kept (recording_after left r held) (held_after left held) (roomed bytes w)
   room_taken w bytes left r held k some all =
       let h = found_at buses (λ n fed. fed) keys held k.now n key k.kept.stands named in
       let up = sums k.now h.conn k.kept.fine h.there h.shut in
       let count = count_of left held in
-      let both : roomed count (roomed 0 k.now) ≡ roomed count k.now = roomed_twice 0 count count k.now h.conn h.there (up.first count some) in
-      subst (λ (v : World). Kept (recording_after left r held) (held_after left held) v) (both ∙ ap (λ m. roomed m k.now) (sym all) ∙ k.to_come) (some_taken w bytes left r held k some)
+      let both : roomed count (roomed 0 k.now) ≡ roomed count k.now =
+      roomed_twice 0 count count k.now h.conn h.there (up.first count some) in
+      subst (λ (v : World). Kept (recording_after left r held) (held_after left held) v)
+      (both ∙ ap (λ m. roomed m k.now) (sym all) ∙ k.to_come) (some_taken w bytes left r held k some)
 
-  pub room_empty : (w : World) (bytes left : ℕ) (r : Recording) (held : Held) → IsRooming w bytes left r held → count_of left held ≡ 0 → Kept (recording_after left r held) (held_after left held) (roomed bytes w)
+  pub room_empty : (w : World) (bytes left : ℕ) (r : Recording) (held : Held) → IsRooming w bytes left r held → count_of left held ≡ 0
+      → Kept (recording_after left r held) (held_after left held) (roomed bytes w)
   room_empty w bytes left r held k none =
       let l = filled_kept r held k.now k.kept in
-      subst (λ (m : ℕ). Kept (took n (take m (unsent_at key (let_out key held))) (gave n (item_at key held) r)) (changed_at key (without_sent m) (let_out key held)) (roomed bytes w)) (sym none)
-      (subst (λ (v : World). Kept (took n [] (gave n (item_at key held) r)) (changed_at key (without_sent 0) (let_out key held)) v) (end left refl ∙ k.to_come) (none_kept (gave n (item_at key held) r) (let_out key held) (roomed 0 k.now) l))
+      subst (λ (m : ℕ).
+      Kept (took n (take m (unsent_at key (let_out key held))) (gave n (item_at key held) r))
+      (changed_at key (without_sent m) (let_out key held)) (roomed bytes w))
+      (sym none)
+      (subst (λ (v : World). Kept (took n [] (gave n (item_at key held) r)) (changed_at key (without_sent 0) (let_out key held)) v)
+      (end left refl ∙ k.to_come) (none_kept (gave n (item_at key held) r) (let_out key held) (roomed 0 k.now) l))
     where
       end : (m : ℕ) → left ≡ m → roomed 0 k.now ≡ roomed left k.now
       end zero e = ap (λ m. roomed m k.now) (sym e)

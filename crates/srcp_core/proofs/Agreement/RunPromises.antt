@@ -21,7 +21,9 @@ use Rattle.srcp_core.proofs.CourseLaws.EveryCourse.{told_rightly, served_rightly
 
 -- the registry as it is
 whole_now : (buses : List Bus) (w : World) → IsWholeWorld buses w → IsWhole buses (state buses w)
-whole_now buses w whole = subst (λ steps. IsWhole buses (state_after (opening buses 0) steps)) (take_all (length w.steps) w.steps (le_refl (length w.steps))) (whole.states (length w.steps))
+whole_now buses w whole =
+    subst (λ steps. IsWhole buses (state_after (opening buses 0) steps)) (take_all (length w.steps) w.steps (le_refl (length w.steps)))
+    (whole.states (length w.steps))
 
 -- the connection that is told of
 record Told (f : Connection → ConnRecord) (number : ℕ) (conns : List Connection) (one : ConnRecord) : Type 0 where
@@ -29,18 +31,26 @@ record Told (f : Connection → ConnRecord) (number : ℕ) (conns : List Connect
   there : numbered number conns ≡ Some conn
   is : one ≡ f conn
 
-told_map : (f : Connection → ConnRecord) (number : ℕ) (conns : List Connection) (one : ConnRecord) → numbered number (map f conns) ≡ Some one → Told f number conns one
+told_map : (f : Connection → ConnRecord) (number : ℕ) (conns : List Connection) (one : ConnRecord)
+    → numbered number (map f conns) ≡ Some one → Told f number conns one
 told_map f zero conns one e = cc
 told_map f (suc n) [] one e = cc
 told_map f (suc zero) (conn ∷ conns) one e = let same : f conn ≡ one = cc in record { conn = conn; there = refl; is = sym same }
-told_map f (suc (suc n)) (conn ∷ conns) one e = let t = told_map f (suc n) conns one e in record { conn = t.conn; there = t.there; is = t.is }
+told_map f (suc (suc n)) (conn ∷ conns) one e = let t = told_map f (suc n) conns one e in record {
+  conn = t.conn;
+  there = t.there;
+  is = t.is;
+}
 
-pub told_sessions : (buses : List Bus) (events : List Event) (told : Record) → IsLayout buses → AllMoments events → IsRecordOf buses events told
-    → (number : ℕ) (one : ConnRecord) → numbered number told.connections ≡ Some one → one.info ≡ true → IsRecordedSession buses events number one
+pub told_sessions : (buses : List Bus) (events : List Event) (told : Record) → IsLayout buses → AllMoments events
+    → IsRecordOf buses events told
+    → (number : ℕ) (one : ConnRecord) → numbered number told.connections ≡ Some one → one.info ≡ true
+    → IsRecordedSession buses events number one
 told_sessions buses events told layout moments r number one e info =
     let w = course buses events in
     let t = told_map (recorded (history buses w)) number w.connections one (ap (numbered number) (sym r.connections) ∙ e) in
-    let session : IsSession buses events number t.conn = record { there = t.there; info = sym (ap (λ (c : ConnRecord). c.info) t.is) ∙ info } in
+    let session : IsSession buses events number t.conn =
+    record { there = t.there; info = sym (ap (λ (c : ConnRecord). c.info) t.is) ∙ info } in
     let laws = told_rightly buses in
     record {
       conn = t.conn;
@@ -64,7 +74,8 @@ told_connections buses events told layout r number one e =
       no_more = laws.no_more events number t.conn t.there;
     }
 
-pub told_registry : (buses : List Bus) (events : List Event) (told : Record) → IsLayout buses → AllMoments events → IsRecordOf buses events told → IsRecordedRegistry buses events told
+pub told_registry : (buses : List Bus) (events : List Event) (told : Record) → IsLayout buses → AllMoments events
+    → IsRecordOf buses events told → IsRecordedRegistry buses events told
 told_registry buses events told layout moments r =
     let laws = served_rightly buses in
     let world = laws.whole layout events moments in
@@ -76,7 +87,8 @@ told_registry buses events told layout moments r =
 
 -- so it is of each record that is given
 pub promised : {E : Type 0} (buses : List Bus) (events : List PlainEvent) (result : Result Record E)
-    → IfOk result (λ told. RunsRecord buses events told) → IfOk result (λ _. PlainMoments events) → IfOk result (λ _. IsLayout buses) → IfOk result (λ told. IsPromised buses events told)
+    → IfOk result (λ told. RunsRecord buses events told) → IfOk result (λ _. PlainMoments events) → IfOk result (λ _. IsLayout buses)
+    → IfOk result (λ told. IsPromised buses events told)
 promised buses events (Ok told) r plain_moments layout =
     let all = all_under r.grants events in
     let moments = all_moments r.grants events plain_moments in
@@ -94,12 +106,14 @@ promised buses events (Ok told) r plain_moments layout =
 promised buses events (Err fault) r moments layout = tt
 
 -- one moment more
-pub moments_more : (events : List PlainEvent) (index : ℕ) (event : PlainEvent) → slice_get events index ≡ Some event → HasPlainMoment event → AllByRecursion HasPlainMoment (take index events) → AllByRecursion HasPlainMoment (take (index + 1) events)
+pub moments_more : (events : List PlainEvent) (index : ℕ) (event : PlainEvent) → slice_get events index ≡ Some event → HasPlainMoment event
+    → AllByRecursion HasPlainMoment (take index events) → AllByRecursion HasPlainMoment (take (index + 1) events)
 moments_more [] index event e h all = cc
 moments_more (x ∷ events) zero event e h all = let same : x ≡ event = cc in (subst HasPlainMoment (sym same) h, tt)
 moments_more (x ∷ events) (suc index) event e h all =
     let one : suc index + 1 ≡ suc (index + 1) = omega arith in
     subst (λ k. AllByRecursion HasPlainMoment (take k (x ∷ events))) (sym one) (all.0, moments_more events index event e h all.1)
 
-pub moments_all : (events : List PlainEvent) (index : ℕ) → length events ≤ index → AllByRecursion HasPlainMoment (take index events) → PlainMoments events
+pub moments_all : (events : List PlainEvent) (index : ℕ) → length events ≤ index → AllByRecursion HasPlainMoment (take index events)
+    → PlainMoments events
 moments_all events index h all = subst PlainMoments (take_all index events h) all

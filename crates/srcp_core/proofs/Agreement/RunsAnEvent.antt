@@ -1,5 +1,6 @@
 -- A run over one more event.
-use Rattle.std.proofs.Common.{◌≡◌, ◌≢◌, ℕ, zero, suc, min, max, ◌-◌, ◌<◌, ◌≤◌, Bool, true, false, List, [], ◌∷◌, ◌++◌, take, length, refl, ap, sym, ◌∙◌, subst, arith, append-nil, ◌⊎◌, inl, inr}
+use Rattle.std.proofs.Common.{◌≡◌, ◌≢◌, ℕ, zero, suc, min, max, ◌-◌, ◌<◌, ◌≤◌, Bool, true, false, List, [], ◌∷◌, ◌++◌, take, length, refl}
+use Rattle.std.proofs.Common.{ap, sym, ◌∙◌, subst, arith, append-nil, ◌⊎◌, inl, inr}
 use Rattle.std.specs.Prelude.{Option, Some, None, ◌||◌, ◌==◌, slice_get, slice_set, if◌then◌else◌}
 use Rattle.std.proofs.lemmas.List.{map-append}
 use Rattle.std.proofs.lemmas.Option.{none-some}
@@ -14,10 +15,14 @@ use Rattle.srcp_core.specs.declared.event.Event.{Event as PlainEvent}
 use Rattle.srcp_core.specs.declared.event.Event.TheVariants as plain
 use Rattle.srcp_core.specs.declared.record.Step.TheVariants as told
 use Rattle.srcp_core.specs.Connection.{Connection}
-use Rattle.srcp_core.specs.Course.{World, numbered, at_connection, open_connection, did, history, fresh, counted, fault, absent_fault, bytes_fault as course_fault, accepted, shut_as, course}
+use Rattle.srcp_core.specs.Course.{World, numbered, at_connection, open_connection, did, history, fresh, counted, fault, absent_fault}
+use Rattle.srcp_core.specs.Course.{bytes_fault as course_fault, accepted, shut_as, course}
 use Rattle.srcp_core.specs.Held.{Place, Held, at, open_count}
-use Rattle.srcp_core.specs.Machine.{IsAdmitted, IsNotAdmitted, one_denied, freed_place, freed_of, hung_up, hung_up_from, advanced, live_session, live_session_of, let_out, without_sent, changed_at, changed_in as changed_places_in, filled, unsent_of, unsent_at, item_of, item_at}
-use Rattle.srcp_core.specs.Recording.{Recording, key_of, record_of, opened, shut, stepped, gave, took, without_key, changed_record, changed_in}
+use Rattle.srcp_core.specs.Machine.{IsAdmitted, IsNotAdmitted, one_denied, freed_place, freed_of, hung_up, hung_up_from, advanced}
+use Rattle.srcp_core.specs.Machine.{live_session, live_session_of, let_out, without_sent, changed_at, changed_in as changed_places_in}
+use Rattle.srcp_core.specs.Machine.{filled, unsent_of, unsent_at, item_of, item_at}
+use Rattle.srcp_core.specs.Recording.{Recording, key_of, record_of, opened, shut, stepped, gave, took, without_key, changed_record}
+use Rattle.srcp_core.specs.Recording.{changed_in}
 use Rattle.srcp_core.specs.Run.{Tells, Runs, Happened, HappensAs, CountsAsked, count_at, taken_at, taking}
 use Rattle.srcp_core.specs.Stands.{StandsFor, place_of}
 use Rattle.srcp_core.specs.declared.record.ConnRecord.{ConnRecord}
@@ -25,7 +30,8 @@ use Rattle.srcp_core.specs.declared.record.CoreFault.{CoreFault}
 use Rattle.srcp_core.specs.declared.record.CoreFault.TheVariants.{Full, Memory as MemoryFault, NoSuch}
 use Rattle.srcp_core.specs.declared.record.Finish.TheVariants.{Shut as ShutFinish}
 use Rattle.srcp_core.proofs.Agreement.LinesAgree.{IsFine}
-use Rattle.srcp_core.proofs.Agreement.EventsAgree.{absent_at, full_fault, free_room, free_fault, stands_counted, stands_advanced, stands_opened, stands_hung_up}
+use Rattle.srcp_core.proofs.Agreement.EventsAgree.{absent_at, full_fault, free_room, free_fault, stands_counted, stands_advanced}
+use Rattle.srcp_core.proofs.Agreement.EventsAgree.{stands_opened, stands_hung_up}
 use Rattle.srcp_core.proofs.Agreement.RefusalsAreCounted.{after, denied_in_none}
 use Rattle.srcp_core.proofs.Agreement.LinesAreNoted.{tells_did, tells_changed}
 use Rattle.srcp_core.proofs.CourseLaws.SessionsOfACourse.{anything, at_number, opening_in_order}
@@ -34,7 +40,8 @@ use Rattle.srcp_core.proofs.Agreement.RoomsAgree.{Kept, IsRooming, room_goes_on,
 use Rattle.srcp_core.proofs.CourseLaws.SessionsAreKept.{sound}
 
 -- every course has sound connections
-pub fine_course : (buses : List Bus) (layout : IsLayout buses) (events : List Event) → IsFine buses (opening_in_order buses layout) (counted (course buses events))
+pub fine_course : (buses : List Bus) (layout : IsLayout buses) (events : List Event)
+    → IsFine buses (opening_in_order buses layout) (counted (course buses events))
 fine_course buses layout events = sound buses (opening_in_order buses layout) Anything (anything (shown_rows (opening buses 0))) events
 
 tells_counted : (r : Recording) (w : World) → Tells r w → Tells r (counted w)
@@ -44,29 +51,45 @@ pub runs_counted : (buses : List Bus) (r : Recording) (held : Held) (w : World) 
 runs_counted buses r held w s = record { stands = stands_counted buses r.keys held w s.stands; tells = tells_counted r w s.tells }
 
 -- the same of recordings and cores that are the same
-pub told_as : (event : PlainEvent) (refusal : Option CoreFault) (r : Recording) (held : Held) (x y : Recording) (later new : Held) → y ≡ x → new ≡ later → HappensAs event refusal r held x later → HappensAs event refusal r held y new
-told_as event refusal r held x y later new e f h = subst (λ (z : Held). HappensAs event refusal r held y z) (sym f) (subst (λ (z : Recording). HappensAs event refusal r held z later) (sym e) h)
+pub told_as : (event : PlainEvent) (refusal : Option CoreFault) (r : Recording) (held : Held) (x y : Recording) (later new : Held) → y ≡ x
+    → new ≡ later → HappensAs event refusal r held x later → HappensAs event refusal r held y new
+told_as event refusal r held x y later new e f h =
+    subst (λ (z : Held). HappensAs event refusal r held y z) (sym f)
+    (subst (λ (z : Recording). HappensAs event refusal r held z later) (sym e) h)
 
 -- nothing is asked for where the count stays
-pub none_asked : (event : PlainEvent) (r : Recording) (held later : Held) → later.denied ≡ held.denied → CountsAsked r held later (under [] event)
-none_asked event r held later same buses events layout s = same ∙ sym (denied_in_none buses (counted (course buses events)) held.denied event)
+pub none_asked : (event : PlainEvent) (r : Recording) (held later : Held) → later.denied ≡ held.denied
+    → CountsAsked r held later (under [] event)
+none_asked event r held later same buses events layout s =
+    same ∙ sym (denied_in_none buses (counted (course buses events)) held.denied event)
 
 -- ---- a connection is opened
 
 pub open_with : (key : ℕ) (r : Recording) (old new : Held) → IsAdmitted key old new
-    → (buses : List Bus) (events : List Event) → IsLayout buses → Runs buses r old (course buses events) → Happened buses (Open true) None (opened key r) new (counted (course buses events))
+    → (buses : List Bus) (events : List Event) → IsLayout buses → Runs buses r old (course buses events)
+    → Happened buses (Open true) None (opened key r) new (counted (course buses events))
 open_with key r old new a buses events layout s =
     let w = counted (course buses events) in
     let c = runs_counted buses r old (course buses events) s in (
       free_fault buses r.keys old w c.stands a.room true,
       record {
         stands = stands_opened buses r.keys key old new w a c.stands;
-        tells = record { steps = s.tells.steps; refused = s.tells.refused; connections = ap (λ tolds. tolds ++ record_of fresh ∷ []) s.tells.connections ∙ sym (map-append record_of w.connections (fresh ∷ [])) };
+        tells = record {
+          steps = s.tells.steps;
+          refused = s.tells.refused;
+          connections =
+              ap (λ tolds. tolds ++ record_of fresh ∷ []) s.tells.connections ∙ sym (map-append record_of w.connections (fresh ∷ []));
+        };
       },
     )
 
 pub open_happens : (key : ℕ) (r : Recording) (old new : Held) → IsAdmitted key old new → HappensAs plain.Open None r old (opened key r) new
-open_happens key r old new a = record { grants = []; counted = ap (λ (x : Held). x.denied) a.rest; asked = none_asked plain.Open r old new (ap (λ (x : Held). x.denied) a.rest); happens = open_with key r old new a }
+open_happens key r old new a = record {
+  grants = [];
+  counted = ap (λ (x : Held). x.denied) a.rest;
+  asked = none_asked plain.Open r old new (ap (λ (x : Held). x.denied) a.rest);
+  happens = open_with key r old new a;
+}
 
 -- an event that the course refuses, and that asks for no memory, changes nothing
 pub refused_happens : (event : PlainEvent) (cause : CoreFault) (r : Recording) (held : Held)
@@ -82,22 +105,39 @@ refused_happens event cause r held why = record {
 
 -- memory was refused
 runs_denied : (buses : List Bus) (r : Recording) (held : Held) (w : World) → Runs buses r held w → Runs buses r (one_denied held) w
-runs_denied buses r held w c = let s = c.stands in record { stands = record { layout = s.layout; rows = s.rows; moment = s.moment; last_id = s.last_id; count = s.count; long = s.long; opens = s.opens; closed = s.closed; apart = s.apart; owned = s.owned }; tells = c.tells }
+runs_denied buses r held w c = let s = c.stands in record {
+  stands = record {
+    layout = s.layout;
+    rows = s.rows;
+    moment = s.moment;
+    last_id = s.last_id;
+    count = s.count;
+    long = s.long;
+    opens = s.opens;
+    closed = s.closed;
+    apart = s.apart;
+    owned = s.owned;
+  };
+  tells = c.tells;
+}
 
 pub memory_with : (r : Recording) (old new : Held) → open_count old < 64 → new ≡ one_denied old
-    → (buses : List Bus) (events : List Event) → IsLayout buses → Runs buses r old (course buses events) → Happened buses (Open false) (Some MemoryFault) r new (counted (course buses events))
+    → (buses : List Bus) (events : List Event) → IsLayout buses → Runs buses r old (course buses events)
+    → Happened buses (Open false) (Some MemoryFault) r new (counted (course buses events))
 memory_with r old new room same buses events layout s =
     let w = counted (course buses events) in
     let c = runs_counted buses r old (course buses events) s in
     (free_fault buses r.keys old w c.stands room false, subst (λ (x : Held). Runs buses r x w) (sym same) (runs_denied buses r old w c))
 
-pub memory_happens : (r : Recording) (old new : Held) → open_count old < 64 → new ≡ one_denied old → HappensAs plain.Open (Some MemoryFault) r old r new
+pub memory_happens : (r : Recording) (old new : Held) → open_count old < 64 → new ≡ one_denied old
+    → HappensAs plain.Open (Some MemoryFault) r old r new
 memory_happens r old new room same = record {
   grants = false ∷ [];
   counted = ap (λ (x : Held). x.denied) same;
   asked = λ buses events layout s.
       let w = counted (course buses events) in
-      ap (λ (x : Held). x.denied) same ∙ ap (after old.denied false) (sym (free_room buses r.keys old w (runs_counted buses r old (course buses events) s).stands room));
+      ap (λ (x : Held). x.denied) same
+      ∙ ap (after old.denied false) (sym (free_room buses r.keys old w (runs_counted buses r old (course buses events) s).stands room));
   happens = memory_with r old new room same;
 }
 
@@ -106,13 +146,15 @@ pub open_refused : (r : Recording) (old new : Held) (cause : CoreFault) → IsNo
     → HappensAs plain.Open (Some cause) r old r new
 open_refused r old new Full is =
     subst (λ (x : Held). HappensAs plain.Open (Some Full) r old r x) (sym is.1)
-    (refused_happens plain.Open Full r old (λ buses events layout s. full_fault buses r.keys old (counted (course buses events)) s is.0 true))
+    (refused_happens plain.Open Full r old
+    (λ buses events layout s. full_fault buses r.keys old (counted (course buses events)) s is.0 true))
 open_refused r old new MemoryFault is = memory_happens r old new is.0 is.1
 open_refused r old new other is = absurd is
 
 -- ---- a moment
 
-pub at_happens : (moment : ℕ) (r : Recording) (old new : Held) (now : ℕ) → new ≡ advanced moment old → now ≡ new.moment → HappensAs (plain.At moment) None r old (stepped (told.Moment now ∷ []) r) new
+pub at_happens : (moment : ℕ) (r : Recording) (old new : Held) (now : ℕ) → new ≡ advanced moment old → now ≡ new.moment
+    → HappensAs (plain.At moment) None r old (stepped (told.Moment now ∷ []) r) new
 at_happens moment r old new now is now_is = record {
   grants = [];
   counted = ap (λ (x : Held). x.denied) is;
@@ -120,12 +162,21 @@ at_happens moment r old new now is now_is = record {
   happens = λ buses events layout s.
       let w = counted (course buses events) in
       let c = runs_counted buses r old (course buses events) s in
-      let fine : AllFine buses w = λ n conn e. at_number (Fine buses (history buses w)) n w.connections conn (fine_course buses layout events) e in
+      let fine : AllFine buses w =
+      λ n conn e. at_number (Fine buses (history buses w)) n w.connections conn (fine_course buses layout events) e in
       let same : now ≡ max w.moment moment = now_is ∙ ap (λ (x : Held). x.moment) is ∙ ap (λ m. max m moment) c.stands.moment in (
         refl,
         record {
-          stands = subst (λ (x : Held). StandsFor buses r.keys x (accepted buses (At moment) w)) (sym is) (stands_advanced buses r.keys old w moment fine c.stands);
-          tells = record { steps = ap (λ m. r.steps ++ told.Moment m ∷ []) same ∙ ap (λ steps. steps ++ told.Moment (max w.moment moment) ∷ []) c.tells.steps ∙ sym (map-append step_told w.steps (Moment (max w.moment moment) ∷ [])); refused = c.tells.refused; connections = c.tells.connections };
+          stands =
+              subst (λ (x : Held). StandsFor buses r.keys x (accepted buses (At moment) w)) (sym is)
+              (stands_advanced buses r.keys old w moment fine c.stands);
+          tells = record {
+            steps =
+                ap (λ m. r.steps ++ told.Moment m ∷ []) same ∙ ap (λ steps. steps ++ told.Moment (max w.moment moment) ∷ []) c.tells.steps
+                ∙ sym (map-append step_told w.steps (Moment (max w.moment moment) ∷ []));
+            refused = c.tells.refused;
+            connections = c.tells.connections;
+          };
         },
       );
 }
@@ -161,17 +212,29 @@ with_end (Some session) moment r = stepped (told.Ended session moment ∷ []) r
 
 hung_up_moment : (key : ℕ) (held : Held) (o : Option Place) → (hung_up_from key held o).moment ≡ held.moment
 hung_up_moment key held None = refl
-hung_up_moment key held (Some p) = elim ((p.session == 0) || p.ended) as (λ t. (if t then freed_place key held else freed_of p.session (freed_place key held)).moment ≡ held.moment) [ true ↦ refl | false ↦ refl ]
+hung_up_moment key held (Some p) =
+    elim ((p.session == 0) || p.ended)
+    as (λ t. (if t then freed_place key held else freed_of p.session (freed_place key held)).moment ≡ held.moment) [
+      | true ↦ refl
+      | false ↦ refl
+    ]
 
 hung_up_denied : (key : ℕ) (held : Held) (o : Option Place) → (hung_up_from key held o).denied ≡ held.denied
 hung_up_denied key held None = refl
-hung_up_denied key held (Some p) = elim ((p.session == 0) || p.ended) as (λ t. (if t then freed_place key held else freed_of p.session (freed_place key held)).denied ≡ held.denied) [ true ↦ refl | false ↦ refl ]
+hung_up_denied key held (Some p) =
+    elim ((p.session == 0) || p.ended)
+    as (λ t. (if t then freed_place key held else freed_of p.session (freed_place key held)).denied ≡ held.denied) [
+      | true ↦ refl
+      | false ↦ refl
+    ]
 
 pub shut_count : (key : ℕ) (old new : Held) → new ≡ hung_up key old → new.denied ≡ old.denied
 shut_count key old new is = ap (λ (x : Held). x.denied) is ∙ hung_up_denied key old (at old key)
 
 -- a number that has a key has a place there
-pub gone_happens : (event : PlainEvent) (refusal : Option CoreFault) (n key : ℕ) (r : Recording) (held : Held) (later_r : Recording) (later : Held) → key_of n r.keys ≡ Some key → at held key ≡ None → later.denied ≡ held.denied → HappensAs event refusal r held later_r later
+pub gone_happens : (event : PlainEvent) (refusal : Option CoreFault) (n key : ℕ) (r : Recording) (held : Held) (later_r : Recording)
+    (later : Held)
+    → key_of n r.keys ≡ Some key → at held key ≡ None → later.denied ≡ held.denied → HappensAs event refusal r held later_r later
 gone_happens event refusal n key r held later_r later named gone same = record {
   grants = [];
   counted = same;
@@ -185,7 +248,8 @@ pub shut_keys : (n : ℕ) (o : Option ℕ) (m : ℕ) (r : Recording) → (with_e
 shut_keys n None m r = refl
 shut_keys n (Some session) m r = refl
 
-pub shut_happens : (n key : ℕ) (r : Recording) (old new : Held) (now : ℕ) → key_of n r.keys ≡ Some key → new ≡ hung_up key old → now ≡ new.moment → HappensAs (plain.Shut n) None r old (with_end (live_session key old) now (shut n r)) new
+pub shut_happens : (n key : ℕ) (r : Recording) (old new : Held) (now : ℕ) → key_of n r.keys ≡ Some key → new ≡ hung_up key old
+    → now ≡ new.moment → HappensAs (plain.Shut n) None r old (with_end (live_session key old) now (shut n r)) new
 shut_happens n key r old new now named is now_is = record {
   grants = [];
   counted = shut_count key old new is;
@@ -196,39 +260,64 @@ shut_happens n key r old new now named is now_is = record {
       let h = found_at buses (λ n fed. fed) r.keys old w n key c.stands named in
       let p = place_of h.reader (history buses w) h.conn in
       let order = opening_in_order buses layout in
-      let stands = subst (λ (x : Held). StandsFor buses (without_key n r.keys) x (accepted buses (Shut n) w)) (sym is) (stands_hung_up buses order r.keys old w n key (fine_course buses layout events) c.stands named) in
-      let told = shut_told buses n r w h.conn now (h.conn.session == 0) h.conn.ended h.there refl refl (now_is ∙ ap (λ (x : Held). x.moment) is ∙ hung_up_moment key old (at old key) ∙ c.stands.moment) c.tells in
+      let stands =
+      subst (λ (x : Held). StandsFor buses (without_key n r.keys) x (accepted buses (Shut n) w)) (sym is)
+      (stands_hung_up buses order r.keys old w n key (fine_course buses layout events) c.stands named) in
+      let told =
+      shut_told buses n r w h.conn now (h.conn.session == 0) h.conn.ended h.there refl refl
+      (now_is ∙ ap (λ (x : Held). x.moment) is ∙ hung_up_moment key old (at old key) ∙ c.stands.moment) c.tells in
       let live : live_session key old ≡ (if (h.conn.session == 0) || h.conn.ended then None else Some h.conn.session) =
       ap live_session_of h.place
       ∙ ap (λ k. if (k == 0) || p.ended then None else Some k) refl
       ∙ ap (λ t. if (h.conn.session == 0) || t then None else Some h.conn.session) refl in
       let tells : Tells (with_end (live_session key old) now (shut n r)) (accepted buses (Shut n) w) =
       subst (λ (o : Option ℕ). Tells (with_end o now (shut n r)) (accepted buses (Shut n) w)) (sym live)
-      (subst (λ (o : Option Connection). Tells (with_end (if (h.conn.session == 0) || h.conn.ended then None else Some h.conn.session) now (shut n r)) (shut_as buses n o w)) (sym h.opened) told) in
-      (ap (absent_fault buses) h.opened, record { stands = subst (λ (keys : List (Option ℕ)). StandsFor buses keys new (accepted buses (Shut n) w)) (sym (keys_are (live_session key old) now)) stands; tells = tells });
+      (subst (λ (o : Option Connection).
+      Tells (with_end (if (h.conn.session == 0) || h.conn.ended then None else Some h.conn.session) now (shut n r))
+      (shut_as buses n o w))
+      (sym h.opened) told) in (
+        ap (absent_fault buses) h.opened,
+        record {
+          stands =
+              subst (λ (keys : List (Option ℕ)). StandsFor buses keys new (accepted buses (Shut n) w))
+              (sym (keys_are (live_session key old) now)) stands;
+          tells = tells;
+        },
+      );
 }
   where
     keys_are : (o : Option ℕ) (m : ℕ) → (with_end o m (shut n r)).keys ≡ without_key n r.keys
     keys_are None m = refl
     keys_are (Some session) m = refl
 
-    shut_told : (buses : List Bus) (n : ℕ) (r : Recording) (w : World) (conn : Connection) (now : ℕ) (first ended : Bool) → numbered n w.connections ≡ Some conn → (conn.session == 0) ≡ first → conn.ended ≡ ended → now ≡ w.moment → Tells r w
-        → Tells (with_end (if (conn.session == 0) || conn.ended then None else Some conn.session) now (shut n r)) (shut_as buses n (Some conn) w)
+    shut_told : (buses : List Bus) (n : ℕ) (r : Recording) (w : World) (conn : Connection) (now : ℕ) (first ended : Bool)
+        → numbered n w.connections ≡ Some conn → (conn.session == 0) ≡ first → conn.ended ≡ ended → now ≡ w.moment → Tells r w
+        → Tells (with_end (if (conn.session == 0) || conn.ended then None else Some conn.session) now (shut n r))
+        (shut_as buses n (Some conn) w)
     shut_told buses n r w conn now first ended there f e m t =
-        elim ((conn.session == 0) || conn.ended) as (λ b. Tells (with_end (if b then None else Some conn.session) now (shut n r)) (if b then closed else did (Ended conn.session w.moment) closed)) [
+        elim ((conn.session == 0) || conn.ended)
+        as (λ b.
+        Tells (with_end (if b then None else Some conn.session) now (shut n r))
+        (if b then closed else did (Ended conn.session w.moment) closed)) [
           | true ↦ all
-          | false ↦ subst (λ k. Tells (stepped (told.Ended conn.session k ∷ []) (shut n r)) (did (Ended conn.session w.moment) closed)) (sym m) (tells_did (shut n r) closed (Ended conn.session w.moment) all)
+          | false ↦
+              subst (λ k. Tells (stepped (told.Ended conn.session k ∷ []) (shut n r)) (did (Ended conn.session w.moment) closed)) (sym m)
+              (tells_did (shut n r) closed (Ended conn.session w.moment) all)
         ]
       where
         closed : World
         closed = at_connection n (λ c. record c { shut = Some (length w.steps) }) w
 
         all : Tells (shut n r) closed
-        all = tells_changed (record r { keys = without_key n r.keys }) w n conn (λ c. record c { shut = Some (length w.steps) }) (λ told. record told { finish = ShutFinish }) there refl (record { steps = t.steps; refused = t.refused; connections = t.connections })
+        all =
+            tells_changed (record r { keys = without_key n r.keys }) w n conn (λ c. record c { shut = Some (length w.steps) })
+            (λ told. record told { finish = ShutFinish }) there refl
+            (record { steps = t.steps; refused = t.refused; connections = t.connections })
 
 -- ---- room
 
-pub record IsGiving (n key bytes : ℕ) (first_r : Recording) (left : ℕ) (r : Recording) (held : Held) (buses : List Bus) (layout : IsLayout buses) (w : World) : Type 0 where
+pub record IsGiving (n key bytes : ℕ) (first_r : Recording) (left : ℕ) (r : Recording) (held : Held) (buses : List Bus)
+    (layout : IsLayout buses) (w : World) : Type 0 where
   pub named : key_of n first_r.keys ≡ Some key
   pub free : fault buses w (Room n bytes) ≡ None
   pub keys : r.keys ≡ first_r.keys
@@ -236,7 +325,8 @@ pub record IsGiving (n key bytes : ℕ) (first_r : Recording) (left : ℕ) (r : 
 
 abbrev pub GivesOn : ℕ → ℕ → ℕ → Recording → Held → ℕ → Recording → Held → Type 0
 GivesOn n key bytes first_r first left r held =
-    (buses : List Bus) (events : List Event) (layout : IsLayout buses) → Runs buses first_r first (course buses events) → IsGiving n key bytes first_r left r held buses layout (counted (course buses events))
+    (buses : List Bus) (events : List Event) (layout : IsLayout buses) → Runs buses first_r first (course buses events)
+    → IsGiving n key bytes first_r left r held buses layout (counted (course buses events))
 
 pub gives_first : (n key bytes : ℕ) (r : Recording) (held : Held) → key_of n r.keys ≡ Some key → GivesOn n key bytes r held bytes r held
 gives_first n key bytes r held named buses events layout s =
@@ -247,7 +337,11 @@ gives_first n key bytes r held named buses events layout s =
       named = named;
       free = ap (absent_fault buses) h.opened;
       keys = refl;
-      rooming = record { now = w; kept = record { fine = fine_course buses layout events; stands = c.stands; tells = c.tells }; to_come = refl };
+      rooming = record {
+        now = w;
+        kept = record { fine = fine_course buses layout events; stands = c.stands; tells = c.tells };
+        to_come = refl;
+      };
     }
 
 pub taking_keys : (n key most : ℕ) (held : Held) (r : Recording) → (taking n key most held r).keys ≡ r.keys
@@ -259,8 +353,10 @@ taking_keys n key most held r = by (item_at key held)
     by (Some (Listed row)) = refl
     by (Some Settled) = refl
 
-pub gives_more : (n key bytes : ℕ) (first_r : Recording) (first : Held) (left : ℕ) (r : Recording) (held : Held) → 0 < count_at key left held → 0 < left - count_at key left held
-    → GivesOn n key bytes first_r first left r held → GivesOn n key bytes first_r first (left - count_at key left held) (taking n key left held r) (taken_at key left held)
+pub gives_more : (n key bytes : ℕ) (first_r : Recording) (first : Held) (left : ℕ) (r : Recording) (held : Held)
+    → 0 < count_at key left held → 0 < left - count_at key left held
+    → GivesOn n key bytes first_r first left r held
+    → GivesOn n key bytes first_r first (left - count_at key left held) (taking n key left held r) (taken_at key left held)
 gives_more n key bytes first_r first left r held some more gives buses events layout s =
     let i = gives buses events layout s in
     let w = counted (course buses events) in
@@ -269,11 +365,15 @@ gives_more n key bytes first_r first left r held some more gives buses events la
       named = i.named;
       free = i.free;
       keys = taking_keys n key left held r ∙ i.keys;
-      rooming = room_goes_on buses layout (opening_in_order buses layout) first_r.keys n key i.named w bytes left r held i.rooming some less;
+      rooming =
+          room_goes_on buses layout (opening_in_order buses layout) first_r.keys n key i.named w bytes left r held i.rooming some less;
     }
 
-pub gives_as : (n key bytes : ℕ) (first_r : Recording) (first : Held) (left : ℕ) (r : Recording) (held : Held) (count : ℕ) (later_r : Recording) (later : Held) → count ≡ count_at key left held → later_r ≡ taking n key left held r → later ≡ taken_at key left held
-    → left - count ≢ 0 → count ≢ 0 → GivesOn n key bytes first_r first left r held → GivesOn n key bytes first_r first (left - count) later_r later
+pub gives_as : (n key bytes : ℕ) (first_r : Recording) (first : Held) (left : ℕ) (r : Recording) (held : Held) (count : ℕ)
+    (later_r : Recording) (later : Held)
+    → count ≡ count_at key left held → later_r ≡ taking n key left held r → later ≡ taken_at key left held
+    → left - count ≢ 0 → count ≢ 0 → GivesOn n key bytes first_r first left r held
+    → GivesOn n key bytes first_r first (left - count) later_r later
 gives_as n key bytes first_r first left r held count later_r later e f h more some gives =
     let a : 0 < count = pos_of_ne-zero some in
     let b : 0 < left - count = pos_of_ne-zero more in
@@ -282,8 +382,10 @@ gives_as n key bytes first_r first left r held count later_r later e f h more so
     (subst (λ (x : Held). GivesOn n key bytes first_r first (left - count_at key left held) (taking n key left held r) x) (sym h)
     (gives_more n key bytes first_r first left r held (subst (λ k. 0 < k) e a) (subst (λ k. 0 < left - k) e b) gives)))
 
-pub room_happens : (n key bytes : ℕ) (first_r : Recording) (first : Held) (left : ℕ) (r : Recording) (held : Held) → (left - count_at key left held ≡ 0) ⊎ (count_at key left held ≡ 0)
-    → held.denied ≡ first.denied → GivesOn n key bytes first_r first left r held → HappensAs (plain.Room n bytes) None first_r first (taking n key left held r) (taken_at key left held)
+pub room_happens : (n key bytes : ℕ) (first_r : Recording) (first : Held) (left : ℕ) (r : Recording) (held : Held)
+    → (left - count_at key left held ≡ 0) ⊎ (count_at key left held ≡ 0)
+    → held.denied ≡ first.denied → GivesOn n key bytes first_r first left r held
+    → HappensAs (plain.Room n bytes) None first_r first (taking n key left held r) (taken_at key left held)
 room_happens n key bytes first_r first left r held ends same gives = record {
   grants = [];
   counted = same;
@@ -292,23 +394,39 @@ room_happens n key bytes first_r first left r held ends same gives = record {
       let i = gives buses events layout s in
       let w = counted (course buses events) in
       let order = opening_in_order buses layout in
-      let k : Kept buses layout order first_r.keys n key i.named (taking n key left held r) (taken_at key left held) (accepted buses (Room n bytes) w) = by buses events layout i (count_at key left held) refl ends in
-      (i.free, record { stands = subst (λ (keys : List (Option ℕ)). StandsFor buses keys (taken_at key left held) (accepted buses (Room n bytes) w)) (sym (taking_keys n key left held r ∙ i.keys)) k.stands; tells = k.tells });
+      let k : Kept buses layout order first_r.keys n key i.named (taking n key left held r) (taken_at key left held)
+      (accepted buses (Room n bytes) w) =
+      by buses events layout i (count_at key left held) refl ends in (
+        i.free,
+        record {
+          stands =
+              subst (λ (keys : List (Option ℕ)). StandsFor buses keys (taken_at key left held) (accepted buses (Room n bytes) w))
+              (sym (taking_keys n key left held r ∙ i.keys)) k.stands;
+          tells = k.tells;
+        },
+      );
 }
   where
-    by : (buses : List Bus) (events : List Event) (layout : IsLayout buses) (i : IsGiving n key bytes first_r left r held buses layout (counted (course buses events))) (count : ℕ) → count_at key left held ≡ count → (left - count_at key left held ≡ 0) ⊎ (count_at key left held ≡ 0)
-        → Kept buses layout (opening_in_order buses layout) first_r.keys n key i.named (taking n key left held r) (taken_at key left held) (accepted buses (Room n bytes) (counted (course buses events)))
-    by buses events layout i zero e ends = room_empty buses layout (opening_in_order buses layout) first_r.keys n key i.named (counted (course buses events)) bytes left r held i.rooming e
+    by : (buses : List Bus) (events : List Event) (layout : IsLayout buses)
+        (i : IsGiving n key bytes first_r left r held buses layout (counted (course buses events))) (count : ℕ)
+        → count_at key left held ≡ count → (left - count_at key left held ≡ 0) ⊎ (count_at key left held ≡ 0)
+        → Kept buses layout (opening_in_order buses layout) first_r.keys n key i.named (taking n key left held r) (taken_at key left held)
+        (accepted buses (Room n bytes) (counted (course buses events)))
+    by buses events layout i zero e ends =
+        room_empty buses layout (opening_in_order buses layout) first_r.keys n key i.named
+        (counted (course buses events)) bytes left r held i.rooming e
     by buses events layout i (suc count) e (inr none) = let bad : suc count ≡ 0 = sym e ∙ none in absurd (omega (arith, bad))
     by buses events layout i (suc count) e (inl none) =
         let some : 0 < count_at key left held = omega (arith, e) in
         let most : count_at key left held ≤ left = omega arith in
         let all : left ≡ count_at key left held = omega (arith, none, most) in
-        room_taken buses layout (opening_in_order buses layout) first_r.keys n key i.named (counted (course buses events)) bytes left r held i.rooming some all
+        room_taken buses layout (opening_in_order buses layout) first_r.keys n key i.named
+        (counted (course buses events)) bytes left r held i.rooming some all
 
 -- ---- where there is no such connection
 
-changed_same : (n : ℕ) (f : ConnRecord → ConnRecord) → ((told : ConnRecord) → f told ≡ told) → (tolds : List ConnRecord) → changed_record n f tolds ≡ tolds
+changed_same : (n : ℕ) (f : ConnRecord → ConnRecord) → ((told : ConnRecord) → f told ≡ told) → (tolds : List ConnRecord)
+    → changed_record n f tolds ≡ tolds
 changed_same zero f law tolds = refl
 changed_same (suc n) f law tolds = by (slice_get tolds n) refl
   where
@@ -321,17 +439,23 @@ changed_same (suc n) f law tolds = by (slice_get tolds n) refl
     by None e = refl
     by (Some told) e = same tolds n told e
 
-pub taking_none : (n key most : ℕ) (held : Held) (r : Recording) → at held key ≡ None → (taking n key most held r ≡ r) × ((taken_at key most held ≡ held) × (count_at key most held ≡ 0))
+pub taking_none : (n key most : ℕ) (held : Held) (r : Recording) → at held key ≡ None
+    → (taking n key most held r ≡ r) × ((taken_at key most held ≡ held) × (count_at key most held ≡ 0))
 taking_none n key most held r e =
-    let gone : let_out key held ≡ held = ap (λ (o : Option Place). record held { places = changed_places_in key (filled (shown_rows held.rows)) held.places o }) e in
+    let gone : let_out key held ≡ held =
+    ap (λ (o : Option Place). record held { places = changed_places_in key (filled (shown_rows held.rows)) held.places o }) e in
     let bytes : unsent_at key (let_out key held) ≡ [] = ap (unsent_at key) gone ∙ ap unsent_of e in
     let none : count_at key most held ≡ 0 = ap (λ bytes. min (length bytes) most) bytes ∙ zero-min most in (
       ap (λ k. took n (take k (unsent_at key (let_out key held))) (gave n (item_at key held) r)) none
           ∙ ap (λ (o : Option Place). took n [] (gave n (item_of (shown_rows held.rows) o) r)) e
-          ∙ ap (λ tolds. record r { connections = tolds }) (changed_same n (λ told. record told { sent = told.sent ++ [] }) (λ told. ap (λ bytes. record told { sent = bytes }) (append-nil told.sent)) r.connections),
+          ∙ ap (λ tolds. record r { connections = tolds })
+          (changed_same n (λ told. record told { sent = told.sent ++ [] })
+          (λ told. ap (λ bytes. record told { sent = bytes }) (append-nil told.sent)) r.connections),
       (
         ap (λ (x : Held). changed_at key (without_sent (count_at key most held)) x) gone
-            ∙ ap (λ (o : Option Place). record held { places = changed_places_in key (without_sent (count_at key most held)) held.places o }) e,
+            ∙ ap (λ (o : Option Place).
+            record held { places = changed_places_in key (without_sent (count_at key most held)) held.places o })
+            e,
         none,
       ),
     )

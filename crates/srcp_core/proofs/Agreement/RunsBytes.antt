@@ -10,7 +10,8 @@ use Rattle.srcp_core.specs.declared.event.Event.TheVariants as plain
 use Rattle.srcp_core.specs.declared.record.Step.{Step as PlainStep}
 use Rattle.srcp_core.specs.declared.record.Step.TheVariants as told
 use Rattle.srcp_core.specs.Connection.{Connection, is_nil}
-use Rattle.srcp_core.specs.Course.{World, open_connection, counted, bytes_fault as course_fault, accepted, fed_to, answered as course_answered, new_marks, course, denied_fed}
+use Rattle.srcp_core.specs.Course.{World, open_connection, counted, bytes_fault as course_fault, accepted, fed_to}
+use Rattle.srcp_core.specs.Course.{answered as course_answered, new_marks, course, denied_fed}
 use Rattle.srcp_core.specs.Held.{Place, Held, at}
 use Rattle.srcp_core.specs.Machine.{HasRoom, bytes_fault, bytes_fault_from, heard_at, line_answered, steps_of_line, unsent_of, has_overrun}
 use Rattle.srcp_core.specs.Recording.{Recording, key_of, noted}
@@ -28,21 +29,26 @@ use Rattle.srcp_core.proofs.CourseLaws.SessionsOfACourse.{opening_in_order}
 use Rattle.srcp_core.proofs.Agreement.StandsAfterAChange.{found_at}
 use Rattle.srcp_core.proofs.Agreement.RunsAnEvent.{fine_course, refused_happens, runs_counted}
 
-pub bytes_refused : (n key : ℕ) (piece : List ℕ) (r : Recording) (held : Held) (cause : CoreFault) → key_of n r.keys ≡ Some key → bytes_fault key piece held ≡ Some cause → HappensAs (plain.Bytes n piece) (Some cause) r held r held
+pub bytes_refused : (n key : ℕ) (piece : List ℕ) (r : Recording) (held : Held) (cause : CoreFault) → key_of n r.keys ≡ Some key
+    → bytes_fault key piece held ≡ Some cause → HappensAs (plain.Bytes n piece) (Some cause) r held r held
 bytes_refused n key piece r held cause named e = refused_happens (plain.Bytes n piece) cause r held
     (λ buses events layout s.
     let w = counted (course buses events) in
-    sym (fault_same buses (opening_in_order buses layout) (λ n fed. fed) r.keys held w n key piece (fine_course buses layout events) s named) ∙ e)
+    sym (fault_same buses (opening_in_order buses layout) (λ n fed. fed) r.keys held w n key piece
+    (fine_course buses layout events) s named)
+    ∙ e)
 
 -- where bytes are not refused there is room for their answers
-pub bytes_room : (key : ℕ) (piece : List ℕ) (held : Held) → bytes_fault key piece held ≡ None → (length piece ≤ 256) × HasRoom key piece 0 held
+pub bytes_room : (key : ℕ) (piece : List ℕ) (held : Held) → bytes_fault key piece held ≡ None
+    → (length piece ≤ 256) × HasRoom key piece 0 held
 bytes_room key piece held e = by (at held key) refl e
   where
     some_none : (cause : CoreFault) → Some cause ≡ None → ⊥
     some_none cause e = cc
 
     with : (p : Place) (over idle long : Bool) → at held key ≡ Some p → is_nil p.unsent ≡ idle → nat_lt 256 (length piece) ≡ long
-        → (if over then Some Closing else (if not idle then Some Busy else (if long then Some PieceTooLong else None))) ≡ None → (length piece ≤ 256) × HasRoom key piece 0 held
+        → (if over then Some Closing else (if not idle then Some Busy else (if long then Some PieceTooLong else None))) ≡ None
+        → (length piece ≤ 256) × HasRoom key piece 0 held
     with p true idle long h i l e = absurd (some_none Closing e)
     with p false false long h i l e = absurd (some_none Busy e)
     with p false true true h i l e = absurd (some_none PieceTooLong e)
@@ -57,14 +63,18 @@ bytes_room key piece held e = by (at held key) refl e
     by (Some p) h e = with p (p.ended || has_overrun p.panel) (is_nil p.unsent) (nat_lt 256 (length piece)) h refl refl e
 
 -- the piece was read up to a place
-pub record IsReading (n key : ℕ) (piece : List ℕ) (grants : List Bool) (first_r : Recording) (first : Held) (start : ℕ) (r : Recording) (held : Held) (buses : List Bus) (layout : IsLayout buses) (w : World) : Type 0 where
+pub record IsReading (n key : ℕ) (piece : List ℕ) (grants : List Bool) (first_r : Recording) (first : Held) (start : ℕ) (r : Recording)
+    (held : Held) (buses : List Bus) (layout : IsLayout buses) (w : World) : Type 0 where
   pub named : key_of n first_r.keys ≡ Some key
   pub conn : Connection
   pub opened : open_connection w n ≡ Some conn
   pub free : course_fault buses w (open_connection w n) piece ≡ None
   pub keys : r.keys ≡ first_r.keys
-  pub upto : IsUpTo buses (opening_in_order buses layout) first_r.keys n key named conn.fed piece (accepting n piece w) first.denied grants start held
-  pub tells : Tells r (world_upto buses (opening_in_order buses layout) first_r.keys n key named conn.fed piece (accepting n piece w) first.denied grants start)
+  pub upto : IsUpTo buses (opening_in_order buses layout) first_r.keys n key named conn.fed piece
+      (accepting n piece w) first.denied grants start held
+  pub tells : Tells r
+      (world_upto buses (opening_in_order buses layout) first_r.keys n key named conn.fed piece
+      (accepting n piece w) first.denied grants start)
 
 -- so it was, whatever the events were before, where memory answered so to its lines so far
 abbrev pub ReadsWith : List Bool → ℕ → ℕ → List ℕ → Recording → Held → ℕ → Recording → Held → Type 0
@@ -73,12 +83,14 @@ ReadsWith grants n key piece first_r first start r held =
     → IsReading n key piece grants first_r first start r held buses layout (counted (course buses events))
 
 -- what memory answered to its lines so far
-pub record ReadsOn (n key : ℕ) (piece : List ℕ) (first_r : Recording) (first : Held) (start : ℕ) (r : Recording) (held : Held) : Type 0 where
+pub record ReadsOn (n key : ℕ) (piece : List ℕ) (first_r : Recording) (first : Held) (start : ℕ) (r : Recording)
+    (held : Held) : Type 0 where
   pub grants : List Bool
   pub counted : held.denied ≡ denied_by first.denied grants
   pub reads : ReadsWith grants n key piece first_r first start r held
 
-pub reads_with_none : (n key : ℕ) (piece : List ℕ) (r : Recording) (held : Held) → key_of n r.keys ≡ Some key → bytes_fault key piece held ≡ None → ReadsWith [] n key piece r held 0 r held
+pub reads_with_none : (n key : ℕ) (piece : List ℕ) (r : Recording) (held : Held) → key_of n r.keys ≡ Some key
+    → bytes_fault key piece held ≡ None → ReadsWith [] n key piece r held 0 r held
 reads_with_none n key piece r held named free buses events layout s =
     let w = counted (course buses events) in
     let order = opening_in_order buses layout in
@@ -92,10 +104,12 @@ reads_with_none n key piece r held named free buses events layout s =
       free = sym (fault_same buses order (λ n fed. fed) r.keys held w n key piece (fine_course buses layout events) c.stands named) ∙ free;
       keys = refl;
       upto = b.0;
-      tells = subst (λ (v : World). Tells r v) (sym b.1) (tells_same r w n (λ c. record c { fed = c.fed ++ piece }) (λ conn e. refl) c.tells);
+      tells =
+          subst (λ (v : World). Tells r v) (sym b.1) (tells_same r w n (λ c. record c { fed = c.fed ++ piece }) (λ conn e. refl) c.tells);
     }
 
-pub reads_first : (n key : ℕ) (piece : List ℕ) (r : Recording) (held : Held) → key_of n r.keys ≡ Some key → bytes_fault key piece held ≡ None → ReadsOn n key piece r held 0 r held
+pub reads_first : (n key : ℕ) (piece : List ℕ) (r : Recording) (held : Held) → key_of n r.keys ≡ Some key
+    → bytes_fault key piece held ≡ None → ReadsOn n key piece r held 0 r held
 reads_first n key piece r held named free = record { grants = []; counted = refl; reads = reads_with_none n key piece r held named free }
 
 pub noted_keys : (n : ℕ) (steps : List PlainStep) (r : Recording) → (noted n steps r).keys ≡ r.keys
@@ -105,14 +119,20 @@ noted_keys n (told.Began session moment mode ∷ steps) r = noted_keys n steps _
 noted_keys n (told.Moment moment ∷ steps) r = noted_keys n steps _
 noted_keys n (told.Ended session moment ∷ steps) r = noted_keys n steps _
 
-pub reads_with_more : (grants : List Bool) (n key : ℕ) (piece : List ℕ) (first_r : Recording) (first : Held) (start stop : ℕ) (granted : Bool) (steps : List PlainStep) (r : Recording) (held new : Held) → start < stop
-    → ◌≡◌ {A = ℕ × Held} (stop, new) (line_answered key granted (start, held) (heard_at key piece start held)) → steps ≡ steps_of_line granted (heard_at key piece start held)
-    → ReadsWith grants n key piece first_r first start r held → ReadsWith (grants ++ granted ∷ []) n key piece first_r first stop (noted n steps r) new
+pub reads_with_more : (grants : List Bool) (n key : ℕ) (piece : List ℕ) (first_r : Recording) (first : Held) (start stop : ℕ)
+    (granted : Bool) (steps : List PlainStep) (r : Recording) (held new : Held)
+    → start < stop
+    → ◌≡◌ {A = ℕ × Held} (stop, new) (line_answered key granted (start, held) (heard_at key piece start held))
+    → steps ≡ steps_of_line granted (heard_at key piece start held)
+    → ReadsWith grants n key piece first_r first start r held
+    → ReadsWith (grants ++ granted ∷ []) n key piece first_r first stop (noted n steps r) new
 reads_with_more grants n key piece first_r first start stop granted steps r held new onward is steps_are reads buses events layout s =
     let i = reads buses events layout s in
     let order = opening_in_order buses layout in
     let w = counted (course buses events) in
-    let l = lined buses order first_r.keys n key i.named i.conn.fed piece (accepting n piece w) first.denied grants start stop granted held new r onward is i.upto i.tells in
+    let l =
+    lined buses order first_r.keys n key i.named i.conn.fed piece
+    (accepting n piece w) first.denied grants start stop granted held new r onward is i.upto i.tells in
     record {
       named = i.named;
       conn = i.conn;
@@ -120,45 +140,72 @@ reads_with_more grants n key piece first_r first start stop granted steps r held
       free = i.free;
       keys = noted_keys n steps r ∙ i.keys;
       upto = l.upto;
-      tells = subst (λ (steps : List PlainStep). Tells (noted n steps r) (world_upto buses order first_r.keys n key i.named i.conn.fed piece (accepting n piece w) first.denied (grants ++ granted ∷ []) stop)) (sym steps_are) l.tells;
+      tells =
+          subst (λ (steps : List PlainStep).
+          Tells (noted n steps r)
+          (world_upto buses order first_r.keys n key i.named i.conn.fed piece (accepting n piece w) first.denied
+          (grants ++ granted ∷ []) stop))
+          (sym steps_are) l.tells;
     }
 
-pub reads_more : (n key : ℕ) (piece : List ℕ) (first_r : Recording) (first : Held) (start stop : ℕ) (granted : Bool) (steps : List PlainStep) (r : Recording) (held new : Held) → start < stop
-    → ◌≡◌ {A = ℕ × Held} (stop, new) (line_answered key granted (start, held) (heard_at key piece start held)) → steps ≡ steps_of_line granted (heard_at key piece start held)
-    → new.denied ≡ denied_by held.denied (granted ∷ []) → ReadsOn n key piece first_r first start r held → ReadsOn n key piece first_r first stop (noted n steps r) new
+pub reads_more : (n key : ℕ) (piece : List ℕ) (first_r : Recording) (first : Held) (start stop : ℕ) (granted : Bool)
+    (steps : List PlainStep) (r : Recording) (held new : Held)
+    → start < stop
+    → ◌≡◌ {A = ℕ × Held} (stop, new) (line_answered key granted (start, held) (heard_at key piece start held))
+    → steps ≡ steps_of_line granted (heard_at key piece start held)
+    → new.denied ≡ denied_by held.denied (granted ∷ []) → ReadsOn n key piece first_r first start r held
+    → ReadsOn n key piece first_r first stop (noted n steps r) new
 reads_more n key piece first_r first start stop granted steps r held new onward is steps_are counted reads = record {
   grants = reads.grants ++ granted ∷ [];
   counted = counted_more first.denied held.denied new.denied reads.grants granted reads.counted counted;
   reads = reads_with_more reads.grants n key piece first_r first start stop granted steps r held new onward is steps_are reads.reads;
 }
 
-pub bytes_with : (grants : List Bool) (n key : ℕ) (piece : List ℕ) (first_r : Recording) (first : Held) (start : ℕ) (r : Recording) (held new : Held) → ◌≡◌ {A = Option (ℕ × Asked) × Held} (None, new) (heard_at key piece start held) → ReadsWith grants n key piece first_r first start r held
-    → (buses : List Bus) (events : List Event) → IsLayout buses → Runs buses first_r first (course buses events) → Happened buses (Bytes n (record { bytes = piece; grants = grants })) None r new (counted (course buses events))
+pub bytes_with : (grants : List Bool) (n key : ℕ) (piece : List ℕ) (first_r : Recording) (first : Held) (start : ℕ) (r : Recording)
+    (held new : Held)
+    → ◌≡◌ {A = Option (ℕ × Asked) × Held} (None, new) (heard_at key piece start held)
+    → ReadsWith grants n key piece first_r first start r held
+    → (buses : List Bus) (events : List Event) → IsLayout buses → Runs buses first_r first (course buses events)
+    → Happened buses (Bytes n (record { bytes = piece; grants = grants })) None r new (counted (course buses events))
 bytes_with grants n key piece first_r first start r held new is reads buses events layout s =
     let i = reads buses events layout s in
     let order = opening_in_order buses layout in
     let w = counted (course buses events) in
-    let e = lines_ended buses order first_r.keys n key i.named i.conn.fed piece (accepting n piece w) first.denied grants start held new is i.upto in
+    let e =
+    lines_ended buses order first_r.keys n key i.named i.conn.fed piece
+    (accepting n piece w) first.denied grants start held new is i.upto in
     let p : Piece = record { bytes = piece; grants = grants } in
-    let world : accepted buses (Bytes n p) w ≡ fold (course_answered buses n) (accepting n piece w) (lines_under grants (new_marks buses i.conn.fed piece)) = ap (λ o. fed_to buses n p o w) i.opened in (
+    let world : accepted buses (Bytes n p) w
+    ≡ fold (course_answered buses n) (accepting n piece w) (lines_under grants (new_marks buses i.conn.fed piece)) =
+    ap (λ o. fed_to buses n p o w) i.opened in (
       i.free,
       subst (λ (v : World). Runs buses r new v) (sym world) (record {
-        stands = subst (λ (keys : List (Option ℕ)). StandsFor buses keys new (fold (course_answered buses n) (accepting n piece w) (lines_under grants (new_marks buses i.conn.fed piece)))) (sym i.keys) e.stands;
+        stands =
+            subst (λ (keys : List (Option ℕ)).
+            StandsFor buses keys new
+            (fold (course_answered buses n) (accepting n piece w) (lines_under grants (new_marks buses i.conn.fed piece))))
+            (sym i.keys) e.stands;
         tells = subst (λ (v : World). Tells r v) e.world_is i.tells;
       }),
     )
 
 -- what was refused to its lines was asked for
-pub bytes_asked : (grants : List Bool) (n key : ℕ) (piece : List ℕ) (first_r : Recording) (first : Held) (start : ℕ) (r : Recording) (held new : Held) → ◌≡◌ {A = Option (ℕ × Asked) × Held} (None, new) (heard_at key piece start held) → ReadsWith grants n key piece first_r first start r held
+pub bytes_asked : (grants : List Bool) (n key : ℕ) (piece : List ℕ) (first_r : Recording) (first : Held) (start : ℕ) (r : Recording)
+    (held new : Held)
+    → ◌≡◌ {A = Option (ℕ × Asked) × Held} (None, new) (heard_at key piece start held)
+    → ReadsWith grants n key piece first_r first start r held
     → CountsAsked first_r first new (Bytes n (record { bytes = piece; grants = grants }))
 bytes_asked grants n key piece first_r first start r held new is reads buses events layout s =
     let i = reads buses events layout s in
     let w = counted (course buses events) in
     let p : Piece = record { bytes = piece; grants = grants } in
-    (lines_ended buses (opening_in_order buses layout) first_r.keys n key i.named i.conn.fed piece (accepting n piece w) first.denied grants start held new is i.upto).counts
-    ∙ sym (ap (λ (cause : Option CoreFault). denied_fed buses n p w first.denied cause (open_connection w n)) i.free ∙ ap (denied_fed buses n p w first.denied None) i.opened)
+    (lines_ended buses (opening_in_order buses layout) first_r.keys n key i.named i.conn.fed piece
+    (accepting n piece w) first.denied grants start held new is i.upto).counts
+    ∙ sym (ap (λ (cause : Option CoreFault). denied_fed buses n p w first.denied cause (open_connection w n)) i.free
+    ∙ ap (denied_fed buses n p w first.denied None) i.opened)
 
-pub bytes_happens : (n key : ℕ) (piece : List ℕ) (first_r : Recording) (first : Held) (start : ℕ) (r : Recording) (held new : Held) → ◌≡◌ {A = Option (ℕ × Asked) × Held} (None, new) (heard_at key piece start held) → ReadsOn n key piece first_r first start r held
+pub bytes_happens : (n key : ℕ) (piece : List ℕ) (first_r : Recording) (first : Held) (start : ℕ) (r : Recording) (held new : Held)
+    → ◌≡◌ {A = Option (ℕ × Asked) × Held} (None, new) (heard_at key piece start held) → ReadsOn n key piece first_r first start r held
     → HappensAs (plain.Bytes n piece) None first_r first r new
 bytes_happens n key piece first_r first start r held new is reads = record {
   grants = reads.grants;

@@ -1,6 +1,7 @@
 -- How many more changes may come upon the information sessions, and when something falls due next: what is held says what
 -- the course says.
-use Rattle.std.proofs.Common.{◌≡◌, ℕ, zero, suc, ◌-◌, ◌<◌, ◌≤◌, min, Bool, true, false, List, [], ◌∷◌, map, length, refl, ap, sym, ◌∙◌, subst, arith}
+use Rattle.std.proofs.Common.{◌≡◌, ℕ, zero, suc, ◌-◌, ◌<◌, ◌≤◌, min, Bool, true, false, List, [], ◌∷◌, map, length, refl, ap, sym, ◌∙◌}
+use Rattle.std.proofs.Common.{subst, arith}
 use Rattle.std.proofs.lemmas.Bool.Decides.{nat_tests}
 use Rattle.std.specs.List.{AllByRecursion}
 use Rattle.std.specs.Prelude.{◌&&◌, Option, Some, None, IfSome, nat_lt, slice_index_or, if◌then◌else◌}
@@ -53,7 +54,8 @@ least_in (x ∷ xs) n e = by x refl (least xs) refl e (least_in xs)
     further : (m : ℕ) → IsIn xs m → m ≡ n → IsIn (x ∷ xs) n
     further m i same = (suc i.0, i.1 ∙ ap (λ k. Some k) same)
 
-    by : (one : Option ℕ) → x ≡ one → (other : Option ℕ) → least xs ≡ other → lesser one other ≡ Some n → ((m : ℕ) → least xs ≡ Some m → IsIn xs m) → IsIn (x ∷ xs) n
+    by : (one : Option ℕ) → x ≡ one → (other : Option ℕ) → least xs ≡ other → lesser one other ≡ Some n
+        → ((m : ℕ) → least xs ≡ Some m → IsIn xs m) → IsIn (x ∷ xs) n
     by None p None q e ih = cc
     by None p (Some m) q e ih = let same : m ≡ n = cc in further m (ih m q) same
     by (Some k) p None q e ih = (0, p ∙ e)
@@ -94,21 +96,30 @@ abbrev pub slack_by : History → Option Connection → Option ℕ
 slack_by h None = None
 slack_by h (Some conn) = slack_of h conn
 
-pub slack_conns : (h : History) (conns : List Connection) (k : ℕ) → slice_index_or (map (slack_of h) conns) k None ≡ slack_by h (numbered (suc k) conns)
+pub slack_conns : (h : History) (conns : List Connection) (k : ℕ)
+    → slice_index_or (map (slack_of h) conns) k None ≡ slack_by h (numbered (suc k) conns)
 slack_conns h [] k = refl
 slack_conns h (conn ∷ conns) zero = refl
 slack_conns h (conn ∷ conns) (suc k) = slack_conns h conns k
 
-panel_slack : (info : Bool) (cursor : Cursor) (queue : List Change) → slack_in (panel_at info cursor queue) ≡ (if info then Some (if nat_lt 256 (length queue) then 256 else 256 - length queue) else None)
+panel_slack : (info : Bool) (cursor : Cursor) (queue : List Change)
+    → slack_in (panel_at info cursor queue) ≡ (if info then Some (if nat_lt 256 (length queue) then 256 else 256 - length queue) else None)
 panel_slack false cursor queue = refl
 panel_slack true cursor queue =
-    elim (nat_lt 256 (length queue)) as (λ t. slack_in (if t then Overran else Listening (record { cursor = cursor; queue = queue })) ≡ Some (if t then 256 else 256 - length queue)) [ true ↦ refl | false ↦ refl ]
+    elim (nat_lt 256 (length queue))
+    as (λ t. slack_in (if t then Overran else Listening (record { cursor = cursor; queue = queue }))
+    ≡ Some (if t then 256 else 256 - length queue)) [
+      | true ↦ refl
+      | false ↦ refl
+    ]
 
 -- what is held of an open connection has its slack
-slack_place : (reader : Reading) (h : History) (conn : Connection) → is_open conn ≡ true → slack_in (place_of reader h conn).panel ≡ slack_of h conn
+slack_place : (reader : Reading) (h : History) (conn : Connection) → is_open conn ≡ true
+    → slack_in (place_of reader h conn).panel ≡ slack_of h conn
 slack_place reader h conn up =
     panel_slack conn.info (cursor_at conn (length h)) (untold conn h)
-    ∙ sym (ap (λ t. if t && conn.info then Some (if overran conn h then 256 else 256 - length (if t then untold conn h else [])) else None) up)
+    ∙ sym (ap (λ t. if t && conn.info then Some (if overran conn h then 256 else 256 - length (if t then untold conn h else [])) else None)
+    up)
 
 pub slack_agrees : (held : Held) → OfCourse held (λ buses events. least (map slack_at held.places) ≡ slack buses (course buses events))
 slack_agrees held buses events keys layout s = least_same (map slack_at held.places) (map (slack_of h) w.connections) to from
@@ -122,7 +133,8 @@ slack_agrees held buses events keys layout s = least_same (map slack_at held.pla
     to : (n : ℕ) → IsIn (map slack_at held.places) n → IsIn (map (slack_of h) w.connections) n
     to n i = by (place_at held.places i.0) refl (sym (slack_places held.places i.0) ∙ i.1)
       where
-        stood : (number : ℕ) (conn : Connection) → numbered number w.connections ≡ Some conn → slack_of h conn ≡ Some n → IsIn (map (slack_of h) w.connections) n
+        stood : (number : ℕ) (conn : Connection) → numbered number w.connections ≡ Some conn → slack_of h conn ≡ Some n
+            → IsIn (map (slack_of h) w.connections) n
         stood zero conn there has = cc
         stood (suc k) conn there has = (k, slack_conns h w.connections k ∙ ap (slack_by h) there ∙ has)
 
@@ -138,7 +150,8 @@ slack_agrees held buses events keys layout s = least_same (map slack_at held.pla
     from : (n : ℕ) → IsIn (map (slack_of h) w.connections) n → IsIn (map slack_at held.places) n
     from n i = by (numbered (suc i.0) w.connections) refl (sym (slack_conns h w.connections i.0) ∙ i.1)
       where
-        by : (conn : Option Connection) → numbered (suc i.0) w.connections ≡ conn → slack_by h conn ≡ Some n → IsIn (map slack_at held.places) n
+        by : (conn : Option Connection) → numbered (suc i.0) w.connections ≡ conn → slack_by h conn ≡ Some n
+            → IsIn (map slack_at held.places) n
         by None e is = cc
         by (Some conn) e is = go (is_open conn) refl
           where
@@ -146,18 +159,24 @@ slack_agrees held buses events keys layout s = least_same (map slack_at held.pla
             go true up =
                 let a = s.opens (suc i.0) conn e up in
                 (a.key, slack_places held.places a.key ∙ ap slack_at a.place ∙ slack_place a.reader h conn up ∙ is)
-            go false up = let bad : None ≡ Some n = sym (ap (λ t. if t && conn.info then Some (if overran conn h then 256 else 256 - length (waiting conn h)) else None) up) ∙ is in cc
+            go false up =
+                let bad : None ≡ Some n =
+                sym (ap (λ t. if t && conn.info then Some (if overran conn h then 256 else 256 - length (waiting conn h)) else None) up)
+                ∙ is in
+                cc
 
 -- ---- what falls due
 
-due_rows : (rows : State) (k n : ℕ) → slice_index_or (map (λ row. row.due) rows) k None ≡ Some n → (first : Option ℕ) → IsEarliestDue first rows → AtMost n first
+due_rows : (rows : State) (k n : ℕ) → slice_index_or (map (λ row. row.due) rows) k None ≡ Some n → (first : Option ℕ)
+    → IsEarliestDue first rows → AtMost n first
 due_rows [] k n e first is = cc
 due_rows (row ∷ rows) zero n e None is = let bad : None ≡ Some n = sym is.0 ∙ e in cc
 due_rows (row ∷ rows) zero n e (Some m) is = subst (λ o. IfSome o (λ moment. m ≤ moment)) e is.0.0
 due_rows (row ∷ rows) (suc k) n e None is = due_rows rows k n e None is.1
 due_rows (row ∷ rows) (suc k) n e (Some m) is = all_due rows k n e m is.0.1
   where
-    all_due : (rows : State) (k n : ℕ) → slice_index_or (map (λ (row : Row). row.due) rows) k None ≡ Some n → (m : ℕ) → AllByRecursion (λ (row : Row). IfSome row.due (λ moment. m ≤ moment)) rows → m ≤ n
+    all_due : (rows : State) (k n : ℕ) → slice_index_or (map (λ (row : Row). row.due) rows) k None ≡ Some n → (m : ℕ)
+        → AllByRecursion (λ (row : Row). IfSome row.due (λ moment. m ≤ moment)) rows → m ≤ n
     all_due [] k n e m a = cc
     all_due (row ∷ rows) zero n e m a = subst (λ o. IfSome o (λ moment. m ≤ moment)) e a.0
     all_due (row ∷ rows) (suc k) n e m a = all_due rows k n e m a.1
@@ -174,7 +193,8 @@ earliest_is (Some m) rows is = by (least (map (λ (row : Row). row.due) rows)) r
     dues : List (Option ℕ)
     dues = map (λ (row : Row). row.due) rows
 
-    at : (rows : State) (k : ℕ) (row : Row) → k < length rows → slice_index_or rows k row ≡ row → row.due ≡ Some m → IsIn (map (λ (row : Row). row.due) rows) m
+    at : (rows : State) (k : ℕ) (row : Row) → k < length rows → slice_index_or rows k row ≡ row → row.due ≡ Some m
+        → IsIn (map (λ (row : Row). row.due) rows) m
     at [] k row low here e = absurd (omega arith)
     at (first ∷ rows) zero row low here e = (0, ap (λ (r : Row). r.due) here ∙ e)
     at (first ∷ rows) (suc k) row low here e = let i = at rows k row (omega arith) here e in (suc i.0, i.1)
@@ -191,5 +211,7 @@ earliest_is (Some m) rows is = by (least (map (λ (row : Row). row.due) rows)) r
         let same : m ≡ n = omega arith in
         ap (λ n. Some n) same
 
-pub due_agrees : (first : Option ℕ) (held : Held) → IsEarliestDue first held.rows → OfCourse held (λ buses events. first ≡ due_next buses (course buses events))
-due_agrees first held earliest buses events keys layout s = earliest_is first held.rows earliest ∙ ap (λ rows. least (map (λ (row : Row). row.due) rows)) s.rows
+pub due_agrees : (first : Option ℕ) (held : Held) → IsEarliestDue first held.rows
+    → OfCourse held (λ buses events. first ≡ due_next buses (course buses events))
+due_agrees first held earliest buses events keys layout s =
+    earliest_is first held.rows earliest ∙ ap (λ rows. least (map (λ (row : Row). row.due) rows)) s.rows

@@ -45,7 +45,8 @@ module _ (buses : List Bus) where
     pub place : at held key ≡ Some (place_of reader (history buses w) conn)
     pub reads : StandsAt (read n conn.fed) reader
 
-  pub found_at : (read : ℕ → List ℕ → List ℕ) (keys : List (Option ℕ)) (held : Held) (w : World) (n key : ℕ) → StandsBy buses read keys held w → key_of n keys ≡ Some key → Found read held w n key
+  pub found_at : (read : ℕ → List ℕ → List ℕ) (keys : List (Option ℕ)) (held : Held) (w : World) (n key : ℕ)
+      → StandsBy buses read keys held w → key_of n keys ≡ Some key → Found read held w n key
   found_at read keys held w n key s k = by (numbered n w.connections) refl
     where
       with : (conn : Connection) (o : Bool) → numbered n w.connections ≡ Some conn → is_open conn ≡ o → Found read held w n key
@@ -74,13 +75,16 @@ module _ (buses : List Bus) where
       by (Some conn) e = with conn (is_open conn) e refl
 
   -- another number has another key
-  pub other_key : (read : ℕ → List ℕ → List ℕ) (keys : List (Option ℕ)) (held : Held) (w : World) (n key : ℕ) → StandsBy buses read keys held w → key_of n keys ≡ Some key → (m other : ℕ) → m ≢ n → key_of m keys ≡ Some other → other ≢ key
+  pub other_key : (read : ℕ → List ℕ → List ℕ) (keys : List (Option ℕ)) (held : Held) (w : World) (n key : ℕ)
+      → StandsBy buses read keys held w → key_of n keys ≡ Some key → (m other : ℕ) → m ≢ n → key_of m keys ≡ Some other → other ≢ key
   other_key read keys held w n key s named m other d e z = d (s.apart m n key (e ∙ ap Some z) named)
 
   -- ---- one connection
 
-  pub stands_changed : (read later : ℕ → List ℕ → List ℕ) (keys : List (Option ℕ)) (held : Held) (w : World) (n key : ℕ) (conn : Connection) (f : Connection → Connection) (p : Place) (reader : Reading)
-      → StandsBy buses read keys held w → key_of n keys ≡ Some key → numbered n w.connections ≡ Some conn → is_open conn ≡ true → is_open (f conn) ≡ true
+  pub stands_changed : (read later : ℕ → List ℕ → List ℕ) (keys : List (Option ℕ)) (held : Held) (w : World) (n key : ℕ) (conn : Connection)
+      (f : Connection → Connection) (p : Place) (reader : Reading)
+      → StandsBy buses read keys held w → key_of n keys ≡ Some key → numbered n w.connections ≡ Some conn → is_open conn ≡ true
+      → is_open (f conn) ≡ true
       → p ≡ place_of reader (history buses w) (f conn) → StandsAt (later n (f conn).fed) reader
       → ((m : ℕ) (bytes : List ℕ) → m ≢ n → later m bytes ≡ read m bytes)
       → StandsBy buses later keys (record held { places = slice_set held.places key (Some p) }) (at_connection n f w)
@@ -106,19 +110,33 @@ module _ (buses : List Bus) where
       was : place_at held.places key ≡ Some old
       was = found.place
 
-      at_all : (m : ℕ) (c : Connection) → numbered m (at_connection n f w).connections ≡ Some c → is_open c ≡ true → IsAt keys (slice_set held.places key (Some p)) (history buses w) m c (later m c.fed)
+      at_all : (m : ℕ) (c : Connection) → numbered m (at_connection n f w).connections ≡ Some c → is_open c ≡ true
+          → IsAt keys (slice_set held.places key (Some p)) (history buses w) m c (later m c.fed)
       at_all m c e o =
           let from = look_with m n f w.connections c e in
           ⊎_elim
           (λ h.
           let a = s.opens m from.x from.there (ap is_open (sym h.1) ∙ o) in
           subst (λ (c : Connection). IsAt keys (slice_set held.places key (Some p)) (history buses w) m c (later m c.fed)) (sym h.1)
-          (record { key = a.key; reader = a.reader; named = a.named; place = place_set held.places key a.key (Some p) (other_key read keys held w n key s k m a.key h.0 a.named) ∙ a.place; reads = subst (λ bytes. StandsAt bytes a.reader) (sym (same_read m from.x.fed h.0)) a.reads }))
+          (record {
+            key = a.key;
+            reader = a.reader;
+            named = a.named;
+            place = place_set held.places key a.key (Some p) (other_key read keys held w n key s k m a.key h.0 a.named) ∙ a.place;
+            reads = subst (λ bytes. StandsAt bytes a.reader) (sym (same_read m from.x.fed h.0)) a.reads;
+          }))
           (λ h.
-          let same : conn ≡ from.x = let both : Some conn ≡ Some from.x = sym there ∙ ap (λ j. numbered j w.connections) (sym h.0) ∙ from.there in cc in
+          let same : conn ≡ from.x =
+          let both : Some conn ≡ Some from.x = sym there ∙ ap (λ j. numbered j w.connections) (sym h.0) ∙ from.there in cc in
           let image : c ≡ f conn = h.1 ∙ ap f (sym same) in
           subst (λ (c : Connection). IsAt keys (slice_set held.places key (Some p)) (history buses w) m c (later m c.fed)) (sym image)
-          (record { key = key; reader = reader; named = ap (λ j. key_of j keys) h.0 ∙ k; place = place_set_here held.places key old (Some p) was ∙ ap Some is; reads = subst (λ j. StandsAt (later j (f conn).fed) reader) (sym h.0) reads }))
+          (record {
+            key = key;
+            reader = reader;
+            named = ap (λ j. key_of j keys) h.0 ∙ k;
+            place = place_set_here held.places key old (Some p) was ∙ ap Some is;
+            reads = subst (λ j. StandsAt (later j (f conn).fed) reader) (sym h.0) reads;
+          }))
           from.from
 
       shuts : (m : ℕ) (c : Connection) → numbered m (at_connection n f w).connections ≡ Some c → is_open c ≡ false → key_of m keys ≡ None
@@ -127,7 +145,8 @@ module _ (buses : List Bus) where
           ⊎_elim
           (λ h. s.closed m from.x from.there (ap is_open (sym h.1) ∙ o))
           (λ h.
-          let same : conn ≡ from.x = let both : Some conn ≡ Some from.x = sym there ∙ ap (λ j. numbered j w.connections) (sym h.0) ∙ from.there in cc in
+          let same : conn ≡ from.x =
+          let both : Some conn ≡ Some from.x = sym there ∙ ap (λ j. numbered j w.connections) (sym h.0) ∙ from.there in cc in
           let bad : true ≡ false = sym ups ∙ ap (λ c. is_open (f c)) same ∙ ap is_open (sym h.1) ∙ o in
           cc)
           from.from
@@ -136,27 +155,35 @@ module _ (buses : List Bus) where
       owner other q e (Here z) = record { number = n; named = k ∙ ap Some (sym z) }
       owner other q e (Away d) = s.owned other q (sym (place_set held.places key other (Some p) d) ∙ e)
 
-  changed_is : (key : ℕ) (change : Place → Place) (held : Held) (p : Place) → at held key ≡ Some p → changed_at key change held ≡ record held { places = slice_set held.places key (Some (change p)) }
+  changed_is : (key : ℕ) (change : Place → Place) (held : Held) (p : Place) → at held key ≡ Some p
+      → changed_at key change held ≡ record held { places = slice_set held.places key (Some (change p)) }
   changed_is key change held p e = ap (λ o. record held { places = changed_in key change held.places o }) e
 
   -- the same change of the place and of the connection
-  pub stands_at : (read : ℕ → List ℕ → List ℕ) (keys : List (Option ℕ)) (held : Held) (w : World) (n key : ℕ) (f : Connection → Connection) (change : Place → Place)
+  pub stands_at : (read : ℕ → List ℕ → List ℕ) (keys : List (Option ℕ)) (held : Held) (w : World) (n key : ℕ) (f : Connection → Connection)
+      (change : Place → Place)
       → StandsBy buses read keys held w → key_of n keys ≡ Some key
-      → ((conn : Connection) (reader : Reading) → numbered n w.connections ≡ Some conn → conn.shut ≡ None → (is_open (f conn) ≡ is_open conn) × (((f conn).fed ≡ conn.fed) × (change (place_of reader (history buses w) conn) ≡ place_of reader (history buses w) (f conn))))
+      → ((conn : Connection) (reader : Reading) → numbered n w.connections ≡ Some conn → conn.shut ≡ None
+      → (is_open (f conn) ≡ is_open conn)
+      × (((f conn).fed ≡ conn.fed) × (change (place_of reader (history buses w) conn) ≡ place_of reader (history buses w) (f conn))))
       → StandsBy buses read keys (changed_at key change held) (at_connection n f w)
   stands_at read keys held w n key f change s k law =
       let h = found_at read keys held w n key s k in
       let l = law h.conn h.reader h.there h.shut in
-      subst (λ (x : Held). StandsBy buses read keys x (at_connection n f w)) (sym (changed_is key change held (place_of h.reader (history buses w) h.conn) h.place))
-      (stands_changed read read keys held w n key h.conn f (change (place_of h.reader (history buses w) h.conn)) h.reader s k h.there h.up (l.0 ∙ h.up) l.1.1
+      subst (λ (x : Held). StandsBy buses read keys x (at_connection n f w))
+      (sym (changed_is key change held (place_of h.reader (history buses w) h.conn) h.place))
+      (stands_changed read read keys held w n key h.conn f (change (place_of h.reader (history buses w) h.conn)) h.reader s k h.there h.up
+      (l.0 ∙ h.up) l.1.1
       (subst (λ bytes. StandsAt (read n bytes) h.reader) (sym l.1.0) h.reads) (λ m bytes d. refl))
 
   -- ---- a step
 
-  pub stands_did : (read : ℕ → List ℕ → List ℕ) (keys : List (Option ℕ)) (held : Held) (w : World) (step : Step) → AllFine buses w → StandsBy buses read keys held w
+  pub stands_did : (read : ℕ → List ℕ → List ℕ) (keys : List (Option ℕ)) (held : Held) (w : World) (step : Step) → AllFine buses w
+      → StandsBy buses read keys held w
       → StandsBy buses read keys (carried (updates_of held.rows step) held) (did step w)
   stands_did read keys held w step fine s =
-      subst (λ (updates : List Update). StandsBy buses read keys (carried updates held) (did step w)) (ap (λ rows. updates_of rows step) (sym s.rows)) (record {
+      subst (λ (updates : List Update). StandsBy buses read keys (carried updates held) (did step w))
+      (ap (λ rows. updates_of rows step) (sym s.rows)) (record {
         layout = s.layout;
         rows = ap (updated_all updates) s.rows ∙ sym (fold-append stepped (opening buses 0) w.steps (step ∷ []));
         moment = s.moment;
@@ -178,7 +205,8 @@ module _ (buses : List Bus) where
       later : history buses (did step w) ≡ history buses w ++ changes ∷ []
       later = history_push (opening buses 0) w.steps step
 
-      moved : (n : ℕ) (conn : Connection) → numbered n w.connections ≡ Some conn → is_open conn ≡ true → IsAt keys (told_each changes held.places) (history buses (did step w)) n conn (read n conn.fed)
+      moved : (n : ℕ) (conn : Connection) → numbered n w.connections ≡ Some conn → is_open conn ≡ true
+          → IsAt keys (told_each changes held.places) (history buses (did step w)) n conn (read n conn.fed)
       moved n conn e o =
           let a = s.opens n conn e o in
           let shut = open_shut conn.shut o in
@@ -190,10 +218,14 @@ module _ (buses : List Bus) where
             place =
                 told_each_at changes held.places a.key
                 ∙ ap (option_map (told_places changes)) a.place
-                ∙ ap Some (told_place_of (shown_rows (opening buses 0)) a.reader conn (history buses w) changes shut fits ∙ ap (λ h. place_of a.reader h conn) (sym later));
+                ∙ ap Some
+                (told_place_of (shown_rows (opening buses 0)) a.reader conn (history buses w) changes shut fits
+                ∙ ap (λ h. place_of a.reader h conn) (sym later));
             reads = a.reads;
           }
 
-      owner : (key : ℕ) (p : Place) → place_at (told_each changes held.places) key ≡ Some p → (o : Option Place) → place_at held.places key ≡ o → IsOwned keys key
-      owner key p e None z = let bad : None ≡ Some p = sym (told_each_at changes held.places key ∙ ap (option_map (told_places changes)) z) ∙ e in cc
+      owner : (key : ℕ) (p : Place) → place_at (told_each changes held.places) key ≡ Some p → (o : Option Place)
+          → place_at held.places key ≡ o → IsOwned keys key
+      owner key p e None z =
+          let bad : None ≡ Some p = sym (told_each_at changes held.places key ∙ ap (option_map (told_places changes)) z) ∙ e in cc
       owner key p e (Some q) z = s.owned key q z

@@ -1,5 +1,6 @@
 -- What an information session was given and what waits for it: together they are the rows that its listing has passed.
-use Rattle.std.proofs.Common.{◌≡◌, ℕ, ◌+◌, ◌-◌, ◌<◌, ◌≤◌, Bool, true, false, List, [], ◌∷◌, ◌++◌, map, length, drop, refl, ap, sym, ◌∙◌, subst, arith, append-nil, append_assoc, length-append, length-drop}
+use Rattle.std.proofs.Common.{◌≡◌, ℕ, ◌+◌, ◌-◌, ◌<◌, ◌≤◌, Bool, true, false, List, [], ◌∷◌, ◌++◌, map, length, drop, refl, ap, sym, ◌∙◌}
+use Rattle.std.proofs.Common.{subst, arith, append-nil, append_assoc, length-append, length-drop}
 use Rattle.std.proofs.lemmas.Bool.{le-leb}
 use Rattle.std.proofs.lemmas.List.{length_push, drop-append-le, drop-drop}
 use Rattle.std.proofs.lemmas.List.Concat.{flat_map-append}
@@ -19,7 +20,8 @@ use Rattle.srcp_info.proofs.ClientLaws.{key_at}
 use Rattle.srcp_feed.proofs.Steps.{ListsOne, lists_one, passed_changed, beyond_done}
 use Rattle.srcp_core.specs.Connection.{History, tells, told_change, items_of}
 use Rattle.srcp_core.specs.declared.record.Item.{Item}
-use Rattle.srcp_core.proofs.CourseLaws.Histories.{rows_after, concerning_by, concerning_push, concerning_same, last_of, cursor_by, AreBy, IsDoneBy, by_all, by_more, done_more, cursor_later, cursor_before}
+use Rattle.srcp_core.proofs.CourseLaws.Histories.{rows_after, concerning_by, concerning_push, concerning_same, last_of, cursor_by, AreBy}
+use Rattle.srcp_core.proofs.CourseLaws.Histories.{IsDoneBy, by_all, by_more, done_more, cursor_later, cursor_before}
 
 -- the changes that were told
 abbrev pub tolds : List Item → List Change
@@ -29,7 +31,8 @@ abbrev pub untold_by : ℕ → List Item → Option ℕ → History → List Cha
 untold_by go items done history = drop (length (tolds items)) (concerning_by go (cursor_by done items) history)
 
 abbrev pub owed_by : ℕ → List Item → Option ℕ → History → List Shown → List Next
-owed_by go items done history rows = map Told (untold_by go items done history) ++ map Listed (beyond (cursor_by done items (length history)) rows)
+owed_by go items done history rows =
+    map Told (untold_by go items done history) ++ map Listed (beyond (cursor_by done items (length history)) rows)
 
 -- a session whose client, once it is told what waits, holds the rows that its listing has passed
 pub record Fits (start : List Shown) (history : History) (go : ℕ) (items : List Item) (done : Option ℕ) : Type 0 where
@@ -37,23 +40,30 @@ pub record Fits (start : List Shown) (history : History) (go : ℕ) (items : Lis
   pub finished : IsDoneBy (length history) done
   pub began : go ≤ length history
   pub enough : length (tolds items) ≤ length (concerning_by go (cursor_by done items) history)
-  pub kept : changed_all (tells items ++ untold_by go items done history) [] ≡ passed (cursor_by done items (length history)) (rows_after start history)
+  pub kept : changed_all (tells items ++ untold_by go items done history) []
+      ≡ passed (cursor_by done items (length history)) (rows_after start history)
 
-pub rows_push : (start : List Shown) (history : History) (changes : List Change) → rows_after start (history ++ changes ∷ []) ≡ changed_all changes (rows_after start history)
+pub rows_push : (start : List Shown) (history : History) (changes : List Change)
+    → rows_after start (history ++ changes ∷ []) ≡ changed_all changes (rows_after start history)
 rows_push start history changes = fold-append (λ rows changes. changed_all changes rows) start history (changes ∷ [])
 
 -- a step more
-pub fits_push : (start : List Shown) (history : History) (changes : List Change) (go : ℕ) (items : List Item) (done : Option ℕ) → Fits start history go items done → Fits start (history ++ changes ∷ []) go items done
+pub fits_push : (start : List Shown) (history : History) (changes : List Change) (go : ℕ) (items : List Item) (done : Option ℕ)
+    → Fits start history go items done → Fits start (history ++ changes ∷ []) go items done
 fits_push start history changes go items done f =
     let len : length (history ++ changes ∷ []) ≡ length history + 1 = length_push history changes in
     let up : length history ≤ length (history ++ changes ∷ []) = omega arith in
     let numbers = f.numbers in
-    let cur : cursor_by done items (length (history ++ changes ∷ [])) ≡ cursor_by done items (length history) = cursor_later (length history) (length (history ++ changes ∷ [])) done items up f.finished f.numbers in
+    let cur : cursor_by done items (length (history ++ changes ∷ [])) ≡ cursor_by done items (length history) =
+    cursor_later (length history) (length (history ++ changes ∷ [])) done items up f.finished f.numbers in
     let before : List Change = concerning_by go (cursor_by done items) history in
     let extra : List Change = filter (concerns (cursor_by done items (length history))) changes in
-    let con : concerning_by go (cursor_by done items) (history ++ changes ∷ []) ≡ before ++ extra = concerning_push go (cursor_by done items) history changes f.began in
-    let more : untold_by go items done (history ++ changes ∷ []) ≡ untold_by go items done history ++ extra = ap (drop (length (tolds items))) con ∙ drop-append-le (length (tolds items)) before extra f.enough in
-    let longer : length (concerning_by go (cursor_by done items) (history ++ changes ∷ [])) ≡ length before + length extra = ap length con ∙ length-append before extra in
+    let con : concerning_by go (cursor_by done items) (history ++ changes ∷ []) ≡ before ++ extra =
+    concerning_push go (cursor_by done items) history changes f.began in
+    let more : untold_by go items done (history ++ changes ∷ []) ≡ untold_by go items done history ++ extra =
+    ap (drop (length (tolds items))) con ∙ drop-append-le (length (tolds items)) before extra f.enough in
+    let longer : length (concerning_by go (cursor_by done items) (history ++ changes ∷ [])) ≡ length before + length extra =
+    ap length con ∙ length-append before extra in
     let enough = f.enough in
     let began = f.began in
     record {
@@ -77,7 +87,8 @@ abbrev pub item_of : History → Next → Item
 item_of history what = record { steps = length history; what = what }
 
 -- after one line is given, what waits and what is left to list
-pub record OneMore (start : List Shown) (history : History) (go : ℕ) (items : List Item) (done : Option ℕ) (waits : List Change) (left : List Shown) : Type 0 where
+pub record OneMore (start : List Shown) (history : History) (go : ℕ) (items : List Item) (done : Option ℕ) (waits : List Change)
+    (left : List Shown) : Type 0 where
   pub fits : Fits start history go items done
   pub waiting : untold_by go items done history ≡ waits
   pub listing : beyond (cursor_by done items (length history)) (rows_after start history) ≡ left
@@ -87,7 +98,8 @@ all_push n [] item a h = (h, tt)
 all_push n (i ∷ items) item a h = (a.0, all_push n items item a.1 h)
 
 -- what is given now does not change what concerns the session
-pub concerning_item : (history : History) (go : ℕ) (items : List Item) (done : Option ℕ) (what : Next) → concerning_by go (cursor_by done (items ++ item_of history what ∷ [])) history ≡ concerning_by go (cursor_by done items) history
+pub concerning_item : (history : History) (go : ℕ) (items : List Item) (done : Option ℕ) (what : Next)
+    → concerning_by go (cursor_by done (items ++ item_of history what ∷ [])) history ≡ concerning_by go (cursor_by done items) history
 concerning_item history go items done what =
     concerning_same go (cursor_by done (items ++ item_of history what ∷ [])) (cursor_by done items) 0 history
     (λ k low high. cursor_before (length history) k done items (item_of history what ∷ []) (below k high) (refl, tt))
@@ -96,34 +108,46 @@ concerning_item history go items done what =
     below k h = omega arith
 
 -- how far the listing is after a line
-pub cursor_item : (history : History) (items : List Item) (what : Next) → AreBy (length history) items → cursor_by None (items ++ item_of history what ∷ []) (length history) ≡ moved (cursor_by None items (length history)) what
+pub cursor_item : (history : History) (items : List Item) (what : Next) → AreBy (length history) items
+    → cursor_by None (items ++ item_of history what ∷ []) (length history) ≡ moved (cursor_by None items (length history)) what
 cursor_item history items what a =
-    ap last_of (by_all (length history) (items ++ item_of history what ∷ []) (all_push (length history) items (item_of history what) a self))
+    ap last_of
+    (by_all (length history) (items ++ item_of history what ∷ []) (all_push (length history) items (item_of history what) a self))
     ∙ fold-append (λ cursor item. moved cursor item.what) Start items (item_of history what ∷ [])
     ∙ ap (λ is. moved (last_of is) what) (sym (by_all (length history) items a))
   where
     self : length history ≤ length history
     self = omega arith
 
-pub cursor_told : (history : History) (items : List Item) (done : Option ℕ) (change : Change) → AreBy (length history) items → cursor_by done (items ++ item_of history (Told change) ∷ []) (length history) ≡ cursor_by done items (length history)
+pub cursor_told : (history : History) (items : List Item) (done : Option ℕ) (change : Change) → AreBy (length history) items
+    → cursor_by done (items ++ item_of history (Told change) ∷ []) (length history) ≡ cursor_by done items (length history)
 cursor_told history items None change a = cursor_item history items (Told change) a
 cursor_told history items (Some m) change a = by (nat_le m (length history)) refl
   where
-    by : (t : Bool) → nat_le m (length history) ≡ t → cursor_by (Some m) (items ++ item_of history (Told change) ∷ []) (length history) ≡ cursor_by (Some m) items (length history)
+    by : (t : Bool) → nat_le m (length history) ≡ t
+        → cursor_by (Some m) (items ++ item_of history (Told change) ∷ []) (length history) ≡ cursor_by (Some m) items (length history)
     by true e = rw e refl
     by false e = rw e (cursor_item history items (Told change) a)
 
-pub fits_told : (start : List Shown) (history : History) (go : ℕ) (items : List Item) (done : Option ℕ) (change : Change) (changes : List Change) → Fits start history go items done → untold_by go items done history ≡ change ∷ changes
-    → OneMore start history go (items ++ item_of history (Told change) ∷ []) done changes (beyond (cursor_by done items (length history)) (rows_after start history))
+pub fits_told : (start : List Shown) (history : History) (go : ℕ) (items : List Item) (done : Option ℕ) (change : Change)
+    (changes : List Change)
+    → Fits start history go items done → untold_by go items done history ≡ change ∷ changes
+    → OneMore start history go (items ++ item_of history (Told change) ∷ []) done changes
+    (beyond (cursor_by done items (length history)) (rows_after start history))
 fits_told start history go items done change changes f e =
     let con = concerning_item history go items done (Told change) in
     let cur = cursor_told history items done change f.numbers in
-    let tel : tells (items ++ item_of history (Told change) ∷ []) ≡ tells items ++ change ∷ [] = flat_map-append (λ (item : Item). said item.what) items (item_of history (Told change) ∷ []) in
-    let tol : tolds (items ++ item_of history (Told change) ∷ []) ≡ tolds items ++ change ∷ [] = filter_map-append (λ (item : Item). told_change item.what) items (item_of history (Told change) ∷ []) in
-    let len : length (tolds (items ++ item_of history (Told change) ∷ [])) ≡ length (tolds items) + 1 = ap length tol ∙ length_push (tolds items) change in
+    let tel : tells (items ++ item_of history (Told change) ∷ []) ≡ tells items ++ change ∷ [] =
+    flat_map-append (λ (item : Item). said item.what) items (item_of history (Told change) ∷ []) in
+    let tol : tolds (items ++ item_of history (Told change) ∷ []) ≡ tolds items ++ change ∷ [] =
+    filter_map-append (λ (item : Item). told_change item.what) items (item_of history (Told change) ∷ []) in
+    let len : length (tolds (items ++ item_of history (Told change) ∷ [])) ≡ length (tolds items) + 1 =
+    ap length tol ∙ length_push (tolds items) change in
     let before : List Change = concerning_by go (cursor_by done items) history in
-    let room : length before - length (tolds items) ≡ length (change ∷ changes) = sym (length-drop (length (tolds items)) before) ∙ ap length e in
-    let lencon : length (concerning_by go (cursor_by done (items ++ item_of history (Told change) ∷ [])) history) ≡ length before = ap length con in
+    let room : length before - length (tolds items) ≡ length (change ∷ changes) =
+    sym (length-drop (length (tolds items)) before) ∙ ap length e in
+    let lencon : length (concerning_by go (cursor_by done (items ++ item_of history (Told change) ∷ [])) history) ≡ length before =
+    ap length con in
     let self : length history ≤ length history = omega arith in
     let waits : untold_by go (items ++ item_of history (Told change) ∷ []) done history ≡ changes =
     ap (λ n. drop n (concerning_by go (cursor_by done (items ++ item_of history (Told change) ∷ [])) history)) len
@@ -148,7 +172,9 @@ fits_told start history go items done change changes f e =
     }
 
 -- where a row is left the listing is not done
-pub not_done : (start : List Shown) (history : History) (go : ℕ) (items : List Item) (done : Option ℕ) (row : Shown) (left : List Shown) → Fits start history go items done → beyond (cursor_by done items (length history)) (rows_after start history) ≡ row ∷ left → done ≡ None
+pub not_done : (start : List Shown) (history : History) (go : ℕ) (items : List Item) (done : Option ℕ) (row : Shown) (left : List Shown)
+    → Fits start history go items done → beyond (cursor_by done items (length history)) (rows_after start history) ≡ row ∷ left
+    → done ≡ None
 not_done start history go items None row left f b = refl
 not_done start history go items (Some m) row left f b =
     let past : nat_le m (length history) ≡ true = le-leb m (length history) f.finished in
@@ -156,22 +182,30 @@ not_done start history go items (Some m) row left f b =
     let none = beyond_done (rows_after start history) in
     cc
 
-pub fits_listed : (start : List Shown) (history : History) (go : ℕ) (items : List Item) (done : Option ℕ) (row : Shown) (left : List Shown) → IsRisingBy key_at (rows_after start history) → Fits start history go items done
+pub fits_listed : (start : List Shown) (history : History) (go : ℕ) (items : List Item) (done : Option ℕ) (row : Shown) (left : List Shown)
+    → IsRisingBy key_at (rows_after start history) → Fits start history go items done
     → untold_by go items done history ≡ [] → beyond (cursor_by done items (length history)) (rows_after start history) ≡ row ∷ left
     → OneMore start history go (items ++ item_of history (Listed row) ∷ []) done [] left
 fits_listed start history go items (Some m) row left order f e b = let bad = not_done start history go items (Some m) row left f b in cc
 fits_listed start history go items None row left order f e b =
     let con = concerning_item history go items None (Listed row) in
-    let cur : cursor_by None (items ++ item_of history (Listed row) ∷ []) (length history) ≡ After row.key = cursor_item history items (Listed row) f.numbers in
-    let tel : tells (items ++ item_of history (Listed row) ∷ []) ≡ tells items ++ Put row ∷ [] = flat_map-append (λ (item : Item). said item.what) items (item_of history (Listed row) ∷ []) in
-    let tol : tolds (items ++ item_of history (Listed row) ∷ []) ≡ tolds items = filter_map-append (λ (item : Item). told_change item.what) items (item_of history (Listed row) ∷ []) ∙ append-nil (tolds items) in
+    let cur : cursor_by None (items ++ item_of history (Listed row) ∷ []) (length history) ≡ After row.key =
+    cursor_item history items (Listed row) f.numbers in
+    let tel : tells (items ++ item_of history (Listed row) ∷ []) ≡ tells items ++ Put row ∷ [] =
+    flat_map-append (λ (item : Item). said item.what) items (item_of history (Listed row) ∷ []) in
+    let tol : tolds (items ++ item_of history (Listed row) ∷ []) ≡ tolds items =
+    filter_map-append (λ (item : Item). told_change item.what) items (item_of history (Listed row) ∷ []) ∙ append-nil (tolds items) in
     let len : length (tolds (items ++ item_of history (Listed row) ∷ [])) ≡ length (tolds items) = ap length tol in
-    let lencon : length (concerning_by go (cursor_by None (items ++ item_of history (Listed row) ∷ [])) history) ≡ length (concerning_by go (cursor_by None items) history) = ap length con in
+    let lencon : length (concerning_by go (cursor_by None (items ++ item_of history (Listed row) ∷ [])) history)
+    ≡ length (concerning_by go (cursor_by None items) history) =
+    ap length con in
     let enough = f.enough in
     let self : length history ≤ length history = omega arith in
-    let one : ListsOne (cursor_by None items (length history)) row left (rows_after start history) = lists_one (cursor_by None items (length history)) row left (rows_after start history) order b in
+    let one : ListsOne (cursor_by None items (length history)) row left (rows_after start history) =
+    lists_one (cursor_by None items (length history)) row left (rows_after start history) order b in
     let waits : untold_by go (items ++ item_of history (Listed row) ∷ []) None history ≡ [] =
-    ap (λ n. drop n (concerning_by go (cursor_by None (items ++ item_of history (Listed row) ∷ [])) history)) len ∙ ap (drop (length (tolds items))) con ∙ e in
+    ap (λ n. drop n (concerning_by go (cursor_by None (items ++ item_of history (Listed row) ∷ [])) history)) len
+    ∙ ap (drop (length (tolds items))) con ∙ e in
     let held : changed_all (tells items) [] ≡ passed (cursor_by None items (length history)) (rows_after start history) =
     ap (λ u. changed_all u []) (sym (append-nil (tells items)) ∙ ap (λ u. tells items ++ u) (sym e)) ∙ f.kept in
     record {
@@ -199,16 +233,23 @@ pub record Law (start : List Shown) (P : History → ℕ → List Item → Optio
   -- it holds before anything was given
   pub fresh : (history : History) (go : ℕ) → go ≤ length history → P history go [] None
   -- a step more
-  pub push : (history : History) (changes : List Change) (go : ℕ) (items : List Item) (done : Option ℕ) → IsRisingBy key_at (rows_after start history) → Fits start history go items done → P history go items done → P (history ++ changes ∷ []) go items done
+  pub push : (history : History) (changes : List Change) (go : ℕ) (items : List Item) (done : Option ℕ)
+      → IsRisingBy key_at (rows_after start history) → Fits start history go items done → P history go items done
+      → P (history ++ changes ∷ []) go items done
   -- the first change that waits is told
-  pub tell : (history : History) (go : ℕ) (items : List Item) (done : Option ℕ) (change : Change) (changes : List Change) → IsRisingBy key_at (rows_after start history) → Fits start history go items done → P history go items done
+  pub tell : (history : History) (go : ℕ) (items : List Item) (done : Option ℕ) (change : Change) (changes : List Change)
+      → IsRisingBy key_at (rows_after start history) → Fits start history go items done → P history go items done
       → untold_by go items done history ≡ change ∷ changes → P history go (items ++ item_of history (Told change) ∷ []) done
   -- the first row that is left is listed
-  pub list : (history : History) (go : ℕ) (items : List Item) (row : Shown) (left : List Shown) → IsRisingBy key_at (rows_after start history) → Fits start history go items None → P history go items None
-      → untold_by go items None history ≡ [] → beyond (cursor_by None items (length history)) (rows_after start history) ≡ row ∷ left → P history go (items ++ item_of history (Listed row) ∷ []) None
+  pub list : (history : History) (go : ℕ) (items : List Item) (row : Shown) (left : List Shown)
+      → IsRisingBy key_at (rows_after start history) → Fits start history go items None → P history go items None
+      → untold_by go items None history ≡ [] → beyond (cursor_by None items (length history)) (rows_after start history) ≡ row ∷ left
+      → P history go (items ++ item_of history (Listed row) ∷ []) None
   -- the listing is done
-  pub finish : (history : History) (go : ℕ) (items : List Item) → IsRisingBy key_at (rows_after start history) → Fits start history go items None → P history go items None
-      → untold_by go items None history ≡ [] → beyond (cursor_by None items (length history)) (rows_after start history) ≡ [] → P history go items (Some (length history))
+  pub finish : (history : History) (go : ℕ) (items : List Item) → IsRisingBy key_at (rows_after start history)
+      → Fits start history go items None → P history go items None
+      → untold_by go items None history ≡ [] → beyond (cursor_by None items (length history)) (rows_after start history) ≡ []
+      → P history go items (Some (length history))
 
 -- ---- the front of what is owed
 
@@ -219,35 +260,76 @@ module _ (start : List Shown) (P : History → ℕ → List Item → Option ℕ 
     pub also : P history go items done
     pub owes : owed_by go items done history (rows_after start history) ≡ rest
 
-  pub gives : (history : History) (go : ℕ) (items : List Item) (done : Option ℕ) (nexts rest : List Next) → IsRisingBy key_at (rows_after start history) → Fits start history go items done → P history go items done
-      → owed_by go items done history (rows_after start history) ≡ nexts ++ rest → Gives history go (items ++ items_of (length history) nexts) done rest
-  gives history go items done [] rest order f p e = subst (λ is. Gives history go is done rest) (sym (append-nil items)) (record { fits = f; also = p; owes = e })
+  pub gives : (history : History) (go : ℕ) (items : List Item) (done : Option ℕ) (nexts rest : List Next)
+      → IsRisingBy key_at (rows_after start history) → Fits start history go items done → P history go items done
+      → owed_by go items done history (rows_after start history) ≡ nexts ++ rest
+      → Gives history go (items ++ items_of (length history) nexts) done rest
+  gives history go items done [] rest order f p e =
+      subst (λ is. Gives history go is done rest) (sym (append-nil items)) (record { fits = f; also = p; owes = e })
   gives history go items done (what ∷ nexts) rest order f p e =
-      by (untold_by go items done history) refl (beyond (cursor_by done items (length history)) (rows_after start history)) refl (λ item f p e. gives history go (items ++ item ∷ []) done nexts rest order f p e)
+      by (untold_by go items done history) refl (beyond (cursor_by done items (length history)) (rows_after start history)) refl
+      (λ item f p e. gives history go (items ++ item ∷ []) done nexts rest order f p e)
     where
-      joined : (other : Next) → other ≡ what → Gives history go ((items ++ item_of history other ∷ []) ++ items_of (length history) nexts) done rest → Gives history go (items ++ items_of (length history) (what ∷ nexts)) done rest
-      joined other same g = subst (λ is. Gives history go is done rest) (append_assoc items (item_of history other ∷ []) (items_of (length history) nexts) ∙ ap (λ w. items ++ items_of (length history) (w ∷ nexts)) same) g
+      joined : (other : Next) → other ≡ what
+          → Gives history go ((items ++ item_of history other ∷ []) ++ items_of (length history) nexts) done rest
+          → Gives history go (items ++ items_of (length history) (what ∷ nexts)) done rest
+      joined other same g =
+          subst (λ is. Gives history go is done rest)
+          (append_assoc items (item_of history other ∷ []) (items_of (length history) nexts)
+          ∙ ap (λ w. items ++ items_of (length history) (w ∷ nexts)) same) g
 
-      listed : (row : Shown) (left : List Shown) → untold_by go items done history ≡ [] → beyond (cursor_by done items (length history)) (rows_after start history) ≡ row ∷ left → P history go (items ++ item_of history (Listed row) ∷ []) done
+      listed : (row : Shown) (left : List Shown) → untold_by go items done history ≡ []
+          → beyond (cursor_by done items (length history)) (rows_after start history) ≡ row ∷ left
+          → P history go (items ++ item_of history (Listed row) ∷ []) done
       listed row left u b =
           let none = not_done start history go items done row left f b in
           subst (λ d. P history go (items ++ item_of history (Listed row) ∷ []) d) (sym none)
-          (law.list history go items row left order (subst (λ d. Fits start history go items d) none f) (subst (λ d. P history go items d) none p)
-          (subst (λ d. untold_by go items d history ≡ []) none u) (subst (λ d. beyond (cursor_by d items (length history)) (rows_after start history) ≡ row ∷ left) none b))
+          (law.list history go items row left order (subst (λ d. Fits start history go items d) none f)
+          (subst (λ d. P history go items d) none p)
+          (subst (λ d. untold_by go items d history ≡ []) none u)
+          (subst (λ d. beyond (cursor_by d items (length history)) (rows_after start history) ≡ row ∷ left) none b))
 
-      by : (u : List Change) → untold_by go items done history ≡ u → (b : List Shown) → beyond (cursor_by done items (length history)) (rows_after start history) ≡ b
-          → ((item : Item) → Fits start history go (items ++ item ∷ []) done → P history go (items ++ item ∷ []) done → owed_by go (items ++ item ∷ []) done history (rows_after start history) ≡ nexts ++ rest → Gives history go ((items ++ item ∷ []) ++ items_of (length history) nexts) done rest)
+      by : (u : List Change) → untold_by go items done history ≡ u → (b : List Shown)
+          → beyond (cursor_by done items (length history)) (rows_after start history) ≡ b
+          → ((item : Item) → Fits start history go (items ++ item ∷ []) done → P history go (items ++ item ∷ []) done
+          → owed_by go (items ++ item ∷ []) done history (rows_after start history) ≡ nexts ++ rest
+          → Gives history go ((items ++ item ∷ []) ++ items_of (length history) nexts) done rest)
           → Gives history go (items ++ items_of (length history) (what ∷ nexts)) done rest
-      by [] u [] b next = let bad : map Told [] ++ map Listed [] ≡ what ∷ (nexts ++ rest) = sym (ap (λ u. map Told u ++ map Listed (beyond (cursor_by done items (length history)) (rows_after start history))) u ∙ ap (λ b. map Told [] ++ map Listed b) b) ∙ e in cc
+      by [] u [] b next =
+          let bad : map Told [] ++ map Listed [] ≡ what ∷ (nexts ++ rest) =
+          sym (ap (λ u. map Told u ++ map Listed (beyond (cursor_by done items (length history)) (rows_after start history))) u
+          ∙ ap (λ b. map Told [] ++ map Listed b) b)
+          ∙ e in
+          cc
       by [] u (row ∷ left) b next =
-          let is : Listed row ∷ map Listed left ≡ what ∷ (nexts ++ rest) = sym (ap (λ u. map Told u ++ map Listed (beyond (cursor_by done items (length history)) (rows_after start history))) u ∙ ap (λ b. map Told [] ++ map Listed b) b) ∙ e in
+          let is : Listed row ∷ map Listed left ≡ what ∷ (nexts ++ rest) =
+          sym (ap (λ u. map Told u ++ map Listed (beyond (cursor_by done items (length history)) (rows_after start history))) u
+          ∙ ap (λ b. map Told [] ++ map Listed b) b)
+          ∙ e in
           let head : Listed row ≡ what = cc in
           let tail : map Listed left ≡ nexts ++ rest = cc in
           let one = fits_listed start history go items done row left order f u b in
-          joined (Listed row) head (next (item_of history (Listed row)) one.fits (listed row left u b) (ap (λ u. map Told u ++ map Listed (beyond (cursor_by done (items ++ item_of history (Listed row) ∷ []) (length history)) (rows_after start history))) one.waiting ∙ ap (λ b. map Told [] ++ map Listed b) one.listing ∙ tail))
+          joined (Listed row) head
+          (next (item_of history (Listed row)) one.fits (listed row left u b)
+          (ap (λ u. map Told u
+          ++ map Listed
+          (beyond (cursor_by done (items ++ item_of history (Listed row) ∷ []) (length history))
+          (rows_after start history)))
+          one.waiting
+          ∙ ap (λ b. map Told [] ++ map Listed b) one.listing ∙ tail))
       by (change ∷ changes) u left b next =
-          let is : Told change ∷ (map Told changes ++ map Listed left) ≡ what ∷ (nexts ++ rest) = sym (ap (λ u. map Told u ++ map Listed (beyond (cursor_by done items (length history)) (rows_after start history))) u ∙ ap (λ b. map Told (change ∷ changes) ++ map Listed b) b) ∙ e in
+          let is : Told change ∷ (map Told changes ++ map Listed left) ≡ what ∷ (nexts ++ rest) =
+          sym (ap (λ u. map Told u ++ map Listed (beyond (cursor_by done items (length history)) (rows_after start history))) u
+          ∙ ap (λ b. map Told (change ∷ changes) ++ map Listed b) b)
+          ∙ e in
           let head : Told change ≡ what = cc in
           let tail : map Told changes ++ map Listed left ≡ nexts ++ rest = cc in
           let one = fits_told start history go items done change changes f u in
-          joined (Told change) head (next (item_of history (Told change)) one.fits (law.tell history go items done change changes order f p u) (ap (λ u. map Told u ++ map Listed (beyond (cursor_by done (items ++ item_of history (Told change) ∷ []) (length history)) (rows_after start history))) one.waiting ∙ ap (λ b. map Told changes ++ map Listed b) (one.listing ∙ b) ∙ tail))
+          joined (Told change) head
+          (next (item_of history (Told change)) one.fits (law.tell history go items done change changes order f p u)
+          (ap (λ u. map Told u
+          ++ map Listed
+          (beyond (cursor_by done (items ++ item_of history (Told change) ∷ []) (length history))
+          (rows_after start history)))
+          one.waiting
+          ∙ ap (λ b. map Told changes ++ map Listed b) (one.listing ∙ b) ∙ tail))

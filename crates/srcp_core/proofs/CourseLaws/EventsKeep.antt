@@ -1,5 +1,6 @@
 -- What every event keeps: a law of worlds that a step keeps, and each of the things that happen to one connection.
-use Rattle.std.proofs.Common.{◌≡◌, ℕ, zero, suc, max, ◌+◌, true, false, List, [], ◌∷◌, ◌++◌, length, refl, ap, sym, ◌∙◌, subst, Bool, eqb-true}
+use Rattle.std.proofs.Common.{◌≡◌, ℕ, zero, suc, max, ◌+◌, true, false, List, [], ◌∷◌, ◌++◌, length, refl, ap, sym, ◌∙◌, subst, Bool}
+use Rattle.std.proofs.Common.{eqb-true}
 use Rattle.std.specs.List.{fold}
 use Rattle.std.specs.Prelude.{nat_lt, ◌==◌, ◌||◌, Option, Some, None, option_map, if◌then◌else◌, Result, Ok, Err}
 use Rattle.srcp_info.specs.declared.change.Code.{Code}
@@ -9,9 +10,12 @@ use Rattle.srcp_info.specs.declared.change.Reply.TheVariants.{Protocol, Mode as 
 use Rattle.srcp_info.specs.declared.value.Mode.{Mode}
 use Rattle.srcp_rules.specs.declared.layout.Bus.{Bus}
 use Rattle.srcp_rules.specs.Effect.{Effect}
-use Rattle.srcp_core.specs.Under.{Event, Open, Bytes, Room, At, Shut, Step, Obeyed, Began, Moment, Ended, Heard, Order, effect, greets, Piece}
+use Rattle.srcp_core.specs.Under.{Event, Open, Bytes, Room, At, Shut, Step, Obeyed, Began, Moment, Ended, Heard, Order, effect, greets}
+use Rattle.srcp_core.specs.Under.{Piece}
 use Rattle.srcp_core.specs.Connection.{Connection, given_room}
-use Rattle.srcp_core.specs.Course.{World, fresh, numbered, with_numbered, at_connection, open_connection, did, replied, counted, state, rows, history, entered, goes, greeted, ended, obeyed, commanded, answered_as, answered, order_of, fault, new_lines, fed_to, shut_as, accepted, or_refused, happens}
+use Rattle.srcp_core.specs.Course.{World, fresh, numbered, with_numbered, at_connection, open_connection, did, replied, counted, state}
+use Rattle.srcp_core.specs.Course.{rows, history, entered, goes, greeted, ended, obeyed, commanded, answered_as, answered, order_of, fault}
+use Rattle.srcp_core.specs.Course.{new_lines, fed_to, shut_as, accepted, or_refused, happens}
 use Rattle.srcp_core.specs.Handshake.{Greeting, Speaks, Chooses, Goes, Refuses}
 use Rattle.srcp_core.specs.declared.record.CoreFault.{CoreFault}
 use Rattle.srcp_core.proofs.Agreement.NumbersAndKeys.{numbered_with}

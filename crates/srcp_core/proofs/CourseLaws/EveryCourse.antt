@@ -5,7 +5,8 @@ use Rattle.srcp_rules.specs.declared.layout.Bus.{Bus}
 use Rattle.srcp_rules.specs.Layout.{IsLayout}
 use Rattle.srcp_core.specs.Connection.{Connection}
 use Rattle.srcp_core.specs.Course.{course, numbered}
-use Rattle.srcp_core.specs.Laws.{AllMoments, HasMoment, IsHeldRightly, IsSentNoMore, IsSentNoMoreSince, IsServedRightly, IsSession, ServedRightly, ToldRightly, without_events}
+use Rattle.srcp_core.specs.Laws.{AllMoments, HasMoment, IsHeldRightly, IsSentNoMore, IsSentNoMoreSince, IsServedRightly, IsSession}
+use Rattle.srcp_core.specs.Laws.{ServedRightly, ToldRightly, without_events}
 use Rattle.srcp_core.specs.Under.{Event}
 use Rattle.srcp_core.proofs.CourseLaws.RoomsAddUp.{rooms_add_up, rooms_are_one, sends_all_replies, takes_within}
 use Rattle.srcp_core.proofs.CourseLaws.NothingAfterTheEnd.{sends_no_more}

@@ -24,7 +24,8 @@ use Rattle.srcp_core.specs.Course.{World, start, at_connection, open_connection,
 use Rattle.srcp_core.specs.Course.{history_from, state_after, stepped, updates_of, entered, goes, greeted, ended, obeyed, commanded}
 use Rattle.srcp_core.specs.Course.{command_of, ordered, answered_as, answered, order_of, fault, new_marks, fed_to, shut_as}
 use Rattle.srcp_core.specs.Course.{accepted, or_refused, happens, course}
-use Rattle.srcp_core.specs.Handshake.{Greeting, Speaks, Chooses, Goes, Refuses, greets as greets_of, greets_mode, greets_protocol, greets_words}
+use Rattle.srcp_core.specs.Handshake.{Greeting, Speaks, Chooses, Goes, Refuses, greets as greets_of, greets_mode, greets_protocol}
+use Rattle.srcp_core.specs.Handshake.{greets_words}
 use Rattle.srcp_core.specs.Handshake.{is_version}
 use Rattle.srcp_text.specs.Words.{words_of, is_keyword}
 use Rattle.srcp_rules.specs.Layout.{IsLayout}

@@ -1,5 +1,6 @@
 -- Each line that is owed has bytes, and so room for all of them gives them all.
-use Rattle.std.proofs.Common.{◌≡◌, ℕ, zero, suc, ◌+◌, ◌-◌, ◌<◌, ◌≤◌, Bool, true, false, List, [], ◌∷◌, ◌++◌, map, take, length, refl, ap, arith, append-nil, length-append}
+use Rattle.std.proofs.Common.{◌≡◌, ℕ, zero, suc, ◌+◌, ◌-◌, ◌<◌, ◌≤◌, Bool, true, false, List, [], ◌∷◌, ◌++◌, map, take, length, refl, ap}
+use Rattle.std.proofs.Common.{arith, append-nil, length-append}
 use Rattle.std.proofs.lemmas.Bool.{and_parts, eqb-true}
 use Rattle.std.specs.List.{AllByRecursion, flat_map, join_with_byte}
 use Rattle.std.specs.Prelude.{◌==◌, ◌&&◌, if◌then◌else◌, codes}
@@ -13,7 +14,8 @@ use Rattle.srcp_feed.specs.declared.Next.TheVariants.{Told, Listed}
 use Rattle.srcp_core.specs.Connection.{Connection, History, available, cursor_at, fitting, front, is_nil, is_open, line_of, owed, untold}
 
 pub line_full : (change : Change) → 0 < length (line change)
-line_full change = let l = length-append (join_with_byte 32 (change_words change)) (codes "\n") in let n : length (codes "\n") ≡ 1 = refl in omega arith
+line_full change =
+    let l = length-append (join_with_byte 32 (change_words change)) (codes "\n") in let n : length (codes "\n") ≡ 1 = refl in omega arith
 
 -- each of these lines has bytes
 abbrev pub AreFull : List Next → Type 0
@@ -30,8 +32,11 @@ told_full (change ∷ changes) nexts a = (line_full change, told_full changes ne
 -- each line that is owed has bytes
 pub owed_full : (conn : Connection) (history : History) (rows : List Shown) → AreFull (owed conn history rows)
 owed_full conn history rows =
-    elim (is_open conn && conn.info) as (λ t. AreFull (if t then map Told (untold conn history) ++ map Listed (beyond (cursor_at conn (length history)) rows) else [])) [
-      | true ↦ told_full (untold conn history) (map Listed (beyond (cursor_at conn (length history)) rows)) (listed_full (beyond (cursor_at conn (length history)) rows))
+    elim (is_open conn && conn.info)
+    as (λ t. AreFull (if t then map Told (untold conn history) ++ map Listed (beyond (cursor_at conn (length history)) rows) else [])) [
+      | true ↦
+          told_full (untold conn history) (map Listed (beyond (cursor_at conn (length history)) rows))
+          (listed_full (beyond (cursor_at conn (length history)) rows))
       | false ↦ tt
     ]
 
@@ -64,7 +69,8 @@ first_full (what ∷ nexts) full h =
     let e = length-append (line_of what) (flat_map line_of nexts) in
     absurd (omega arith)
 
-pub fitting_full : (bytes : ℕ) (left : List ℕ) (nexts : List Next) → AreFull nexts → length (available left nexts) ≤ bytes → fitting bytes left nexts ≡ nexts
+pub fitting_full : (bytes : ℕ) (left : List ℕ) (nexts : List Next) → AreFull nexts → length (available left nexts) ≤ bytes
+    → fitting bytes left nexts ≡ nexts
 fitting_full bytes left nexts full h = by ((bytes == 0) && is_nil left) refl
   where
     size : length (available left nexts) ≡ length left + length (flat_map line_of nexts)

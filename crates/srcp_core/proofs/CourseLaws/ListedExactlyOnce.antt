@@ -1,5 +1,6 @@
 -- Each row of a device that is there all the time is listed exactly once.
-use Rattle.std.proofs.Common.{◌≡◌, ℕ, zero, suc, ◌+◌, ◌-◌, ◌<◌, ◌≤◌, Bool, true, false, not, List, [], ◌∷◌, ◌++◌, take, length, refl, ap, sym, ◌∙◌, subst, arith}
+use Rattle.std.proofs.Common.{◌≡◌, ℕ, zero, suc, ◌+◌, ◌-◌, ◌<◌, ◌≤◌, Bool, true, false, not, List, [], ◌∷◌, ◌++◌, take, length, refl, ap}
+use Rattle.std.proofs.Common.{sym, ◌∙◌, subst, arith}
 use Rattle.std.proofs.lemmas.List.{take_all, take-append-le, length_push}
 use Rattle.std.proofs.lemmas.List.Elements.{filter_map-append}
 use Rattle.std.proofs.lemmas.List.Sums.{fold-append}
@@ -27,7 +28,8 @@ use Rattle.srcp_rules.specs.Layout.{IsLayout}
 use Rattle.srcp_core.specs.Under.{Event}
 use Rattle.srcp_core.specs.Connection.{Connection, History, is_settled}
 use Rattle.srcp_core.specs.Course.{World, start, happens, course, rows, history, state_after}
-use Rattle.srcp_core.specs.Laws.{OfSessions, listed, has_key, rows_at, listed_row, KeepsKeys, IsThereFrom, IsSession, AllMoments, ListsNoneTwice, times_listed}
+use Rattle.srcp_core.specs.Laws.{OfSessions, listed, has_key, rows_at, listed_row, KeepsKeys, IsThereFrom, IsSession, AllMoments}
+use Rattle.srcp_core.specs.Laws.{ListsNoneTwice, times_listed}
 use Rattle.srcp_core.specs.declared.record.Item.{Item}
 use Rattle.srcp_core.proofs.CourseLaws.ItemsOnlyGrow.{Grows, AllGrow, grown_at, grown_since}
 use Rattle.srcp_core.proofs.CourseLaws.Histories.{rows_after, cursor_by, cursor_later}
@@ -48,18 +50,21 @@ is_equal a b e = by (key_cmp a b) refl
     by Greater k = let bad : is_eq Greater ≡ true = subst (λ o. is_eq o ≡ true) k e in cc
 
 -- none above a key has that key
-none_equal : (a key : Key) (rows : List Shown) → key_cmp a key ≡ Equal → AllByRecursion (λ (y : Shown). key_cmp a y.key ≡ Less) rows → filter (λ row. eq_by_cmp key_cmp row.key key) rows ≡ []
+none_equal : (a key : Key) (rows : List Shown) → key_cmp a key ≡ Equal → AllByRecursion (λ (y : Shown). key_cmp a y.key ≡ Less) rows
+    → filter (λ row. eq_by_cmp key_cmp row.key key) rows ≡ []
 none_equal a key [] e r = refl
 none_equal a key (row ∷ rows) e r =
     let less : key_cmp key row.key ≡ Less = sym (key_cmp_total.congr a key row.key e) ∙ r.0 in
     let more : key_cmp row.key key ≡ Greater = key_cmp_total.antisymm row.key key ∙ ap ordering_reverse less in
     rw (ap is_eq more) (none_equal a key rows e r.1)
 
-at_most_one : (key : Key) (rows : List Shown) → IsRisingBy (λ (row : Shown). row.key) rows → length (filter (λ row. eq_by_cmp key_cmp row.key key) rows) ≤ 1
+at_most_one : (key : Key) (rows : List Shown) → IsRisingBy (λ (row : Shown). row.key) rows
+    → length (filter (λ row. eq_by_cmp key_cmp row.key key) rows) ≤ 1
 at_most_one key [] r = omega arith
 at_most_one key (row ∷ rows) r =
     let ih = at_most_one key rows r.1 in
-    let by : (t : Bool) → eq_by_cmp key_cmp row.key key ≡ t → length (filter (λ row. eq_by_cmp key_cmp row.key key) (row ∷ rows)) ≤ 1 = elim [
+    let by : (t : Bool) → eq_by_cmp key_cmp row.key key ≡ t → length (filter (λ row. eq_by_cmp key_cmp row.key key) (row ∷ rows)) ≤ 1 =
+    elim [
       | true ↦ λ e. let none = none_equal row.key key rows (is_equal row.key key e) r.0 in rw e (rw none (one_le 1 refl))
       | false ↦ λ e. rw e ih
     ] in
@@ -71,7 +76,8 @@ at_most_one key (row ∷ rows) r =
 at_least_one : (key : Key) (rows : List Shown) → has_key key rows ≡ true → 1 ≤ length (filter (λ row. eq_by_cmp key_cmp row.key key) rows)
 at_least_one key [] h = cc
 at_least_one key (row ∷ rows) h =
-    let by : (t : Bool) → eq_by_cmp key_cmp row.key key ≡ t → 1 ≤ length (filter (λ row. eq_by_cmp key_cmp row.key key) (row ∷ rows)) = elim [
+    let by : (t : Bool) → eq_by_cmp key_cmp row.key key ≡ t → 1 ≤ length (filter (λ row. eq_by_cmp key_cmp row.key key) (row ∷ rows)) =
+    elim [
       | true ↦ λ e. rw e (one_more (length (filter (λ row. eq_by_cmp key_cmp row.key key) rows)))
       | false ↦ λ e. rw e (at_least_one key rows (rw e at h))
     ] in
@@ -81,7 +87,8 @@ at_least_one key (row ∷ rows) h =
     one_more n = omega arith
 
 pub lists_none_twice : (buses : List Bus) → OfSessions buses (ListsNoneTwice buses)
-lists_none_twice buses layout events number conn s key = at_most_one key (listed conn.items) (lists_rising buses layout events number conn s)
+lists_none_twice buses layout events number conn s key =
+    at_most_one key (listed conn.items) (lists_rising buses layout events number conn s)
 
 -- ---- at least once
 
@@ -91,21 +98,26 @@ same_passed (After last) a b e = ap (λ o. not (is_gt o)) (key_cmp_total.congr a
 same_passed Done a b e = refl
 
 -- a key that was not passed is among those that are left
-key_beyond : (cursor : Cursor) (key : Key) (rows : List Shown) → has_reached cursor key ≡ false → has_key key rows ≡ true → has_key key (beyond cursor rows) ≡ true
+key_beyond : (cursor : Cursor) (key : Key) (rows : List Shown) → has_reached cursor key ≡ false → has_key key rows ≡ true
+    → has_key key (beyond cursor rows) ≡ true
 key_beyond cursor key [] f h = h
 key_beyond cursor key (row ∷ rows) f h =
     let by : (t : Bool) → eq_by_cmp key_cmp row.key key ≡ t → has_key key (beyond cursor (row ∷ rows)) ≡ true = elim [
-      | true ↦ λ e. let out : has_reached cursor row.key ≡ false = same_passed cursor row.key key (is_equal row.key key e) ∙ f in rw (out, e) refl
+      | true ↦
+          λ e. let out : has_reached cursor row.key ≡ false = same_passed cursor row.key key (is_equal row.key key e) ∙ f in
+          rw (out, e) refl
       | false ↦ λ e. let ih = key_beyond cursor key rows f (rw e at h) in kept e ih (has_reached cursor row.key) refl
     ] in
     by (eq_by_cmp key_cmp row.key key) refl
   where
-    kept : eq_by_cmp key_cmp row.key key ≡ false → has_key key (beyond cursor rows) ≡ true → (t : Bool) → has_reached cursor row.key ≡ t → has_key key (beyond cursor (row ∷ rows)) ≡ true
+    kept : eq_by_cmp key_cmp row.key key ≡ false → has_key key (beyond cursor rows) ≡ true → (t : Bool) → has_reached cursor row.key ≡ t
+        → has_key key (beyond cursor (row ∷ rows)) ≡ true
     kept e ih true k = rw k ih
     kept e ih false k = rw (k, e) ih
 
 -- a key that was passed is not
-key_not_beyond : (cursor : Cursor) (key : Key) (rows : List Shown) → has_reached cursor key ≡ true → has_key key (beyond cursor rows) ≡ false
+key_not_beyond : (cursor : Cursor) (key : Key) (rows : List Shown) → has_reached cursor key ≡ true
+    → has_key key (beyond cursor rows) ≡ false
 key_not_beyond cursor key [] p = refl
 key_not_beyond cursor key (row ∷ rows) p =
     let ih = key_not_beyond cursor key rows p in
@@ -130,11 +142,16 @@ has_left key (x ∷ xs) ys h =
 
 has_last : (key : Key) (xs : List Shown) (y : Shown) → eq_by_cmp key_cmp y.key key ≡ true → has_key key (xs ++ y ∷ []) ≡ true
 has_last key [] y e = rw e refl
-has_last key (x ∷ xs) y e = elim (eq_by_cmp key_cmp x.key key) as (λ t. t || has_key key (xs ++ y ∷ []) ≡ true) [ true ↦ refl | false ↦ has_last key xs y e ]
+has_last key (x ∷ xs) y e = elim (eq_by_cmp key_cmp x.key key) as (λ t. t || has_key key (xs ++ y ∷ []) ≡ true) [
+  | true ↦ refl
+  | false ↦ has_last key xs y e
+]
 
 -- a key that was there since the session's beginning, and that the listing has passed, was listed
 abbrev Met : List Shown → History → ℕ → List Item → Option ℕ → Type 0
-Met start history go items done = (key : Key) → ((k : ℕ) → go ≤ k → k ≤ length history → has_key key (rows_after start (take k history)) ≡ true) → has_reached (cursor_by done items (length history)) key ≡ true → has_key key (listed items) ≡ true
+Met start history go items done =
+    (key : Key) → ((k : ℕ) → go ≤ k → k ≤ length history → has_key key (rows_after start (take k history)) ≡ true)
+    → has_reached (cursor_by done items (length history)) key ≡ true → has_key key (listed items) ≡ true
 
 met_law : (start : List Shown) → Law start (Met start)
 met_law start = record {
@@ -142,45 +159,70 @@ met_law start = record {
   push = λ history changes go items done order f m key there p.
       let l = length_push history changes in
       let up : length history ≤ length (history ++ changes ∷ []) = omega arith in
-      m key (λ k low high. ap (λ h. has_key key (rows_after start h)) (sym (take-append-le k history (changes ∷ []) high)) ∙ there k low (later history changes k high))
-      (ap (λ c. has_reached c key) (sym (cursor_later (length history) (length (history ++ changes ∷ [])) done items up f.finished f.numbers)) ∙ p);
+      m key
+      (λ k low high. ap (λ h. has_key key (rows_after start h)) (sym (take-append-le k history (changes ∷ []) high))
+      ∙ there k low (later history changes k high))
+      (ap (λ c. has_reached c key)
+      (sym (cursor_later (length history) (length (history ++ changes ∷ [])) done items up f.finished f.numbers))
+      ∙ p);
   tell = λ history go items done change changes order f m e key there p.
-      ap (has_key key) (listed_told history items change) ∙ m key there (ap (λ c. has_reached c key) (sym (cursor_told history items done change f.numbers)) ∙ p);
+      ap (has_key key) (listed_told history items change)
+      ∙ m key there (ap (λ c. has_reached c key) (sym (cursor_told history items done change f.numbers)) ∙ p);
   list = λ history go items row left order f m e b key there p.
       ap (has_key key) (listed_more history items row)
-      ∙ by_passed history go items row left order f m b key there (ap (λ c. has_reached c key) (sym (cursor_item history items (Listed row) f.numbers)) ∙ p) (has_reached (cursor_by None items (length history)) key) refl;
-  finish = λ history go items order f m e b key there p. m key there (all_passed history go items f b key there (has_reached (cursor_by None items (length history)) key) refl);
+      ∙ by_passed history go items row left order f m b key there
+      (ap (λ c. has_reached c key) (sym (cursor_item history items (Listed row) f.numbers)) ∙ p)
+      (has_reached (cursor_by None items (length history)) key) refl;
+  finish =
+      λ history go items order f m e b key there p.
+      m key there (all_passed history go items f b key there (has_reached (cursor_by None items (length history)) key) refl);
 }
   where
     later : (history : History) (changes : List Change) (k : ℕ) → k ≤ length history → k ≤ length (history ++ changes ∷ [])
     later history changes k h = let l = length_push history changes in omega arith
 
-    now : (history : History) (go : ℕ) (key : Key) → go ≤ length history → ((k : ℕ) → go ≤ k → k ≤ length history → has_key key (rows_after start (take k history)) ≡ true) → has_key key (rows_after start history) ≡ true
+    now : (history : History) (go : ℕ) (key : Key) → go ≤ length history
+        → ((k : ℕ) → go ≤ k → k ≤ length history → has_key key (rows_after start (take k history)) ≡ true)
+        → has_key key (rows_after start history) ≡ true
     now history go key h there =
         let self : length history ≤ length history = omega arith in
         ap (λ h. has_key key (rows_after start h)) (sym (take_all (length history) history self)) ∙ there (length history) h self
 
-    by_passed : (history : History) (go : ℕ) (items : List Item) (row : Shown) (left : List Shown) → IsRisingBy key_at (rows_after start history) → Fits start history go items None → Met start history go items None → beyond (cursor_by None items (length history)) (rows_after start history) ≡ row ∷ left
-        → (key : Key) → ((k : ℕ) → go ≤ k → k ≤ length history → has_key key (rows_after start (take k history)) ≡ true) → has_reached (After row.key) key ≡ true → (t : Bool) → has_reached (cursor_by None items (length history)) key ≡ t → has_key key (listed items ++ row ∷ []) ≡ true
+    by_passed : (history : History) (go : ℕ) (items : List Item) (row : Shown) (left : List Shown)
+        → IsRisingBy key_at (rows_after start history) → Fits start history go items None → Met start history go items None
+        → beyond (cursor_by None items (length history)) (rows_after start history) ≡ row ∷ left
+        → (key : Key) → ((k : ℕ) → go ≤ k → k ≤ length history → has_key key (rows_after start (take k history)) ≡ true)
+        → has_reached (After row.key) key ≡ true → (t : Bool) → has_reached (cursor_by None items (length history)) key ≡ t
+        → has_key key (listed items ++ row ∷ []) ≡ true
     by_passed history go items row left order f m b key there p true e = has_left key (listed items) (row ∷ []) (m key there e)
     by_passed history go items row left order f m b key there p false e =
         let one = lists_one (cursor_by None items (length history)) row left (rows_after start history) order b in
-        let here : has_key key (row ∷ left) ≡ true = ap (has_key key) (sym b) ∙ key_beyond (cursor_by None items (length history)) key (rows_after start history) e (now history go key f.began there) in
-        let away : has_key key left ≡ false = ap (has_key key) (sym one.left) ∙ key_not_beyond (After row.key) key (rows_after start history) p in
+        let here : has_key key (row ∷ left) ≡ true =
+        ap (has_key key) (sym b)
+        ∙ key_beyond (cursor_by None items (length history)) key (rows_after start history) e (now history go key f.began there) in
+        let away : has_key key left ≡ false =
+        ap (has_key key) (sym one.left) ∙ key_not_beyond (After row.key) key (rows_after start history) p in
         has_last key (listed items) row (first here away (eq_by_cmp key_cmp row.key key) refl)
       where
-        first : has_key key (row ∷ left) ≡ true → has_key key left ≡ false → (t : Bool) → eq_by_cmp key_cmp row.key key ≡ t → eq_by_cmp key_cmp row.key key ≡ true
+        first : has_key key (row ∷ left) ≡ true → has_key key left ≡ false → (t : Bool) → eq_by_cmp key_cmp row.key key ≡ t
+            → eq_by_cmp key_cmp row.key key ≡ true
         first h a true k = k
         first h a false k = let g : has_key key left ≡ true = rw k at h in cc
 
-    all_passed : (history : History) (go : ℕ) (items : List Item) → Fits start history go items None → beyond (cursor_by None items (length history)) (rows_after start history) ≡ []
-        → (key : Key) → ((k : ℕ) → go ≤ k → k ≤ length history → has_key key (rows_after start (take k history)) ≡ true) → (t : Bool) → has_reached (cursor_by None items (length history)) key ≡ t → has_reached (cursor_by None items (length history)) key ≡ true
+    all_passed : (history : History) (go : ℕ) (items : List Item) → Fits start history go items None
+        → beyond (cursor_by None items (length history)) (rows_after start history) ≡ []
+        → (key : Key) → ((k : ℕ) → go ≤ k → k ≤ length history → has_key key (rows_after start (take k history)) ≡ true) → (t : Bool)
+        → has_reached (cursor_by None items (length history)) key ≡ t → has_reached (cursor_by None items (length history)) key ≡ true
     all_passed history go items f b key there true e = e
     all_passed history go items f b key there false e =
-        let h : has_key key [] ≡ true = ap (has_key key) (sym b) ∙ key_beyond (cursor_by None items (length history)) key (rows_after start history) e (now history go key f.began there) in cc
+        let h : has_key key [] ≡ true =
+        ap (has_key key) (sym b)
+        ∙ key_beyond (cursor_by None items (length history)) key (rows_after start history) e (now history go key f.began there) in
+        cc
 
 -- a key that a device has at the end it had all the time
-had : (buses : List Bus) (w : World) (conn : Connection) (device : Device) (key : Key) → KeepsKeys buses w → IsThereFrom buses w conn (length w.steps) device → owns device key ≡ true → has_key key (rows buses w) ≡ true
+had : (buses : List Bus) (w : World) (conn : Connection) (device : Device) (key : Key) → KeepsKeys buses w
+    → IsThereFrom buses w conn (length w.steps) device → owns device key ≡ true → has_key key (rows buses w) ≡ true
     → (d k : ℕ) → k + d ≡ length w.steps → conn.go_step ≤ k → has_key key (rows_at buses w k) ≡ true
 had buses w conn device key keeps all owned last zero k e low =
     let high : length w.steps ≤ k = omega arith in
@@ -203,27 +245,40 @@ lists_each_once buses layout events more number conn later s t moments settled d
     let keeps = keeps_keys buses layout events moments in
     let facts = settled_facts conn (history buses w) (rows buses w) settled in
     let both = settled_both buses layout w conn s.info settled in
-    let law = fits_open (shown_rows (opening buses 0)) (Met (shown_rows (opening buses 0))) (history buses w) conn facts.open_now (stands buses layout (Met (shown_rows (opening buses 0))) (met_law (shown_rows (opening buses 0))) events number conn s) in
+    let law =
+    fits_open (shown_rows (opening buses 0)) (Met (shown_rows (opening buses 0))) (history buses w) conn facts.open_now
+    (stands buses layout (Met (shown_rows (opening buses 0))) (met_law (shown_rows (opening buses 0))) events number conn s) in
     let here : has_key key (listed conn.items) ≡ true =
     law.1 key (λ k low high. ap (has_key key) (rows_of_course buses w k) ∙ before keeps k high low)
     (passed_now w conn (has_reached (cursor_by conn.done conn.items (length (history buses w))) key) refl both.1) in
     let g : Grows conn later = grown_at number w.connections (course buses (events ++ more)).connections conn later
-    (subst (λ v. AllGrow w.connections v.connections) (sym (fold-append (happens buses) start events more)) (grown_since buses more w)) s.there t.there in
-    let still : has_key key (listed later.items) ≡ true = ap (λ is. has_key key (listed is)) g.is ∙ ap (has_key key) (filter_map-append (λ (item : Item). listed_row item.what) conn.items g.rest) ∙ has_left key (listed conn.items) (listed g.rest) here in
+    (subst (λ v. AllGrow w.connections v.connections) (sym (fold-append (happens buses) start events more)) (grown_since buses more w))
+    s.there t.there in
+    let still : has_key key (listed later.items) ≡ true =
+    ap (λ is. has_key key (listed is)) g.is
+    ∙ ap (has_key key) (filter_map-append (λ (item : Item). listed_row item.what) conn.items g.rest)
+    ∙ has_left key (listed conn.items) (listed g.rest) here in
     let low = at_least_one key (listed later.items) still in
     let high = lists_none_twice buses layout (events ++ more) number later t key in
     omega arith
   where
-    before : KeepsKeys buses (course buses events) → (k : ℕ) → k ≤ length (history buses (course buses events)) → conn.go_step ≤ k → has_key key (rows_at buses (course buses events) k) ≡ true
+    before : KeepsKeys buses (course buses events) → (k : ℕ) → k ≤ length (history buses (course buses events)) → conn.go_step ≤ k
+        → has_key key (rows_at buses (course buses events) k) ≡ true
     before keeps k high low =
         let l = length_history (opening buses 0) (course buses events).steps in
         let e : k + (length (course buses events).steps - k) ≡ length (course buses events).steps = omega arith in
         had buses (course buses events) conn device key keeps all owned last (length (course buses events).steps - k) k e low
 
-    passed_now : (w : World) (c : Connection) (t : Bool) → has_reached (cursor_by conn.done conn.items (length (history buses (course buses events)))) key ≡ t
-        → beyond (cursor_by conn.done conn.items (length (history buses (course buses events)))) (rows_after (shown_rows (opening buses 0)) (history buses (course buses events))) ≡ []
+    passed_now : (w : World) (c : Connection) (t : Bool)
+        → has_reached (cursor_by conn.done conn.items (length (history buses (course buses events)))) key ≡ t
+        → beyond (cursor_by conn.done conn.items (length (history buses (course buses events))))
+        (rows_after (shown_rows (opening buses 0)) (history buses (course buses events)))
+        ≡ []
         → has_reached (cursor_by conn.done conn.items (length (history buses (course buses events)))) key ≡ true
     passed_now w c true e b = e
     passed_now w c false e b =
-        let h : has_key key [] ≡ true = ap (has_key key) (sym b) ∙ key_beyond (cursor_by conn.done conn.items (length (history buses (course buses events)))) key (rows_after (shown_rows (opening buses 0)) (history buses (course buses events))) e
+        let h : has_key key [] ≡ true =
+        ap (has_key key) (sym b)
+        ∙ key_beyond (cursor_by conn.done conn.items (length (history buses (course buses events)))) key
+        (rows_after (shown_rows (opening buses 0)) (history buses (course buses events))) e
         (ap (has_key key) (sym (shown_after (opening buses 0) (course buses events).steps)) ∙ last) in cc

@@ -1,9 +1,11 @@
 -- What a session lists: rows in key order, each as the registry held it, and on a still registry the listing.
-use Rattle.std.proofs.Common.{◌≡◌, ℕ, zero, suc, ◌+◌, ◌≤◌, Bool, true, false, not, List, [], ◌∷◌, ◌++◌, map, take, length, drop, get_or, length-take, refl, ap, sym, ◌∙◌, subst, arith, append-nil, append_assoc}
+use Rattle.std.proofs.Common.{◌≡◌, ℕ, zero, suc, ◌+◌, ◌≤◌, Bool, true, false, not, List, [], ◌∷◌, ◌++◌, map, take, length, drop, get_or}
+use Rattle.std.proofs.Common.{length-take, refl, ap, sym, ◌∙◌, subst, arith, append-nil, append_assoc}
 use Rattle.std.proofs.lemmas.Bool.{leb-false, leb-true}
 use Rattle.std.proofs.lemmas.Bool.Decides.{nat_tests}
 use Rattle.std.proofs.lemmas.Cmp.{tied_itself}
-use Rattle.std.proofs.lemmas.List.{take-append-drop, take_all, take-take, get_or_past, take-append-le, length_push, map-append, get_or_append_left, get_or_push, get_or-take, get_or-drop}
+use Rattle.std.proofs.lemmas.List.{take-append-drop, take_all, take-take, get_or_past, take-append-le, length_push, map-append}
+use Rattle.std.proofs.lemmas.List.{get_or_append_left, get_or_push, get_or-take, get_or-drop}
 use Rattle.std.proofs.lemmas.List.Concat.{flat_map-append}
 use Rattle.std.proofs.lemmas.List.Elements.{filter_map-append}
 use Rattle.std.proofs.lemmas.List.Sums.{fold-append}
@@ -32,7 +34,8 @@ use Rattle.srcp_feed.proofs.Steps.{lists_one, passed_below, passed_all, passed_d
 use Rattle.srcp_core.specs.Under.{Step}
 use Rattle.srcp_core.specs.Connection.{Connection, History, heard, tells, sent, unsent, given, text}
 use Rattle.srcp_core.specs.Course.{World, course, rows, history, history_from, stepped, updates_of}
-use Rattle.srcp_core.specs.Laws.{OfSessions, listed_row, listed, shown_at, rows_at, ListsRising, IsHeld, ListsHeld, IsStill, IsPrefixOf, ListsStill}
+use Rattle.srcp_core.specs.Laws.{OfSessions, listed_row, listed, shown_at, rows_at, ListsRising, IsHeld, ListsHeld, IsStill, IsPrefixOf}
+use Rattle.srcp_core.specs.Laws.{ListsStill}
 use Rattle.srcp_core.specs.declared.record.Item.{Item}
 use Rattle.srcp_core.proofs.CourseLaws.Histories.{rows_after, part, cursor_by, cursor_later, cursor_done}
 use Rattle.srcp_core.proofs.CourseLaws.ShownRegistry.{shown_after}
@@ -41,48 +44,79 @@ use Rattle.srcp_core.proofs.CourseLaws.SessionsOfACourse.{stands, settled_facts,
 use Rattle.srcp_core.proofs.CourseLaws.ClientHoldsPassedRows.{Fits, Law, untold_by, tolds, item_of, cursor_item, cursor_told, rows_push}
 use Rattle.srcp_core.proofs.CourseLaws.SessionsAreKept.{in_order_after, all_push}
 
-pub listed_told : (history : History) (items : List Item) (change : Change) → listed (items ++ item_of history (Told change) ∷ []) ≡ listed items
-listed_told history items change = filter_map-append (λ (item : Item). listed_row item.what) items (item_of history (Told change) ∷ []) ∙ append-nil (listed items)
+pub listed_told : (history : History) (items : List Item) (change : Change)
+    → listed (items ++ item_of history (Told change) ∷ []) ≡ listed items
+listed_told history items change =
+    filter_map-append (λ (item : Item). listed_row item.what) items (item_of history (Told change) ∷ []) ∙ append-nil (listed items)
 
-pub listed_more : (history : History) (items : List Item) (row : Shown) → listed (items ++ item_of history (Listed row) ∷ []) ≡ listed items ++ row ∷ []
+pub listed_more : (history : History) (items : List Item) (row : Shown)
+    → listed (items ++ item_of history (Listed row) ∷ []) ≡ listed items ++ row ∷ []
 listed_more history items row = filter_map-append (λ (item : Item). listed_row item.what) items (item_of history (Listed row) ∷ [])
 
 -- ---- listed keys rise
 
 -- each is below all that follow, and the listing has passed them all
 abbrev Rising : History → ℕ → List Item → Option ℕ → Type 0
-Rising history go items done = IsRisingBy (λ (row : Shown). row.key) (listed items) × AllByRecursion (λ (row : Shown). has_reached (cursor_by done items (length history)) row.key ≡ true) (listed items)
+Rising history go items done =
+    IsRisingBy (λ (row : Shown). row.key) (listed items)
+    × AllByRecursion (λ (row : Shown). has_reached (cursor_by done items (length history)) row.key ≡ true) (listed items)
 
-rising_push : (rows : List Shown) (row : Shown) → IsRisingBy (λ r. r.key) rows → AllByRecursion (λ (r : Shown). is_after row.key r.key ≡ true) rows → IsRisingBy (λ r. r.key) (rows ++ row ∷ [])
+rising_push : (rows : List Shown) (row : Shown) → IsRisingBy (λ r. r.key) rows
+    → AllByRecursion (λ (r : Shown). is_after row.key r.key ≡ true) rows → IsRisingBy (λ r. r.key) (rows ++ row ∷ [])
 rising_push [] row r a = (tt, tt)
-rising_push (other ∷ rows) row r a = (all_push (λ (y : Shown). key_cmp other.key y.key ≡ Less) rows row r.0 (less_from_after row.key other.key a.0), rising_push rows row r.1 a.1)
+rising_push (other ∷ rows) row r a = (
+  all_push (λ (y : Shown). key_cmp other.key y.key ≡ Less) rows row r.0 (less_from_after row.key other.key a.0),
+  rising_push rows row r.1 a.1,
+)
 
 rising_law : (start : List Shown) → Law start Rising
 rising_law start = record {
   fresh = λ history go h. (tt, tt);
-  push = λ history changes go items done order f p. (p.0, all_weaker _ _ (λ row k. ap (λ c. has_reached c row.key) (same history changes items done f) ∙ k) (listed items) p.1);
+  push =
+      λ history changes go items done order f p.
+      (p.0, all_weaker _ _ (λ row k. ap (λ c. has_reached c row.key) (same history changes items done f) ∙ k) (listed items) p.1);
   tell = λ history go items done change changes order f p e. (
     subst (λ rs. IsRisingBy (λ (r : Shown). r.key) rs) (sym (listed_told history items change)) p.0,
-    subst (λ rs. AllByRecursion (λ (r : Shown). has_reached (cursor_by done (items ++ item_of history (Told change) ∷ []) (length history)) r.key ≡ true) rs) (sym (listed_told history items change))
-        (all_weaker _ _ (λ row k. ap (λ c. has_reached c row.key) (cursor_told history items done change f.numbers) ∙ k) (listed items) p.1),
+    subst (λ rs.
+        AllByRecursion (λ (r : Shown). has_reached (cursor_by done (items ++ item_of history (Told change) ∷ []) (length history)) r.key
+        ≡ true)
+        rs)
+        (sym (listed_told history items change))
+        (all_weaker _ _ (λ row k. ap (λ c. has_reached c row.key) (cursor_told history items done change f.numbers) ∙ k)
+        (listed items) p.1),
   );
   list = λ history go items row left order f p e b.
       let one = lists_one (cursor_by None items (length history)) row left (rows_after start history) order b in
-      let above : AllByRecursion (λ (r : Shown). is_after row.key r.key ≡ true) (listed items) = all_weaker _ _ (λ r k. passed_below (cursor_by None items (length history)) row.key r.key one.outside k) (listed items) p.1 in (
+      let above : AllByRecursion (λ (r : Shown). is_after row.key r.key ≡ true) (listed items) =
+      all_weaker _ _ (λ r k. passed_below (cursor_by None items (length history)) row.key r.key one.outside k) (listed items) p.1 in (
         subst (λ rs. IsRisingBy (λ (r : Shown). r.key) rs) (sym (listed_more history items row)) (rising_push (listed items) row p.0 above),
-        subst (λ rs. AllByRecursion (λ (r : Shown). has_reached (cursor_by None (items ++ item_of history (Listed row) ∷ []) (length history)) r.key ≡ true) rs) (sym (listed_more history items row))
+        subst (λ rs.
+            AllByRecursion (λ (r : Shown).
+            has_reached (cursor_by None (items ++ item_of history (Listed row) ∷ []) (length history)) r.key
+            ≡ true)
+            rs)
+            (sym (listed_more history items row))
             (all_push _ (listed items) row
-            (all_weaker _ _ (λ r k. ap (λ c. has_reached c r.key) (cursor_item history items (Listed row) f.numbers) ∙ ap not (after_one_way row.key r.key k)) (listed items) above)
+            (all_weaker _ _ (λ r k. ap (λ c. has_reached c r.key) (cursor_item history items (Listed row) f.numbers)
+            ∙ ap not (after_one_way row.key r.key k))
+            (listed items) above)
             (ap (λ c. has_reached c row.key) (cursor_item history items (Listed row) f.numbers) ∙ ap not (after_not_itself row.key))),
       );
-  finish = λ history go items order f p e b. (p.0, all_weaker _ _ (λ row k. ap (λ c. has_reached c row.key) (cursor_done (length history) items)) (listed items) p.1);
+  finish =
+      λ history go items order f p e b.
+      (p.0, all_weaker _ _ (λ row k. ap (λ c. has_reached c row.key) (cursor_done (length history) items)) (listed items) p.1);
 }
   where
-    same : (history : History) (changes : List Change) (items : List Item) (done : Option ℕ) {go : ℕ} → Fits start history go items done → cursor_by done items (length (history ++ changes ∷ [])) ≡ cursor_by done items (length history)
-    same history changes items done f = let l = length_push history changes in let up : length history ≤ length (history ++ changes ∷ []) = omega arith in cursor_later (length history) (length (history ++ changes ∷ [])) done items up f.finished f.numbers
+    same : (history : History) (changes : List Change) (items : List Item) (done : Option ℕ) {go : ℕ} → Fits start history go items done
+        → cursor_by done items (length (history ++ changes ∷ [])) ≡ cursor_by done items (length history)
+    same history changes items done f =
+        let l = length_push history changes in
+        let up : length history ≤ length (history ++ changes ∷ []) = omega arith in
+        cursor_later (length history) (length (history ++ changes ∷ [])) done items up f.finished f.numbers
 
 pub lists_rising : (buses : List Bus) → OfSessions buses (ListsRising buses)
-lists_rising buses layout events number conn s = (stands buses layout Rising (rising_law (shown_rows (opening buses 0))) events number conn s).fits.1.0
+lists_rising buses layout events number conn s =
+    (stands buses layout Rising (rising_law (shown_rows (opening buses 0))) events number conn s).fits.1.0
 
 -- ---- a row is listed as the registry held it
 
@@ -94,12 +128,14 @@ HeldIn rows Settled = ⊤
 abbrev Held : List Shown → History → ℕ → List Item → Option ℕ → Type 0
 Held start history go items finished = AllByRecursion (λ item. HeldIn (rows_after start (take item.steps history)) item.what) items
 
-all_both : {X : Type 0} (P Q R : X → Type 0) → ((x : X) → P x → Q x → R x) → (xs : List X) → AllByRecursion P xs → AllByRecursion Q xs → AllByRecursion R xs
+all_both : {X : Type 0} (P Q R : X → Type 0) → ((x : X) → P x → Q x → R x) → (xs : List X) → AllByRecursion P xs → AllByRecursion Q xs
+    → AllByRecursion R xs
 all_both P Q R f [] a b = tt
 all_both P Q R f (x ∷ xs) a b = (f x a.0 b.0, all_both P Q R f xs a.1 b.1)
 
 -- the first row that passes a test stands at its own key
-found : (q : Shown → Bool) (row : Shown) (left rows : List Shown) → IsRisingBy key_at rows → filter q rows ≡ row ∷ left → shown_at row.key rows ≡ Some row
+found : (q : Shown → Bool) (row : Shown) (left rows : List Shown) → IsRisingBy key_at rows → filter q rows ≡ row ∷ left
+    → shown_at row.key rows ≡ Some row
 found q row left [] r e = cc
 found q row left (other ∷ rows) r e =
     let ih = found q row left rows r.1 in
@@ -107,11 +143,14 @@ found q row left (other ∷ rows) r e =
       | true ↦ λ k.
           let e' : other ∷ filter q rows ≡ row ∷ left = rw k at e in
           let same : other ≡ row = cc in
-          let tied : key_cmp other.key row.key ≡ Equal = ap (λ (r : Shown). key_cmp other.key r.key) (sym same) ∙ tied_itself key_cmp_total other.key in
+          let tied : key_cmp other.key row.key ≡ Equal =
+          ap (λ (r : Shown). key_cmp other.key r.key) (sym same) ∙ tied_itself key_cmp_total other.key in
           rw (ap is_eq tied) (ap (λ r. Some r) same)
       | false ↦ λ k.
           let e' : filter q rows ≡ row ∷ left = rw k at e in
-          let above : AllByRecursion (λ (y : Shown). key_cmp other.key y.key ≡ Less) (row ∷ left) = subst (λ ys. AllByRecursion (λ (y : Shown). key_cmp other.key y.key ≡ Less) ys) e' (all_filter (λ y. key_cmp other.key y.key ≡ Less) q rows r.0) in
+          let above : AllByRecursion (λ (y : Shown). key_cmp other.key y.key ≡ Less) (row ∷ left) =
+          subst (λ ys. AllByRecursion (λ (y : Shown). key_cmp other.key y.key ≡ Less) ys) e'
+          (all_filter (λ y. key_cmp other.key y.key ≡ Less) q rows r.0) in
           rw (ap is_eq above.0) (ih e')
     ] in
     by (q other) refl
@@ -119,22 +158,31 @@ found q row left (other ∷ rows) r e =
 held_law : (start : List Shown) → Law start (Held start)
 held_law start = record {
   fresh = λ history go h. tt;
-  push = λ history changes go items done order f p. all_both _ _ _ (λ item n k. subst (λ h. HeldIn (rows_after start h) item.what) (sym (take-append-le item.steps history (changes ∷ []) n)) k) items f.numbers p;
+  push =
+      λ history changes go items done order f p.
+      all_both _ _ _
+      (λ item n k. subst (λ h. HeldIn (rows_after start h) item.what) (sym (take-append-le item.steps history (changes ∷ []) n)) k)
+      items f.numbers p;
   tell = λ history go items done change changes order f p e. all_push _ items (item_of history (Told change)) p tt;
   list = λ history go items row left order f p e b.
       let self : length history ≤ length history = omega arith in
       all_push _ items (item_of history (Listed row)) p
-      (ap (λ h. shown_at row.key (rows_after start h)) (take_all (length history) history self) ∙ found (λ r. not (has_reached (cursor_by None items (length history)) r.key)) row left (rows_after start history) order b);
+      (ap (λ h. shown_at row.key (rows_after start h)) (take_all (length history) history self)
+      ∙ found (λ r. not (has_reached (cursor_by None items (length history)) r.key)) row left (rows_after start history) order b);
   finish = λ history go items order f p e b. p;
 }
 
 history_take : (k : ℕ) (state : State) (steps : List Step) → take k (history_from state steps) ≡ history_from state (take k steps)
 history_take zero state steps = refl
 history_take (suc k) state [] = refl
-history_take (suc k) state (step ∷ steps) = ap (λ h. map (λ update. update.change) (updates_of state step) ∷ h) (history_take k (stepped state step) steps)
+history_take (suc k) state (step ∷ steps) =
+    ap (λ h. map (λ update. update.change) (updates_of state step) ∷ h) (history_take k (stepped state step) steps)
 
-pub rows_of_course : (buses : List Bus) (w : World) (k : ℕ) → rows_after (shown_rows (opening buses 0)) (take k (history buses w)) ≡ rows_at buses w k
-rows_of_course buses w k = ap (rows_after (shown_rows (opening buses 0))) (history_take k (opening buses 0) w.steps) ∙ sym (shown_after (opening buses 0) (take k w.steps))
+pub rows_of_course : (buses : List Bus) (w : World) (k : ℕ)
+    → rows_after (shown_rows (opening buses 0)) (take k (history buses w)) ≡ rows_at buses w k
+rows_of_course buses w k =
+    ap (rows_after (shown_rows (opening buses 0))) (history_take k (opening buses 0) w.steps)
+    ∙ sym (shown_after (opening buses 0) (take k w.steps))
 
 -- what was heard until the end begins as all that happened
 heard_front : (shut : Option ℕ) (history : History) (k : ℕ) → k ≤ length (heard shut history) → take k (heard shut history) ≡ take k history
@@ -147,13 +195,20 @@ heard_front (Some n) history k h =
 pub lists_held : (buses : List Bus) → OfSessions buses (ListsHeld buses)
 lists_held buses layout events number conn s =
     let w = course buses events in
-    let both = (stands buses layout (Held (shown_rows (opening buses 0))) (held_law (shown_rows (opening buses 0))) events number conn s).fits in
+    let both =
+    (stands buses layout (Held (shown_rows (opening buses 0))) (held_law (shown_rows (opening buses 0))) events number conn s).fits in
     all_both _ _ _ (λ item n k. at item.what item n k) conn.items both.0.numbers both.1
   where
-    at : (what : Next) (item : Item) → item.steps ≤ length (heard conn.shut (history buses (course buses events))) → HeldIn (rows_after (shown_rows (opening buses 0)) (take item.steps (heard conn.shut (history buses (course buses events))))) what → IsHeld buses (course buses events) item what
+    at : (what : Next) (item : Item) → item.steps ≤ length (heard conn.shut (history buses (course buses events)))
+        → HeldIn (rows_after (shown_rows (opening buses 0)) (take item.steps (heard conn.shut (history buses (course buses events))))) what
+        → IsHeld buses (course buses events) item what
     at (Told change) item n k = tt
     at (Listed row) item n k =
-        ap (shown_at row.key) (sym (rows_of_course buses (course buses events) item.steps) ∙ ap (rows_after (shown_rows (opening buses 0))) (sym (heard_front conn.shut (history buses (course buses events)) item.steps n))) ∙ k
+        ap (shown_at row.key)
+        (sym (rows_of_course buses (course buses events) item.steps)
+        ∙ ap (rows_after (shown_rows (opening buses 0)))
+        (sym (heard_front conn.shut (history buses (course buses events)) item.steps n)))
+        ∙ k
     at Settled item n k = tt
 
 -- ---- a registry that stands still
@@ -162,12 +217,15 @@ abbrev IsQuiet : ℕ → History → Type 0
 IsQuiet go history = (k : ℕ) → go ≤ k → get_or history k [] ≡ []
 
 abbrev Still : List Shown → History → ℕ → List Item → Option ℕ → Type 0
-Still start history go items done = IsQuiet go history → tells items ≡ map (λ row. Put row) (passed (cursor_by done items (length history)) (rows_after start history))
+Still start history go items done =
+    IsQuiet go history → tells items ≡ map (λ row. Put row) (passed (cursor_by done items (length history)) (rows_after start history))
 
-quiet_none : (go : ℕ) (cursors : ℕ → Cursor) (n : ℕ) (history : History) → ((k : ℕ) → go ≤ n + k → get_or history k [] ≡ []) → flat_map (part go cursors) (enumerate_from n history) ≡ []
+quiet_none : (go : ℕ) (cursors : ℕ → Cursor) (n : ℕ) (history : History) → ((k : ℕ) → go ≤ n + k → get_or history k [] ≡ [])
+    → flat_map (part go cursors) (enumerate_from n history) ≡ []
 quiet_none go cursors n [] q = refl
 quiet_none go cursors n (changes ∷ history) q =
-    ap (λ cs. cs ++ flat_map (part go cursors) (enumerate_from (n + 1) history)) (here (nat_le go n) refl) ∙ quiet_none go cursors (n + 1) history (λ k h. q (suc k) (later k h))
+    ap (λ cs. cs ++ flat_map (part go cursors) (enumerate_from (n + 1) history)) (here (nat_le go n) refl)
+    ∙ quiet_none go cursors (n + 1) history (λ k h. q (suc k) (later k h))
   where
     later : (k : ℕ) → go ≤ n + 1 + k → go ≤ n + suc k
     later k h = omega arith
@@ -194,19 +252,28 @@ still_law start = record {
       let up : length history ≤ length (history ++ changes ∷ []) = omega arith in
       let nothing : changes ≡ [] = sym (get_or_push history changes [] (length history) refl) ∙ q (length history) f.began in
       p (quiet_before go history changes q)
-      ∙ ap (λ c. map (λ row. Put row) (passed c (rows_after start history))) (sym (cursor_later (length history) (length (history ++ changes ∷ [])) done items up f.finished f.numbers))
-      ∙ ap (λ rs. map (λ row. Put row) (passed (cursor_by done items (length (history ++ changes ∷ []))) rs)) (sym (rows_push start history changes ∙ ap (λ cs. changed_all cs (rows_after start history)) nothing));
+      ∙ ap (λ c. map (λ row. Put row) (passed c (rows_after start history)))
+      (sym (cursor_later (length history) (length (history ++ changes ∷ [])) done items up f.finished f.numbers))
+      ∙ ap (λ rs. map (λ row. Put row) (passed (cursor_by done items (length (history ++ changes ∷ []))) rs))
+      (sym (rows_push start history changes ∙ ap (λ cs. changed_all cs (rows_after start history)) nothing));
   tell = λ history go items done change changes order f p e q.
-      let none : untold_by go items done history ≡ [] = ap (drop (length (tolds items))) (quiet_none go (cursor_by done items) 0 history (λ k h. q k (from_zero go k h))) ∙ drop-nil (length (tolds items)) in
+      let none : untold_by go items done history ≡ [] =
+      ap (drop (length (tolds items))) (quiet_none go (cursor_by done items) 0 history (λ k h. q k (from_zero go k h)))
+      ∙ drop-nil (length (tolds items)) in
       cc;
   list = λ history go items row left order f p e b q.
       let one = lists_one (cursor_by None items (length history)) row left (rows_after start history) order b in
       flat_map-append (λ (item : Item). said item.what) items (item_of history (Listed row) ∷ [])
       ∙ ap (λ cs. cs ++ Put row ∷ []) (p q)
       ∙ sym (map-append (λ row. Put row) (passed (cursor_by None items (length history)) (rows_after start history)) (row ∷ []))
-      ∙ ap (map (λ row. Put row)) (sym one.appended ∙ ap (λ c. passed c (rows_after start history)) (sym (cursor_item history items (Listed row) f.numbers)));
+      ∙ ap (map (λ row. Put row))
+      (sym one.appended ∙ ap (λ c. passed c (rows_after start history)) (sym (cursor_item history items (Listed row) f.numbers)));
   finish = λ history go items order f p e b q.
-      p q ∙ ap (map (λ row. Put row)) (passed_all (cursor_by None items (length history)) (rows_after start history) b ∙ sym (passed_done (rows_after start history)) ∙ ap (λ c. passed c (rows_after start history)) (sym (cursor_done (length history) items)));
+      p q
+      ∙ ap (map (λ row. Put row))
+      (passed_all (cursor_by None items (length history)) (rows_after start history) b
+      ∙ sym (passed_done (rows_after start history))
+      ∙ ap (λ c. passed c (rows_after start history)) (sym (cursor_done (length history) items)));
 }
   where
     from_zero : (go k : ℕ) → go ≤ 0 + k → go ≤ k
@@ -232,7 +299,8 @@ quiet_rows rows [] q = refl
 quiet_rows rows (changes ∷ history) q = ap (λ cs. rows_after (changed_all cs rows) history) (q 0) ∙ quiet_rows rows history (λ k. q (suc k))
 
 -- a quiet registry is as it was at the session's beginning
-quiet_since : (first : List Shown) (go : ℕ) (history : History) → IsQuiet go history → rows_after first history ≡ rows_after first (take go history)
+quiet_since : (first : List Shown) (go : ℕ) (history : History) → IsQuiet go history
+    → rows_after first history ≡ rows_after first (take go history)
 quiet_since first go history q =
     ap (rows_after first) (sym (take-append-drop go history))
     ∙ fold-append (λ rows changes. changed_all changes rows) first (take go history) (drop go history)
@@ -244,38 +312,55 @@ quiet_since first go history q =
 -- the parts of a session on a still registry, up to its end
 record StillFacts (conn : Connection) (heard_now : History) (held : List Shown) : Type 0 where
   text_is : text conn.items ≡ listing (passed (cursor_by conn.done conn.items (length heard_now)) held)
-  whole_is : passed (cursor_by conn.done conn.items (length heard_now)) held ++ beyond (cursor_by conn.done conn.items (length heard_now)) held ≡ held
+  whole_is : passed (cursor_by conn.done conn.items (length heard_now)) held
+      ++ beyond (cursor_by conn.done conn.items (length heard_now)) held
+      ≡ held
 
-still_same : (buses : List Bus) (w : World) (conn : Connection) → Stands (shown_rows (opening buses 0)) (Still (shown_rows (opening buses 0))) (history buses w) conn → IsStill buses w conn → rows_after (shown_rows (opening buses 0)) (heard conn.shut (history buses w)) ≡ rows_at buses w conn.go_step
+still_same : (buses : List Bus) (w : World) (conn : Connection)
+    → Stands (shown_rows (opening buses 0)) (Still (shown_rows (opening buses 0))) (history buses w) conn → IsStill buses w conn
+    → rows_after (shown_rows (opening buses 0)) (heard conn.shut (history buses w)) ≡ rows_at buses w conn.go_step
 still_same buses w conn s still =
-    quiet_since (shown_rows (opening buses 0)) conn.go_step (heard conn.shut (history buses w)) (quiet_heard conn.go_step conn.shut (history buses w) still)
+    quiet_since (shown_rows (opening buses 0)) conn.go_step (heard conn.shut (history buses w))
+    (quiet_heard conn.go_step conn.shut (history buses w) still)
     ∙ ap (rows_after (shown_rows (opening buses 0))) (heard_front conn.shut (history buses w) conn.go_step s.fits.0.began)
     ∙ rows_of_course buses w conn.go_step
 
-still_facts : (buses : List Bus) (layout : IsLayout buses) (w : World) (conn : Connection) → Stands (shown_rows (opening buses 0)) (Still (shown_rows (opening buses 0))) (history buses w) conn → IsStill buses w conn → StillFacts conn (heard conn.shut (history buses w)) (rows_at buses w conn.go_step)
+still_facts : (buses : List Bus) (layout : IsLayout buses) (w : World) (conn : Connection)
+    → Stands (shown_rows (opening buses 0)) (Still (shown_rows (opening buses 0))) (history buses w) conn → IsStill buses w conn
+    → StillFacts conn (heard conn.shut (history buses w)) (rows_at buses w conn.go_step)
 still_facts buses layout w conn s still =
     let same = still_same buses w conn s still in
-    let order : IsRisingBy key_at (rows_at buses w conn.go_step) = subst (IsRisingBy key_at) same (in_order_after (shown_rows (opening buses 0)) (heard conn.shut (history buses w)) (opening_in_order buses layout)) in
+    let order : IsRisingBy key_at (rows_at buses w conn.go_step) =
+    subst (IsRisingBy key_at) same
+    (in_order_after (shown_rows (opening buses 0)) (heard conn.shut (history buses w)) (opening_in_order buses layout)) in
     record {
       text_is =
           text_tells conn.items ∙ ap (flat_map line) (s.fits.1 (quiet_heard conn.go_step conn.shut (history buses w) still))
-          ∙ listing_puts (passed (cursor_by conn.done conn.items (length (heard conn.shut (history buses w)))) (rows_after (shown_rows (opening buses 0)) (heard conn.shut (history buses w))))
+          ∙ listing_puts (passed (cursor_by conn.done conn.items (length (heard conn.shut (history buses w))))
+          (rows_after (shown_rows (opening buses 0)) (heard conn.shut (history buses w))))
           ∙ ap (λ rs. listing (passed (cursor_by conn.done conn.items (length (heard conn.shut (history buses w)))) rs)) same;
-      whole_is = reached_split (cursor_by conn.done conn.items (length (heard conn.shut (history buses w)))) (rows_at buses w conn.go_step) order;
+      whole_is =
+          reached_split (cursor_by conn.done conn.items (length (heard conn.shut (history buses w)))) (rows_at buses w conn.go_step) order;
     }
 
-still_front : (conn : Connection) (heard_now : History) (held : List Shown) → StillFacts conn heard_now held → IsPrefixOf (sent conn) (conn.out ++ listing held)
+still_front : (conn : Connection) (heard_now : History) (held : List Shown) → StillFacts conn heard_now held
+    → IsPrefixOf (sent conn) (conn.out ++ listing held)
 still_front conn heard_now held facts = (
   unsent conn ++ listing (beyond (cursor_by conn.done conn.items (length heard_now)) held),
   sym (append_assoc (sent conn) (unsent conn) (listing (beyond (cursor_by conn.done conn.items (length heard_now)) held)))
-      ∙ ap (λ bytes. bytes ++ listing (beyond (cursor_by conn.done conn.items (length heard_now)) held)) (take-append-drop conn.taken (given conn))
+      ∙ ap (λ bytes. bytes ++ listing (beyond (cursor_by conn.done conn.items (length heard_now)) held))
+      (take-append-drop conn.taken (given conn))
       ∙ append_assoc conn.out (text conn.items) (listing (beyond (cursor_by conn.done conn.items (length heard_now)) held))
       ∙ ap (λ bytes. conn.out ++ (bytes ++ listing (beyond (cursor_by conn.done conn.items (length heard_now)) held))) facts.text_is
-      ∙ ap (λ bytes. conn.out ++ bytes) (sym (flat_map-append (λ row. line (Put row)) (passed (cursor_by conn.done conn.items (length heard_now)) held) (beyond (cursor_by conn.done conn.items (length heard_now)) held)))
+      ∙ ap (λ bytes. conn.out ++ bytes)
+      (sym
+      (flat_map-append (λ row. line (Put row)) (passed (cursor_by conn.done conn.items (length heard_now)) held)
+      (beyond (cursor_by conn.done conn.items (length heard_now)) held)))
       ∙ ap (λ rs. conn.out ++ listing rs) facts.whole_is,
 )
 
-still_whole : (conn : Connection) (heard_now : History) (held : List Shown) → StillFacts conn heard_now held → unsent conn ≡ [] → beyond (cursor_by conn.done conn.items (length heard_now)) held ≡ [] → sent conn ≡ conn.out ++ listing held
+still_whole : (conn : Connection) (heard_now : History) (held : List Shown) → StillFacts conn heard_now held → unsent conn ≡ []
+    → beyond (cursor_by conn.done conn.items (length heard_now)) held ≡ [] → sent conn ≡ conn.out ++ listing held
 still_whole conn heard_now held facts u b =
     sent_whole conn u
     ∙ ap (λ bytes. conn.out ++ bytes) (sym (text_tells conn.items) ∙ facts.text_is)
@@ -292,6 +377,11 @@ lists_still buses layout events number conn s still =
           let now = settled_facts conn (history buses w) (rows buses w) settled in
           let both = settled_both buses layout w conn s.info settled in
           still_whole conn (heard conn.shut (history buses w)) (rows_at buses w conn.go_step) facts now.none_unsent
-          (ap (beyond (cursor_by conn.done conn.items (length (heard conn.shut (history buses w))))) (sym (still_same buses w conn law still))
-          ∙ subst (λ x. beyond (cursor_by conn.done conn.items (length (heard x (history buses w)))) (rows_after (shown_rows (opening buses 0)) (heard x (history buses w))) ≡ []) (sym now.open_now) both.1);
+          (ap (beyond (cursor_by conn.done conn.items (length (heard conn.shut (history buses w)))))
+          (sym (still_same buses w conn law still))
+          ∙ subst (λ x.
+          beyond (cursor_by conn.done conn.items (length (heard x (history buses w))))
+          (rows_after (shown_rows (opening buses 0)) (heard x (history buses w)))
+          ≡ [])
+          (sym now.open_now) both.1);
     }

@@ -9,7 +9,8 @@ use Rattle.std.specs.List.{flat_map}
 use Rattle.std.specs.Prelude.{nat_lt, ◌==◌, ◌&&◌, Some, if◌then◌else◌}
 use Rattle.srcp_rules.specs.declared.layout.Bus.{Bus}
 use Rattle.srcp_feed.specs.declared.next.Next.{Next}
-use Rattle.srcp_core.specs.Connection.{Connection, available, fitting, front, given, given_room, is_nil, is_open, items_of, line_of, overran}
+use Rattle.srcp_core.specs.Connection.{Connection, available, fitting, front, given, given_room, is_nil, is_open, items_of, line_of}
+use Rattle.srcp_core.specs.Connection.{overran}
 use Rattle.srcp_core.specs.Connection.{owed, text, took, unsent}
 use Rattle.srcp_core.specs.Course.{World, at_connection, course, entered, fresh, history, numbered, rows, start}
 use Rattle.srcp_core.specs.Laws.{IsSuffixOf, last_line}

@@ -1,5 +1,6 @@
 -- Over every course the registry stays whole: each session that began and did not end has its row, under an id of its own.
-use Rattle.std.proofs.Common.{◌≡◌, ℕ, zero, suc, ◌+◌, ◌^◌, ◌<◌, ◌≤◌, max, Bool, true, false, List, [], ◌∷◌, ◌++◌, length, take, refl, ap, sym, ◌∙◌, subst, arith, add-one, inl, inr, ◌⊎◌, ⊎_elim}
+use Rattle.std.proofs.Common.{◌≡◌, ℕ, zero, suc, ◌+◌, ◌^◌, ◌<◌, ◌≤◌, max, Bool, true, false, List, [], ◌∷◌, ◌++◌, length, take, refl, ap}
+use Rattle.std.proofs.Common.{sym, ◌∙◌, subst, arith, add-one, inl, inr, ◌⊎◌, ⊎_elim}
 use Rattle.std.proofs.lemmas.Bool.{le-leb, true≢false, ltb-true, eqb-false}
 use Rattle.std.proofs.lemmas.List.Sums.{fold-append}
 use Rattle.std.proofs.Math.Nat.{suc-ne-zero, suc_inj, pos_of_ne-zero}
@@ -22,14 +23,19 @@ use Rattle.srcp_rules.proofs.GrammarLaws.{reads_fits}
 use Rattle.srcp_rules.proofs.SessionLaws.{session_row-updated_all, AreElsewhere, effect_elsewhere, due_elsewhere, freed_others}
 use Rattle.srcp_rules.proofs.StateLaws.{has_row-put_row, row_at-put_same}
 use Rattle.srcp_text.specs.Marks.{Mark, Line, TooLong}
-use Rattle.srcp_core.specs.Under.{Event, Open, Bytes, Room, At, Shut, Step, Obeyed, Began, Moment, Ended, Order, effect, greets, Heard, Piece}
+use Rattle.srcp_core.specs.Under.{Event, Open, Bytes, Room, At, Shut, Step, Obeyed, Began, Moment, Ended, Order, effect, greets, Heard}
+use Rattle.srcp_core.specs.Under.{Piece}
 use Rattle.srcp_core.specs.Connection.{Connection, overran, owed, took, given_room}
-use Rattle.srcp_core.specs.Course.{World, updates_of, stepped, state_after, fresh, start, numbered, with_numbered, at_connection, open_connection, did, replied, counted, is_info, state, rows, history, entered, goes, greeted, ended, obeyed, commanded, answered_as, answered, command_of, order_of, fault, new_lines, fed_to, shut_as, accepted, or_refused, happens, course}
+use Rattle.srcp_core.specs.Course.{World, updates_of, stepped, state_after, fresh, start, numbered, with_numbered, at_connection}
+use Rattle.srcp_core.specs.Course.{open_connection, did, replied, counted, is_info, state, rows, history, entered, goes, greeted, ended}
+use Rattle.srcp_core.specs.Course.{obeyed, commanded, answered_as, answered, command_of, order_of, fault, new_lines, fed_to, shut_as}
+use Rattle.srcp_core.specs.Course.{accepted, or_refused, happens, course}
 use Rattle.srcp_core.specs.Handshake.{Greeting, Speaks, Chooses, Goes, Refuses}
 use Rattle.srcp_core.specs.Laws.{IsLive, AllMoments, HasMoment, KeepsWhole, AlwaysKeepsKeys, has_key}
 use Rattle.srcp_core.specs.declared.record.CoreFault.{CoreFault}
 use Rattle.srcp_core.proofs.Agreement.MemoryAnswers.{effect_law, ordered_law}
-use Rattle.srcp_core.proofs.CourseLaws.StepsKeepWhole.{IsStepOf, AreSteps, are_steps_push, steps_whole, front_whole, history_told, keys_kept, whole_opening}
+use Rattle.srcp_core.proofs.CourseLaws.StepsKeepWhole.{IsStepOf, AreSteps, are_steps_push, steps_whole, front_whole, history_told}
+use Rattle.srcp_core.proofs.CourseLaws.StepsKeepWhole.{keys_kept, whole_opening}
 use Rattle.srcp_core.proofs.Agreement.NumbersAndKeys.{numbered_with, no_connection}
 use Rattle.srcp_core.proofs.CourseLaws.SessionsAreKept.{opened}
 
@@ -41,16 +47,29 @@ pub record Source (m n : ℕ) (f : Connection → Connection) (xs : List Connect
   pub there : numbered m xs ≡ Some x
   pub from : ((m ≡ n → ⊥) × (y ≡ x)) ⊎ ((m ≡ n) × (y ≡ f x))
 
-pub look_with : (m n : ℕ) (f : Connection → Connection) (xs : List Connection) (y : Connection) → numbered m (with_numbered n f xs) ≡ Some y → Source m n f xs y
+pub look_with : (m n : ℕ) (f : Connection → Connection) (xs : List Connection) (y : Connection) → numbered m (with_numbered n f xs) ≡ Some y
+    → Source m n f xs y
 look_with zero n f xs y e = cc
 look_with (suc m) n f [] y e = cc
 look_with (suc m) zero f (x ∷ xs) y e = record { x = y; there = e; from = inl (λ z. suc-ne-zero m z, refl) }
 look_with (suc zero) (suc zero) f (x ∷ xs) y e = let same : f x ≡ y = cc in record { x = x; there = refl; from = inr (refl, sym same) }
-look_with (suc zero) (suc (suc n)) f (x ∷ xs) y e = record { x = y; there = e; from = inl (λ z. suc-ne-zero n (sym (suc_inj {m = zero} {n = suc n} z)), refl) }
-look_with (suc (suc m)) (suc zero) f (x ∷ xs) y e = record { x = y; there = e; from = inl (λ z. suc-ne-zero m (suc_inj {m = suc m} {n = zero} z), refl) }
+look_with (suc zero) (suc (suc n)) f (x ∷ xs) y e = record {
+  x = y;
+  there = e;
+  from = inl (λ z. suc-ne-zero n (sym (suc_inj {m = zero} {n = suc n} z)), refl);
+}
+look_with (suc (suc m)) (suc zero) f (x ∷ xs) y e = record {
+  x = y;
+  there = e;
+  from = inl (λ z. suc-ne-zero m (suc_inj {m = suc m} {n = zero} z), refl);
+}
 look_with (suc (suc m)) (suc (suc n)) f (x ∷ xs) y e =
     let s = look_with (suc m) (suc n) f xs y e in
-    record { x = s.x; there = s.there; from = ⊎_elim (λ h. inl (λ z. h.0 (suc_inj {m = suc m} {n = suc n} z), h.1)) (λ h. inr (ap (λ k. suc k) h.0, h.1)) s.from }
+    record {
+      x = s.x;
+      there = s.there;
+      from = ⊎_elim (λ h. inl (λ z. h.0 (suc_inj {m = suc m} {n = suc n} z), h.1)) (λ h. inr (ap (λ k. suc k) h.0, h.1)) s.from;
+    }
 
 -- and after one more was opened
 pub look_push : (m : ℕ) (xs : List Connection) (x y : Connection) → numbered m (xs ++ x ∷ []) ≡ Some y → (numbered m xs ≡ Some y) ⊎ (y ≡ x)
@@ -77,8 +96,10 @@ module _ (buses : List Bus) (layout : IsLayout buses) where
     pub few : last < 2 ^ 32
     pub steps_fit : AreSteps buses (opening buses 0) steps
     pub ids : (m : ℕ) (c : Connection) → numbered m conns ≡ Some c → c.session ≤ last
-    pub apart : (m n : ℕ) (c d : Connection) → numbered m conns ≡ Some c → numbered n conns ≡ Some d → 0 < c.session → c.session ≡ d.session → m ≡ n
-    pub there : (m : ℕ) (c : Connection) → numbered m conns ≡ Some c → IsLive c → has_device (session_device c.session) (state_after (opening buses 0) steps) ≡ true
+    pub apart : (m n : ℕ) (c d : Connection) → numbered m conns ≡ Some c → numbered n conns ≡ Some d → 0 < c.session → c.session ≡ d.session
+        → m ≡ n
+    pub there : (m : ℕ) (c : Connection) → numbered m conns ≡ Some c → IsLive c
+        → has_device (session_device c.session) (state_after (opening buses 0) steps) ≡ true
 
   abbrev pub IsKept : World → Type 0
   IsKept w = Kept w.moment w.last_id w.steps w.connections
@@ -86,12 +107,15 @@ module _ (buses : List Bus) (layout : IsLayout buses) where
   pub now_whole : (steps : List Step) → AreSteps buses (opening buses 0) steps → IsWhole buses (state_after (opening buses 0) steps)
   now_whole steps a = steps_whole buses (opening buses 0) steps (whole_opening buses layout) a
 
-  kept_change : (moment last : ℕ) (steps : List Step) (conns : List Connection) (n : ℕ) (f : Connection → Connection) → ((c : Connection) → IsMild c (f c)) → Kept moment last steps conns → Kept moment last steps (with_numbered n f conns)
+  kept_change : (moment last : ℕ) (steps : List Step) (conns : List Connection) (n : ℕ) (f : Connection → Connection)
+      → ((c : Connection) → IsMild c (f c)) → Kept moment last steps conns → Kept moment last steps (with_numbered n f conns)
   kept_change moment last steps conns n f mild k = record {
     now = k.now;
     few = k.few;
     steps_fit = k.steps_fit;
-    ids = λ m d e. let s = look_with m n f conns d e in subst (λ i. i ≤ last) (sym (same s.x d (from s.x d m s.from)).session) (k.ids m s.x s.there);
+    ids =
+        λ m d e. let s = look_with m n f conns d e in
+        subst (λ i. i ≤ last) (sym (same s.x d (from s.x d m s.from)).session) (k.ids m s.x s.there);
     apart = λ m o c d e g low same_id.
         let s = look_with m n f conns c e in
         let t = look_with o n f conns d g in
@@ -101,7 +125,8 @@ module _ (buses : List Bus) (layout : IsLayout buses) where
     there = λ m d e live.
         let s = look_with m n f conns d e in
         let g = same s.x d (from s.x d m s.from) in
-        ap (λ i. has_device (session_device i) (state_after (opening buses 0) steps)) g.session ∙ k.there m s.x s.there (mild_live s.x d g live);
+        ap (λ i. has_device (session_device i) (state_after (opening buses 0) steps)) g.session
+        ∙ k.there m s.x s.there (mild_live s.x d g live);
   }
     where
       from : (c d : Connection) (m : ℕ) → ((m ≡ n → ⊥) × (d ≡ c)) ⊎ ((m ≡ n) × (d ≡ f c)) → (d ≡ c) ⊎ (d ≡ f c)
@@ -113,8 +138,11 @@ module _ (buses : List Bus) (layout : IsLayout buses) where
       same c d (inr e) = subst (IsMild c) (sym e) (mild c)
 
   -- a step that leaves the row of each session that goes on
-  kept_did : (moment last : ℕ) (steps : List Step) (conns : List Connection) (step : Step) → Kept moment last steps conns → IsStepOf buses (state_after (opening buses 0) steps) step
-      → ((m : ℕ) (c : Connection) → numbered m conns ≡ Some c → IsLive c → has_device (session_device c.session) (state_after (opening buses 0) steps) ≡ true → has_device (session_device c.session) (stepped (state_after (opening buses 0) steps) step) ≡ true)
+  kept_did : (moment last : ℕ) (steps : List Step) (conns : List Connection) (step : Step) → Kept moment last steps conns
+      → IsStepOf buses (state_after (opening buses 0) steps) step
+      → ((m : ℕ) (c : Connection) → numbered m conns ≡ Some c → IsLive c
+      → has_device (session_device c.session) (state_after (opening buses 0) steps) ≡ true
+      → has_device (session_device c.session) (stepped (state_after (opening buses 0) steps) step) ≡ true)
       → Kept moment last (steps ++ step ∷ []) conns
   kept_did moment last steps conns step k fits stays = record {
     now = k.now;
@@ -122,48 +150,79 @@ module _ (buses : List Bus) (layout : IsLayout buses) where
     steps_fit = are_steps_push buses (opening buses 0) steps step k.steps_fit fits;
     ids = k.ids;
     apart = k.apart;
-    there = λ m c e live. ap (has_device (session_device c.session)) (fold-append stepped (opening buses 0) steps (step ∷ [])) ∙ stays m c e live (k.there m c e live);
+    there =
+        λ m c e live. ap (has_device (session_device c.session)) (fold-append stepped (opening buses 0) steps (step ∷ []))
+        ∙ stays m c e live (k.there m c e live);
   }
 
-  kept_moment : (moment later last : ℕ) (steps : List Step) (conns : List Connection) → later < 2 ^ 64 → Kept moment last steps conns → Kept later last steps conns
-  kept_moment moment later last steps conns h k = record { now = h; few = k.few; steps_fit = k.steps_fit; ids = k.ids; apart = k.apart; there = k.there }
+  kept_moment : (moment later last : ℕ) (steps : List Step) (conns : List Connection) → later < 2 ^ 64 → Kept moment last steps conns
+      → Kept later last steps conns
+  kept_moment moment later last steps conns h k = record {
+    now = h;
+    few = k.few;
+    steps_fit = k.steps_fit;
+    ids = k.ids;
+    apart = k.apart;
+    there = k.there;
+  }
 
   -- ---- the steps
 
-  pub kept_obeyed : (session : ℕ) (command : Order) (w : World) → IsCommandOf buses command.command → has_device (session_device session) (state buses w) ≡ true → IsKept w → IsKept (did (Obeyed session w.moment command) w)
+  pub kept_obeyed : (session : ℕ) (command : Order) (w : World) → IsCommandOf buses command.command
+      → has_device (session_device session) (state buses w) ≡ true → IsKept w → IsKept (did (Obeyed session w.moment command) w)
   kept_obeyed session command w of begun k =
       kept_did w.moment w.last_id w.steps w.connections (Obeyed session w.moment command) k (begun, k.now, of)
-      (λ m c e live h. ap is_some (session_row-updated_all (effect (state buses w) session w.moment command).updates (state buses w) c.session (effect_law (λ e. AreElsewhere e.updates) (state buses w) session w.moment command (effect_elsewhere (state buses w) session w.moment command.command) tt)) ∙ h)
+      (λ m c e live h.
+      ap is_some
+      (session_row-updated_all (effect (state buses w) session w.moment command).updates (state buses w) c.session
+      (effect_law (λ e. AreElsewhere e.updates) (state buses w) session w.moment command
+      (effect_elsewhere (state buses w) session w.moment command.command) tt))
+      ∙ h)
 
   pub kept_at : (moment : ℕ) (w : World) → moment < 2 ^ 64 → IsKept w → IsKept (did (Moment moment) (record w { moment = moment }))
   kept_at moment w h k =
       kept_did moment w.last_id w.steps w.connections (Moment moment) (kept_moment w.moment moment w.last_id w.steps w.connections h k) h
-      (λ m c e live there. ap is_some (session_row-updated_all (updates_of (state buses w) (Moment moment)) (state buses w) c.session (due_elsewhere buses (state buses w) (now_whole w.steps k.steps_fit) moment)) ∙ there)
+      (λ m c e live there.
+      ap is_some
+      (session_row-updated_all (updates_of (state buses w) (Moment moment)) (state buses w) c.session
+      (due_elsewhere buses (state buses w) (now_whole w.steps k.steps_fit) moment))
+      ∙ there)
 
   -- the end of a session, of a connection that no longer lives
-  pub kept_ended : (moment last : ℕ) (steps : List Step) (conns : List Connection) (n : ℕ) (f : Connection → Connection) (conn : Connection) → numbered n conns ≡ Some conn → ((c : Connection) → IsMild c (f c)) → ((c : Connection) → IsLive (f c) → ⊥)
+  pub kept_ended : (moment last : ℕ) (steps : List Step) (conns : List Connection) (n : ℕ) (f : Connection → Connection) (conn : Connection)
+      → numbered n conns ≡ Some conn → ((c : Connection) → IsMild c (f c)) → ((c : Connection) → IsLive (f c) → ⊥)
       → Kept moment last steps conns → Kept moment last (steps ++ Ended conn.session moment ∷ []) (with_numbered n f conns)
   kept_ended moment last steps conns n f conn at mild dead k =
-      kept_did moment last steps (with_numbered n f conns) (Ended conn.session moment) (kept_change moment last steps conns n f mild k) k.now
+      kept_did moment last steps (with_numbered n f conns) (Ended conn.session moment)
+      (kept_change moment last steps conns n f mild k) k.now
       (λ m c e live h.
       let s = look_with m n f conns c e in
-      ap is_some (freed_others buses (state_after (opening buses 0) steps) (now_whole steps k.steps_fit) moment conn.session c.session (other m s.x c s.there live s.from)) ∙ h)
+      ap is_some
+      (freed_others buses (state_after (opening buses 0) steps) (now_whole steps k.steps_fit) moment conn.session c.session
+      (other m s.x c s.there live s.from))
+      ∙ h)
     where
-      other : (m : ℕ) (x c : Connection) → numbered m conns ≡ Some x → IsLive c → ((m ≡ n → ⊥) × (c ≡ x)) ⊎ ((m ≡ n) × (c ≡ f x)) → c.session ≡ conn.session → ⊥
-      other m x c there live (inl h) same = h.0 (k.apart m n x conn there at (subst (λ (y : Connection). 0 < y.session) h.1 live.began) (ap (λ (y : Connection). y.session) (sym h.1) ∙ same))
+      other : (m : ℕ) (x c : Connection) → numbered m conns ≡ Some x → IsLive c → ((m ≡ n → ⊥) × (c ≡ x)) ⊎ ((m ≡ n) × (c ≡ f x))
+          → c.session ≡ conn.session → ⊥
+      other m x c there live (inl h) same =
+          h.0 (k.apart m n x conn there at (subst (λ (y : Connection). 0 < y.session) h.1 live.began)
+          (ap (λ (y : Connection). y.session) (sym h.1) ∙ same))
       other m x c there live (inr h) same = dead x (subst IsLive h.1 live)
 
   -- ---- answers
 
   pub kept_replied : (n : ℕ) (reply : Reply) (w : World) → IsKept w → IsKept (replied n reply w)
-  kept_replied n reply w k = kept_change w.moment w.last_id w.steps w.connections n _ (λ c. record { session = refl; ended = λ h. h; shut = λ h. h }) k
+  kept_replied n reply w k =
+      kept_change w.moment w.last_id w.steps w.connections n _ (λ c. record { session = refl; ended = λ h. h; shut = λ h. h }) k
 
   -- a session begins under the next id
-  kept_entered : (n : ℕ) (mode : Mode) (w : World) → w.last_id < 4294967295 → IsKept w → IsKept (entered buses n (w.last_id + 1) (did (Began (w.last_id + 1) w.moment mode) (record w { last_id = w.last_id + 1 })))
+  kept_entered : (n : ℕ) (mode : Mode) (w : World) → w.last_id < 4294967295 → IsKept w
+      → IsKept (entered buses n (w.last_id + 1) (did (Began (w.last_id + 1) w.moment mode) (record w { last_id = w.last_id + 1 })))
   kept_entered n mode w low k = record {
     now = k.now;
     few = fits_word w.last_id low;
-    steps_fit = are_steps_push buses (opening buses 0) w.steps (Began (w.last_id + 1) w.moment mode) k.steps_fit (place w.last_id low, k.now);
+    steps_fit =
+        are_steps_push buses (opening buses 0) w.steps (Began (w.last_id + 1) w.moment mode) k.steps_fit (place w.last_id low, k.now);
     ids = λ m d e. let s = look_with m n _ w.connections d e in by_from m s.x d s.there s.from;
     apart = λ m o c d e g pos same.
         let s = look_with m n _ w.connections c e in
@@ -171,11 +230,17 @@ module _ (buses : List Bus) (layout : IsLayout buses) where
         by_both m o s.x c t.x d s.there t.there pos same s.from t.from;
     there = λ m d e live.
         let s = look_with m n _ w.connections d e in
-        ap (has_device (session_device d.session)) (fold-append stepped (opening buses 0) w.steps (Began (w.last_id + 1) w.moment mode ∷ [])) ∙ row_there m s.x d s.there live s.from;
+        ap (has_device (session_device d.session))
+        (fold-append stepped (opening buses 0) w.steps (Began (w.last_id + 1) w.moment mode ∷ []))
+        ∙ row_there m s.x d s.there live s.from;
   }
     where
       begun : Connection → Connection
-      begun conn = record conn { session = w.last_id + 1; info = is_info conn.mode; go_step = length (w.steps ++ Began (w.last_id + 1) w.moment mode ∷ []) }
+      begun conn = record conn {
+        session = w.last_id + 1;
+        info = is_info conn.mode;
+        go_step = length (w.steps ++ Began (w.last_id + 1) w.moment mode ∷ []);
+      }
 
       fits_word : (last : ℕ) → last < 4294967295 → last + 1 < 2 ^ 32
       fits_word last h = omega arith
@@ -195,13 +260,18 @@ module _ (buses : List Bus) (layout : IsLayout buses) where
           within : is_within 1 4294967295 (last + 1) ≡ true
           within = λ i. le-leb 1 (last + 1) low_end i && le-leb (last + 1) 4294967295 high_end i
 
-      by_from : (m : ℕ) (x d : Connection) → numbered m w.connections ≡ Some x → ((m ≡ n → ⊥) × (d ≡ x)) ⊎ ((m ≡ n) × (d ≡ begun x)) → d.session ≤ w.last_id + 1
-      by_from m x d e (inl h) = let i : d.session ≤ w.last_id = subst (λ (y : Connection). y.session ≤ w.last_id) (sym h.1) (k.ids m x e) in omega (arith, i)
+      by_from : (m : ℕ) (x d : Connection) → numbered m w.connections ≡ Some x → ((m ≡ n → ⊥) × (d ≡ x)) ⊎ ((m ≡ n) × (d ≡ begun x))
+          → d.session ≤ w.last_id + 1
+      by_from m x d e (inl h) =
+          let i : d.session ≤ w.last_id = subst (λ (y : Connection). y.session ≤ w.last_id) (sym h.1) (k.ids m x e) in omega (arith, i)
       by_from m x d e (inr h) = let i : d.session ≡ w.last_id + 1 = ap (λ (y : Connection). y.session) h.1 in omega (arith, i)
 
-      by_both : (m o : ℕ) (x c y d : Connection) → numbered m w.connections ≡ Some x → numbered o w.connections ≡ Some y → 0 < c.session → c.session ≡ d.session
+      by_both : (m o : ℕ) (x c y d : Connection) → numbered m w.connections ≡ Some x → numbered o w.connections ≡ Some y → 0 < c.session
+          → c.session ≡ d.session
           → ((m ≡ n → ⊥) × (c ≡ x)) ⊎ ((m ≡ n) × (c ≡ begun x)) → ((o ≡ n → ⊥) × (d ≡ y)) ⊎ ((o ≡ n) × (d ≡ begun y)) → m ≡ o
-      by_both m o x c y d e f pos same (inl h) (inl g) = k.apart m o x y e f (subst (λ (z : Connection). 0 < z.session) h.1 pos) (ap (λ (z : Connection). z.session) (sym h.1) ∙ same ∙ ap (λ (z : Connection). z.session) g.1)
+      by_both m o x c y d e f pos same (inl h) (inl g) =
+          k.apart m o x y e f (subst (λ (z : Connection). 0 < z.session) h.1 pos)
+          (ap (λ (z : Connection). z.session) (sym h.1) ∙ same ∙ ap (λ (z : Connection). z.session) g.1)
       by_both m o x c y d e f pos same (inl h) (inr g) =
           let i : c.session ≤ w.last_id = subst (λ (z : Connection). z.session ≤ w.last_id) (sym h.1) (k.ids m x e) in
           let j : d.session ≡ w.last_id + 1 = ap (λ (z : Connection). z.session) g.1 in
@@ -212,42 +282,77 @@ module _ (buses : List Bus) (layout : IsLayout buses) where
           absurd (omega (arith, i, j, same))
       by_both m o x c y d e f pos same (inr h) (inr g) = h.0 ∙ sym g.0
 
-      row_there : (m : ℕ) (x d : Connection) → numbered m w.connections ≡ Some x → IsLive d → ((m ≡ n → ⊥) × (d ≡ x)) ⊎ ((m ≡ n) × (d ≡ begun x))
+      row_there : (m : ℕ) (x d : Connection) → numbered m w.connections ≡ Some x → IsLive d
+          → ((m ≡ n → ⊥) × (d ≡ x)) ⊎ ((m ≡ n) × (d ≡ begun x))
           → has_device (session_device d.session) (stepped (state buses w) (Began (w.last_id + 1) w.moment mode)) ≡ true
-      row_there m x d e live (inl h) = has_row-put_row (first_key (session_device d.session)) (record { shown = record { key = first_key (session_device (w.last_id + 1)); stamp = w.moment; value = value.Session mode }; due = None }) (state buses w)
+      row_there m x d e live (inl h) =
+          has_row-put_row (first_key (session_device d.session))
+          (record {
+            shown = record { key = first_key (session_device (w.last_id + 1)); stamp = w.moment; value = value.Session mode };
+            due = None;
+          })
+          (state buses w)
           (ap (λ (z : Connection). has_device (session_device z.session) (state buses w)) h.1 ∙ k.there m x e (subst IsLive h.1 live))
       row_there m x d e live (inr h) =
           let i : d.session ≡ w.last_id + 1 = ap (λ (z : Connection). z.session) h.1 in
           ap (λ s. has_device (session_device s) (stepped (state buses w) (Began (w.last_id + 1) w.moment mode))) i
-          ∙ ap is_some (row_at-put_same (record { shown = record { key = first_key (session_device (w.last_id + 1)); stamp = w.moment; value = value.Session mode }; due = None }) (state buses w))
+          ∙ ap is_some
+          (row_at-put_same
+          (record {
+            shown =
+                record { key = first_key (session_device (w.last_id + 1)); stamp = w.moment; value = value.Session mode };
+            due = None;
+          })
+          (state buses w))
 
   pub kept_goes : (n : ℕ) (mode : Mode) (w : World) → IsKept w → IsKept (goes buses n mode w)
   kept_goes n mode w k = by (nat_lt w.last_id 4294967295) refl
     where
-      by : (t : Bool) → nat_lt w.last_id 4294967295 ≡ t → IsKept (if t then replied n (Go (w.last_id + 1)) (entered buses n (w.last_id + 1) (did (Began (w.last_id + 1) w.moment mode) (record w { last_id = w.last_id + 1 }))) else replied n (Refused C500) w)
-      by true t = kept_replied n (Go (w.last_id + 1)) (entered buses n (w.last_id + 1) (did (Began (w.last_id + 1) w.moment mode) (record w { last_id = w.last_id + 1 }))) (kept_entered n mode w (ltb-true w.last_id 4294967295 t) k)
+      by : (t : Bool) → nat_lt w.last_id 4294967295 ≡ t
+          → IsKept (if t
+          then replied n (Go (w.last_id + 1))
+          (entered buses n (w.last_id + 1) (did (Began (w.last_id + 1) w.moment mode) (record w { last_id = w.last_id + 1 })))
+          else replied n (Refused C500) w)
+      by true t =
+          kept_replied n (Go (w.last_id + 1))
+          (entered buses n (w.last_id + 1) (did (Began (w.last_id + 1) w.moment mode) (record w { last_id = w.last_id + 1 })))
+          (kept_entered n mode w (ltb-true w.last_id 4294967295 t) k)
       by false t = kept_replied n (Refused C500) w k
 
   pub kept_greeted : (n : ℕ) (mode : Mode) (greeting : Greeting) (w : World) → IsKept w → IsKept (greeted buses n mode greeting w)
   kept_greeted n mode Speaks w k = kept_replied n Protocol w k
   kept_greeted n mode (Chooses chosen) w k =
-      kept_replied n ModeReply (at_connection n (λ conn. record conn { mode = chosen }) w) (kept_change w.moment w.last_id w.steps w.connections n (λ conn. record conn { mode = chosen }) (λ c. record { session = refl; ended = λ h. h; shut = λ h. h }) k)
+      kept_replied n ModeReply (at_connection n (λ conn. record conn { mode = chosen }) w)
+      (kept_change w.moment w.last_id w.steps w.connections n (λ conn. record conn { mode = chosen })
+      (λ c. record { session = refl; ended = λ h. h; shut = λ h. h }) k)
   kept_greeted n mode Goes w k = kept_goes n mode w k
   kept_greeted n mode (Refuses code) w k = kept_replied n (Refused code) w k
 
-  pub kept_obeyed_all : (n : ℕ) (conn : Connection) (command : Order) (result : Effect) (w : World) → numbered n w.connections ≡ Some conn → IsCommandOf buses command.command → has_device (session_device conn.session) (state buses w) ≡ true → IsKept w → IsKept (obeyed buses n conn.session command result w)
+  pub kept_obeyed_all : (n : ℕ) (conn : Connection) (command : Order) (result : Effect) (w : World) → numbered n w.connections ≡ Some conn
+      → IsCommandOf buses command.command → has_device (session_device conn.session) (state buses w) ≡ true → IsKept w
+      → IsKept (obeyed buses n conn.session command result w)
   kept_obeyed_all n conn command result w at of begun k =
-      let replies = kept_replied n result.reply (did (Obeyed conn.session w.moment command) w) (kept_obeyed conn.session command w of begun k) in
-      elim result.ends as (λ t. IsKept (if t then ended buses n conn.session (replied n result.reply (did (Obeyed conn.session w.moment command) w)) else replied n result.reply (did (Obeyed conn.session w.moment command) w))) [
-        | true ↦ kept_ended w.moment w.last_id (w.steps ++ Obeyed conn.session w.moment command ∷ []) (replied n result.reply (did (Obeyed conn.session w.moment command) w)).connections n (λ c. record c { ended = true })
-            (record conn { out = conn.out ++ reply_line w.moment result.reply }) (numbered_with n _ w.connections ∙ ap (option_map (λ (c : Connection). record c { out = c.out ++ reply_line w.moment result.reply })) at)
+      let replies =
+      kept_replied n result.reply (did (Obeyed conn.session w.moment command) w) (kept_obeyed conn.session command w of begun k) in
+      elim result.ends as (λ t.
+      IsKept (if t then ended buses n conn.session (replied n result.reply (did (Obeyed conn.session w.moment command) w))
+      else replied n result.reply (did (Obeyed conn.session w.moment command) w))) [
+        | true ↦
+            kept_ended w.moment w.last_id (w.steps ++ Obeyed conn.session w.moment command ∷ [])
+            (replied n result.reply (did (Obeyed conn.session w.moment command) w)).connections n (λ c. record c { ended = true })
+            (record conn { out = conn.out ++ reply_line w.moment result.reply })
+            (numbered_with n _ w.connections
+            ∙ ap (option_map (λ (c : Connection). record c { out = c.out ++ reply_line w.moment result.reply })) at)
             (λ c. record { session = refl; ended = λ h. absurd (true≢false h); shut = λ h. h }) (λ c l. true≢false l.not_ended) replies
         | false ↦ replies
       ]
 
-  pub kept_commanded : (n : ℕ) (conn : Connection) (command : Result Order Code) (w : World) → numbered n w.connections ≡ Some conn → IfOk command (λ order. IsCommandOf buses order.command) → has_device (session_device conn.session) (state buses w) ≡ true → IsKept w → IsKept (commanded buses n conn.session command w)
+  pub kept_commanded : (n : ℕ) (conn : Connection) (command : Result Order Code) (w : World) → numbered n w.connections ≡ Some conn
+      → IfOk command (λ order. IsCommandOf buses order.command) → has_device (session_device conn.session) (state buses w) ≡ true → IsKept w
+      → IsKept (commanded buses n conn.session command w)
   kept_commanded n conn (Err code) w at of begun k = kept_replied n (Refused code) w k
-  kept_commanded n conn (Ok command) w at of begun k = kept_obeyed_all n conn command (effect (state buses w) conn.session w.moment command) w at of begun k
+  kept_commanded n conn (Ok command) w at of begun k =
+      kept_obeyed_all n conn command (effect (state buses w) conn.session w.moment command) w at of begun k
 
   command_fits : (mark : Mark) → IfOk (command_of buses mark) (IsCommandOf buses)
   command_fits TooLong = tt
@@ -256,36 +361,51 @@ module _ (buses : List Bus) (layout : IsLayout buses) where
   order_fits : (line : Heard) → IfOk (order_of buses line) (λ order. IsCommandOf buses order.command)
   order_fits line = ordered_law buses (IsCommandOf buses) line.granted (command_of buses line.mark) (command_fits line.mark)
 
-  pub kept_answered_as : (n : ℕ) (o : Option Connection) (mark : Heard) (w : World) → ((conn : Connection) → o ≡ Some conn → (numbered n w.connections ≡ Some conn) × (conn.shut ≡ None)) → IsKept w → IsKept (answered_as buses n o mark w)
+  pub kept_answered_as : (n : ℕ) (o : Option Connection) (mark : Heard) (w : World)
+      → ((conn : Connection) → o ≡ Some conn → (numbered n w.connections ≡ Some conn) × (conn.shut ≡ None)) → IsKept w
+      → IsKept (answered_as buses n o mark w)
   kept_answered_as n None mark w f k = k
   kept_answered_as n (Some conn) mark w f k = by conn.info conn.ended refl (conn.session == 0) refl
     where
-      by : (t e : Bool) → conn.ended ≡ e → (z : Bool) → (conn.session == 0) ≡ z → IsKept (if t || e then w else (if z then greeted buses n conn.mode (greets mark) w else commanded buses n conn.session (order_of buses mark) w))
+      by : (t e : Bool) → conn.ended ≡ e → (z : Bool) → (conn.session == 0) ≡ z
+          → IsKept (if t || e then w
+          else (if z then greeted buses n conn.mode (greets mark) w else commanded buses n conn.session (order_of buses mark) w))
       by true e h z q = k
       by false true h z q = k
       by false false h true q = kept_greeted n conn.mode (greets mark) w k
       by false false h false q =
           let at = f conn refl in
-          kept_commanded n conn (order_of buses mark) w at.0 (order_fits mark) (k.there n conn at.0 (record { began = pos_of_ne-zero (eqb-false conn.session 0 q); not_ended = h; not_shut = at.1 })) k
+          kept_commanded n conn (order_of buses mark) w at.0 (order_fits mark)
+          (k.there n conn at.0 (record { began = pos_of_ne-zero (eqb-false conn.session 0 q); not_ended = h; not_shut = at.1 })) k
 
   pub kept_marks : (n : ℕ) (marks : List Heard) (w : World) → IsKept w → IsKept (fold (answered buses n) w marks)
   kept_marks n [] w k = k
-  kept_marks n (mark ∷ marks) w k = kept_marks n marks (answered buses n w mark) (kept_answered_as n (open_connection w n) mark w (λ conn e. opened (numbered n w.connections) conn e) k)
+  kept_marks n (mark ∷ marks) w k =
+      kept_marks n marks (answered buses n w mark)
+      (kept_answered_as n (open_connection w n) mark w (λ conn e. opened (numbered n w.connections) conn e) k)
 
   pub kept_fed : (n : ℕ) (piece : Piece) (o : Option Connection) (w : World) → IsKept w → IsKept (fed_to buses n piece o w)
   kept_fed n piece None w k = k
   kept_fed n piece (Some conn) w k =
       kept_marks n (new_lines buses conn.fed piece) (at_connection n (λ c. record c { fed = c.fed ++ piece.bytes }) w)
-      (kept_change w.moment w.last_id w.steps w.connections n (λ c. record c { fed = c.fed ++ piece.bytes }) (λ c. record { session = refl; ended = λ h. h; shut = λ h. h }) k)
+      (kept_change w.moment w.last_id w.steps w.connections n (λ c. record c { fed = c.fed ++ piece.bytes })
+      (λ c. record { session = refl; ended = λ h. h; shut = λ h. h }) k)
 
   -- ---- events
 
-  pub kept_shut : (n : ℕ) (o : Option Connection) (w : World) → ((conn : Connection) → o ≡ Some conn → (numbered n w.connections ≡ Some conn) × (conn.shut ≡ None)) → IsKept w → IsKept (shut_as buses n o w)
+  pub kept_shut : (n : ℕ) (o : Option Connection) (w : World)
+      → ((conn : Connection) → o ≡ Some conn → (numbered n w.connections ≡ Some conn) × (conn.shut ≡ None)) → IsKept w
+      → IsKept (shut_as buses n o w)
   kept_shut n None w f k = k
   kept_shut n (Some conn) w f k =
-      elim ((conn.session == 0) || conn.ended) as (λ t. IsKept (if t then at_connection n (λ c. record c { shut = Some (length w.steps) }) w else did (Ended conn.session w.moment) (at_connection n (λ c. record c { shut = Some (length w.steps) }) w))) [
+      elim ((conn.session == 0) || conn.ended)
+      as (λ t.
+      IsKept (if t then at_connection n (λ c. record c { shut = Some (length w.steps) }) w
+      else did (Ended conn.session w.moment) (at_connection n (λ c. record c { shut = Some (length w.steps) }) w))) [
         | true ↦ kept_change w.moment w.last_id w.steps w.connections n (λ c. record c { shut = Some (length w.steps) }) closes k
-        | false ↦ kept_ended w.moment w.last_id w.steps w.connections n (λ c. record c { shut = Some (length w.steps) }) conn (f conn refl).0 closes (λ c l. some_none (length w.steps) l.not_shut) k
+        | false ↦
+            kept_ended w.moment w.last_id w.steps w.connections n (λ c. record c { shut = Some (length w.steps) }) conn
+            (f conn refl).0 closes (λ c l. some_none (length w.steps) l.not_shut) k
       ]
     where
       some_none : (m : ℕ) → Some m ≡ None → ⊥
@@ -298,12 +418,15 @@ module _ (buses : List Bus) (layout : IsLayout buses) where
   kept_room n bytes w k = kept_change w.moment w.last_id w.steps w.connections n (given_room bytes (history buses w) (rows buses w)) given k
     where
       given : (c : Connection) → IsMild c (given_room bytes (history buses w) (rows buses w) c)
-      given c = elim (overran c (history buses w)) as (λ t. IsMild c (if t then c else took bytes (length (history buses w)) (owed c (history buses w) (rows buses w)) c)) [
-        | true ↦ record { session = refl; ended = λ h. h; shut = λ h. h }
-        | false ↦ record { session = refl; ended = λ h. h; shut = λ h. h }
-      ]
+      given c =
+          elim (overran c (history buses w))
+          as (λ t. IsMild c (if t then c else took bytes (length (history buses w)) (owed c (history buses w) (rows buses w)) c)) [
+            | true ↦ record { session = refl; ended = λ h. h; shut = λ h. h }
+            | false ↦ record { session = refl; ended = λ h. h; shut = λ h. h }
+          ]
 
-  kept_open : (moment last : ℕ) (steps : List Step) (conns : List Connection) → Kept moment last steps conns → Kept moment last steps (conns ++ fresh ∷ [])
+  kept_open : (moment last : ℕ) (steps : List Step) (conns : List Connection) → Kept moment last steps conns
+      → Kept moment last steps (conns ++ fresh ∷ [])
   kept_open moment last steps conns k = record {
     now = k.now;
     few = k.few;
@@ -319,7 +442,8 @@ module _ (buses : List Bus) (layout : IsLayout buses) where
       not_live : (c : Connection) → c ≡ fresh → 0 < c.session → ⊥
       not_live c h pos = let i : c.session ≡ 0 = ap (λ (z : Connection). z.session) h in omega (arith, i, pos)
 
-      by : (m o : ℕ) (c d : Connection) → 0 < c.session → c.session ≡ d.session → (numbered m conns ≡ Some c) ⊎ (c ≡ fresh) → (numbered o conns ≡ Some d) ⊎ (d ≡ fresh) → m ≡ o
+      by : (m o : ℕ) (c d : Connection) → 0 < c.session → c.session ≡ d.session → (numbered m conns ≡ Some c) ⊎ (c ≡ fresh)
+          → (numbered o conns ≡ Some d) ⊎ (d ≡ fresh) → m ≡ o
       by m o c d pos same (inl e) (inl g) = k.apart m o c d e g pos same
       by m o c d pos same (inl e) (inr g) = absurd (not_live d g (subst (λ i. 0 < i) same pos))
       by m o c d pos same (inr e) g = absurd (not_live c e pos)
@@ -340,10 +464,20 @@ module _ (buses : List Bus) (layout : IsLayout buses) where
 
   kept_all : (events : List Event) (w : World) → AllMoments events → IsKept w → IsKept (fold (happens buses) w events)
   kept_all [] w a k = k
-  kept_all (event ∷ events) w a k = kept_all events (happens buses w event) a.1 (kept_or_refused (fault buses (counted w) event) event (counted w) a.0 k)
+  kept_all (event ∷ events) w a k =
+      kept_all events (happens buses w event) a.1 (kept_or_refused (fault buses (counted w) event) event (counted w) a.0 k)
 
   pub kept_course : (events : List Event) → AllMoments events → IsKept (course buses events)
-  kept_course events a = kept_all events start a (record { now = zero_fits; few = zero_id; steps_fit = tt; ids = λ m c e. absurd (no_connection m c e); apart = λ m o c d e g pos same. absurd (no_connection m c e); there = λ m c e live. absurd (no_connection m c e) })
+  kept_course events a =
+      kept_all events start a
+      (record {
+        now = zero_fits;
+        few = zero_id;
+        steps_fit = tt;
+        ids = λ m c e. absurd (no_connection m c e);
+        apart = λ m o c d e g pos same. absurd (no_connection m c e);
+        there = λ m c e live. absurd (no_connection m c e);
+      })
     where
       zero_fits : 0 < 2 ^ 64
       zero_fits = omega arith
@@ -370,5 +504,6 @@ keeps_whole buses layout events moments =
 pub keeps_keys : (buses : List Bus) → AlwaysKeepsKeys buses
 keeps_keys buses layout events moments k device key low there own e =
     let w = course buses events in
-    keys_kept buses k (opening buses 0) w.steps (whole_opening buses layout) (kept_course buses layout events moments).steps_fit low device key there own
+    keys_kept buses k (opening buses 0) w.steps (whole_opening buses layout)
+    (kept_course buses layout events moments).steps_fit low device key there own
     (subst (λ n. has_key key (shown_rows (state_after (opening buses 0) (take n w.steps))) ≡ true) (add-one k) e)

@@ -1,5 +1,6 @@
 -- Room for bytes: a front of what is owed is given, and the listing is done where there was no more.
-use Rattle.std.proofs.Common.{◌≡◌, ℕ, zero, suc, inl, inr, ◌⊎◌, ⊎_elim, min, subst, append_assoc, length-drop, ◌+◌, ◌-◌, ◌<◌, ◌≤◌, Bool, true, false, List, [], ◌∷◌, ◌++◌, map, take, length, drop, refl, ap, sym, ◌∙◌, arith, length-append}
+use Rattle.std.proofs.Common.{◌≡◌, ℕ, zero, suc, inl, inr, ◌⊎◌, ⊎_elim, min, subst, append_assoc, length-drop, ◌+◌, ◌-◌, ◌<◌, ◌≤◌, Bool}
+use Rattle.std.proofs.Common.{true, false, List, [], ◌∷◌, ◌++◌, map, take, length, drop, refl, ap, sym, ◌∙◌, arith, length-append}
 use Rattle.std.proofs.lemmas.List.Concat.{flat_map-append}
 use Rattle.std.proofs.lemmas.Bool.{lt-leb, leb-false, leb-true, ltb-true, ne_eqb, and_parts}
 use Rattle.std.proofs.Math.Nat.{ne_of_gt}
@@ -13,7 +14,8 @@ use Rattle.srcp_feed.specs.declared.next.Next.TheVariants.{Told, Listed}
 use Rattle.srcp_info.proofs.ClientLaws.{key_at}
 use Rattle.srcp_info.specs.Client.{IsRisingBy}
 use Rattle.srcp_feed.proofs.Steps.{passed_all, passed_done, beyond_done}
-use Rattle.srcp_core.specs.Connection.{Connection, History, heard, is_nil, line_of, front, fitting, available, exhausts, tells, text, given, unsent, took, items_of}
+use Rattle.srcp_core.specs.Connection.{Connection, History, heard, is_nil, line_of, front, fitting, available, exhausts, tells, text, given}
+use Rattle.srcp_core.specs.Connection.{unsent, took, items_of}
 use Rattle.srcp_core.specs.declared.record.Item.{Item}
 use Rattle.srcp_core.proofs.CourseLaws.Histories.{rows_after, concerning_by, concerning_same, cursor_by, cursor_done}
 use Rattle.srcp_core.proofs.CourseLaws.ClientHoldsPassedRows.{Fits, Law, Gives, owed_by, untold_by, tolds}
@@ -40,14 +42,21 @@ front_first [] = record { rest = []; whole = refl }
 front_first (what ∷ nexts) = record { rest = nexts; whole = refl }
 
 pub fitting_front : (bytes : ℕ) (left : List ℕ) (nexts : List Next) → IsFront (fitting bytes left nexts) nexts
-fitting_front bytes left nexts = elim ((bytes == 0) && is_nil left) as (λ t. IsFront (if t then take 1 nexts else front (bytes - length left) nexts) nexts) [ true ↦ front_first nexts | false ↦ is_front (bytes - length left) nexts ]
+fitting_front bytes left nexts =
+    elim ((bytes == 0) && is_nil left) as (λ t. IsFront (if t then take 1 nexts else front (bytes - length left) nexts) nexts) [
+      | true ↦ front_first nexts
+      | false ↦ is_front (bytes - length left) nexts
+    ]
 
 pub front_none : (bytes : ℕ) → front bytes [] ≡ []
 front_none zero = refl
 front_none (suc bytes) = refl
 
 pub fitting_none : (bytes : ℕ) (left : List ℕ) → fitting bytes left [] ≡ []
-fitting_none bytes left = elim ((bytes == 0) && is_nil left) as (λ t. (if t then take 1 [] else front (bytes - length left) []) ≡ []) [ true ↦ refl | false ↦ front_none (bytes - length left) ]
+fitting_none bytes left = elim ((bytes == 0) && is_nil left) as (λ t. (if t then take 1 [] else front (bytes - length left) []) ≡ []) [
+  | true ↦ refl
+  | false ↦ front_none (bytes - length left)
+]
 
 -- where there are fewer bytes than that, the front is all
 pub front_all : (bytes : ℕ) (nexts : List Next) → length (flat_map line_of nexts) < bytes → front bytes nexts ≡ nexts
@@ -68,28 +77,35 @@ no_map : {A B : Type 0} (f : A → B) (xs : List A) → map f xs ≡ [] → xs �
 no_map f [] e = refl
 no_map f (x ∷ xs) e = cc
 
-pub nothing_owed : (go : ℕ) (items : List Item) (done : Option ℕ) (history : History) (rows : List Shown) → owed_by go items done history rows ≡ []
+pub nothing_owed : (go : ℕ) (items : List Item) (done : Option ℕ) (history : History) (rows : List Shown)
+    → owed_by go items done history rows ≡ []
     → (untold_by go items done history ≡ []) × (beyond (cursor_by done items (length history)) rows ≡ [])
 nothing_owed go items done history rows e =
     let both = no_lists (map Told (untold_by go items done history)) (map Listed (beyond (cursor_by done items (length history)) rows)) e in
     (no_map Told (untold_by go items done history) both.0, no_map Listed (beyond (cursor_by done items (length history)) rows) both.1)
 
 -- what a session that is done now was told
-before_done : (go : ℕ) (items : List Item) (history : History) → concerning_by go (cursor_by (Some (length history)) items) history ≡ concerning_by go (cursor_by None items) history
-before_done go items history = concerning_same go (cursor_by (Some (length history)) items) (cursor_by None items) 0 history (λ k low high. before k high)
+before_done : (go : ℕ) (items : List Item) (history : History)
+    → concerning_by go (cursor_by (Some (length history)) items) history ≡ concerning_by go (cursor_by None items) history
+before_done go items history =
+    concerning_same go (cursor_by (Some (length history)) items) (cursor_by None items) 0 history (λ k low high. before k high)
   where
     before : (k : ℕ) → k < 0 + length history → cursor_by (Some (length history)) items k ≡ cursor_by None items k
     before k h = let t : nat_le (length history) k ≡ false = lt-leb (length history) k (omega arith) in rw t refl
 
 -- a listing that is done when nothing is owed
-fits_done : (start : List Shown) (history : History) (go : ℕ) (items : List Item) → Fits start history go items None → owed_by go items None history (rows_after start history) ≡ [] → Fits start history go items (Some (length history))
+fits_done : (start : List Shown) (history : History) (go : ℕ) (items : List Item) → Fits start history go items None
+    → owed_by go items None history (rows_after start history) ≡ [] → Fits start history go items (Some (length history))
 fits_done start history go items f owes =
     let both = nothing_owed go items None history (rows_after start history) owes in
     let self : length history ≤ length history = omega arith in
     let con = before_done go items history in
-    let waits : untold_by go items (Some (length history)) history ≡ untold_by go items None history = ap (drop (length (tolds items))) con in
+    let waits : untold_by go items (Some (length history)) history ≡ untold_by go items None history =
+    ap (drop (length (tolds items))) con in
     let cur = cursor_done (length history) items in
-    let lencon : length (concerning_by go (cursor_by (Some (length history)) items) history) ≡ length (concerning_by go (cursor_by None items) history) = ap length con in
+    let lencon : length (concerning_by go (cursor_by (Some (length history)) items) history)
+    ≡ length (concerning_by go (cursor_by None items) history) =
+    ap length con in
     let enough = f.enough in
     record {
       numbers = f.numbers;
@@ -104,18 +120,24 @@ fits_done start history go items f owes =
           ∙ ap (λ c. passed c (rows_after start history)) (sym cur);
     }
 
-pub done_owes : (start : List Shown) (history : History) (go : ℕ) (items : List Item) (done : Option ℕ) → owed_by go items done history (rows_after start history) ≡ [] → owed_by go items (option_or done (Some (length history))) history (rows_after start history) ≡ []
+pub done_owes : (start : List Shown) (history : History) (go : ℕ) (items : List Item) (done : Option ℕ)
+    → owed_by go items done history (rows_after start history) ≡ []
+    → owed_by go items (option_or done (Some (length history))) history (rows_after start history) ≡ []
 done_owes start history go items (Some m) owes = owes
 done_owes start history go items None owes =
     let both = nothing_owed go items None history (rows_after start history) owes in
     let con = before_done go items history in
-    let waits : untold_by go items (Some (length history)) history ≡ untold_by go items None history = ap (drop (length (tolds items))) con in
+    let waits : untold_by go items (Some (length history)) history ≡ untold_by go items None history =
+    ap (drop (length (tolds items))) con in
     let cur = cursor_done (length history) items in
-    ap (λ u. map Told u ++ map Listed (beyond (cursor_by (Some (length history)) items (length history)) (rows_after start history))) (waits ∙ both.0)
+    ap (λ u. map Told u ++ map Listed (beyond (cursor_by (Some (length history)) items (length history)) (rows_after start history)))
+    (waits ∙ both.0)
     ∙ ap (λ c. map Listed (beyond c (rows_after start history))) cur
     ∙ ap (map Listed) (beyond_done (rows_after start history))
 
-pub also_done : (start : List Shown) (P : History → ℕ → List Item → Option ℕ → Type 0) (law : Law start P) (history : History) (go : ℕ) (items : List Item) (done : Option ℕ) → IsRisingBy key_at (rows_after start history) → Gives start P law history go items done []
+pub also_done : (start : List Shown) (P : History → ℕ → List Item → Option ℕ → Type 0) (law : Law start P) (history : History) (go : ℕ)
+    (items : List Item) (done : Option ℕ)
+    → IsRisingBy key_at (rows_after start history) → Gives start P law history go items done []
     → Fits start history go items (option_or done (Some (length history))) × P history go items (option_or done (Some (length history)))
 also_done start P law history go items (Some m) order g = (g.fits, g.also)
 also_done start P law history go items None order g =
@@ -151,7 +173,8 @@ exhausted bytes left nexts e = by (nat_lt (length (available left nexts)) bytes)
         rw (first, second) (empty nexts nils.1)
 
 pub text_items : (n : ℕ) (items : List Item) (nexts : List Next) → text (items ++ items_of n nexts) ≡ text items ++ flat_map line_of nexts
-text_items n items nexts = flat_map-append (λ (item : Item). line_of item.what) items (items_of n nexts) ∙ ap (λ t. text items ++ t) (same nexts)
+text_items n items nexts =
+    flat_map-append (λ (item : Item). line_of item.what) items (items_of n nexts) ∙ ap (λ t. text items ++ t) (same nexts)
   where
     same : (nexts : List Next) → text (items_of n nexts) ≡ flat_map line_of nexts
     same [] = refl
@@ -167,14 +190,16 @@ front_short (suc bytes) (what ∷ nexts) h =
     ap (λ ns. what ∷ ns) (front_short (suc bytes - length (line_of what)) nexts k)
 
 -- room gives at least so many bytes, or all
-pub fitting_enough : (bytes : ℕ) (left : List ℕ) (nexts : List Next) → (bytes ≤ length left + length (flat_map line_of (fitting bytes left nexts))) ⊎ (fitting bytes left nexts ≡ nexts)
+pub fitting_enough : (bytes : ℕ) (left : List ℕ) (nexts : List Next)
+    → (bytes ≤ length left + length (flat_map line_of (fitting bytes left nexts))) ⊎ (fitting bytes left nexts ≡ nexts)
 fitting_enough zero left nexts = inl (omega arith)
 fitting_enough (suc n) left nexts =
     let z : (suc n == 0) ≡ false = pos-eqb (suc n) (omega arith) in
     rw z (by (nat_le (suc n) (length left + length (flat_map line_of (front (suc n - length left) nexts)))) refl)
   where
     by : (t : Bool) → nat_le (suc n) (length left + length (flat_map line_of (front (suc n - length left) nexts))) ≡ t
-        → (suc n ≤ length left + length (flat_map line_of (front (suc n - length left) nexts))) ⊎ (front (suc n - length left) nexts ≡ nexts)
+        → (suc n ≤ length left + length (flat_map line_of (front (suc n - length left) nexts)))
+        ⊎ (front (suc n - length left) nexts ≡ nexts)
     by true t = inl (leb-true (suc n) (length left + length (flat_map line_of (front (suc n - length left) nexts))) t)
     by false t =
         let l = leb-false (suc n) (length left + length (flat_map line_of (front (suc n - length left) nexts))) t in
@@ -182,16 +207,27 @@ fitting_enough (suc n) left nexts =
         inr (front_short (suc n - length left) nexts short)
 
 -- no more is taken than was given
-pub took_within : (bytes n : ℕ) (nexts : List Next) (conn : Connection) → conn.taken ≤ length (given conn) → conn.taken + min bytes (length (available (unsent conn) nexts)) ≤ length (given (took bytes n nexts conn))
+pub took_within : (bytes n : ℕ) (nexts : List Next) (conn : Connection) → conn.taken ≤ length (given conn)
+    → conn.taken + min bytes (length (available (unsent conn) nexts)) ≤ length (given (took bytes n nexts conn))
 took_within bytes n nexts conn within =
-    let whole : given (took bytes n nexts conn) ≡ given conn ++ flat_map line_of (fitting bytes (unsent conn) nexts) = ap (λ t. conn.out ++ t) (text_items n conn.items (fitting bytes (unsent conn) nexts)) ∙ sym (append_assoc conn.out (text conn.items) (flat_map line_of (fitting bytes (unsent conn) nexts))) in
-    let size : length (given (took bytes n nexts conn)) ≡ length (given conn) + length (flat_map line_of (fitting bytes (unsent conn) nexts)) = ap length whole ∙ length-append (given conn) (flat_map line_of (fitting bytes (unsent conn) nexts)) in
+    let whole : given (took bytes n nexts conn) ≡ given conn ++ flat_map line_of (fitting bytes (unsent conn) nexts) =
+    ap (λ t. conn.out ++ t) (text_items n conn.items (fitting bytes (unsent conn) nexts))
+    ∙ sym (append_assoc conn.out (text conn.items) (flat_map line_of (fitting bytes (unsent conn) nexts))) in
+    let size : length (given (took bytes n nexts conn))
+    ≡ length (given conn) + length (flat_map line_of (fitting bytes (unsent conn) nexts)) =
+    ap length whole ∙ length-append (given conn) (flat_map line_of (fitting bytes (unsent conn) nexts)) in
     let left : length (unsent conn) ≡ length (given conn) - conn.taken = length-drop conn.taken (given conn) in
-    let all : length (available (unsent conn) nexts) ≡ length (unsent conn) + length (flat_map line_of nexts) = length-append (unsent conn) (flat_map line_of nexts) in
+    let all : length (available (unsent conn) nexts) ≡ length (unsent conn) + length (flat_map line_of nexts) =
+    length-append (unsent conn) (flat_map line_of nexts) in
     subst (λ g. conn.taken + min bytes (length (available (unsent conn) nexts)) ≤ g) (sym size)
     (subst (λ m. conn.taken + min bytes m ≤ length (given conn) + length (flat_map line_of (fitting bytes (unsent conn) nexts))) (sym all)
-    (⊎_elim (λ h. most bytes (length (flat_map line_of nexts)) conn.taken (length (given conn)) (length (unsent conn)) (length (flat_map line_of (fitting bytes (unsent conn) nexts))) within left h)
-    (λ h. every bytes (length (flat_map line_of nexts)) conn.taken (length (given conn)) (length (unsent conn)) (length (flat_map line_of (fitting bytes (unsent conn) nexts))) within left (ap (λ ns. length (flat_map line_of ns)) h)) (fitting_enough bytes (unsent conn) nexts)))
+    (⊎_elim (λ h.
+    most bytes (length (flat_map line_of nexts)) conn.taken (length (given conn)) (length (unsent conn))
+    (length (flat_map line_of (fitting bytes (unsent conn) nexts))) within left h)
+    (λ h.
+    every bytes (length (flat_map line_of nexts)) conn.taken (length (given conn)) (length (unsent conn))
+    (length (flat_map line_of (fitting bytes (unsent conn) nexts))) within left (ap (λ ns. length (flat_map line_of ns)) h))
+    (fitting_enough bytes (unsent conn) nexts)))
   where
     most : (b n t g u f : ℕ) → t ≤ g → u ≡ g - t → b ≤ u + f → t + min b (u + n) ≤ g + f
     most b n t g u f low left h = omega arith
@@ -200,8 +236,10 @@ took_within bytes n nexts conn within =
     every b n t g u f low left h = omega arith
 
 -- a connection of which the laws of a session hold, up to its end
-pub record Stands (start : List Shown) (P : History → ℕ → List Item → Option ℕ → Type 0) (history : History) (conn : Connection) : Type 0 where
-  pub fits : Fits start (heard conn.shut history) conn.go_step conn.items conn.done × P (heard conn.shut history) conn.go_step conn.items conn.done
+pub record Stands (start : List Shown) (P : History → ℕ → List Item → Option ℕ → Type 0) (history : History)
+    (conn : Connection) : Type 0 where
+  pub fits : Fits start (heard conn.shut history) conn.go_step conn.items conn.done
+      × P (heard conn.shut history) conn.go_step conn.items conn.done
   pub before : IfSome conn.shut (λ n. n ≤ length history)
   pub plain : conn.info ≡ false → (conn.items ≡ []) × (conn.done ≡ None)
   pub within : conn.taken ≤ length (given conn)

@@ -1,5 +1,6 @@
 -- Room for a bytes and then for b more gives what room for both gives at once.
-use Rattle.std.proofs.Common.{◌≡◌, ℕ, zero, suc, inl, inr, ◌⊎◌, ⊎_elim, ◌+◌, ◌-◌, ◌<◌, ◌≤◌, min, Bool, true, false, List, [], ◌∷◌, ◌++◌, length, drop, refl, ap, sym, ◌∙◌, arith, append_assoc, length-append, length-drop}
+use Rattle.std.proofs.Common.{◌≡◌, ℕ, zero, suc, inl, inr, ◌⊎◌, ⊎_elim, ◌+◌, ◌-◌, ◌<◌, ◌≤◌, min, Bool, true, false, List, [], ◌∷◌, ◌++◌}
+use Rattle.std.proofs.Common.{length, drop, refl, ap, sym, ◌∙◌, arith, append_assoc, length-append, length-drop}
 use Rattle.std.proofs.lemmas.Bool.{leb-false, leb-true, lt-ltb, ltb-true, ltb-false}
 use Rattle.std.proofs.lemmas.List.{map-append, drop-append-le, drop-drop, drop_at, drop_all}
 use Rattle.std.proofs.lemmas.List.Concat.{flat_map-append}
@@ -12,7 +13,8 @@ use Rattle.srcp_rules.specs.declared.layout.Bus.{Bus}
 use Rattle.srcp_text.specs.Marks.{marks, rest as begun}
 use Rattle.srcp_text.proofs.MarkLaws.{marks-append}
 use Rattle.srcp_core.specs.Course.{new_marks}
-use Rattle.srcp_core.specs.Connection.{Connection, line_of, front, fitting, is_nil, items_of, available, exhausts, given, unsent, text, took}
+use Rattle.srcp_core.specs.Connection.{Connection, line_of, front, fitting, is_nil, items_of, available, exhausts, given, unsent, text}
+use Rattle.srcp_core.specs.Connection.{took}
 use Rattle.srcp_core.proofs.CourseLaws.RoomGivesWhatIsOwed.{text_items, front_short, front_none, pos-eqb}
 
 -- the bytes that a front has beyond those asked for
@@ -20,7 +22,8 @@ abbrev pub over : ℕ → List Next → ℕ
 over bytes nexts = length (flat_map line_of (front bytes nexts)) - bytes
 
 -- a front, and a front of the rest for what is still asked for
-pub front_adds : (a b : ℕ) (nexts rest : List Next) → nexts ≡ front a nexts ++ rest → front (a + b) nexts ≡ front a nexts ++ front (b - over a nexts) rest
+pub front_adds : (a b : ℕ) (nexts rest : List Next) → nexts ≡ front a nexts ++ rest
+    → front (a + b) nexts ≡ front a nexts ++ front (b - over a nexts) rest
 front_adds zero b nexts rest e =
     let n : 0 + b ≡ b - 0 = omega arith in
     ap (λ m. front m nexts) n ∙ ap (front (b - 0)) e
@@ -36,12 +39,15 @@ front_adds (suc a) b (what ∷ nexts) rest e =
     suc_plus : suc a + b ≡ suc (a + b)
     suc_plus = omega arith
 
-    sizes : length (line_of what ++ flat_map line_of (front (suc a - length (line_of what)) nexts)) ≡ length (line_of what) + length (flat_map line_of (front (suc a - length (line_of what)) nexts))
+    sizes : length (line_of what ++ flat_map line_of (front (suc a - length (line_of what)) nexts))
+        ≡ length (line_of what) + length (flat_map line_of (front (suc a - length (line_of what)) nexts))
     sizes = length-append (line_of what) (flat_map line_of (front (suc a - length (line_of what)) nexts))
 
     by : (t : Bool) → nat_le (length (line_of what)) (suc a) ≡ t → nexts ≡ front (suc a - length (line_of what)) nexts ++ rest
-        → front (suc a - length (line_of what) + b) nexts ≡ front (suc a - length (line_of what)) nexts ++ front (b - over (suc a - length (line_of what)) nexts) rest
-        → front (suc (a + b) - length (line_of what)) nexts ≡ front (suc a - length (line_of what)) nexts ++ front (b - over (suc a) (what ∷ nexts)) rest
+        → front (suc a - length (line_of what) + b) nexts
+        ≡ front (suc a - length (line_of what)) nexts ++ front (b - over (suc a - length (line_of what)) nexts) rest
+        → front (suc (a + b) - length (line_of what)) nexts
+        ≡ front (suc a - length (line_of what)) nexts ++ front (b - over (suc a) (what ∷ nexts)) rest
     by true t tail ih =
         let l = leb-true (length (line_of what)) (suc a) t in
         let z = sizes in
@@ -53,10 +59,12 @@ front_adds (suc a) b (what ∷ nexts) rest e =
         let z = sizes in
         let none : suc a - length (line_of what) ≡ 0 = omega arith in
         let first : front (suc a - length (line_of what)) nexts ≡ [] = ap (λ n. front n nexts) none in
-        let nothing : length (flat_map line_of (front (suc a - length (line_of what)) nexts)) ≡ 0 = ap (λ ns. length (flat_map line_of ns)) first in
+        let nothing : length (flat_map line_of (front (suc a - length (line_of what)) nexts)) ≡ 0 =
+        ap (λ ns. length (flat_map line_of ns)) first in
         let all : nexts ≡ rest = tail ∙ ap (λ ns. ns ++ rest) first in
         let x : suc (a + b) - length (line_of what) ≡ b - over (suc a) (what ∷ nexts) = omega arith in
-        ap (λ n. front n nexts) x ∙ ap (front (b - over (suc a) (what ∷ nexts))) all ∙ ap (λ ns. ns ++ front (b - over (suc a) (what ∷ nexts)) rest) (sym first)
+        ap (λ n. front n nexts) x ∙ ap (front (b - over (suc a) (what ∷ nexts))) all
+        ∙ ap (λ ns. ns ++ front (b - over (suc a) (what ∷ nexts)) rest) (sym first)
 
 -- the same with bytes that were not taken before
 pub fitting_adds : (a b : ℕ) (left : List ℕ) (nexts rest : List Next) → 0 < a → 0 < b → nexts ≡ fitting a left nexts ++ rest
@@ -68,11 +76,15 @@ fitting_adds a b left nexts rest pa pb e =
     let e' : nexts ≡ front (a - length left) nexts ++ rest = rw za at e in
     rw (za, zb, zab) (by (nat_le a (length left)) refl e')
   where
-    size : length (drop a (left ++ flat_map line_of (front (a - length left) nexts))) ≡ length left + length (flat_map line_of (front (a - length left) nexts)) - a
-    size = length-drop a (left ++ flat_map line_of (front (a - length left) nexts)) ∙ ap (λ n. n - a) (length-append left (flat_map line_of (front (a - length left) nexts)))
+    size : length (drop a (left ++ flat_map line_of (front (a - length left) nexts)))
+        ≡ length left + length (flat_map line_of (front (a - length left) nexts)) - a
+    size =
+        length-drop a (left ++ flat_map line_of (front (a - length left) nexts))
+        ∙ ap (λ n. n - a) (length-append left (flat_map line_of (front (a - length left) nexts)))
 
     by : (t : Bool) → nat_le a (length left) ≡ t → nexts ≡ front (a - length left) nexts ++ rest
-        → front (a + b - length left) nexts ≡ front (a - length left) nexts ++ front (b - length (drop a (left ++ flat_map line_of (front (a - length left) nexts)))) rest
+        → front (a + b - length left) nexts
+        ≡ front (a - length left) nexts ++ front (b - length (drop a (left ++ flat_map line_of (front (a - length left) nexts)))) rest
     by true t e =
         let l = leb-true a (length left) t in
         let z = size in
@@ -87,12 +99,14 @@ fitting_adds a b left nexts rest pa pb e =
         let l = leb-false a (length left) t in
         let z = size in
         let x : a + b - length left ≡ a - length left + b = omega arith in
-        let y : b - over (a - length left) nexts ≡ b - length (drop a (left ++ flat_map line_of (front (a - length left) nexts))) = omega arith in
+        let y : b - over (a - length left) nexts ≡ b - length (drop a (left ++ flat_map line_of (front (a - length left) nexts))) =
+        omega arith in
         ap (λ n. front n nexts) x ∙ front_adds (a - length left) b nexts rest e ∙ ap (λ n. front (a - length left) nexts ++ front n rest) y
 
 -- the lines that a piece completes are those of the begun line and the piece
 pub new_marks_is : (buses : List Bus) (fed piece : List ℕ) → new_marks buses fed piece ≡ marks (begun fed ++ piece)
-new_marks_is buses fed piece = ap (drop (length (marks fed))) (marks-append fed piece) ∙ drop_at (marks fed) (marks (begun fed ++ piece)) (length (marks fed)) refl
+new_marks_is buses fed piece =
+    ap (drop (length (marks fed))) (marks-append fed piece) ∙ drop_at (marks fed) (marks (begun fed ++ piece)) (length (marks fed)) refl
 
 pub no_bytes : (other : Bool) (n bytes : ℕ) → 0 < bytes → (nat_lt n bytes || ((bytes == 0) && other)) ≡ nat_lt n bytes
 no_bytes other n bytes h = let z = pos-eqb bytes h in rw z (or-false (nat_lt n bytes))
@@ -112,11 +126,13 @@ enough a left nexts rest pa e = by (nat_le a (length left + length (flat_map lin
     nothing [] h = refl
     nothing (what ∷ rest) h = absurd (omega arith)
 
-    by : (t : Bool) → nat_le a (length left + length (flat_map line_of (fitting a left nexts))) ≡ t → (a ≤ length left + length (flat_map line_of (fitting a left nexts))) ⊎ (length (flat_map line_of rest) ≡ 0)
+    by : (t : Bool) → nat_le a (length left + length (flat_map line_of (fitting a left nexts))) ≡ t
+        → (a ≤ length left + length (flat_map line_of (fitting a left nexts))) ⊎ (length (flat_map line_of rest) ≡ 0)
     by true t = inl (leb-true a (length left + length (flat_map line_of (fitting a left nexts))) t)
     by false t =
         let f = is_front in
-        let sizes : length (flat_map line_of (fitting a left nexts)) ≡ length (flat_map line_of (front (a - length left) nexts)) = ap (λ ns. length (flat_map line_of ns)) f in
+        let sizes : length (flat_map line_of (fitting a left nexts)) ≡ length (flat_map line_of (front (a - length left) nexts)) =
+        ap (λ ns. length (flat_map line_of ns)) f in
         let l = leb-false a (length left + length (flat_map line_of (fitting a left nexts))) t in
         let short : length (flat_map line_of (front (a - length left) nexts)) < a - length left = omega arith in
         let all : fitting a left nexts ≡ nexts = f ∙ front_short (a - length left) nexts short in
@@ -132,8 +148,11 @@ same_lt x y b c f g = by (nat_lt x b) refl (nat_lt y c) refl
     by false p true q = let k = lt-ltb x b (g (ltb-true y c q)) in cc
 
 -- a listing that is done stays done
-pub done_rule : (info first second both : Bool) (end : Option ℕ) (n : ℕ) → (first ≡ true → second ≡ true) → (first ≡ true → both ≡ true) → (first ≡ false → second ≡ both)
-    → (if info && second then option_or (if info && first then option_or end (Some n) else end) (Some n) else (if info && first then option_or end (Some n) else end)) ≡ (if info && both then option_or end (Some n) else end)
+pub done_rule : (info first second both : Bool) (end : Option ℕ) (n : ℕ) → (first ≡ true → second ≡ true) → (first ≡ true → both ≡ true)
+    → (first ≡ false → second ≡ both)
+    → (if info && second then option_or (if info && first then option_or end (Some n) else end) (Some n)
+    else (if info && first then option_or end (Some n) else end))
+    ≡ (if info && both then option_or end (Some n) else end)
 done_rule false first second both end n f g h = refl
 done_rule true true second both end n f g h = rw (f refl, g refl) (twice end)
   where
@@ -143,35 +162,62 @@ done_rule true true second both end n f g h = rw (f refl, g refl) (twice end)
 done_rule true false second both end n f g h = rw (h refl) refl
 
 -- room for a and then for b is room for both
-pub took_adds : (a b n : ℕ) (nexts rest : List Next) (conn : Connection) → 0 < a → 0 < b → conn.taken ≤ length (given conn) → nexts ≡ fitting a (unsent conn) nexts ++ rest → took b n rest (took a n nexts conn) ≡ took (a + b) n nexts conn
+pub took_adds : (a b n : ℕ) (nexts rest : List Next) (conn : Connection) → 0 < a → 0 < b → conn.taken ≤ length (given conn)
+    → nexts ≡ fitting a (unsent conn) nexts ++ rest → took b n rest (took a n nexts conn) ≡ took (a + b) n nexts conn
 took_adds a b n nexts rest conn pa pb within e =
-    ap (λ items. record conn { items = items; taken = conn.taken + min a (length (available (unsent conn) nexts)) + min b (length (available (unsent (took a n nexts conn)) rest)); done = done_after }) items_same
-    ∙ ap (λ taken. record conn { items = conn.items ++ items_of n (fitting (a + b) (unsent conn) nexts); taken = taken; done = done_after }) taken_same
-    ∙ ap (λ done. record conn { items = conn.items ++ items_of n (fitting (a + b) (unsent conn) nexts); taken = conn.taken + min (a + b) (length (available (unsent conn) nexts)); done = done }) done_same
+    ap (λ items.
+    record conn {
+      items = items;
+      taken =
+          conn.taken + min a (length (available (unsent conn) nexts))
+          + min b (length (available (unsent (took a n nexts conn)) rest));
+      done = done_after;
+    })
+    items_same
+    ∙ ap (λ taken. record conn { items = conn.items ++ items_of n (fitting (a + b) (unsent conn) nexts); taken = taken; done = done_after })
+    taken_same
+    ∙ ap (λ done.
+    record conn {
+      items = conn.items ++ items_of n (fitting (a + b) (unsent conn) nexts);
+      taken = conn.taken + min (a + b) (length (available (unsent conn) nexts));
+      done = done;
+    })
+    done_same
   where
     done_after : Option ℕ
     done_after = (took b n rest (took a n nexts conn)).done
 
-    all_size : length (available (unsent conn) nexts) ≡ length (unsent conn) + length (flat_map line_of (fitting a (unsent conn) nexts)) + length (flat_map line_of rest)
+    all_size : length (available (unsent conn) nexts)
+        ≡ length (unsent conn) + length (flat_map line_of (fitting a (unsent conn) nexts)) + length (flat_map line_of rest)
     all_size =
         let x = length-append (unsent conn) (flat_map line_of nexts) in
-        let y = ap (λ ns. length (flat_map line_of ns)) e ∙ ap length (flat_map-append line_of (fitting a (unsent conn) nexts) rest) ∙ length-append (flat_map line_of (fitting a (unsent conn) nexts)) (flat_map line_of rest) in
+        let y =
+        ap (λ ns. length (flat_map line_of ns)) e ∙ ap length (flat_map-append line_of (fitting a (unsent conn) nexts) rest)
+        ∙ length-append (flat_map line_of (fitting a (unsent conn) nexts)) (flat_map line_of rest) in
         omega arith
 
     left_is : unsent (took a n nexts conn) ≡ drop a (unsent conn ++ flat_map line_of (fitting a (unsent conn) nexts))
     left_is =
-        ap (λ t. drop (conn.taken + min a (length (available (unsent conn) nexts))) (conn.out ++ t)) (text_items n conn.items (fitting a (unsent conn) nexts))
-        ∙ ap (drop (conn.taken + min a (length (available (unsent conn) nexts)))) (sym (append_assoc conn.out (text conn.items) (flat_map line_of (fitting a (unsent conn) nexts))))
-        ∙ sym (drop-drop (min a (length (available (unsent conn) nexts))) conn.taken (given conn ++ flat_map line_of (fitting a (unsent conn) nexts)))
-        ∙ ap (drop (min a (length (available (unsent conn) nexts)))) (drop-append-le conn.taken (given conn) (flat_map line_of (fitting a (unsent conn) nexts)) within)
+        ap (λ t. drop (conn.taken + min a (length (available (unsent conn) nexts))) (conn.out ++ t))
+        (text_items n conn.items (fitting a (unsent conn) nexts))
+        ∙ ap (drop (conn.taken + min a (length (available (unsent conn) nexts))))
+        (sym (append_assoc conn.out (text conn.items) (flat_map line_of (fitting a (unsent conn) nexts))))
+        ∙ sym (drop-drop (min a (length (available (unsent conn) nexts))) conn.taken
+        (given conn ++ flat_map line_of (fitting a (unsent conn) nexts)))
+        ∙ ap (drop (min a (length (available (unsent conn) nexts))))
+        (drop-append-le conn.taken (given conn) (flat_map line_of (fitting a (unsent conn) nexts)) within)
         ∙ as_many (nat_lt (length (available (unsent conn) nexts)) a) refl
       where
-        as_many : (t : Bool) → nat_lt (length (available (unsent conn) nexts)) a ≡ t → drop (min a (length (available (unsent conn) nexts))) (unsent conn ++ flat_map line_of (fitting a (unsent conn) nexts)) ≡ drop a (unsent conn ++ flat_map line_of (fitting a (unsent conn) nexts))
+        as_many : (t : Bool) → nat_lt (length (available (unsent conn) nexts)) a ≡ t
+            → drop (min a (length (available (unsent conn) nexts))) (unsent conn ++ flat_map line_of (fitting a (unsent conn) nexts))
+            ≡ drop a (unsent conn ++ flat_map line_of (fitting a (unsent conn) nexts))
         as_many true t =
             let l = ltb-true (length (available (unsent conn) nexts)) a t in
             let z = all_size in
             let y = length-append (unsent conn) (flat_map line_of (fitting a (unsent conn) nexts)) in
-            let low : length (unsent conn ++ flat_map line_of (fitting a (unsent conn) nexts)) ≤ min a (length (available (unsent conn) nexts)) = omega arith in
+            let low : length (unsent conn ++ flat_map line_of (fitting a (unsent conn) nexts))
+            ≤ min a (length (available (unsent conn) nexts)) =
+            omega arith in
             let high : length (unsent conn ++ flat_map line_of (fitting a (unsent conn) nexts)) ≤ a = omega arith in
             drop_all (min a (length (available (unsent conn) nexts))) (unsent conn ++ flat_map line_of (fitting a (unsent conn) nexts)) low
             ∙ sym (drop_all a (unsent conn ++ flat_map line_of (fitting a (unsent conn) nexts)) high)
@@ -180,40 +226,60 @@ took_adds a b n nexts rest conn pa pb within e =
             let m : min a (length (available (unsent conn) nexts)) ≡ a = omega arith in
             ap (λ k. drop k (unsent conn ++ flat_map line_of (fitting a (unsent conn) nexts))) m
 
-    left_size : length (available (unsent (took a n nexts conn)) rest) ≡ length (unsent conn) + length (flat_map line_of (fitting a (unsent conn) nexts)) - a + length (flat_map line_of rest)
+    left_size : length (available (unsent (took a n nexts conn)) rest)
+        ≡ length (unsent conn) + length (flat_map line_of (fitting a (unsent conn) nexts)) - a + length (flat_map line_of rest)
     left_size =
         length-append (unsent (took a n nexts conn)) (flat_map line_of rest)
         ∙ ap (λ u. length u + length (flat_map line_of rest)) left_is
-        ∙ ap (λ k. k + length (flat_map line_of rest)) (length-drop a (unsent conn ++ flat_map line_of (fitting a (unsent conn) nexts)) ∙ ap (λ k. k - a) (length-append (unsent conn) (flat_map line_of (fitting a (unsent conn) nexts))))
+        ∙ ap (λ k. k + length (flat_map line_of rest))
+        (length-drop a (unsent conn ++ flat_map line_of (fitting a (unsent conn) nexts))
+        ∙ ap (λ k. k - a) (length-append (unsent conn) (flat_map line_of (fitting a (unsent conn) nexts))))
 
-    items_same : (conn.items ++ items_of n (fitting a (unsent conn) nexts)) ++ items_of n (fitting b (unsent (took a n nexts conn)) rest) ≡ conn.items ++ items_of n (fitting (a + b) (unsent conn) nexts)
+    items_same : (conn.items ++ items_of n (fitting a (unsent conn) nexts)) ++ items_of n (fitting b (unsent (took a n nexts conn)) rest)
+        ≡ conn.items ++ items_of n (fitting (a + b) (unsent conn) nexts)
     items_same =
         ap (λ u. (conn.items ++ items_of n (fitting a (unsent conn) nexts)) ++ items_of n (fitting b u rest)) left_is
-        ∙ append_assoc conn.items (items_of n (fitting a (unsent conn) nexts)) (items_of n (fitting b (drop a (unsent conn ++ flat_map line_of (fitting a (unsent conn) nexts))) rest))
-        ∙ ap (λ is. conn.items ++ is) (sym (map-append (λ what. record { steps = n; what = what }) (fitting a (unsent conn) nexts) (fitting b (drop a (unsent conn ++ flat_map line_of (fitting a (unsent conn) nexts))) rest)))
+        ∙ append_assoc conn.items (items_of n (fitting a (unsent conn) nexts))
+        (items_of n (fitting b (drop a (unsent conn ++ flat_map line_of (fitting a (unsent conn) nexts))) rest))
+        ∙ ap (λ is. conn.items ++ is)
+        (sym
+        (map-append (λ what. record { steps = n; what = what }) (fitting a (unsent conn) nexts)
+        (fitting b (drop a (unsent conn ++ flat_map line_of (fitting a (unsent conn) nexts))) rest)))
         ∙ ap (λ ns. conn.items ++ items_of n ns) (sym (fitting_adds a b (unsent conn) nexts rest pa pb e))
 
-    taken_same : conn.taken + min a (length (available (unsent conn) nexts)) + min b (length (available (unsent (took a n nexts conn)) rest)) ≡ conn.taken + min (a + b) (length (available (unsent conn) nexts))
+    taken_same : conn.taken + min a (length (available (unsent conn) nexts))
+        + min b (length (available (unsent (took a n nexts conn)) rest))
+        ≡ conn.taken + min (a + b) (length (available (unsent conn) nexts))
     taken_same =
         let z = all_size in
         let y = left_size in
         ⊎_elim (λ h. with_rest z y h) (λ h. with_none z y h) (enough a (unsent conn) nexts rest pa e)
       where
-        with_rest : length (available (unsent conn) nexts) ≡ length (unsent conn) + length (flat_map line_of (fitting a (unsent conn) nexts)) + length (flat_map line_of rest)
-            → length (available (unsent (took a n nexts conn)) rest) ≡ length (unsent conn) + length (flat_map line_of (fitting a (unsent conn) nexts)) - a + length (flat_map line_of rest)
+        with_rest : length (available (unsent conn) nexts)
+            ≡ length (unsent conn) + length (flat_map line_of (fitting a (unsent conn) nexts)) + length (flat_map line_of rest)
+            → length (available (unsent (took a n nexts conn)) rest)
+            ≡ length (unsent conn) + length (flat_map line_of (fitting a (unsent conn) nexts)) - a + length (flat_map line_of rest)
             → a ≤ length (unsent conn) + length (flat_map line_of (fitting a (unsent conn) nexts))
-            → conn.taken + min a (length (available (unsent conn) nexts)) + min b (length (available (unsent (took a n nexts conn)) rest)) ≡ conn.taken + min (a + b) (length (available (unsent conn) nexts))
+            → conn.taken + min a (length (available (unsent conn) nexts)) + min b (length (available (unsent (took a n nexts conn)) rest))
+            ≡ conn.taken + min (a + b) (length (available (unsent conn) nexts))
         with_rest z y h = omega arith
 
-        with_none : length (available (unsent conn) nexts) ≡ length (unsent conn) + length (flat_map line_of (fitting a (unsent conn) nexts)) + length (flat_map line_of rest)
-            → length (available (unsent (took a n nexts conn)) rest) ≡ length (unsent conn) + length (flat_map line_of (fitting a (unsent conn) nexts)) - a + length (flat_map line_of rest)
+        with_none : length (available (unsent conn) nexts)
+            ≡ length (unsent conn) + length (flat_map line_of (fitting a (unsent conn) nexts)) + length (flat_map line_of rest)
+            → length (available (unsent (took a n nexts conn)) rest)
+            ≡ length (unsent conn) + length (flat_map line_of (fitting a (unsent conn) nexts)) - a + length (flat_map line_of rest)
             → length (flat_map line_of rest) ≡ 0
-            → conn.taken + min a (length (available (unsent conn) nexts)) + min b (length (available (unsent (took a n nexts conn)) rest)) ≡ conn.taken + min (a + b) (length (available (unsent conn) nexts))
+            → conn.taken + min a (length (available (unsent conn) nexts)) + min b (length (available (unsent (took a n nexts conn)) rest))
+            ≡ conn.taken + min (a + b) (length (available (unsent conn) nexts))
         with_none z y h = omega arith
 
     done_same : done_after ≡ (took (a + b) n nexts conn).done
-    done_same = done_rule conn.info (exhausts a (unsent conn) nexts) (exhausts b (unsent (took a n nexts conn)) rest) (exhausts (a + b) (unsent conn) nexts) conn.done n
-        (λ t. second_too (ltb-true (length (available (unsent conn) nexts)) a (sym ex_a ∙ t))) (λ t. both_too (ltb-true (length (available (unsent conn) nexts)) a (sym ex_a ∙ t))) (λ t. as_both (ltb-false (length (available (unsent conn) nexts)) a (sym ex_a ∙ t)))
+    done_same =
+        done_rule conn.info (exhausts a (unsent conn) nexts) (exhausts b (unsent (took a n nexts conn)) rest)
+        (exhausts (a + b) (unsent conn) nexts) conn.done n
+        (λ t. second_too (ltb-true (length (available (unsent conn) nexts)) a (sym ex_a ∙ t)))
+        (λ t. both_too (ltb-true (length (available (unsent conn) nexts)) a (sym ex_a ∙ t)))
+        (λ t. as_both (ltb-false (length (available (unsent conn) nexts)) a (sym ex_a ∙ t)))
       where
         ex_a : exhausts a (unsent conn) nexts ≡ nat_lt (length (available (unsent conn) nexts)) a
         ex_a = no_bytes (is_nil (unsent conn) && is_nil nexts) (length (available (unsent conn) nexts)) a pa
@@ -228,18 +294,27 @@ took_adds a b n nexts rest conn pa pb within e =
         ex_ab = no_bytes (is_nil (unsent conn) && is_nil nexts) (length (available (unsent conn) nexts)) (a + b) sum
 
         both_too : length (available (unsent conn) nexts) < a → exhausts (a + b) (unsent conn) nexts ≡ true
-        both_too h = let l : length (available (unsent conn) nexts) < a + b = omega arith in ex_ab ∙ lt-ltb (length (available (unsent conn) nexts)) (a + b) l
+        both_too h =
+            let l : length (available (unsent conn) nexts) < a + b = omega arith in
+            ex_ab ∙ lt-ltb (length (available (unsent conn) nexts)) (a + b) l
 
         second_too : length (available (unsent conn) nexts) < a → exhausts b (unsent (took a n nexts conn)) rest ≡ true
         second_too h =
             let z = all_size in
             let y = left_size in
-            let l : length (available (unsent (took a n nexts conn)) rest) < b = ⊎_elim (λ k. absurd (omega (arith, z, k, h))) (λ k. omega (arith, z, y, k, h, pb)) (enough a (unsent conn) nexts rest pa e) in
+            let l : length (available (unsent (took a n nexts conn)) rest) < b =
+            ⊎_elim (λ k. absurd (omega (arith, z, k, h))) (λ k. omega (arith, z, y, k, h, pb))
+            (enough a (unsent conn) nexts rest pa e) in
             ex_b ∙ lt-ltb (length (available (unsent (took a n nexts conn)) rest)) b l
 
-        as_both : a ≤ length (available (unsent conn) nexts) → exhausts b (unsent (took a n nexts conn)) rest ≡ exhausts (a + b) (unsent conn) nexts
+        as_both : a ≤ length (available (unsent conn) nexts)
+            → exhausts b (unsent (took a n nexts conn)) rest ≡ exhausts (a + b) (unsent conn) nexts
         as_both h =
             let z = all_size in
             let y = left_size in
-            let rest_is : length (available (unsent (took a n nexts conn)) rest) + a ≡ length (available (unsent conn) nexts) = ⊎_elim (λ k. omega (arith, z, y, k, h)) (λ k. omega (arith, z, y, k, h)) (enough a (unsent conn) nexts rest pa e) in
-            ex_b ∙ same_lt (length (available (unsent (took a n nexts conn)) rest)) (length (available (unsent conn) nexts)) b (a + b) (λ l. omega (arith, rest_is, l)) (λ l. omega (arith, rest_is, l)) ∙ sym ex_ab
+            let rest_is : length (available (unsent (took a n nexts conn)) rest) + a ≡ length (available (unsent conn) nexts) =
+            ⊎_elim (λ k. omega (arith, z, y, k, h)) (λ k. omega (arith, z, y, k, h)) (enough a (unsent conn) nexts rest pa e) in
+            ex_b
+            ∙ same_lt (length (available (unsent (took a n nexts conn)) rest)) (length (available (unsent conn) nexts)) b (a + b)
+            (λ l. omega (arith, rest_is, l)) (λ l. omega (arith, rest_is, l))
+            ∙ sym ex_ab

@@ -1,5 +1,6 @@
 -- Room gives the front of what is owed, and settles a session that is given enough.
-use Rattle.std.proofs.Common.{◌≡◌, ℕ, ◌+◌, ◌-◌, ◌≤◌, min, Bool, true, false, List, [], ◌∷◌, ◌++◌, map, length, drop, refl, ap, sym, ◌∙◌, subst, arith, append-nil, append_assoc, length-append, length-drop}
+use Rattle.std.proofs.Common.{◌≡◌, ℕ, ◌+◌, ◌-◌, ◌≤◌, min, Bool, true, false, List, [], ◌∷◌, ◌++◌, map, length, drop, refl, ap, sym, ◌∙◌}
+use Rattle.std.proofs.Common.{subst, arith, append-nil, append_assoc, length-append, length-drop}
 use Rattle.std.proofs.lemmas.List.{take-append-drop, drop_all, length-map}
 use Rattle.std.proofs.lemmas.List.Sums.{fold-append}
 use Rattle.std.specs.List.{flat_map}
@@ -16,8 +17,10 @@ use Rattle.srcp_feed.specs.declared.next.Next.TheVariants.{Told, Listed}
 use Rattle.srcp_info.proofs.ClientLaws.{key_at}
 use Rattle.srcp_info.specs.Client.{IsRisingBy}
 use Rattle.srcp_core.specs.Under.{Event, Room}
-use Rattle.srcp_core.specs.Connection.{Connection, History, is_nil, is_open, line_of, text, given, unsent, owed, waiting, cursor_at, fitting, available, exhausts, items_of, took, given_room, overran}
-use Rattle.srcp_core.specs.Course.{World, start, happens, counted, course, numbered, if_open, open_connection, absent_fault, or_refused, accepted, rows, history}
+use Rattle.srcp_core.specs.Connection.{Connection, History, is_nil, is_open, line_of, text, given, unsent, owed, waiting, cursor_at}
+use Rattle.srcp_core.specs.Connection.{fitting, available, exhausts, items_of, took, given_room, overran}
+use Rattle.srcp_core.specs.Course.{World, start, happens, counted, course, numbered, if_open, open_connection, absent_fault, or_refused}
+use Rattle.srcp_core.specs.Course.{accepted, rows, history}
 use Rattle.srcp_core.specs.Laws.{IsSession, IsSentReplies, GivesOwed}
 use Rattle.srcp_core.specs.declared.record.Item.{Item}
 use Rattle.srcp_core.proofs.CourseLaws.LinesHaveBytes.{fitting_full, none_after, owed_full}
@@ -29,10 +32,13 @@ use Rattle.srcp_core.proofs.CourseLaws.ClientHoldsPassedRows.{Fits, gives, owed_
 use Rattle.srcp_core.proofs.Agreement.NumbersAndKeys.{numbered_with}
 use Rattle.srcp_core.proofs.CourseLaws.SessionsAreKept.{sound, owed_open, in_order_after}
 
-pub sends_replies : (buses : List Bus) → IsLayout buses → (events : List Event) (number : ℕ) (conn : Connection) → numbered number (course buses events).connections ≡ Some conn
+pub sends_replies : (buses : List Bus) → IsLayout buses → (events : List Event) (number : ℕ) (conn : Connection)
+    → numbered number (course buses events).connections ≡ Some conn
     → conn.info ≡ false → IsSentReplies buses conn
 sends_replies buses layout events number conn e plain =
-    let s = at_number _ number (course buses events).connections conn (sound buses (opening_in_order buses layout) _ (anything (shown_rows (opening buses 0))) events) e in
+    let s =
+    at_number _ number (course buses events).connections conn
+    (sound buses (opening_in_order buses layout) _ (anything (shown_rows (opening buses 0))) events) e in
     let p = s.plain plain in
     record {
       no_items = p.0;
@@ -40,13 +46,19 @@ sends_replies buses layout events number conn e plain =
     }
 
 -- what is owed after room
-record OwesRest (history : History) (go : ℕ) (items : List Item) (done : Option ℕ) (bytes : ℕ) (left : List ℕ) (nexts : List Next) (rows : List Shown) : Type 0 where
+record OwesRest (history : History) (go : ℕ) (items : List Item) (done : Option ℕ) (bytes : ℕ) (left : List ℕ) (nexts : List Next)
+    (rows : List Shown) : Type 0 where
   rest : List Next
   whole : nexts ≡ fitting bytes left nexts ++ rest
-  owes : owed_by go (items ++ items_of (length history) (fitting bytes left nexts)) (if exhausts bytes left nexts then option_or done (Some (length history)) else done) history rows ≡ rest
+  owes : owed_by go (items ++ items_of (length history) (fitting bytes left nexts))
+      (if exhausts bytes left nexts then option_or done (Some (length history)) else done) history rows
+      ≡ rest
   fully : exhausts bytes left nexts ≡ true → rest ≡ []
 
-owes_rest : (first : List Shown) (history : History) (go : ℕ) (items : List Item) (done : Option ℕ) (bytes : ℕ) (left : List ℕ) (nexts : List Next) → IsRisingBy key_at (rows_after first history) → Fits first history go items done → owed_by go items done history (rows_after first history) ≡ nexts
+owes_rest : (first : List Shown) (history : History) (go : ℕ) (items : List Item) (done : Option ℕ) (bytes : ℕ) (left : List ℕ)
+    (nexts : List Next)
+    → IsRisingBy key_at (rows_after first history) → Fits first history go items done
+    → owed_by go items done history (rows_after first history) ≡ nexts
     → OwesRest history go items done bytes left nexts (rows_after first history)
 owes_rest first history go items done bytes left nexts order f e = by (exhausts bytes left nexts) refl
   where
@@ -57,8 +69,16 @@ owes_rest first history go items done bytes left nexts order f e = by (exhausts 
         record {
           rest = [];
           whole = sym all ∙ sym (append-nil (fitting bytes left nexts));
-          owes = ap (λ ns. owed_by go (items ++ items_of (length history) ns) (if exhausts bytes left nexts then option_or done (Some (length history)) else done) history (rows_after first history)) all
-              ∙ ap (λ t. owed_by go (items ++ items_of (length history) nexts) (if t then option_or done (Some (length history)) else done) history (rows_after first history)) t
+          owes =
+              ap (λ ns.
+              owed_by go (items ++ items_of (length history) ns)
+              (if exhausts bytes left nexts then option_or done (Some (length history)) else done) history
+              (rows_after first history))
+              all
+              ∙ ap (λ t.
+              owed_by go (items ++ items_of (length history) nexts) (if t then option_or done (Some (length history)) else done) history
+              (rows_after first history))
+              t
               ∙ done_owes first history go (items ++ items_of (length history) nexts) done g.owes;
           fully = λ _. refl;
         }
@@ -68,29 +88,47 @@ owes_rest first history go items done bytes left nexts order f e = by (exhausts 
         record {
           rest = front.rest;
           whole = front.whole;
-          owes = ap (λ t. owed_by go (items ++ items_of (length history) (fitting bytes left nexts)) (if t then option_or done (Some (length history)) else done) history (rows_after first history)) t ∙ g.owes;
+          owes =
+              ap (λ t.
+              owed_by go (items ++ items_of (length history) (fitting bytes left nexts))
+              (if t then option_or done (Some (length history)) else done) history (rows_after first history))
+              t
+              ∙ g.owes;
           fully = λ no_more. let bad : true ≡ false = sym no_more ∙ t in cc;
         }
 
 -- where room was given for all there was, nothing is unsent
-none_left : (bytes n taken : ℕ) (out : List ℕ) (items : List Item) (nexts : List Next) → length (available (drop taken (out ++ text items)) nexts) ≤ bytes
+none_left : (bytes n taken : ℕ) (out : List ℕ) (items : List Item) (nexts : List Next)
+    → length (available (drop taken (out ++ text items)) nexts) ≤ bytes
     → drop (taken + min bytes (length (available (drop taken (out ++ text items)) nexts))) (out ++ text (items ++ items_of n nexts)) ≡ []
 none_left bytes n taken out items nexts h =
-    let l : length (available (drop taken (out ++ text items)) nexts) ≡ length (drop taken (out ++ text items)) + length (flat_map line_of nexts) = length-append (drop taken (out ++ text items)) (flat_map line_of nexts) in
+    let l : length (available (drop taken (out ++ text items)) nexts)
+    ≡ length (drop taken (out ++ text items)) + length (flat_map line_of nexts) =
+    length-append (drop taken (out ++ text items)) (flat_map line_of nexts) in
     let d : length (drop taken (out ++ text items)) ≡ length (out ++ text items) - taken = length-drop taken (out ++ text items) in
-    let whole : out ++ text (items ++ items_of n nexts) ≡ (out ++ text items) ++ flat_map line_of nexts = ap (λ t. out ++ t) (text_items n items nexts) ∙ sym (append_assoc out (text items) (flat_map line_of nexts)) in
-    let size : length (out ++ text (items ++ items_of n nexts)) ≡ length (out ++ text items) + length (flat_map line_of nexts) = ap length whole ∙ length-append (out ++ text items) (flat_map line_of nexts) in
-    let most : length (out ++ text (items ++ items_of n nexts)) ≤ taken + min bytes (length (available (drop taken (out ++ text items)) nexts)) = omega arith in
+    let whole : out ++ text (items ++ items_of n nexts) ≡ (out ++ text items) ++ flat_map line_of nexts =
+    ap (λ t. out ++ t) (text_items n items nexts) ∙ sym (append_assoc out (text items) (flat_map line_of nexts)) in
+    let size : length (out ++ text (items ++ items_of n nexts)) ≡ length (out ++ text items) + length (flat_map line_of nexts) =
+    ap length whole ∙ length-append (out ++ text items) (flat_map line_of nexts) in
+    let most : length (out ++ text (items ++ items_of n nexts))
+    ≤ taken + min bytes (length (available (drop taken (out ++ text items)) nexts)) =
+    omega arith in
     drop_all (taken + min bytes (length (available (drop taken (out ++ text items)) nexts))) (out ++ text (items ++ items_of n nexts)) most
 
 -- the connection after its room
-pub after_room : (buses : List Bus) (w : World) (number bytes : ℕ) (conn later : Connection) → numbered number w.connections ≡ Some conn → conn.shut ≡ None → overran conn (history buses w) ≡ false
-    → numbered number (happens buses w (Room number bytes)).connections ≡ Some later → later ≡ took bytes (length (history buses w)) (owed conn (history buses w) (rows buses w)) conn
+pub after_room : (buses : List Bus) (w : World) (number bytes : ℕ) (conn later : Connection) → numbered number w.connections ≡ Some conn
+    → conn.shut ≡ None → overran conn (history buses w) ≡ false
+    → numbered number (happens buses w (Room number bytes)).connections ≡ Some later
+    → later ≡ took bytes (length (history buses w)) (owed conn (history buses w) (rows buses w)) conn
 after_room buses w number bytes conn later e shut over l =
     let up : open_connection w number ≡ Some conn = ap if_open e ∙ ap (λ s. if is_none s then Some conn else None) shut in
-    let world : happens buses w (Room number bytes) ≡ accepted buses (Room number bytes) (counted w) = ap (λ o. or_refused buses (absent_fault buses o) (Room number bytes) (counted w)) up in
-    let at : numbered number (happens buses w (Room number bytes)).connections ≡ Some (given_room bytes (history buses w) (rows buses w) conn) =
-    ap (λ (v : World). numbered number v.connections) world ∙ numbered_with number (given_room bytes (history buses w) (rows buses w)) w.connections ∙ ap (option_map (given_room bytes (history buses w) (rows buses w))) e in
+    let world : happens buses w (Room number bytes) ≡ accepted buses (Room number bytes) (counted w) =
+    ap (λ o. or_refused buses (absent_fault buses o) (Room number bytes) (counted w)) up in
+    let at : numbered number (happens buses w (Room number bytes)).connections
+    ≡ Some (given_room bytes (history buses w) (rows buses w) conn) =
+    ap (λ (v : World). numbered number v.connections) world
+    ∙ numbered_with number (given_room bytes (history buses w) (rows buses w)) w.connections
+    ∙ ap (option_map (given_room bytes (history buses w) (rows buses w))) e in
     let same : Some later ≡ Some (given_room bytes (history buses w) (rows buses w) conn) = sym l ∙ at in
     let is : later ≡ given_room bytes (history buses w) (rows buses w) conn = cc in
     is ∙ ap (λ t. if t then conn else took bytes (length (history buses w)) (owed conn (history buses w) (rows buses w)) conn) over
@@ -109,38 +147,74 @@ four a b c d p q r s = rw (p, q, r, s) refl
 pub record OwesAfter (buses : List Bus) (w : World) (bytes : ℕ) (conn : Connection) : Type 0 where
   pub rest : List Next
   pub whole : owed conn (history buses w) (rows buses w) ≡ fitting bytes (unsent conn) (owed conn (history buses w) (rows buses w)) ++ rest
-  pub owes : owed (took bytes (length (history buses w)) (owed conn (history buses w) (rows buses w)) conn) (history buses w) (rows buses w) ≡ rest
+  pub owes : owed (took bytes (length (history buses w)) (owed conn (history buses w) (rows buses w)) conn) (history buses w) (rows buses w)
+      ≡ rest
   pub fully : exhausts bytes (unsent conn) (owed conn (history buses w) (rows buses w)) ≡ true → rest ≡ []
 
 owed_is : (buses : List Bus) (layout : IsLayout buses) (w : World) (conn : Connection) → conn.shut ≡ None → conn.info ≡ true
-    → owed_by conn.go_step conn.items conn.done (history buses w) (rows_after (shown_rows (opening buses 0)) (history buses w)) ≡ owed conn (history buses w) (rows buses w)
+    → owed_by conn.go_step conn.items conn.done (history buses w) (rows_after (shown_rows (opening buses 0)) (history buses w))
+    ≡ owed conn (history buses w) (rows buses w)
 owed_is buses layout w conn shut info =
-    subst (λ t. (if t then owed_by conn.go_step conn.items conn.done (history buses w) (rows_after (shown_rows (opening buses 0)) (history buses w)) else []) ≡ owed conn (history buses w) (rows buses w)) info
-    (sym (owed_open (shown_rows (opening buses 0)) (opening_in_order buses layout) _ (anything (shown_rows (opening buses 0))) (history buses w) (rows buses w) conn shut (shown_after (opening buses 0) w.steps)))
+    subst (λ t.
+    (if t
+    then owed_by conn.go_step conn.items conn.done (history buses w)
+    (rows_after (shown_rows (opening buses 0)) (history buses w))
+    else [])
+    ≡ owed conn (history buses w) (rows buses w))
+    info
+    (sym (owed_open (shown_rows (opening buses 0)) (opening_in_order buses layout) _ (anything (shown_rows (opening buses 0)))
+    (history buses w) (rows buses w) conn shut (shown_after (opening buses 0) w.steps)))
 
-pub owes_after : (buses : List Bus) (layout : IsLayout buses) (w : World) (bytes : ℕ) (conn : Connection) → conn.shut ≡ None → conn.info ≡ true → Fits (shown_rows (opening buses 0)) (history buses w) conn.go_step conn.items conn.done → OwesAfter buses w bytes conn
+pub owes_after : (buses : List Bus) (layout : IsLayout buses) (w : World) (bytes : ℕ) (conn : Connection) → conn.shut ≡ None
+    → conn.info ≡ true → Fits (shown_rows (opening buses 0)) (history buses w) conn.go_step conn.items conn.done
+    → OwesAfter buses w bytes conn
 owes_after buses layout w bytes conn shut info fits =
-    finished (owes_rest (shown_rows (opening buses 0)) (history buses w) conn.go_step conn.items conn.done bytes (unsent conn) (owed conn (history buses w) (rows buses w)) (in_order_after (shown_rows (opening buses 0)) (history buses w) (opening_in_order buses layout)) fits (owed_is buses layout w conn shut info))
+    finished (owes_rest (shown_rows (opening buses 0)) (history buses w) conn.go_step conn.items conn.done bytes (unsent conn)
+    (owed conn (history buses w) (rows buses w))
+    (in_order_after (shown_rows (opening buses 0)) (history buses w) (opening_in_order buses layout)) fits
+    (owed_is buses layout w conn shut info))
   where
-    finished : OwesRest (history buses w) conn.go_step conn.items conn.done bytes (unsent conn) (owed conn (history buses w) (rows buses w)) (rows_after (shown_rows (opening buses 0)) (history buses w)) → OwesAfter buses w bytes conn
+    finished : OwesRest (history buses w) conn.go_step conn.items conn.done bytes (unsent conn) (owed conn (history buses w) (rows buses w))
+        (rows_after (shown_rows (opening buses 0)) (history buses w))
+        → OwesAfter buses w bytes conn
     finished r = record {
       rest = r.rest;
       whole = r.whole;
       owes =
-          owed_open (shown_rows (opening buses 0)) (opening_in_order buses layout) _ (anything (shown_rows (opening buses 0))) (history buses w) (rows buses w) (took bytes (length (history buses w)) (owed conn (history buses w) (rows buses w)) conn) shut (shown_after (opening buses 0) w.steps)
-          ∙ ap (λ t. if t then owed_by conn.go_step (conn.items ++ items_of (length (history buses w)) (fitting bytes (unsent conn) (owed conn (history buses w) (rows buses w)))) (if conn.info && exhausts bytes (unsent conn) (owed conn (history buses w) (rows buses w)) then option_or conn.done (Some (length (history buses w))) else conn.done) (history buses w) (rows_after (shown_rows (opening buses 0)) (history buses w)) else []) info
-          ∙ ap (λ t. owed_by conn.go_step (conn.items ++ items_of (length (history buses w)) (fitting bytes (unsent conn) (owed conn (history buses w) (rows buses w)))) (if t && exhausts bytes (unsent conn) (owed conn (history buses w) (rows buses w)) then option_or conn.done (Some (length (history buses w))) else conn.done) (history buses w) (rows_after (shown_rows (opening buses 0)) (history buses w))) info
+          owed_open (shown_rows (opening buses 0)) (opening_in_order buses layout) _ (anything (shown_rows (opening buses 0)))
+          (history buses w) (rows buses w) (took bytes (length (history buses w)) (owed conn (history buses w) (rows buses w)) conn) shut
+          (shown_after (opening buses 0) w.steps)
+          ∙ ap (λ t. if t
+          then owed_by conn.go_step
+          (conn.items
+          ++ items_of (length (history buses w)) (fitting bytes (unsent conn) (owed conn (history buses w) (rows buses w))))
+          (if conn.info && exhausts bytes (unsent conn) (owed conn (history buses w) (rows buses w))
+          then option_or conn.done (Some (length (history buses w))) else conn.done)
+          (history buses w) (rows_after (shown_rows (opening buses 0)) (history buses w))
+          else [])
+          info
+          ∙ ap (λ t.
+          owed_by conn.go_step (conn.items
+          ++ items_of (length (history buses w)) (fitting bytes (unsent conn) (owed conn (history buses w) (rows buses w))))
+          (if t && exhausts bytes (unsent conn) (owed conn (history buses w) (rows buses w))
+          then option_or conn.done (Some (length (history buses w))) else conn.done)
+          (history buses w) (rows_after (shown_rows (opening buses 0)) (history buses w)))
+          info
           ∙ r.owes;
       fully = r.fully;
     }
 
 -- an open information session given room for so many bytes
-gives_owed : (buses : List Bus) (layout : IsLayout buses) (w : World) (bytes : ℕ) (conn : Connection) → conn.shut ≡ None → conn.info ≡ true → Fits (shown_rows (opening buses 0)) (history buses w) conn.go_step conn.items conn.done
+gives_owed : (buses : List Bus) (layout : IsLayout buses) (w : World) (bytes : ℕ) (conn : Connection) → conn.shut ≡ None → conn.info ≡ true
+    → Fits (shown_rows (opening buses 0)) (history buses w) conn.go_step conn.items conn.done
     → GivesOwed buses w bytes conn (took bytes (length (history buses w)) (owed conn (history buses w) (rows buses w)) conn)
-gives_owed buses layout w bytes conn shut info fits = finished (owes_after buses layout w bytes conn shut info fits) (owed_is buses layout w conn shut info) (length_history (opening buses 0) w.steps)
+gives_owed buses layout w bytes conn shut info fits =
+    finished (owes_after buses layout w bytes conn shut info fits) (owed_is buses layout w conn shut info)
+    (length_history (opening buses 0) w.steps)
   where
     finished : OwesAfter buses w bytes conn
-        → owed_by conn.go_step conn.items conn.done (history buses w) (rows_after (shown_rows (opening buses 0)) (history buses w)) ≡ owed conn (history buses w) (rows buses w)
+        → owed_by conn.go_step conn.items conn.done (history buses w) (rows_after (shown_rows (opening buses 0)) (history buses w))
+        ≡ owed conn (history buses w) (rows buses w)
         → length (history buses w) ≡ length w.steps
         → GivesOwed buses w bytes conn (took bytes (length (history buses w)) (owed conn (history buses w) (rows buses w)) conn)
     finished r is size =
@@ -150,19 +224,42 @@ gives_owed buses layout w bytes conn shut info fits = finished (owes_after buses
           owes = r.whole ∙ ap (λ ns. fitting bytes (unsent conn) (owed conn (history buses w) (rows buses w)) ++ ns) (sym r.owes);
           count =
               ap length (sym is)
-              ∙ counted_owed (untold_by conn.go_step conn.items conn.done (history buses w)) (beyond (cursor_by conn.done conn.items (length (history buses w))) (rows_after (shown_rows (opening buses 0)) (history buses w)))
-              ∙ ap (λ u. length u + length (beyond (cursor_by conn.done conn.items (length (history buses w))) (rows_after (shown_rows (opening buses 0)) (history buses w)))) (sym (untold_open (history buses w) conn shut))
-              ∙ ap (λ n. length (waiting conn (history buses w)) + length (beyond (cursor_by conn.done conn.items n) (rows_after (shown_rows (opening buses 0)) (history buses w)))) size
-              ∙ ap (λ rs. length (waiting conn (history buses w)) + length (beyond (cursor_at conn (length w.steps)) rs)) (sym (shown_after (opening buses 0) w.steps));
+              ∙ counted_owed (untold_by conn.go_step conn.items conn.done (history buses w))
+              (beyond (cursor_by conn.done conn.items (length (history buses w)))
+              (rows_after (shown_rows (opening buses 0)) (history buses w)))
+              ∙ ap (λ u. length u
+              + length (beyond (cursor_by conn.done conn.items (length (history buses w)))
+              (rows_after (shown_rows (opening buses 0)) (history buses w))))
+              (sym (untold_open (history buses w) conn shut))
+              ∙ ap (λ n. length (waiting conn (history buses w))
+              + length (beyond (cursor_by conn.done conn.items n) (rows_after (shown_rows (opening buses 0)) (history buses w))))
+              size
+              ∙ ap (λ rs. length (waiting conn (history buses w)) + length (beyond (cursor_at conn (length w.steps)) rs))
+              (sym (shown_after (opening buses 0) w.steps));
           settles = λ h.
-              let all : fitting bytes (unsent conn) (owed conn (history buses w) (rows buses w)) ≡ owed conn (history buses w) (rows buses w) =
-              fitting_full bytes (unsent conn) (owed conn (history buses w) (rows buses w)) (owed_full conn (history buses w) (rows buses w)) h in
-              let o : owed (took bytes (length (history buses w)) (owed conn (history buses w) (rows buses w)) conn) (history buses w) (rows buses w) ≡ [] = r.owes ∙ none_after (owed conn (history buses w) (rows buses w)) (fitting bytes (unsent conn) (owed conn (history buses w) (rows buses w))) r.rest r.whole all in
+              let all : fitting bytes (unsent conn) (owed conn (history buses w) (rows buses w))
+              ≡ owed conn (history buses w) (rows buses w) =
+              fitting_full bytes (unsent conn) (owed conn (history buses w) (rows buses w))
+              (owed_full conn (history buses w) (rows buses w)) h in
+              let o : owed (took bytes (length (history buses w)) (owed conn (history buses w) (rows buses w)) conn) (history buses w)
+              (rows buses w)
+              ≡ [] =
+              r.owes
+              ∙ none_after (owed conn (history buses w) (rows buses w))
+              (fitting bytes (unsent conn) (owed conn (history buses w) (rows buses w))) r.rest r.whole all in
               let u : unsent (took bytes (length (history buses w)) (owed conn (history buses w) (rows buses w)) conn) ≡ [] =
-              ap (λ ns. drop (conn.taken + min bytes (length (available (unsent conn) (owed conn (history buses w) (rows buses w))))) (conn.out ++ text (conn.items ++ items_of (length (history buses w)) ns))) all
-              ∙ none_left bytes (length (history buses w)) conn.taken conn.out conn.items (owed conn (history buses w) (rows buses w)) h in (
+              ap (λ ns.
+              drop (conn.taken + min bytes (length (available (unsent conn) (owed conn (history buses w) (rows buses w)))))
+              (conn.out ++ text (conn.items ++ items_of (length (history buses w)) ns)))
+              all
+              ∙ none_left bytes (length (history buses w)) conn.taken conn.out conn.items
+              (owed conn (history buses w) (rows buses w)) h in (
                 o,
-                four (is_none conn.shut) conn.info (is_nil (unsent (took bytes (length (history buses w)) (owed conn (history buses w) (rows buses w)) conn))) (is_nil (owed (took bytes (length (history buses w)) (owed conn (history buses w) (rows buses w)) conn) (history buses w) (rows buses w)))
+                four (is_none conn.shut) conn.info
+                    (is_nil (unsent (took bytes (length (history buses w)) (owed conn (history buses w) (rows buses w)) conn)))
+                    (is_nil
+                    (owed (took bytes (length (history buses w)) (owed conn (history buses w) (rows buses w)) conn) (history buses w)
+                    (rows buses w)))
                     (ap is_none shut) info (ap is_nil u) (ap is_nil o),
               );
         }
@@ -174,7 +271,11 @@ pub settles_after_owed : (buses : List Bus) → IsLayout buses → (events : Lis
 settles_after_owed buses layout events number bytes conn later s up over l =
     let w = course buses events in
     let shut = open_shut conn.shut up in
-    let fits = (fits_open (shown_rows (opening buses 0)) _ (history buses w) conn shut (stands buses layout _ (anything (shown_rows (opening buses 0))) events number conn s)).0 in
-    let next : course buses (events ++ Room number bytes ∷ []) ≡ happens buses w (Room number bytes) = fold-append (happens buses) start events (Room number bytes ∷ []) in
-    let is = after_room buses w number bytes conn later s.there shut over (ap (λ (v : World). numbered number v.connections) (sym next) ∙ l) in
+    let fits =
+    (fits_open (shown_rows (opening buses 0)) _ (history buses w) conn shut
+    (stands buses layout _ (anything (shown_rows (opening buses 0))) events number conn s)).0 in
+    let next : course buses (events ++ Room number bytes ∷ []) ≡ happens buses w (Room number bytes) =
+    fold-append (happens buses) start events (Room number bytes ∷ []) in
+    let is =
+    after_room buses w number bytes conn later s.there shut over (ap (λ (v : World). numbered number v.connections) (sym next) ∙ l) in
     subst (λ c. GivesOwed buses w bytes conn c) (sym is) (gives_owed buses layout w bytes conn shut s.info fits)

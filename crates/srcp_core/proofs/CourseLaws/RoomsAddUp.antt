@@ -1,5 +1,6 @@
 -- Rooms add up at every open connection of a course.
-use Rattle.std.proofs.Common.{◌≡◌, ℕ, zero, suc, ◌+◌, ◌-◌, ◌<◌, ◌≤◌, min, Bool, true, false, List, [], ◌∷◌, ◌++◌, take, length, drop, map, refl, ap, sym, ◌∙◌, subst, arith, append-nil, append_assoc, length-append, length-drop}
+use Rattle.std.proofs.Common.{◌≡◌, ℕ, zero, suc, ◌+◌, ◌-◌, ◌<◌, ◌≤◌, min, Bool, true, false, List, [], ◌∷◌, ◌++◌, take, length, drop, map}
+use Rattle.std.proofs.Common.{refl, ap, sym, ◌∙◌, subst, arith, append-nil, append_assoc, length-append, length-drop}
 use Rattle.std.proofs.lemmas.Bool.Decides.{nat_tests}
 use Rattle.std.proofs.lemmas.List.{map-append, drop-append-le, take_all}
 use Rattle.std.proofs.lemmas.List.Concat.{flat_map-append}
@@ -19,8 +20,11 @@ use Rattle.srcp_rules.specs.declared.layout.Bus.{Bus}
 use Rattle.srcp_rules.specs.Layout.{IsLayout}
 use Rattle.srcp_rules.specs.State.{opening, shown_rows}
 use Rattle.srcp_core.specs.Under.{Event, Room}
-use Rattle.srcp_core.specs.Connection.{Connection, History, heard, line_of, front, fitting, is_nil, is_open, is_done_by, items_of, sent, untold, cursor_at, available, exhausts, given, told_change, unsent, text, owed, overran, took, given_room}
-use Rattle.srcp_core.specs.Course.{World, numbered, with_numbered, if_open, counted, absent_fault, or_refused, accepted, start, happens, course, rows, history}
+use Rattle.srcp_core.specs.Connection.{Connection, History, heard, line_of, front, fitting, is_nil, is_open, is_done_by, items_of, sent}
+use Rattle.srcp_core.specs.Connection.{untold, cursor_at, available, exhausts, given, told_change, unsent, text, owed, overran, took}
+use Rattle.srcp_core.specs.Connection.{given_room}
+use Rattle.srcp_core.specs.Course.{World, numbered, with_numbered, if_open, counted, absent_fault, or_refused, accepted, start, happens}
+use Rattle.srcp_core.specs.Course.{course, rows, history}
 use Rattle.srcp_core.specs.Laws.{AddsUp, without_events}
 use Rattle.srcp_core.specs.declared.record.Item.{Item}
 use Rattle.srcp_core.proofs.CourseLaws.RoomInTwoParts.{took_adds, done_rule, no_bytes}
@@ -39,7 +43,8 @@ fitting_some : (a : ℕ) (left : List ℕ) (nexts : List Next) → 0 < a → fit
 fitting_some a left nexts h = let z = pos-eqb a h in rw z refl
 
 -- the line that is put in where nothing waits is the first that any room gives
-pub fitting_first : (a : ℕ) (left : List ℕ) (nexts rest : List Next) → 0 < a → nexts ≡ fitting 0 left nexts ++ rest → fitting a left nexts ≡ fitting 0 left nexts ++ fitting a (left ++ flat_map line_of (fitting 0 left nexts)) rest
+pub fitting_first : (a : ℕ) (left : List ℕ) (nexts rest : List Next) → 0 < a → nexts ≡ fitting 0 left nexts ++ rest
+    → fitting a left nexts ≡ fitting 0 left nexts ++ fitting a (left ++ flat_map line_of (fitting 0 left nexts)) rest
 fitting_first a [] [] rest h e = ap (fitting a []) e
 fitting_first a [] (what ∷ nexts) rest h e =
     let tail : nexts ≡ rest = cc in
@@ -70,19 +75,37 @@ pub none_taken : (taken size : ℕ) → taken + min 0 size ≡ taken
 none_taken taken size = omega arith
 
 -- what is unsent after a room for no bytes
-pub left_after : (n : ℕ) (nexts : List Next) (conn : Connection) → conn.taken ≤ length (given conn) → unsent (took 0 n nexts conn) ≡ unsent conn ++ flat_map line_of (fitting 0 (unsent conn) nexts)
+pub left_after : (n : ℕ) (nexts : List Next) (conn : Connection) → conn.taken ≤ length (given conn)
+    → unsent (took 0 n nexts conn) ≡ unsent conn ++ flat_map line_of (fitting 0 (unsent conn) nexts)
 left_after n nexts conn within =
-    ap (λ k. drop k (conn.out ++ text (conn.items ++ items_of n (fitting 0 (unsent conn) nexts)))) (none_taken conn.taken (length (available (unsent conn) nexts)))
+    ap (λ k. drop k (conn.out ++ text (conn.items ++ items_of n (fitting 0 (unsent conn) nexts))))
+    (none_taken conn.taken (length (available (unsent conn) nexts)))
     ∙ ap (λ t. drop conn.taken (conn.out ++ t)) (text_items n conn.items (fitting 0 (unsent conn) nexts))
     ∙ ap (drop conn.taken) (sym (append_assoc conn.out (text conn.items) (flat_map line_of (fitting 0 (unsent conn) nexts))))
     ∙ drop-append-le conn.taken (given conn) (flat_map line_of (fitting 0 (unsent conn) nexts)) within
 
 -- room for no bytes, and then for some
-pub took_first : (a n : ℕ) (nexts rest : List Next) (conn : Connection) → 0 < a → conn.taken ≤ length (given conn) → nexts ≡ fitting 0 (unsent conn) nexts ++ rest → took a n rest (took 0 n nexts conn) ≡ took a n nexts conn
+pub took_first : (a n : ℕ) (nexts rest : List Next) (conn : Connection) → 0 < a → conn.taken ≤ length (given conn)
+    → nexts ≡ fitting 0 (unsent conn) nexts ++ rest → took a n rest (took 0 n nexts conn) ≡ took a n nexts conn
 took_first a n nexts rest conn pa within e =
-    ap (λ items. record conn { items = items; taken = conn.taken + min 0 (length (available (unsent conn) nexts)) + min a (length (available (unsent (took 0 n nexts conn)) rest)); done = done_after }) items_same
-    ∙ ap (λ taken. record conn { items = conn.items ++ items_of n (fitting a (unsent conn) nexts); taken = taken; done = done_after }) taken_same
-    ∙ ap (λ done. record conn { items = conn.items ++ items_of n (fitting a (unsent conn) nexts); taken = conn.taken + min a (length (available (unsent conn) nexts)); done = done }) done_same
+    ap (λ items.
+    record conn {
+      items = items;
+      taken =
+          conn.taken + min 0 (length (available (unsent conn) nexts))
+          + min a (length (available (unsent (took 0 n nexts conn)) rest));
+      done = done_after;
+    })
+    items_same
+    ∙ ap (λ taken. record conn { items = conn.items ++ items_of n (fitting a (unsent conn) nexts); taken = taken; done = done_after })
+    taken_same
+    ∙ ap (λ done.
+    record conn {
+      items = conn.items ++ items_of n (fitting a (unsent conn) nexts);
+      taken = conn.taken + min a (length (available (unsent conn) nexts));
+      done = done;
+    })
+    done_same
   where
     done_after : Option ℕ
     done_after = (took a n rest (took 0 n nexts conn)).done
@@ -94,14 +117,22 @@ took_first a n nexts rest conn pa within e =
         ∙ ap (λ l. unsent conn ++ l) (sym (flat_map-append line_of (fitting 0 (unsent conn) nexts) rest))
         ∙ ap (λ ns. unsent conn ++ flat_map line_of ns) (sym e)
 
-    items_same : (conn.items ++ items_of n (fitting 0 (unsent conn) nexts)) ++ items_of n (fitting a (unsent (took 0 n nexts conn)) rest) ≡ conn.items ++ items_of n (fitting a (unsent conn) nexts)
+    items_same : (conn.items ++ items_of n (fitting 0 (unsent conn) nexts)) ++ items_of n (fitting a (unsent (took 0 n nexts conn)) rest)
+        ≡ conn.items ++ items_of n (fitting a (unsent conn) nexts)
     items_same =
-        ap (λ u. (conn.items ++ items_of n (fitting 0 (unsent conn) nexts)) ++ items_of n (fitting a u rest)) (left_after n nexts conn within)
-        ∙ append_assoc conn.items (items_of n (fitting 0 (unsent conn) nexts)) (items_of n (fitting a (unsent conn ++ flat_map line_of (fitting 0 (unsent conn) nexts)) rest))
-        ∙ ap (λ is. conn.items ++ is) (sym (map-append (λ what. record { steps = n; what = what }) (fitting 0 (unsent conn) nexts) (fitting a (unsent conn ++ flat_map line_of (fitting 0 (unsent conn) nexts)) rest)))
+        ap (λ u. (conn.items ++ items_of n (fitting 0 (unsent conn) nexts)) ++ items_of n (fitting a u rest))
+        (left_after n nexts conn within)
+        ∙ append_assoc conn.items (items_of n (fitting 0 (unsent conn) nexts))
+        (items_of n (fitting a (unsent conn ++ flat_map line_of (fitting 0 (unsent conn) nexts)) rest))
+        ∙ ap (λ is. conn.items ++ is)
+        (sym
+        (map-append (λ what. record { steps = n; what = what }) (fitting 0 (unsent conn) nexts)
+        (fitting a (unsent conn ++ flat_map line_of (fitting 0 (unsent conn) nexts)) rest)))
         ∙ ap (λ ns. conn.items ++ items_of n ns) (sym (fitting_first a (unsent conn) nexts rest pa e))
 
-    taken_same : conn.taken + min 0 (length (available (unsent conn) nexts)) + min a (length (available (unsent (took 0 n nexts conn)) rest)) ≡ conn.taken + min a (length (available (unsent conn) nexts))
+    taken_same : conn.taken + min 0 (length (available (unsent conn) nexts))
+        + min a (length (available (unsent (took 0 n nexts conn)) rest))
+        ≡ conn.taken + min a (length (available (unsent conn) nexts))
     taken_same =
         ap (λ bytes. conn.taken + min 0 (length (available (unsent conn) nexts)) + min a (length bytes)) available_same
         ∙ plain conn.taken (length (available (unsent conn) nexts)) (min a (length (available (unsent conn) nexts)))
@@ -110,7 +141,9 @@ took_first a n nexts rest conn pa within e =
         plain t m k = omega arith
 
     done_same : done_after ≡ (took a n nexts conn).done
-    done_same = done_rule conn.info (exhausts 0 (unsent conn) nexts) (exhausts a (unsent (took 0 n nexts conn)) rest) (exhausts a (unsent conn) nexts) conn.done n
+    done_same =
+        done_rule conn.info (exhausts 0 (unsent conn) nexts) (exhausts a (unsent (took 0 n nexts conn)) rest)
+        (exhausts a (unsent conn) nexts) conn.done n
         (λ t. second ∙ nothing_there t) (λ t. nothing_there t) (λ t. second)
       where
         second : exhausts a (unsent (took 0 n nexts conn)) rest ≡ exhausts a (unsent conn) nexts
@@ -126,13 +159,18 @@ took_first a n nexts rest conn pa within e =
 
         nothing_there : exhausts 0 (unsent conn) nexts ≡ true → exhausts a (unsent conn) nexts ≡ true
         nothing_there t =
-            let nils : is_nil (unsent conn) && is_nil nexts ≡ true = ap (λ b. b || (is_nil (unsent conn) && is_nil nexts)) (sym (le-ltb (length (available (unsent conn) nexts)) 0 (omega arith))) ∙ t in
+            let nils : is_nil (unsent conn) && is_nil nexts ≡ true =
+            ap (λ b. b || (is_nil (unsent conn) && is_nil nexts))
+            (sym (le-ltb (length (available (unsent conn) nexts)) 0 (omega arith)))
+            ∙ t in
             let size = empty (unsent conn) nexts nils in
             let less : length (available (unsent conn) nexts) < a = omega arith in
-            no_bytes (is_nil (unsent conn) && is_nil nexts) (length (available (unsent conn) nexts)) a pa ∙ lt-ltb (length (available (unsent conn) nexts)) a less
+            no_bytes (is_nil (unsent conn) && is_nil nexts) (length (available (unsent conn) nexts)) a pa
+            ∙ lt-ltb (length (available (unsent conn) nexts)) a less
 
 -- any room, and then room for some bytes
-pub took_both : (a b n : ℕ) (nexts rest : List Next) (conn : Connection) → 0 < b → conn.taken ≤ length (given conn) → nexts ≡ fitting a (unsent conn) nexts ++ rest → took b n rest (took a n nexts conn) ≡ took (a + b) n nexts conn
+pub took_both : (a b n : ℕ) (nexts rest : List Next) (conn : Connection) → 0 < b → conn.taken ≤ length (given conn)
+    → nexts ≡ fitting a (unsent conn) nexts ++ rest → took b n rest (took a n nexts conn) ≡ took (a + b) n nexts conn
 took_both zero b n nexts rest conn pb within e = took_first b n nexts rest conn pb within e ∙ ap (λ m. took m n nexts conn) zero_plus
   where
     zero_plus : b ≡ 0 + b
@@ -141,7 +179,8 @@ took_both (suc a) b n nexts rest conn pb within e = took_adds (suc a) b n nexts 
 
 -- ---- a room and overruns
 
-by_before : (done : Option ℕ) (info : Bool) (n k : ℕ) → k < n → is_done_by k (if info then option_or done (Some n) else done) ≡ is_done_by k done
+by_before : (done : Option ℕ) (info : Bool) (n k : ℕ) → k < n
+    → is_done_by k (if info then option_or done (Some n) else done) ≡ is_done_by k done
 by_before (Some m) true n k h = refl
 by_before (Some m) false n k h = refl
 by_before None true n k h = grind (arith, nat_tests)
@@ -153,26 +192,47 @@ given_now n (what ∷ nexts) = (refl, given_now n nexts)
 
 -- what is given now does not change what concerns a connection
 concerning_took : (history : History) (go : ℕ) (items : List Item) (done : Option ℕ) (nexts : List Next) (ends : Bool)
-    → concerning_by go (cursor_by (if ends then option_or done (Some (length history)) else done) (items ++ items_of (length history) nexts)) history ≡ concerning_by go (cursor_by done items) history
+    → concerning_by go
+    (cursor_by (if ends then option_or done (Some (length history)) else done) (items ++ items_of (length history) nexts)) history
+    ≡ concerning_by go (cursor_by done items) history
 concerning_took history go items done nexts ends =
-    concerning_same go (cursor_by (if ends then option_or done (Some (length history)) else done) (items ++ items_of (length history) nexts)) (cursor_by done items) 0 history (λ k low high. at k (below k high))
+    concerning_same go (cursor_by (if ends then option_or done (Some (length history)) else done)
+    (items ++ items_of (length history) nexts))
+    (cursor_by done items) 0 history (λ k low high. at k (below k high))
   where
     below : (k : ℕ) → k < 0 + length history → k < length history
     below k h = omega arith
 
-    at : (k : ℕ) → k < length history → cursor_by (if ends then option_or done (Some (length history)) else done) (items ++ items_of (length history) nexts) k ≡ cursor_by done items k
+    at : (k : ℕ) → k < length history
+        → cursor_by (if ends then option_or done (Some (length history)) else done) (items ++ items_of (length history) nexts) k
+        ≡ cursor_by done items k
     at k h =
-        ap (λ t. if t then Done else last_of (filter (λ item. nat_le item.steps k) (items ++ items_of (length history) nexts))) (by_before done ends (length history) k h)
+        ap (λ t. if t then Done else last_of (filter (λ item. nat_le item.steps k) (items ++ items_of (length history) nexts)))
+        (by_before done ends (length history) k h)
         ∙ cursor_before (length history) k done items (items_of (length history) nexts) h (given_now (length history) nexts)
 
 -- so a room makes no overrun
-pub took_overran : (history : History) (bytes : ℕ) (nexts : List Next) (conn : Connection) → conn.shut ≡ None → overran conn history ≡ false → overran (took bytes (length history) nexts conn) history ≡ false
+pub took_overran : (history : History) (bytes : ℕ) (nexts : List Next) (conn : Connection) → conn.shut ≡ None → overran conn history ≡ false
+    → overran (took bytes (length history) nexts conn) history ≡ false
 took_overran history bytes nexts conn shut e =
-    ap (λ s. nat_lt 256 (length (drop (length (tolds (conn.items ++ given_items))) (concerning_by conn.go_step (cursor_by done_after (conn.items ++ given_items)) (heard s history))))) shut
-    ∙ ap (λ cs. nat_lt 256 (length (drop (length (tolds (conn.items ++ given_items))) cs))) (concerning_took history conn.go_step conn.items conn.done (fitting bytes (unsent conn) nexts) (conn.info && exhausts bytes (unsent conn) nexts))
-    ∙ ap (λ ts. nat_lt 256 (length (drop (length ts) (concerning_by conn.go_step (cursor_by conn.done conn.items) history)))) (filter_map-append (λ (item : Item). told_change item.what) conn.items given_items)
+    ap (λ s.
+    nat_lt 256
+    (length
+    (drop (length (tolds (conn.items ++ given_items)))
+    (concerning_by conn.go_step (cursor_by done_after (conn.items ++ given_items)) (heard s history)))))
+    shut
+    ∙ ap (λ cs. nat_lt 256 (length (drop (length (tolds (conn.items ++ given_items))) cs)))
+    (concerning_took history conn.go_step conn.items conn.done (fitting bytes (unsent conn) nexts)
+    (conn.info && exhausts bytes (unsent conn) nexts))
+    ∙ ap (λ ts. nat_lt 256 (length (drop (length ts) (concerning_by conn.go_step (cursor_by conn.done conn.items) history))))
+    (filter_map-append (λ (item : Item). told_change item.what) conn.items given_items)
     ∙ shorter (tolds conn.items) (tolds given_items) (concerning_by conn.go_step (cursor_by conn.done conn.items) history)
-    (subst (λ s. nat_lt 256 (length (drop (length (tolds conn.items)) (concerning_by conn.go_step (cursor_by conn.done conn.items) (heard s history)))) ≡ false) shut e)
+    (subst (λ s.
+    nat_lt 256
+    (length
+    (drop (length (tolds conn.items)) (concerning_by conn.go_step (cursor_by conn.done conn.items) (heard s history))))
+    ≡ false)
+    shut e)
   where
     given_items : List Item
     given_items = items_of (length history) (fitting bytes (unsent conn) nexts)
@@ -180,7 +240,8 @@ took_overran history bytes nexts conn shut e =
     done_after : Option ℕ
     done_after = if conn.info && exhausts bytes (unsent conn) nexts then option_or conn.done (Some (length history)) else conn.done
 
-    shorter : (xs ys zs : List Change) → nat_lt 256 (length (drop (length xs) zs)) ≡ false → nat_lt 256 (length (drop (length (xs ++ ys)) zs)) ≡ false
+    shorter : (xs ys zs : List Change) → nat_lt 256 (length (drop (length xs) zs)) ≡ false
+        → nat_lt 256 (length (drop (length (xs ++ ys)) zs)) ≡ false
     shorter xs ys zs h =
         let a = length-drop (length xs) zs in
         let b = length-drop (length (xs ++ ys)) zs in
@@ -192,19 +253,33 @@ took_overran history bytes nexts conn shut e =
 -- ---- nothing more
 
 -- where nothing is unsent and nothing is owed, any room only ends the listing
-took_nothing : (b n : ℕ) (nexts : List Next) (conn : Connection) → unsent conn ≡ [] → nexts ≡ [] → took b n nexts conn ≡ record conn { items = conn.items; taken = conn.taken; done = if conn.info then option_or conn.done (Some n) else conn.done }
+took_nothing : (b n : ℕ) (nexts : List Next) (conn : Connection) → unsent conn ≡ [] → nexts ≡ [] → took b n nexts conn ≡ record conn {
+  items = conn.items;
+  taken = conn.taken;
+  done = if conn.info then option_or conn.done (Some n) else conn.done;
+}
 took_nothing b n nexts conn u e =
-    ap (λ items. record conn { items = items; taken = conn.taken + min b (length (available (unsent conn) nexts)); done = (took b n nexts conn).done })
+    ap (λ items.
+    record conn {
+      items = items;
+      taken = conn.taken + min b (length (available (unsent conn) nexts));
+      done = (took b n nexts conn).done;
+    })
     (ap (λ ns. conn.items ++ items_of n ns) (ap (fitting b (unsent conn)) e ∙ fitting_none b (unsent conn)) ∙ append-nil conn.items)
     ∙ ap (λ taken. record conn { items = conn.items; taken = taken; done = (took b n nexts conn).done }) same_taken
-    ∙ ap (λ done. record conn { items = conn.items; taken = conn.taken; done = done }) (ap (λ t. if conn.info && t then option_or conn.done (Some n) else conn.done) exhausted_now ∙ ap (λ t. if t then option_or conn.done (Some n) else conn.done) (and_true conn.info))
+    ∙ ap (λ done. record conn { items = conn.items; taken = conn.taken; done = done })
+    (ap (λ t. if conn.info && t then option_or conn.done (Some n) else conn.done) exhausted_now
+    ∙ ap (λ t. if t then option_or conn.done (Some n) else conn.done) (and_true conn.info))
   where
     and_true : (t : Bool) → t && true ≡ t
     and_true true = refl
     and_true false = refl
 
     same_taken : conn.taken + min b (length (available (unsent conn) nexts)) ≡ conn.taken
-    same_taken = let z : length (available (unsent conn) nexts) ≡ 0 = ap (λ l. length (available l nexts)) u ∙ ap (λ ns. length (available [] ns)) e in omega arith
+    same_taken =
+        let z : length (available (unsent conn) nexts) ≡ 0 =
+        ap (λ l. length (available l nexts)) u ∙ ap (λ ns. length (available [] ns)) e in
+        omega arith
 
     at_nothing : (b : ℕ) → exhausts b [] [] ≡ true
     at_nothing zero = refl
@@ -217,14 +292,18 @@ took_nothing b n nexts conn u e =
 
 pub owed_plain : (conn : Connection) (history : History) (rows : List Shown) → conn.info ≡ false → owed conn history rows ≡ []
 owed_plain conn history rows e =
-    ap (λ t. if is_open conn && t then map Told (untold conn history) ++ map Listed (beyond (cursor_at conn (length history)) rows) else []) e ∙ none (is_open conn)
+    ap (λ t. if is_open conn && t then map Told (untold conn history) ++ map Listed (beyond (cursor_at conn (length history)) rows) else [])
+    e
+    ∙ none (is_open conn)
   where
-    none : (t : Bool) → (if t && false then map Told (untold conn history) ++ map Listed (beyond (cursor_at conn (length history)) rows) else []) ≡ []
+    none : (t : Bool)
+        → (if t && false then map Told (untold conn history) ++ map Listed (beyond (cursor_at conn (length history)) rows) else []) ≡ []
     none true = refl
     none false = refl
 
 -- what is owed to any open connection after room
-rests : (buses : List Bus) (layout : IsLayout buses) (w : World) (bytes : ℕ) (conn : Connection) → conn.shut ≡ None → Fits (shown_rows (opening buses 0)) (history buses w) conn.go_step conn.items conn.done → OwesAfter buses w bytes conn
+rests : (buses : List Bus) (layout : IsLayout buses) (w : World) (bytes : ℕ) (conn : Connection) → conn.shut ≡ None
+    → Fits (shown_rows (opening buses 0)) (history buses w) conn.go_step conn.items conn.done → OwesAfter buses w bytes conn
 rests buses layout w bytes conn shut fits = by conn.info refl
   where
     by : (info : Bool) → conn.info ≡ info → OwesAfter buses w bytes conn
@@ -233,12 +312,19 @@ rests buses layout w bytes conn shut fits = by conn.info refl
         let none = owed_plain conn (history buses w) (rows buses w) e in
         record {
           rest = [];
-          whole = none ∙ sym (append-nil (fitting bytes (unsent conn) (owed conn (history buses w) (rows buses w))) ∙ ap (fitting bytes (unsent conn)) none ∙ fitting_none bytes (unsent conn));
-          owes = owed_plain (took bytes (length (history buses w)) (owed conn (history buses w) (rows buses w)) conn) (history buses w) (rows buses w) e;
+          whole =
+              none
+              ∙ sym (append-nil (fitting bytes (unsent conn) (owed conn (history buses w) (rows buses w)))
+              ∙ ap (fitting bytes (unsent conn)) none ∙ fitting_none bytes (unsent conn));
+          owes =
+              owed_plain (took bytes (length (history buses w)) (owed conn (history buses w) (rows buses w)) conn) (history buses w)
+              (rows buses w) e;
           fully = λ _. refl;
         }
 
-module _ (buses : List Bus) (layout : IsLayout buses) (w : World) (conn : Connection) (shut : conn.shut ≡ None) (fits : Fits (shown_rows (opening buses 0)) (history buses w) conn.go_step conn.items conn.done) (within : conn.taken ≤ length (given conn)) where
+module _ (buses : List Bus) (layout : IsLayout buses) (w : World) (conn : Connection) (shut : conn.shut ≡ None)
+    (fits : Fits (shown_rows (opening buses 0)) (history buses w) conn.go_step conn.items conn.done)
+    (within : conn.taken ≤ length (given conn)) where
   abbrev room : ℕ → Connection → Connection
   room bytes c = given_room bytes (history buses w) (rows buses w) c
 
@@ -256,21 +342,27 @@ module _ (buses : List Bus) (layout : IsLayout buses) (w : World) (conn : Connec
   adds a b pb false o =
       let r = rests buses layout w a conn shut fits in
       ap (room b) (some_room o a)
-      ∙ ap (λ t. if t then takes a else took b (length (history buses w)) (owed (takes a) (history buses w) (rows buses w)) (takes a)) (took_overran (history buses w) a (owed conn (history buses w) (rows buses w)) conn shut o)
+      ∙ ap (λ t. if t then takes a else took b (length (history buses w)) (owed (takes a) (history buses w) (rows buses w)) (takes a))
+      (took_overran (history buses w) a (owed conn (history buses w) (rows buses w)) conn shut o)
       ∙ ap (λ ns. took b (length (history buses w)) ns (takes a)) r.owes
       ∙ took_both a b (length (history buses w)) (owed conn (history buses w) (rows buses w)) r.rest conn pb within r.whole
       ∙ sym (some_room o (a + b))
 
-  overruns : (a : ℕ) (t : Bool) → overran conn (history buses w) ≡ t → overran (room a conn) (history buses w) ≡ overran conn (history buses w)
+  overruns : (a : ℕ) (t : Bool) → overran conn (history buses w) ≡ t
+      → overran (room a conn) (history buses w) ≡ overran conn (history buses w)
   overruns a true o = ap (λ c. overran c (history buses w)) (itself o a)
-  overruns a false o = ap (λ c. overran c (history buses w)) (some_room o a) ∙ took_overran (history buses w) a (owed conn (history buses w) (rows buses w)) conn shut o ∙ sym o
+  overruns a false o =
+      ap (λ c. overran c (history buses w)) (some_room o a)
+      ∙ took_overran (history buses w) a (owed conn (history buses w) (rows buses w)) conn shut o ∙ sym o
 
   none_found : (b : ℕ) (t : Bool) → overran conn (history buses w) ≡ t → unsent (room 0 conn) ≡ [] → room b conn ≡ room 0 conn
   none_found b true o u = itself o b ∙ sym (itself o 0)
   none_found b false o u =
       let parts = no_lists (unsent conn) (flat_map line_of (fitting 0 (unsent conn) (owed conn (history buses w) (rows buses w))))
-      (sym (left_after (length (history buses w)) (owed conn (history buses w) (rows buses w)) conn within) ∙ ap unsent (sym (some_room o 0)) ∙ u) in
-      let nothing : owed conn (history buses w) (rows buses w) ≡ [] = first_empty (owed conn (history buses w) (rows buses w)) (owed_full conn (history buses w) (rows buses w))
+      (sym (left_after (length (history buses w)) (owed conn (history buses w) (rows buses w)) conn within)
+      ∙ ap unsent (sym (some_room o 0)) ∙ u) in
+      let nothing : owed conn (history buses w) (rows buses w) ≡ [] =
+      first_empty (owed conn (history buses w) (rows buses w)) (owed_full conn (history buses w) (rows buses w))
       (ap (λ l. flat_map line_of (fitting 0 l (owed conn (history buses w) (rows buses w)))) (sym parts.0) ∙ parts.1) in
       some_room o b
       ∙ took_nothing b (length (history buses w)) (owed conn (history buses w) (rows buses w)) conn parts.0 nothing
@@ -288,18 +380,23 @@ module _ (buses : List Bus) (layout : IsLayout buses) (w : World) (conn : Connec
       zero_plus : (b : ℕ) → 0 + b ≡ b
       zero_plus b = omega arith
 
-pub rooms_add_up : (buses : List Bus) → IsLayout buses → (events : List Event) (number : ℕ) (conn : Connection) → numbered number (course buses events).connections ≡ Some conn
+pub rooms_add_up : (buses : List Bus) → IsLayout buses → (events : List Event) (number : ℕ) (conn : Connection)
+    → numbered number (course buses events).connections ≡ Some conn
     → is_open conn ≡ true → AddsUp buses (course buses events) conn
 rooms_add_up buses layout events number conn there up =
     let w = course buses events in
     let shut = open_shut conn.shut up in
-    let s = at_number _ number w.connections conn (sound buses (opening_in_order buses layout) _ (anything (shown_rows (opening buses 0))) events) there in
+    let s =
+    at_number _ number w.connections conn
+    (sound buses (opening_in_order buses layout) _ (anything (shown_rows (opening buses 0))) events) there in
     adds_up buses layout w conn shut (fits_open (shown_rows (opening buses 0)) _ (history buses w) conn shut s).0 s.within
 
-pub takes_within : (buses : List Bus) → IsLayout buses → (events : List Event) (number : ℕ) (conn : Connection) → numbered number (course buses events).connections ≡ Some conn
+pub takes_within : (buses : List Bus) → IsLayout buses → (events : List Event) (number : ℕ) (conn : Connection)
+    → numbered number (course buses events).connections ≡ Some conn
     → conn.taken ≤ length (given conn)
 takes_within buses layout events number conn there =
-    (at_number _ number (course buses events).connections conn (sound buses (opening_in_order buses layout) _ (anything (shown_rows (opening buses 0))) events) there).within
+    (at_number _ number (course buses events).connections conn
+    (sound buses (opening_in_order buses layout) _ (anything (shown_rows (opening buses 0))) events) there).within
 
 -- ---- all replies
 
@@ -307,14 +404,17 @@ takes_within buses layout events number conn there =
 plain_overran : (conn : Connection) (history : History) → conn.items ≡ [] → conn.done ≡ None → overran conn history ≡ false
 plain_overran conn history i d =
     ap (λ cs. nat_lt 256 (length (drop (length (tolds conn.items)) cs)))
-    (ap (λ is. concerning_by conn.go_step (cursor_by conn.done is) (heard conn.shut history)) i ∙ ap (λ o. concerning_by conn.go_step (cursor_by o []) (heard conn.shut history)) d ∙ concerning_start conn.go_step 0 (heard conn.shut history))
+    (ap (λ is. concerning_by conn.go_step (cursor_by conn.done is) (heard conn.shut history)) i
+    ∙ ap (λ o. concerning_by conn.go_step (cursor_by o []) (heard conn.shut history)) d
+    ∙ concerning_start conn.go_step 0 (heard conn.shut history))
     ∙ no_changes (length (tolds conn.items))
   where
     no_changes : (n : ℕ) → nat_lt 256 (length (drop {A = Change} n [])) ≡ false
     no_changes zero = refl
     no_changes (suc n) = refl
 
-sent_all : (bytes n : ℕ) (nexts : List Next) (conn : Connection) → conn.items ≡ [] → nexts ≡ [] → length (unsent conn) ≤ bytes → sent (took bytes n nexts conn) ≡ conn.out
+sent_all : (bytes n : ℕ) (nexts : List Next) (conn : Connection) → conn.items ≡ [] → nexts ≡ [] → length (unsent conn) ≤ bytes
+    → sent (took bytes n nexts conn) ≡ conn.out
 sent_all bytes n nexts conn i e h =
     ap (take (conn.taken + min bytes (length (available (unsent conn) nexts)))) whole
     ∙ take_all (conn.taken + min bytes (length (available (unsent conn) nexts))) conn.out enough
@@ -332,7 +432,8 @@ sent_all bytes n nexts conn i e h =
     enough =
         let a = length-drop conn.taken (given conn) in
         let b = ap length before in
-        let c : length (available (unsent conn) nexts) ≡ length (unsent conn) = ap (λ ns. length (available (unsent conn) ns)) e ∙ ap length (append-nil (unsent conn)) in
+        let c : length (available (unsent conn) nexts) ≡ length (unsent conn) =
+        ap (λ ns. length (available (unsent conn) ns)) e ∙ ap length (append-nil (unsent conn)) in
         omega arith
 
 pub sends_all_replies : (buses : List Bus) → IsLayout buses → (events : List Event) (number bytes : ℕ) (conn later : Connection)
@@ -342,10 +443,15 @@ pub sends_all_replies : (buses : List Bus) → IsLayout buses → (events : List
 sends_all_replies buses layout events number bytes conn later there plain up after room =
     let w = course buses events in
     let shut = open_shut conn.shut up in
-    let s = at_number _ number w.connections conn (sound buses (opening_in_order buses layout) _ (anything (shown_rows (opening buses 0))) events) there in
+    let s =
+    at_number _ number w.connections conn
+    (sound buses (opening_in_order buses layout) _ (anything (shown_rows (opening buses 0))) events) there in
     let p = s.plain plain in
-    let next : course buses (events ++ Room number bytes ∷ []) ≡ happens buses w (Room number bytes) = fold-append (happens buses) start events (Room number bytes ∷ []) in
-    let is = after_room buses w number bytes conn later there shut (plain_overran conn (history buses w) p.0 p.1) (ap (λ (v : World). numbered number v.connections) (sym next) ∙ after) in (
+    let next : course buses (events ++ Room number bytes ∷ []) ≡ happens buses w (Room number bytes) =
+    fold-append (happens buses) start events (Room number bytes ∷ []) in
+    let is =
+    after_room buses w number bytes conn later there shut (plain_overran conn (history buses w) p.0 p.1)
+    (ap (λ (v : World). numbered number v.connections) (sym next) ∙ after) in (
       ap (λ (c : Connection). c.out) is,
       ap sent is ∙ sent_all bytes (length (history buses w)) (owed conn (history buses w) (rows buses w)) conn p.0
           (owed_plain conn (history buses w) (rows buses w) plain) room,
@@ -353,19 +459,27 @@ sends_all_replies buses layout events number bytes conn later there plain up aft
 
 -- ---- two rooms of a course
 
-pub with_twice : (n : ℕ) (f g k : Connection → Connection) (xs : List Connection) → ((x : Connection) → numbered n xs ≡ Some x → g (f x) ≡ k x) → with_numbered n g (with_numbered n f xs) ≡ with_numbered n k xs
+pub with_twice : (n : ℕ) (f g k : Connection → Connection) (xs : List Connection)
+    → ((x : Connection) → numbered n xs ≡ Some x → g (f x) ≡ k x) → with_numbered n g (with_numbered n f xs) ≡ with_numbered n k xs
 with_twice n f g k [] h = refl
 with_twice zero f g k (x ∷ xs) h = refl
 with_twice (suc zero) f g k (x ∷ xs) h = ap (λ y. y ∷ xs) (h x refl)
 with_twice (suc (suc n)) f g k (x ∷ xs) h = ap (λ ys. x ∷ ys) (with_twice (suc n) f g k xs h)
 
-pub shut_after : (bytes : ℕ) (history : History) (rows : List Shown) (conn : Connection) → (given_room bytes history rows conn).shut ≡ conn.shut
-shut_after bytes history rows conn = elim (overran conn history) as (λ t. (if t then conn else took bytes (length history) (owed conn history rows) conn).shut ≡ conn.shut) [ true ↦ refl | false ↦ refl ]
+pub shut_after : (bytes : ℕ) (history : History) (rows : List Shown) (conn : Connection)
+    → (given_room bytes history rows conn).shut ≡ conn.shut
+shut_after bytes history rows conn =
+    elim (overran conn history) as (λ t. (if t then conn else took bytes (length history) (owed conn history rows) conn).shut ≡ conn.shut) [
+      | true ↦ refl
+      | false ↦ refl
+    ]
 
 -- room of an open connection
-room_happens : (buses : List Bus) (w : World) (number bytes : ℕ) (conn : Connection) → numbered number w.connections ≡ Some conn → conn.shut ≡ None → happens buses w (Room number bytes) ≡ accepted buses (Room number bytes) (counted w)
+room_happens : (buses : List Bus) (w : World) (number bytes : ℕ) (conn : Connection) → numbered number w.connections ≡ Some conn
+    → conn.shut ≡ None → happens buses w (Room number bytes) ≡ accepted buses (Room number bytes) (counted w)
 room_happens buses w number bytes conn there shut =
-    ap (λ o. or_refused buses (absent_fault buses o) (Room number bytes) (counted w)) (ap if_open there ∙ ap (λ s. if is_none s then Some conn else None) shut)
+    ap (λ o. or_refused buses (absent_fault buses o) (Room number bytes) (counted w))
+    (ap if_open there ∙ ap (λ s. if is_none s then Some conn else None) shut)
 
 pub rooms_are_one : (buses : List Bus) → IsLayout buses → (events : List Event) (number a b : ℕ) (conn : Connection)
     → numbered number (course buses events).connections ≡ Some conn → is_open conn ≡ true → 0 < b
@@ -376,15 +490,24 @@ rooms_are_one buses layout events number a b conn there up pb =
     let shut = open_shut conn.shut up in
     let sums = rooms_add_up buses layout events number conn there up in
     let f = given_room a (history buses w) (rows buses w) in
-    let one : course buses (events ++ Room number a ∷ Room number b ∷ []) ≡ happens buses (happens buses w (Room number a)) (Room number b) = fold-append (happens buses) start events (Room number a ∷ Room number b ∷ []) in
-    let two : course buses (events ++ Room number (a + b) ∷ []) ≡ happens buses w (Room number (a + b)) = fold-append (happens buses) start events (Room number (a + b) ∷ []) in
+    let one : course buses (events ++ Room number a ∷ Room number b ∷ [])
+    ≡ happens buses (happens buses w (Room number a)) (Room number b) =
+    fold-append (happens buses) start events (Room number a ∷ Room number b ∷ []) in
+    let two : course buses (events ++ Room number (a + b) ∷ []) ≡ happens buses w (Room number (a + b)) =
+    fold-append (happens buses) start events (Room number (a + b) ∷ []) in
     let first = room_happens buses w number a conn there shut in
-    let at : numbered number (accepted buses (Room number a) (counted w)).connections ≡ Some (f conn) = numbered_with number f w.connections ∙ ap (option_map f) there in
-    let second = room_happens buses (accepted buses (Room number a) (counted w)) number b (f conn) at (shut_after a (history buses w) (rows buses w) conn ∙ shut) in
+    let at : numbered number (accepted buses (Room number a) (counted w)).connections ≡ Some (f conn) =
+    numbered_with number f w.connections ∙ ap (option_map f) there in
+    let second =
+    room_happens buses (accepted buses (Room number a) (counted w)) number b (f conn) at
+    (shut_after a (history buses w) (rows buses w) conn ∙ shut) in
     let both = room_happens buses w number (a + b) conn there shut in
-    let same : with_numbered number (given_room b (history buses w) (rows buses w)) (with_numbered number f w.connections) ≡ with_numbered number (given_room (a + b) (history buses w) (rows buses w)) w.connections =
+    let same : with_numbered number (given_room b (history buses w) (rows buses w)) (with_numbered number f w.connections)
+    ≡ with_numbered number (given_room (a + b) (history buses w) (rows buses w)) w.connections =
     with_twice number f (given_room b (history buses w) (rows buses w)) (given_room (a + b) (history buses w) (rows buses w)) w.connections
-    (λ x e. let is : conn ≡ x = cc in subst (λ c. given_room b (history buses w) (rows buses w) (f c) ≡ given_room (a + b) (history buses w) (rows buses w) c) is (sums.adds a b pb)) in
+    (λ x e. let is : conn ≡ x = cc in
+    subst (λ c. given_room b (history buses w) (rows buses w) (f c) ≡ given_room (a + b) (history buses w) (rows buses w) c) is
+    (sums.adds a b pb)) in
     ap (λ (v : World). record v { events = 0 }) (one ∙ ap (λ v. happens buses v (Room number b)) first ∙ second)
     ∙ ap (λ conns. record w { connections = conns; events = 0 }) same
     ∙ sym (ap (λ (v : World). record v { events = 0 }) (two ∙ both))

@@ -1,5 +1,6 @@
 -- Each line of an information session tells a change that can be told, so the bytes sent hold one list of changes alone.
-use Rattle.std.proofs.Common.{◌≡◌, ℕ, zero, suc, ◌-◌, ◌≤◌, take, append_assoc, length-append, ◌+◌, Bool, true, false, List, [], ◌∷◌, ◌++◌, length, drop, refl, ap, sym, ◌∙◌, subst, arith, append-nil}
+use Rattle.std.proofs.Common.{◌≡◌, ℕ, zero, suc, ◌-◌, ◌≤◌, take, append_assoc, length-append, ◌+◌, Bool, true, false, List, [], ◌∷◌, ◌++◌}
+use Rattle.std.proofs.Common.{length, drop, refl, ap, sym, ◌∙◌, subst, arith, append-nil}
 use Rattle.std.proofs.Math.Seq.{take-append-add, take-nil}
 use Rattle.std.proofs.lemmas.List.{drop_at, take-append-le}
 use Rattle.std.proofs.lemmas.List.Concat.{flat_map-append}
@@ -48,21 +49,25 @@ all_drop P (suc n) (x ∷ xs) a = all_drop P n xs a.1
 
 -- ---- rows
 
-changed_all_told : (changes : List Change) (rows : List Shown) → AllByRecursion IsWellFormed changes → AllByRecursion IsWellFormedShown rows → AllByRecursion IsWellFormedShown (changed_all changes rows)
+changed_all_told : (changes : List Change) (rows : List Shown) → AllByRecursion IsWellFormed changes → AllByRecursion IsWellFormedShown rows
+    → AllByRecursion IsWellFormedShown (changed_all changes rows)
 changed_all_told [] rows h a = a
 changed_all_told (change ∷ changes) rows h a = changed_all_told changes (changed change rows) h.1 (well_formed_changed change rows h.0 a)
 
 -- the rows after changes that can be told can be told
-pub rows_told : (history : History) (rows : List Shown) → AllByRecursion (AllByRecursion IsWellFormed) history → AllByRecursion IsWellFormedShown rows → AllByRecursion IsWellFormedShown (rows_after rows history)
+pub rows_told : (history : History) (rows : List Shown) → AllByRecursion (AllByRecursion IsWellFormed) history
+    → AllByRecursion IsWellFormedShown rows → AllByRecursion IsWellFormedShown (rows_after rows history)
 rows_told [] rows h a = a
 rows_told (changes ∷ history) rows h a = rows_told history (changed_all changes rows) h.1 (changed_all_told changes rows h.0 a)
 
 -- ---- changes
 
-concerning_told : (go n : ℕ) (cursors : ℕ → Cursor) (history : History) → AllByRecursion (AllByRecursion IsWellFormed) history → AllByRecursion IsWellFormed (flat_map (part go cursors) (enumerate_from n history))
+concerning_told : (go n : ℕ) (cursors : ℕ → Cursor) (history : History) → AllByRecursion (AllByRecursion IsWellFormed) history
+    → AllByRecursion IsWellFormed (flat_map (part go cursors) (enumerate_from n history))
 concerning_told go n cursors [] h = tt
 concerning_told go n cursors (changes ∷ history) h =
-    all_append IsWellFormed (part go cursors (n, changes)) (flat_map (part go cursors) (enumerate_from (n + 1) history)) (here (nat_le go n)) (concerning_told go (n + 1) cursors history h.1)
+    all_append IsWellFormed (part go cursors (n, changes)) (flat_map (part go cursors) (enumerate_from (n + 1) history))
+    (here (nat_le go n)) (concerning_told go (n + 1) cursors history h.1)
   where
     here : (t : Bool) → AllByRecursion IsWellFormed (if t then filter (concerns (cursors n)) changes else [])
     here true = all_filter IsWellFormed (concerns (cursors n)) changes h.0
@@ -77,11 +82,20 @@ told_law start first = record {
   fresh = λ history go h a. tt;
   push = λ history changes go items done order f p a. p (all_front (AllByRecursion IsWellFormed) history (changes ∷ []) a);
   tell = λ history go items done change changes order f p e a.
-      let waits : AllByRecursion IsWellFormed (change ∷ changes) = subst (AllByRecursion IsWellFormed) e (all_drop IsWellFormed (length (tolds items)) (concerning_by go (cursor_by done items) history) (concerning_told go 0 (cursor_by done items) history a)) in
-      subst (AllByRecursion IsWellFormed) (sym (flat_map-append (λ (item : Item). said item.what) items (item_of history (Told change) ∷ []))) (all_push IsWellFormed (tells items) change (p a) waits.0);
+      let waits : AllByRecursion IsWellFormed (change ∷ changes) =
+      subst (AllByRecursion IsWellFormed) e
+      (all_drop IsWellFormed (length (tolds items)) (concerning_by go (cursor_by done items) history)
+      (concerning_told go 0 (cursor_by done items) history a)) in
+      subst (AllByRecursion IsWellFormed)
+      (sym (flat_map-append (λ (item : Item). said item.what) items (item_of history (Told change) ∷ [])))
+      (all_push IsWellFormed (tells items) change (p a) waits.0);
   list = λ history go items row left order f p e b a.
-      let left_told : AllByRecursion IsWellFormedShown (row ∷ left) = subst (AllByRecursion IsWellFormedShown) b (all_filter IsWellFormedShown _ (rows_after start history) (rows_told history start a first)) in
-      subst (AllByRecursion IsWellFormed) (sym (flat_map-append (λ (item : Item). said item.what) items (item_of history (Listed row) ∷ []))) (all_push IsWellFormed (tells items) (Put row) (p a) left_told.0);
+      let left_told : AllByRecursion IsWellFormedShown (row ∷ left) =
+      subst (AllByRecursion IsWellFormedShown) b
+      (all_filter IsWellFormedShown _ (rows_after start history) (rows_told history start a first)) in
+      subst (AllByRecursion IsWellFormed)
+      (sym (flat_map-append (λ (item : Item). said item.what) items (item_of history (Listed row) ∷ [])))
+      (all_push IsWellFormed (tells items) (Put row) (p a) left_told.0);
   finish = λ history go items order f p e b a. p a;
 }
 
@@ -103,12 +117,20 @@ holds_registry buses layout events number conn s moments settled =
     let law = fits_open (shown_rows (opening buses 0)) GivenTold (history buses w) conn facts.open_now
     (stands buses layout GivenTold (told_law (shown_rows (opening buses 0)) (opening_told buses layout)) events number conn s) in
     let all = sent_whole conn facts.none_unsent in
-    let bytes : told_bytes conn ≡ flat_map line (tells conn.items) = ap (drop (length conn.out)) all ∙ drop_at conn.out (flat_map line (tells conn.items)) (length conn.out) refl in
-    let holds : HoldsLines (told_bytes conn) (tells conn.items) [] = record { each = law.1 (keeps_whole buses layout events moments).changes; whole = bytes ∙ sym (append-nil (flat_map line (tells conn.items))); no_more = refl } in
+    let bytes : told_bytes conn ≡ flat_map line (tells conn.items) =
+    ap (drop (length conn.out)) all ∙ drop_at conn.out (flat_map line (tells conn.items)) (length conn.out) refl in
+    let holds : HoldsLines (told_bytes conn) (tells conn.items) [] =
+    record {
+      each = law.1 (keeps_whole buses layout events moments).changes;
+      whole = bytes ∙ sym (append-nil (flat_map line (tells conn.items)));
+      no_more = refl;
+    } in
     record {
       replies = all ∙ ap (λ b. conn.out ++ b) (sym bytes);
       lines = holds;
-      client_is = λ changes begun h. ap client (holds_unique (told_bytes conn) changes (tells conn.items) begun [] h holds).0 ∙ client_settled buses layout events number conn s settled;
+      client_is =
+          λ changes begun h. ap client (holds_unique (told_bytes conn) changes (tells conn.items) begun [] h holds).0
+          ∙ client_settled buses layout events number conn s settled;
     }
 
 -- ---- at any time
@@ -126,12 +148,19 @@ free_take zero xs e = refl
 free_take (suc n) [] e = refl
 free_take (suc n) (x ∷ xs) e = by (is_lf x) e (λ h. free_take n xs h)
   where
-    by : (t : Bool) → t || list_any is_lf xs ≡ false → (list_any is_lf xs ≡ false → list_any is_lf (take n xs) ≡ false) → t || list_any is_lf (take n xs) ≡ false
+    by : (t : Bool) → t || list_any is_lf xs ≡ false → (list_any is_lf xs ≡ false → list_any is_lf (take n xs) ≡ false)
+        → t || list_any is_lf (take n xs) ≡ false
     by true e ih = e
     by false e ih = ih e
 
 lines_front : (n : ℕ) (changes : List Change) → AllByRecursion IsWellFormed changes → LinesFront n changes
-lines_front n [] a = record { front = []; later = []; begun = []; whole = refl; holds = record { each = tt; whole = take-nil n; no_more = refl } }
+lines_front n [] a = record {
+  front = [];
+  later = [];
+  begun = [];
+  whole = refl;
+  holds = record { each = tt; whole = take-nil n; no_more = refl };
+}
 lines_front n (change ∷ changes) a = by (nat_lt n (length (line change))) refl (λ m. lines_front m changes a.1)
   where
     size : length (line change) ≡ length (text_of change) + 1
@@ -143,20 +172,32 @@ lines_front n (change ∷ changes) a = by (nat_lt n (length (line change))) refl
         let z = size in
         let low : n ≤ length (line change) = omega arith in
         let short : n ≤ length (text_of change) = omega arith in
-        let cut : take n (line change ++ flat_map line changes) ≡ take n (text_of change) = take-append-le n (line change) (flat_map line changes) low ∙ take-append-le n (text_of change) (codes "\n") short in
-        record { front = []; later = change ∷ changes; begun = take n (text_of change); whole = refl; holds = record { each = tt; whole = cut; no_more = free_take n (text_of change) (line_free change a.0) } }
+        let cut : take n (line change ++ flat_map line changes) ≡ take n (text_of change) =
+        take-append-le n (line change) (flat_map line changes) low ∙ take-append-le n (text_of change) (codes "\n") short in
+        record {
+          front = [];
+          later = change ∷ changes;
+          begun = take n (text_of change);
+          whole = refl;
+          holds = record { each = tt; whole = cut; no_more = free_take n (text_of change) (line_free change a.0) };
+        }
     by false t ih =
         let h = ltb-false n (length (line change)) t in
         let r = ih (n - length (line change)) in
         let sum : n ≡ length (line change) + (n - length (line change)) = omega arith in
         let cut : take n (line change ++ flat_map line changes) ≡ line change ++ take (n - length (line change)) (flat_map line changes) =
-        ap (λ m. take m (line change ++ flat_map line changes)) sum ∙ take-append-add (line change) (flat_map line changes) (n - length (line change)) in
+        ap (λ m. take m (line change ++ flat_map line changes)) sum
+        ∙ take-append-add (line change) (flat_map line changes) (n - length (line change)) in
         record {
           front = change ∷ r.front;
           later = r.later;
           begun = r.begun;
           whole = ap (λ cs. change ∷ cs) r.whole;
-          holds = record { each = (a.0, r.holds.each); whole = cut ∙ ap (λ b. line change ++ b) r.holds.whole ∙ sym (append_assoc (line change) (flat_map line r.front) r.begun); no_more = r.holds.no_more };
+          holds = record {
+            each = (a.0, r.holds.each);
+            whole = cut ∙ ap (λ b. line change ++ b) r.holds.whole ∙ sym (append_assoc (line change) (flat_map line r.front) r.begun);
+            no_more = r.holds.no_more;
+          };
         }
 
 -- what is taken of two lists beyond the first
@@ -168,11 +209,13 @@ drop_taken (suc n) (x ∷ xs) ys = drop_taken n xs ys ∙ ap (λ m. take m ys) l
     less : n - length xs ≡ suc n - suc (length xs)
     less = omega arith
 
-all_heard : (shut : Option ℕ) (history : History) → AllByRecursion (AllByRecursion IsWellFormed) history → AllByRecursion (AllByRecursion IsWellFormed) (heard shut history)
+all_heard : (shut : Option ℕ) (history : History) → AllByRecursion (AllByRecursion IsWellFormed) history
+    → AllByRecursion (AllByRecursion IsWellFormed) (heard shut history)
 all_heard None history a = a
 all_heard (Some n) history a = all_take n history a
   where
-    all_take : (n : ℕ) (history : History) → AllByRecursion (AllByRecursion IsWellFormed) history → AllByRecursion (AllByRecursion IsWellFormed) (take n history)
+    all_take : (n : ℕ) (history : History) → AllByRecursion (AllByRecursion IsWellFormed) history
+        → AllByRecursion (AllByRecursion IsWellFormed) (take n history)
     all_take zero history a = tt
     all_take (suc n) [] a = tt
     all_take (suc n) (changes ∷ history) a = (a.0, all_take n history a.1)
@@ -189,5 +232,12 @@ pub always_sends_lines : (buses : List Bus) → IsLayout buses → (events : Lis
     → IsSession buses events number conn → AllMoments events → SendsLines buses conn
 always_sends_lines buses layout events number conn s moments =
     let f = lines_front (conn.taken - length conn.out) (tells conn.items) (given_told buses layout events number conn s moments) in
-    let bytes : told_bytes conn ≡ take (conn.taken - length conn.out) (flat_map line (tells conn.items)) = drop_taken conn.taken conn.out (text conn.items) ∙ ap (take (conn.taken - length conn.out)) (text_tells conn.items) in
-    record { front = f.front; later = f.later; begun = f.begun; whole = f.whole; holds = subst (λ b. HoldsLines b f.front f.begun) (sym bytes) f.holds }
+    let bytes : told_bytes conn ≡ take (conn.taken - length conn.out) (flat_map line (tells conn.items)) =
+    drop_taken conn.taken conn.out (text conn.items) ∙ ap (take (conn.taken - length conn.out)) (text_tells conn.items) in
+    record {
+      front = f.front;
+      later = f.later;
+      begun = f.begun;
+      whole = f.whole;
+      holds = subst (λ b. HoldsLines b f.front f.begun) (sym bytes) f.holds;
+    }

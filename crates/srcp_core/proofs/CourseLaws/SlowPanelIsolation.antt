@@ -6,11 +6,13 @@ use Rattle.std.specs.Prelude.{nat_lt, ◌==◌, Option, Some, None, option_map, 
 use Rattle.srcp_rules.specs.declared.layout.Bus.{Bus}
 use Rattle.srcp_core.specs.Under.{Event, Open, Bytes, Room, At, Shut, Piece}
 use Rattle.srcp_core.specs.Connection.{Connection, is_open, recorded}
-use Rattle.srcp_core.specs.Course.{World, fresh, start, numbered, if_open, open_connection, counted, history, absent_fault, shut_as, or_refused, happens, course}
+use Rattle.srcp_core.specs.Course.{World, fresh, start, numbered, if_open, open_connection, counted, history, absent_fault, shut_as}
+use Rattle.srcp_core.specs.Course.{or_refused, happens, course}
 use Rattle.srcp_core.specs.Laws.{is_info_session, is_room_of, without_room, IsSameForOthers, RoomHarmsNobody, SlowPanelHarmsNobody}
 use Rattle.srcp_core.specs.declared.record.CoreFault.TheVariants.{Full, Memory as MemoryFault, NoSuch}
 use Rattle.srcp_core.specs.declared.record.Refusal.{Refusal}
-use Rattle.srcp_core.proofs.CourseLaws.TwinConnections.{Alike, Both, IsSimilar, Neither, Pair, alike_length, alike_open, alike_other, alike_pair, alike_push}
+use Rattle.srcp_core.proofs.CourseLaws.TwinConnections.{Alike, Both, IsSimilar, Neither, Pair, alike_length, alike_open, alike_other}
+use Rattle.srcp_core.proofs.CourseLaws.TwinConnections.{alike_pair, alike_push}
 use Rattle.srcp_core.proofs.CourseLaws.TwinWorlds.{Linked, Twin, forget, twin, twin_bytes, twin_room, twin_shuts}
 use Rattle.srcp_core.proofs.CourseLaws.EventsOfThePanel.{apart_shut, one_bytes, one_itself, one_room, twin_sides}
 
@@ -24,67 +26,117 @@ module _ (buses : List Bus) (number : ℕ) where
     where
       pairs : (o p : Option Connection) → Pair o p → numbered number xs ≡ o → numbered number ys ≡ p → m ≡ number → Meets m xs ys
       pairs _ _ Neither e f i = Same (record { alike = a; same = ap (λ k. numbered k ys) i ∙ f ∙ sym e ∙ ap (λ k. numbered k xs) (sym i) })
-      pairs _ _ (Both x y (inl t)) e f i = Same (record { alike = a; same = ap (λ k. numbered k ys) i ∙ f ∙ ap (λ c. Some c) (sym t) ∙ sym e ∙ ap (λ k. numbered k xs) (sym i) })
+      pairs _ _ (Both x y (inl t)) e f i =
+          Same (record {
+            alike = a;
+            same = ap (λ k. numbered k ys) i ∙ f ∙ ap (λ c. Some c) (sym t) ∙ sym e ∙ ap (λ k. numbered k xs) (sym i);
+          })
       pairs _ _ (Both x y (inr s)) e f i = Apart x y i e f s
 
       by : (t : Bool) → (m == number) ≡ t → Meets m xs ys
       by true e = pairs (numbered number xs) (numbered number ys) (alike_pair number xs ys a) refl refl (eqb-true m number e)
       by false e = Same (record { alike = a; same = alike_other number m xs ys (eqb-false m number e) a })
 
-  open_step : (granted : Bool) (a : World) (conns : List Connection) (refs : List Refusal) (evs : ℕ) → Alike number a.connections conns → Twin number (happens buses a (Open granted)) (happens buses (twin a conns refs evs) (Open granted))
+  open_step : (granted : Bool) (a : World) (conns : List Connection) (refs : List Refusal) (evs : ℕ) → Alike number a.connections conns
+      → Twin number (happens buses a (Open granted)) (happens buses (twin a conns refs evs) (Open granted))
   open_step granted a conns refs evs l =
-      subst (λ n. Twin number (happens buses a (Open granted)) (or_refused buses (if nat_lt n 64 then (if granted then None else Some MemoryFault) else Some Full) (Open granted) (counted (twin a conns refs evs)))) (sym (alike_open number a.connections conns l))
+      subst (λ n.
+      Twin number (happens buses a (Open granted))
+      (or_refused buses (if nat_lt n 64 then (if granted then None else Some MemoryFault) else Some Full) (Open granted)
+      (counted (twin a conns refs evs))))
+      (sym (alike_open number a.connections conns l))
       (by (nat_lt (length (filter is_open a.connections)) 64) granted)
     where
-      by : (t g : Bool) → Twin number (or_refused buses (if t then (if g then None else Some MemoryFault) else Some Full) (Open granted) (counted a)) (or_refused buses (if t then (if g then None else Some MemoryFault) else Some Full) (Open granted) (counted (twin a conns refs evs)))
-      by true true = record { conns = conns ++ fresh ∷ []; refs = refs; evs = evs + 1; is = refl; alike = alike_push number a.connections conns fresh l }
-      by true false = record { conns = conns; refs = refs ++ record { event = evs + 1; fault = MemoryFault } ∷ []; evs = evs + 1; is = refl; alike = l }
-      by false g = record { conns = conns; refs = refs ++ record { event = evs + 1; fault = Full } ∷ []; evs = evs + 1; is = refl; alike = l }
+      by : (t g : Bool)
+          → Twin number (or_refused buses (if t then (if g then None else Some MemoryFault) else Some Full) (Open granted) (counted a))
+          (or_refused buses (if t then (if g then None else Some MemoryFault) else Some Full) (Open granted)
+          (counted (twin a conns refs evs)))
+      by true true = record {
+        conns = conns ++ fresh ∷ [];
+        refs = refs;
+        evs = evs + 1;
+        is = refl;
+        alike = alike_push number a.connections conns fresh l;
+      }
+      by true false = record {
+        conns = conns;
+        refs = refs ++ record { event = evs + 1; fault = MemoryFault } ∷ [];
+        evs = evs + 1;
+        is = refl;
+        alike = l;
+      }
+      by false g = record {
+        conns = conns;
+        refs = refs ++ record { event = evs + 1; fault = Full } ∷ [];
+        evs = evs + 1;
+        is = refl;
+        alike = l;
+      }
 
-  infos : (x : Connection) (xs : List Connection) → numbered number xs ≡ Some x → x.info ≡ true → is_info_session (numbered number xs) ≡ true
+  infos : (x : Connection) (xs : List Connection) → numbered number xs ≡ Some x → x.info ≡ true
+      → is_info_session (numbered number xs) ≡ true
   infos x xs p i = ap is_info_session p ∙ i
 
-  bytes_step : (m : ℕ) (piece : Piece) (a : World) (conns : List Connection) (refs : List Refusal) (evs : ℕ) → Alike number a.connections conns → Meets m a.connections conns → Twin number (happens buses a (Bytes m piece)) (happens buses (twin a conns refs evs) (Bytes m piece))
+  bytes_step : (m : ℕ) (piece : Piece) (a : World) (conns : List Connection) (refs : List Refusal) (evs : ℕ)
+      → Alike number a.connections conns → Meets m a.connections conns
+      → Twin number (happens buses a (Bytes m piece)) (happens buses (twin a conns refs evs) (Bytes m piece))
   bytes_step m piece a conns refs evs l (Same k) = forget number m _ _ (twin_bytes buses number m piece a conns refs evs k)
   bytes_step m piece a conns refs evs l (Apart x y i p q s) =
       subst (λ k. Twin number (happens buses a (Bytes k piece)) (happens buses (twin a conns refs evs) (Bytes k piece))) (sym i)
-      (twin_sides number a _ _ conns refs evs l (infos x a.connections p s.info) (one_bytes buses number piece a (infos x a.connections p s.info)) (one_bytes buses number piece (twin a conns refs evs) (infos y conns q s.info')))
+      (twin_sides number a _ _ conns refs evs l (infos x a.connections p s.info)
+      (one_bytes buses number piece a (infos x a.connections p s.info))
+      (one_bytes buses number piece (twin a conns refs evs) (infos y conns q s.info')))
 
-  room_step : (m bytes : ℕ) (a : World) (conns : List Connection) (refs : List Refusal) (evs : ℕ) → Alike number a.connections conns → Meets m a.connections conns → Twin number (happens buses a (Room m bytes)) (happens buses (twin a conns refs evs) (Room m bytes))
+  room_step : (m bytes : ℕ) (a : World) (conns : List Connection) (refs : List Refusal) (evs : ℕ) → Alike number a.connections conns
+      → Meets m a.connections conns → Twin number (happens buses a (Room m bytes)) (happens buses (twin a conns refs evs) (Room m bytes))
   room_step m bytes a conns refs evs l (Same k) = forget number m _ _ (twin_room buses number m bytes a conns refs evs k)
   room_step m bytes a conns refs evs l (Apart x y i p q s) =
       subst (λ k. Twin number (happens buses a (Room k bytes)) (happens buses (twin a conns refs evs) (Room k bytes))) (sym i)
-      (twin_sides number a _ _ conns refs evs l (infos x a.connections p s.info) (one_room buses number bytes a) (one_room buses number bytes (twin a conns refs evs)))
+      (twin_sides number a _ _ conns refs evs l (infos x a.connections p s.info) (one_room buses number bytes a)
+      (one_room buses number bytes (twin a conns refs evs)))
 
   -- its hang-up is accepted in both or in neither
-  shut_is : (x : Connection) (w : World) → open_connection w number ≡ Some x → happens buses w (Shut number) ≡ shut_as buses number (Some x) (counted w)
-  shut_is x w e = ap (λ o. or_refused buses (absent_fault buses o) (Shut number) (counted w)) e ∙ ap (λ o. shut_as buses number o (counted w)) e
+  shut_is : (x : Connection) (w : World) → open_connection w number ≡ Some x
+      → happens buses w (Shut number) ≡ shut_as buses number (Some x) (counted w)
+  shut_is x w e =
+      ap (λ o. or_refused buses (absent_fault buses o) (Shut number) (counted w)) e ∙ ap (λ o. shut_as buses number o (counted w)) e
 
-  shut_is_none : (w : World) → open_connection w number ≡ None → happens buses w (Shut number) ≡ twin w w.connections (w.refused ++ record { event = w.events + 1; fault = NoSuch } ∷ []) (w.events + 1)
+  shut_is_none : (w : World) → open_connection w number ≡ None
+      → happens buses w (Shut number)
+      ≡ twin w w.connections (w.refused ++ record { event = w.events + 1; fault = NoSuch } ∷ []) (w.events + 1)
   shut_is_none w e = ap (λ o. or_refused buses (absent_fault buses o) (Shut number) (counted w)) e
 
-  shut_apart : (x y : Connection) (a : World) (conns : List Connection) (refs : List Refusal) (evs : ℕ) → Alike number a.connections conns → numbered number a.connections ≡ Some x → numbered number conns ≡ Some y → IsSimilar x y → Twin number (happens buses a (Shut number)) (happens buses (twin a conns refs evs) (Shut number))
+  shut_apart : (x y : Connection) (a : World) (conns : List Connection) (refs : List Refusal) (evs : ℕ) → Alike number a.connections conns
+      → numbered number a.connections ≡ Some x → numbered number conns ≡ Some y → IsSimilar x y
+      → Twin number (happens buses a (Shut number)) (happens buses (twin a conns refs evs) (Shut number))
   shut_apart x y a conns refs evs l p q s = by (is_open x) refl
     where
-      found : (w : World) (c : Connection) → numbered number w.connections ≡ Some c → (t : Bool) → is_open c ≡ t → open_connection w number ≡ (if t then Some c else None)
+      found : (w : World) (c : Connection) → numbered number w.connections ≡ Some c → (t : Bool) → is_open c ≡ t
+          → open_connection w number ≡ (if t then Some c else None)
       found w c e t k = ap if_open e ∙ ap (λ t. if t then Some c else None) k
 
       by : (t : Bool) → is_open x ≡ t → Twin number (happens buses a (Shut number)) (happens buses (twin a conns refs evs) (Shut number))
       by true k =
           subst (λ w. Twin number w (happens buses (twin a conns refs evs) (Shut number))) (sym (shut_is x a (found a x p true k)))
-          (subst (λ w. Twin number (shut_as buses number (Some x) (counted a)) w) (sym (shut_is y (twin a conns refs evs) (found (twin a conns refs evs) y q true (ap is_none s.shut ∙ k))))
+          (subst (λ w. Twin number (shut_as buses number (Some x) (counted a)) w)
+          (sym (shut_is y (twin a conns refs evs) (found (twin a conns refs evs) y q true (ap is_none s.shut ∙ k))))
           (apart_shut buses number x y (counted a) conns refs (evs + 1) s l))
       by false k =
           subst (λ w. Twin number w (happens buses (twin a conns refs evs) (Shut number))) (sym (shut_is_none a (found a x p false k)))
-          (subst (λ w. Twin number (twin a a.connections (a.refused ++ record { event = a.events + 1; fault = NoSuch } ∷ []) (a.events + 1)) w) (sym (shut_is_none (twin a conns refs evs) (found (twin a conns refs evs) y q false (ap is_none s.shut ∙ k))))
+          (subst (λ w.
+          Twin number (twin a a.connections (a.refused ++ record { event = a.events + 1; fault = NoSuch } ∷ []) (a.events + 1)) w)
+          (sym (shut_is_none (twin a conns refs evs) (found (twin a conns refs evs) y q false (ap is_none s.shut ∙ k))))
           (record { conns = conns; refs = refs ++ record { event = evs + 1; fault = NoSuch } ∷ []; evs = evs + 1; is = refl; alike = l }))
 
-  shut_step : (m : ℕ) (a : World) (conns : List Connection) (refs : List Refusal) (evs : ℕ) → Alike number a.connections conns → Meets m a.connections conns → Twin number (happens buses a (Shut m)) (happens buses (twin a conns refs evs) (Shut m))
+  shut_step : (m : ℕ) (a : World) (conns : List Connection) (refs : List Refusal) (evs : ℕ) → Alike number a.connections conns
+      → Meets m a.connections conns → Twin number (happens buses a (Shut m)) (happens buses (twin a conns refs evs) (Shut m))
   shut_step m a conns refs evs l (Same k) = forget number m _ _ (twin_shuts buses number m a conns refs evs k)
   shut_step m a conns refs evs l (Apart x y i p q s) =
-      subst (λ k. Twin number (happens buses a (Shut k)) (happens buses (twin a conns refs evs) (Shut k))) (sym i) (shut_apart x y a conns refs evs l p q s)
+      subst (λ k. Twin number (happens buses a (Shut k)) (happens buses (twin a conns refs evs) (Shut k))) (sym i)
+      (shut_apart x y a conns refs evs l p q s)
 
-  step : (event : Event) (a : World) (conns : List Connection) (refs : List Refusal) (evs : ℕ) → Alike number a.connections conns → Twin number (happens buses a event) (happens buses (twin a conns refs evs) event)
+  step : (event : Event) (a : World) (conns : List Connection) (refs : List Refusal) (evs : ℕ) → Alike number a.connections conns
+      → Twin number (happens buses a event) (happens buses (twin a conns refs evs) event)
   step (Open granted) a conns refs evs l = open_step granted a conns refs evs l
   step (Bytes m piece) a conns refs evs l = bytes_step m piece a conns refs evs l (meets m a.connections conns l)
   step (Room m bytes) a conns refs evs l = room_step m bytes a conns refs evs l (meets m a.connections conns l)
@@ -92,7 +144,8 @@ module _ (buses : List Bus) (number : ℕ) where
   step (Shut m) a conns refs evs l = shut_step m a conns refs evs l (meets m a.connections conns l)
 
   -- room that is left out
-  left_out : (event : Event) (a : World) (conns : List Connection) (refs : List Refusal) (evs : ℕ) → Alike number a.connections conns → is_room_of number a event ≡ true → Twin number (happens buses a event) (twin a conns refs evs)
+  left_out : (event : Event) (a : World) (conns : List Connection) (refs : List Refusal) (evs : ℕ) → Alike number a.connections conns
+      → is_room_of number a event ≡ true → Twin number (happens buses a event) (twin a conns refs evs)
   left_out (Open granted) a conns refs evs l e = cc
   left_out (Bytes m piece) a conns refs evs l e = cc
   left_out (Room m bytes) a conns refs evs l e =
@@ -102,14 +155,24 @@ module _ (buses : List Bus) (number : ℕ) where
   left_out (At moment) a conns refs evs l e = cc
   left_out (Shut m) a conns refs evs l e = cc
 
-  slow : (events : List Event) (a b : World) → Twin number a b → Twin number (fold (happens buses) a events) (fold (happens buses) b (without_room buses number a events))
+  slow : (events : List Event) (a b : World) → Twin number a b
+      → Twin number (fold (happens buses) a events) (fold (happens buses) b (without_room buses number a events))
   slow [] a b t = t
   slow (event ∷ events) a b t =
       let by : (o : Bool) → is_room_of number a event ≡ o → Twin number (fold (happens buses) (happens buses a event) events)
-      (fold (happens buses) b (if o then without_room buses number (happens buses a event) events else event ∷ without_room buses number (happens buses a event) events)) =
+      (fold (happens buses) b
+      (if o then without_room buses number (happens buses a event) events
+      else event ∷ without_room buses number (happens buses a event) events)) =
       elim [
-        | true ↦ λ e. slow events (happens buses a event) b (subst (λ w. Twin number (happens buses a event) w) (sym t.is) (left_out event a t.conns t.refs t.evs t.alike e))
-        | false ↦ λ e. slow events (happens buses a event) (happens buses b event) (subst (λ w. Twin number (happens buses a event) (happens buses w event)) (sym t.is) (step event a t.conns t.refs t.evs t.alike))
+        | true ↦
+            λ e.
+            slow events (happens buses a event) b
+            (subst (λ w. Twin number (happens buses a event) w) (sym t.is) (left_out event a t.conns t.refs t.evs t.alike e))
+        | false ↦
+            λ e.
+            slow events (happens buses a event) (happens buses b event)
+            (subst (λ w. Twin number (happens buses a event) (happens buses w event)) (sym t.is)
+            (step event a t.conns t.refs t.evs t.alike))
       ] in
       by (is_room_of number a event) refl
 
@@ -131,7 +194,8 @@ pub room_harms_nobody : (buses : List Bus) → RoomHarmsNobody buses
 room_harms_nobody buses a b number same =
     let first = slow_panel_harms_nobody buses a number in
     let second : IsSameForOthers buses number (course buses b) (course buses (without_room buses number start a)) =
-    subst (λ (events : List Event). IsSameForOthers buses number (course buses b) (course buses events)) (sym same) (slow_panel_harms_nobody buses b number) in
+    subst (λ (events : List Event). IsSameForOthers buses number (course buses b) (course buses events)) (sym same)
+    (slow_panel_harms_nobody buses b number) in
     record {
       steps = sym second.steps ∙ first.steps;
       registry = sym second.registry ∙ first.registry;

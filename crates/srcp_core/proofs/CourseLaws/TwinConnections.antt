@@ -105,7 +105,9 @@ alike_pair (suc (suc n)) (x ∷ xs) (y ∷ ys) a = alike_pair (suc n) xs ys a.1
 -- ---- a change of one connection
 
 -- a change that keeps twins, and at any other number is the same
-pub alike_change : (n m : ℕ) (f g : Connection → Connection) (xs ys : List Connection) → ((x y : Connection) → m ≡ n → numbered m xs ≡ Some x → numbered m ys ≡ Some y → IsTwin x y → IsTwin (f x) (g y)) → (m ≢ n → (x : Connection) → f x ≡ g x)
+pub alike_change : (n m : ℕ) (f g : Connection → Connection) (xs ys : List Connection)
+    → ((x y : Connection) → m ≡ n → numbered m xs ≡ Some x → numbered m ys ≡ Some y → IsTwin x y → IsTwin (f x) (g y))
+    → (m ≢ n → (x : Connection) → f x ≡ g x)
     → Alike n xs ys → Alike n (with_numbered m f xs) (with_numbered m g ys)
 alike_change n m f g [] [] t o a = a
 alike_change n m f g [] (y ∷ ys) t o a = absurd a
@@ -115,8 +117,15 @@ alike_change zero (suc zero) f g (x ∷ xs) (y ∷ ys) t o a = (ap f a.0 ∙ o (
 alike_change zero (suc (suc m)) f g (x ∷ xs) (y ∷ ys) t o a =
     (a.0, alike_change zero (suc m) f g xs ys (λ x y e p q k. absurd (suc-ne-zero m e)) (λ d. o (λ e. suc-ne-zero (suc m) e)) a.1)
 alike_change (suc zero) (suc zero) f g (x ∷ xs) (y ∷ ys) t o a = (t x y refl refl refl a.0, a.1)
-alike_change (suc zero) (suc (suc m)) f g (x ∷ xs) (y ∷ ys) t o a =
-    (a.0, alike_change zero (suc m) f g xs ys (λ x y e p q k. absurd (suc-ne-zero m e)) (λ d. o (λ e. suc-ne-zero m (suc_inj {m = suc m} {n = zero} e))) a.1)
-alike_change (suc (suc n)) (suc zero) f g (x ∷ xs) (y ∷ ys) t o a = (ap f a.0 ∙ o (λ e. suc-ne-zero n (sym (suc_inj {m = zero} {n = suc n} e))) y, a.1)
-alike_change (suc (suc n)) (suc (suc m)) f g (x ∷ xs) (y ∷ ys) t o a =
-    (a.0, alike_change (suc n) (suc m) f g xs ys (λ x y e p q k. t x y (ap (λ k. suc k) e) p q k) (λ d. o (λ e. d (suc_inj {m = suc m} {n = suc n} e))) a.1)
+alike_change (suc zero) (suc (suc m)) f g (x ∷ xs) (y ∷ ys) t o a = (
+  a.0,
+  alike_change zero (suc m) f g xs ys (λ x y e p q k. absurd (suc-ne-zero m e))
+      (λ d. o (λ e. suc-ne-zero m (suc_inj {m = suc m} {n = zero} e))) a.1,
+)
+alike_change (suc (suc n)) (suc zero) f g (x ∷ xs) (y ∷ ys) t o a =
+    (ap f a.0 ∙ o (λ e. suc-ne-zero n (sym (suc_inj {m = zero} {n = suc n} e))) y, a.1)
+alike_change (suc (suc n)) (suc (suc m)) f g (x ∷ xs) (y ∷ ys) t o a = (
+  a.0,
+  alike_change (suc n) (suc m) f g xs ys (λ x y e p q k. t x y (ap (λ k. suc k) e) p q k)
+      (λ d. o (λ e. d (suc_inj {m = suc m} {n = suc n} e))) a.1,
+)

@@ -1,5 +1,6 @@
 -- No more changes wait for an information session than waited before and were brought since.
-use Rattle.std.proofs.Common.{◌≡◌, ℕ, zero, suc, ◌+◌, ◌-◌, ◌<◌, ◌≤◌, Bool, true, false, List, [], ◌∷◌, ◌++◌, map, length, drop, refl, ap, sym, ◌∙◌, subst, arith, append-nil, length-append, length-drop}
+use Rattle.std.proofs.Common.{◌≡◌, ℕ, zero, suc, ◌+◌, ◌-◌, ◌<◌, ◌≤◌, Bool, true, false, List, [], ◌∷◌, ◌++◌, map, length, drop, refl, ap}
+use Rattle.std.proofs.Common.{sym, ◌∙◌, subst, arith, append-nil, length-append, length-drop}
 use Rattle.std.proofs.lemmas.List.{length_push, drop-append-le}
 use Rattle.std.proofs.lemmas.List.Concat.{flat_map-append}
 use Rattle.std.proofs.lemmas.List.Elements.{filter_map-append}
@@ -17,12 +18,16 @@ use Rattle.srcp_feed.specs.Cursor.{concerns}
 use Rattle.srcp_info.specs.declared.change.Cursor.TheVariants.{Done}
 use Rattle.srcp_feed.specs.declared.next.Next.{Next}
 use Rattle.srcp_core.specs.Under.{Event, Step}
-use Rattle.srcp_core.specs.Connection.{Connection, History, heard, fitting, exhausts, items_of, is_done_by, is_open, given_room, overran, owed, took, told_change, unsent, waiting}
-use Rattle.srcp_core.specs.Course.{World, fresh, start, numbered, at_connection, did, state_after, updates_of, history_from, history, rows, happens, course, is_info}
+use Rattle.srcp_core.specs.Connection.{Connection, History, heard, fitting, exhausts, items_of, is_done_by, is_open, given_room, overran}
+use Rattle.srcp_core.specs.Connection.{owed, took, told_change, unsent, waiting}
+use Rattle.srcp_core.specs.Course.{World, fresh, start, numbered, at_connection, did, state_after, updates_of, history_from, history, rows}
+use Rattle.srcp_core.specs.Course.{happens, course, is_info}
 use Rattle.srcp_core.specs.Course.{entered, is_info, replied}
-use Rattle.srcp_core.specs.Waits.{brought, changes_since, IsOverrun, WaitsGrowByChanges, FewChangesCloseNone, room, slack_of, least, option_or_256}
+use Rattle.srcp_core.specs.Waits.{brought, changes_since, IsOverrun, WaitsGrowByChanges, FewChangesCloseNone, room, slack_of, least}
+use Rattle.srcp_core.specs.Waits.{option_or_256}
 use Rattle.srcp_core.specs.declared.record.Item.{Item}
-use Rattle.srcp_core.proofs.CourseLaws.Histories.{concerning_by, concerning_push, concerning_none, concerning_same, cursor_by, cursor_before, last_of}
+use Rattle.srcp_core.proofs.CourseLaws.Histories.{concerning_by, concerning_push, concerning_none, concerning_same, cursor_by}
+use Rattle.srcp_core.proofs.CourseLaws.Histories.{cursor_before, last_of}
 use Rattle.srcp_core.proofs.CourseLaws.ClientHoldsPassedRows.{untold_by, tolds}
 use Rattle.srcp_core.proofs.CourseLaws.ShownRegistry.{history_push, length_history}
 use Rattle.srcp_core.proofs.Agreement.SlackAgrees.{AtMost, IsIn, least_least, least_in, slack_by, slack_conns}
@@ -35,7 +40,10 @@ filter_few : (p : Change → Bool) (changes : List Change) → length (filter p 
 filter_few p [] = omega arith
 filter_few p (change ∷ changes) =
     let ih = filter_few p changes in
-    elim (p change) as (λ t. length (if t then change ∷ filter p changes else filter p changes) ≤ length (change ∷ changes)) [ true ↦ omega arith | false ↦ omega arith ]
+    elim (p change) as (λ t. length (if t then change ∷ filter p changes else filter p changes) ≤ length (change ∷ changes)) [
+      | true ↦ omega arith
+      | false ↦ omega arith
+    ]
 
 drop_push : (n : ℕ) (xs ys : List Change) → length (drop n (xs ++ ys)) ≤ length (drop n xs) + length ys
 drop_push n xs ys =
@@ -57,7 +65,8 @@ pub record Within (most : ℕ) (history : History) (conn : Connection) : Type 0 
   pub began : conn.go_step ≤ length history
   pub few : conn.info ≡ true → conn.shut ≡ None → length (untold_by conn.go_step conn.items conn.done history) ≤ most
 
-within_push : (most : ℕ) (history : History) (changes : List Change) (conn : Connection) → Within most history conn → Within (most + length changes) (history ++ changes ∷ []) conn
+within_push : (most : ℕ) (history : History) (changes : List Change) (conn : Connection) → Within most history conn
+    → Within (most + length changes) (history ++ changes ∷ []) conn
 within_push most history changes conn w =
     let up = length_push history changes in
     let began = w.began in
@@ -65,67 +74,84 @@ within_push most history changes conn w =
     let extra = filter (concerns (cursor_by conn.done conn.items (length history))) changes in
     let few = filter_few (concerns (cursor_by conn.done conn.items (length history))) changes in
     let step = drop_push (length (tolds conn.items)) (concerning_by conn.go_step (cursor_by conn.done conn.items) history) extra in
-    let same : length (untold_by conn.go_step conn.items conn.done (history ++ changes ∷ [])) ≡ length (drop (length (tolds conn.items)) (concerning_by conn.go_step (cursor_by conn.done conn.items) history ++ extra)) = ap (λ cs. length (drop (length (tolds conn.items)) cs)) con in
+    let same : length (untold_by conn.go_step conn.items conn.done (history ++ changes ∷ []))
+    ≡ length (drop (length (tolds conn.items)) (concerning_by conn.go_step (cursor_by conn.done conn.items) history ++ extra)) =
+    ap (λ cs. length (drop (length (tolds conn.items)) cs)) con in
     record { began = omega arith; few = λ info shut. let before = w.few info shut in omega arith }
 
 within_more : (most more : ℕ) (history : History) (conn : Connection) → most ≤ more → Within most history conn → Within more history conn
 within_more most more history conn h w = record { began = w.began; few = λ info shut. let f = w.few info shut in omega arith }
 
-within_same : (most : ℕ) (history : History) (conn other : Connection) → IsSameSession conn other → Within most history conn → Within most history other
+within_same : (most : ℕ) (history : History) (conn other : Connection) → IsSameSession conn other → Within most history conn
+    → Within most history other
 within_same most history conn other s w = record {
   began = subst (λ n. n ≤ length history) (sym s.go_step) w.began;
   few = λ info shut.
       subst (λ g. length (untold_by g other.items other.done history) ≤ most) (sym s.go_step)
       (subst (λ is. length (untold_by conn.go_step is other.done history) ≤ most) (sym s.items)
-      (subst (λ d. length (untold_by conn.go_step conn.items d history) ≤ most) (sym s.done) (w.few (sym s.info ∙ info) (sym s.shut ∙ shut))));
+      (subst (λ d. length (untold_by conn.go_step conn.items d history) ≤ most) (sym s.done)
+      (w.few (sym s.info ∙ info) (sym s.shut ∙ shut))));
 }
 
 -- a session that begins now has nothing to wait for
-within_entered : (most : ℕ) (history : History) (go : ℕ) (conn : Connection) → go ≡ length history → conn.go_step ≡ go → Within most history conn
+within_entered : (most : ℕ) (history : History) (go : ℕ) (conn : Connection) → go ≡ length history → conn.go_step ≡ go
+    → Within most history conn
 within_entered most history go conn e g =
     let low : conn.go_step ≤ length history = omega arith in
     let high : 0 + length history ≤ conn.go_step = omega arith in
-    let none : concerning_by conn.go_step (cursor_by conn.done conn.items) history ≡ [] = concerning_none conn.go_step (cursor_by conn.done conn.items) 0 history high in
+    let none : concerning_by conn.go_step (cursor_by conn.done conn.items) history ≡ [] =
+    concerning_none conn.go_step (cursor_by conn.done conn.items) 0 history high in
     record { began = low; few = λ info shut. rest none }
   where
-    rest : concerning_by conn.go_step (cursor_by conn.done conn.items) history ≡ [] → length (untold_by conn.go_step conn.items conn.done history) ≤ most
+    rest : concerning_by conn.go_step (cursor_by conn.done conn.items) history ≡ []
+        → length (untold_by conn.go_step conn.items conn.done history) ≤ most
     rest none =
         let size = length-drop (length (tolds conn.items)) (concerning_by conn.go_step (cursor_by conn.done conn.items) history) in
         let empty : length (concerning_by conn.go_step (cursor_by conn.done conn.items) history) ≡ 0 = ap length none in
         omega arith
 
 -- what is given takes of what waits
-untold_took : (history : History) (go : ℕ) (items more : List Item) (done later : Option ℕ) → AllByRecursion (λ item. item.steps ≡ length history) more
+untold_took : (history : History) (go : ℕ) (items more : List Item) (done later : Option ℕ)
+    → AllByRecursion (λ item. item.steps ≡ length history) more
     → ((k : ℕ) → k < length history → is_done_by k later ≡ is_done_by k done)
     → length (untold_by go (items ++ more) later history) ≤ length (untold_by go items done history)
 untold_took history go items more done later now same =
     let con : concerning_by go (cursor_by later (items ++ more)) history ≡ concerning_by go (cursor_by done items) history =
     concerning_same go (cursor_by later (items ++ more)) (cursor_by done items) 0 history (λ k low high. before k high) in
     let tol : tolds (items ++ more) ≡ tolds items ++ tolds more = filter_map-append (λ (item : Item). told_change item.what) items more in
-    let len : length (tolds (items ++ more)) ≡ length (tolds items) + length (tolds more) = ap length tol ∙ length-append (tolds items) (tolds more) in
+    let len : length (tolds (items ++ more)) ≡ length (tolds items) + length (tolds more) =
+    ap length tol ∙ length-append (tolds items) (tolds more) in
     let low : length (tolds items) ≤ length (tolds (items ++ more)) = omega arith in
     let fewer = drop_more (length (tolds items)) (length (tolds (items ++ more))) (concerning_by go (cursor_by done items) history) low in
-    let is : length (untold_by go (items ++ more) later history) ≡ length (drop (length (tolds (items ++ more))) (concerning_by go (cursor_by done items) history)) = ap (λ cs. length (drop (length (tolds (items ++ more))) cs)) con in
+    let is : length (untold_by go (items ++ more) later history)
+    ≡ length (drop (length (tolds (items ++ more))) (concerning_by go (cursor_by done items) history)) =
+    ap (λ cs. length (drop (length (tolds (items ++ more))) cs)) con in
     omega arith
   where
     before : (k : ℕ) → k < 0 + length history → cursor_by later (items ++ more) k ≡ cursor_by done items k
     before k h =
         let below : k < length history = omega arith in
-        ap (λ t. if t then Done else last_of (filter (λ item. nat_le item.steps k) (items ++ more))) (same k below) ∙ cursor_before (length history) k done items more below now
+        ap (λ t. if t then Done else last_of (filter (λ item. nat_le item.steps k) (items ++ more))) (same k below)
+        ∙ cursor_before (length history) k done items more below now
 
 items_now : (steps : ℕ) (nexts : List Next) → AllByRecursion (λ item. item.steps ≡ steps) (items_of steps nexts)
 items_now steps [] = tt
 items_now steps (what ∷ nexts) = (refl, items_now steps nexts)
 
 -- a listing that is done now was not done before
-done_now : (n : ℕ) (done : Option ℕ) (t : Bool) (k : ℕ) → k < n → is_done_by k (if t then option_or done (Some n) else done) ≡ is_done_by k done
+done_now : (n : ℕ) (done : Option ℕ) (t : Bool) (k : ℕ) → k < n
+    → is_done_by k (if t then option_or done (Some n) else done) ≡ is_done_by k done
 done_now n (Some m) true k h = refl
 done_now n None true k h = lt-leb n k h
 done_now n done false k h = refl
 
-within_room : (buses : List Bus) (most : ℕ) (w : World) (bytes : ℕ) (conn : Connection) → Within most (history buses w) conn → Within most (history buses w) (given_room bytes (history buses w) (rows buses w) conn)
+within_room : (buses : List Bus) (most : ℕ) (w : World) (bytes : ℕ) (conn : Connection) → Within most (history buses w) conn
+    → Within most (history buses w) (given_room bytes (history buses w) (rows buses w) conn)
 within_room buses most w bytes conn s =
-    elim (overran conn (history buses w)) as (λ t. Within most (history buses w) (if t then conn else took bytes (length (history buses w)) (owed conn (history buses w) (rows buses w)) conn)) [
+    elim (overran conn (history buses w))
+    as (λ t.
+    Within most (history buses w)
+    (if t then conn else took bytes (length (history buses w)) (owed conn (history buses w) (rows buses w)) conn)) [
       | true ↦ s
       | false ↦ gave (owed conn (history buses w) (rows buses w))
     ]
@@ -135,7 +161,9 @@ within_room buses most w bytes conn s =
       began = s.began;
       few = λ info shut.
           let f = s.few info shut in
-          let t = untold_took (history buses w) conn.go_step conn.items (items_of (length (history buses w)) (fitting bytes (unsent conn) nexts)) conn.done
+          let t =
+          untold_took (history buses w) conn.go_step conn.items
+          (items_of (length (history buses w)) (fitting bytes (unsent conn) nexts)) conn.done
           (if conn.info && exhausts bytes (unsent conn) nexts then option_or conn.done (Some (length (history buses w))) else conn.done)
           (items_now (length (history buses w)) (fitting bytes (unsent conn) nexts))
           (λ k h. done_now (length (history buses w)) conn.done (conn.info && exhausts bytes (unsent conn) nexts) k h) in
@@ -148,22 +176,32 @@ within_room buses most w bytes conn s =
 abbrev since : ℕ → History → ℕ
 since steps history = length (flat_map (λ (changes : List Change). changes) (drop steps history))
 
-since_push : (steps : ℕ) (history : History) (changes : List Change) → steps ≤ length history → since steps (history ++ changes ∷ []) ≡ since steps history + length changes
+since_push : (steps : ℕ) (history : History) (changes : List Change) → steps ≤ length history
+    → since steps (history ++ changes ∷ []) ≡ since steps history + length changes
 since_push steps history changes h =
     ap (λ hs. length (flat_map (λ (changes : List Change). changes) hs)) (drop-append-le steps history (changes ∷ []) h)
-    ∙ ap length (flat_map-append (λ (changes : List Change). changes) (drop steps history) (changes ∷ []) ∙ ap (λ cs. flat_map (λ (changes : List Change). changes) (drop steps history) ++ cs) (append-nil changes))
+    ∙ ap length
+    (flat_map-append (λ (changes : List Change). changes) (drop steps history) (changes ∷ [])
+    ∙ ap (λ cs. flat_map (λ (changes : List Change). changes) (drop steps history) ++ cs) (append-nil changes))
     ∙ length-append (flat_map (λ (changes : List Change). changes) (drop steps history)) changes
 
 module _ (buses : List Bus) (Of : ℕ → Type 0) (steps most : ℕ) where
   -- of each of these sessions, after so many steps
   abbrev WaitsBy : History → List Connection → Type 0
-  WaitsBy h conns = (steps ≤ length h) × ((number : ℕ) (conn : Connection) → Of number → numbered number conns ≡ Some conn → Within (most + since steps h) h conn)
+  WaitsBy h conns =
+      (steps ≤ length h)
+      × ((number : ℕ) (conn : Connection) → Of number → numbered number conns ≡ Some conn → Within (most + since steps h) h conn)
 
   abbrev Waits : World → Type 0
   Waits w = WaitsBy (history_from (opening buses 0) w.steps) w.connections
 
   waits_push : (h : History) (changes : List Change) (conns : List Connection) → WaitsBy h conns → WaitsBy (h ++ changes ∷ []) conns
-  waits_push h changes conns a = (later, λ number conn of e. within_more (most + since steps h + length changes) (most + since steps (h ++ changes ∷ [])) (h ++ changes ∷ []) conn counts (within_push (most + since steps h) h changes conn (a.1 number conn of e)))
+  waits_push h changes conns a = (
+    later,
+    λ number conn of e.
+        within_more (most + since steps h + length changes) (most + since steps (h ++ changes ∷ [])) (h ++ changes ∷ []) conn counts
+        (within_push (most + since steps h) h changes conn (a.1 number conn of e)),
+  )
     where
       later : steps ≤ length (h ++ changes ∷ [])
       later = let up = length_push h changes in let low = a.0 in omega arith
@@ -174,19 +212,32 @@ module _ (buses : List Bus) (Of : ℕ → Type 0) (steps most : ℕ) where
   waits_did : (step : Step) (w : World) → Waits w → Waits (did step w)
   waits_did step w a =
       subst (λ h. WaitsBy h w.connections) (sym (history_push (opening buses 0) w.steps step))
-      (waits_push (history_from (opening buses 0) w.steps) (map (λ update. update.change) (updates_of (state_after (opening buses 0) w.steps) step)) w.connections a)
+      (waits_push (history_from (opening buses 0) w.steps)
+      (map (λ update. update.change) (updates_of (state_after (opening buses 0) w.steps) step)) w.connections a)
 
   waits_at : (n : ℕ) (change : Connection → Connection) (w : World)
-      → ((conn : Connection) → Within (most + since steps (history buses w)) (history buses w) conn → Within (most + since steps (history buses w)) (history buses w) (change conn))
+      → ((conn : Connection) → Within (most + since steps (history buses w)) (history buses w) conn
+      → Within (most + since steps (history buses w)) (history buses w) (change conn))
       → Waits w → Waits (at_connection n change w)
-  waits_at n change w f a = (a.0, λ number conn of e. numbered_after (Within (most + since steps (history buses w)) (history buses w)) n number change w.connections conn e (λ other there. a.1 number other of there) (λ other here s. f other s))
+  waits_at n change w f a = (
+    a.0,
+    λ number conn of e.
+        numbered_after (Within (most + since steps (history buses w)) (history buses w)) n number change w.connections conn e
+        (λ other there. a.1 number other of there) (λ other here s. f other s),
+  )
 
   waits_kept : IsKept buses Waits
   waits_kept = record {
     step = waits_did;
     other = λ w v s c a. subst (λ (xs : List Step). WaitsBy (history_from (opening buses 0) xs) v.connections) (sym s)
         (subst (λ (cs : List Connection). WaitsBy (history_from (opening buses 0) w.steps) cs) (sym c) a);
-    opens = λ w a. (a.0, λ number conn of e. numbered_more (Within (most + since steps (history buses w)) (history buses w)) number w.connections fresh conn e (λ other there. a.1 number other of there) (fresh_within (most + since steps (history buses w)) (history buses w)));
+    opens =
+        λ w a. (
+          a.0,
+          λ number conn of e.
+              numbered_more (Within (most + since steps (history buses w)) (history buses w)) number w.connections fresh conn e
+              (λ other there. a.1 number other of there) (fresh_within (most + since steps (history buses w)) (history buses w)),
+        );
     same = λ n change w f a. waits_at n change w
         (λ conn s. within_same (most + since steps (history buses w)) (history buses w) conn (change conn) (f conn).session s) a;
     answers = λ n reply w plain a. answers n reply w a;
@@ -217,7 +268,10 @@ module _ (buses : List Bus) (Of : ℕ → Type 0) (steps most : ℕ) where
 -- ---- of every course
 
 waiting_is : (conn : Connection) (h : History) → conn.shut ≡ None → waiting conn h ≡ untold_by conn.go_step conn.items conn.done h
-waiting_is conn h e = subst (λ x. (if is_none x then untold_by conn.go_step conn.items conn.done (heard x h) else []) ≡ untold_by conn.go_step conn.items conn.done h) (sym e) refl
+waiting_is conn h e =
+    subst (λ x. (if is_none x then untold_by conn.go_step conn.items conn.done (heard x h) else [])
+    ≡ untold_by conn.go_step conn.items conn.done h)
+    (sym e) refl
 
 -- what waits of an open session, and of one that was shut
 waiting_within : (most : ℕ) (h : History) (conn : Connection) → Within most h conn → conn.info ≡ true → length (waiting conn h) ≤ most
@@ -225,7 +279,13 @@ waiting_within most h conn s info = by conn.shut refl
   where
     by : (shut : Option ℕ) → conn.shut ≡ shut → length (waiting conn h) ≤ most
     by None e = let f = s.few info e in let same = ap (λ (cs : List Change). length cs) (waiting_is conn h e) in omega arith
-    by (Some n) e = subst (λ x. length (if is_none x then drop (length (tolds conn.items)) (concerning_by conn.go_step (cursor_by conn.done conn.items) (heard x h)) else []) ≤ most) (sym e) none
+    by (Some n) e =
+        subst (λ x.
+        length (if is_none x
+        then drop (length (tolds conn.items)) (concerning_by conn.go_step (cursor_by conn.done conn.items) (heard x h))
+        else [])
+        ≤ most)
+        (sym e) none
       where
         none : 0 ≤ most
         none = omega arith
@@ -241,7 +301,8 @@ since_none h n e = ap (λ hs. length (flat_map (λ (changes : List Change). chan
     drop_all (suc n) (x ∷ h) low = drop_all n h (omega arith)
 
 module _ (buses : List Bus) (events more : List Event) (Of : ℕ → Type 0) (most : ℕ)
-    (few : (number : ℕ) (conn : Connection) → Of number → numbered number (course buses events).connections ≡ Some conn → conn.info ≡ true → conn.shut ≡ None → length (waiting conn (history buses (course buses events))) ≤ most) where
+    (few : (number : ℕ) (conn : Connection) → Of number → numbered number (course buses events).connections ≡ Some conn → conn.info ≡ true
+    → conn.shut ≡ None → length (waiting conn (history buses (course buses events))) ≤ most) where
   from_start : Waits buses (λ number. Unit {0}) 0 0 (course buses events)
   from_start = waits_all buses (λ number. Unit {0}) 0 0 events start (omega arith, λ number conn of e. none number conn e)
     where
@@ -256,7 +317,8 @@ module _ (buses : List Bus) (events more : List Event) (Of : ℕ → Type 0) (mo
       low = let e = length_history (opening buses 0) (course buses events).steps in omega arith
 
       each : (number : ℕ) (conn : Connection) → Of number → numbered number (course buses events).connections ≡ Some conn
-          → Within (most + changes_since buses (length (course buses events).steps) (course buses events)) (history buses (course buses events)) conn
+          → Within (most + changes_since buses (length (course buses events).steps) (course buses events))
+          (history buses (course buses events)) conn
       each number conn of e =
           let s = from_start.1 number conn tt e in
           record {
@@ -271,7 +333,9 @@ module _ (buses : List Bus) (events more : List Event) (Of : ℕ → Type 0) (mo
   next = fold-append (happens buses) start events more
 
   there : Waits buses Of (length (course buses events).steps) most (course buses (events ++ more))
-  there = subst (Waits buses Of (length (course buses events).steps) most) (sym next) (waits_all buses Of (length (course buses events).steps) most more (course buses events) here)
+  there =
+      subst (Waits buses Of (length (course buses events).steps) most) (sym next)
+      (waits_all buses Of (length (course buses events).steps) most more (course buses events) here)
 
 pub waits_grow : (buses : List Bus) → WaitsGrowByChanges buses
 waits_grow buses events more number conn later p e info =
@@ -281,7 +345,8 @@ waits_grow buses events more number conn later p e info =
     h : History
     h = history buses (course buses events)
 
-    own : (n : ℕ) (other : Connection) → n ≡ number → numbered n (course buses events).connections ≡ Some other → other.info ≡ true → other.shut ≡ None → length (waiting other h) ≤ length (waiting conn h)
+    own : (n : ℕ) (other : Connection) → n ≡ number → numbered n (course buses events).connections ≡ Some other → other.info ≡ true
+        → other.shut ≡ None → length (waiting other h) ≤ length (waiting conn h)
     own n other same o info shut =
         let it : Some other ≡ Some conn = sym o ∙ ap (λ k. numbered k (course buses events).connections) same ∙ p.there in
         let is : other ≡ conn = cc in
@@ -331,29 +396,40 @@ few_close_none buses events more enough number later o = by (numbered number w.c
     within = room_256 slacks (λ n i. some_slack_256 h (numbered (suc i.0) w.connections) n (sym (slack_conns h w.connections i.0) ∙ i.1))
 
     -- what waits of a panel
-    waits : (k : ℕ) (conn : Connection) → numbered k w.connections ≡ Some conn → conn.info ≡ true → conn.shut ≡ None → overran conn h ≡ false → length (waiting conn h) ≤ 256 - r
+    waits : (k : ℕ) (conn : Connection) → numbered k w.connections ≡ Some conn → conn.info ≡ true → conn.shut ≡ None
+        → overran conn h ≡ false → length (waiting conn h) ≤ 256 - r
     waits zero conn e info shut fine = cc
     waits (suc k) conn e info shut fine =
         let up : is_open conn ≡ true = ap (λ (s : Option ℕ). is_none s) shut in
-        let is : slack_of h conn ≡ Some (256 - length (waiting conn h)) = ap (λ t. if t && conn.info then Some (if overran conn h then 256 else 256 - length (waiting conn h)) else None) up
-        ∙ ap (λ t. if t then Some (if overran conn h then 256 else 256 - length (waiting conn h)) else None) info ∙ ap (λ t. Some (if t then 256 else 256 - length (waiting conn h))) fine in
-        let low : r ≤ 256 - length (waiting conn h) = room_most (least slacks) (256 - length (waiting conn h)) (least_least slacks k (256 - length (waiting conn h)) (slack_conns h w.connections k ∙ ap (slack_by h) e ∙ is)) in
-        let few : length (waiting conn h) ≤ 256 = ltb-false 256 (length (waiting conn h)) (ap (λ (cs : List Change). nat_lt 256 (length cs)) (waiting_is conn h shut) ∙ sym (overran_open h conn shut) ∙ fine) in
+        let is : slack_of h conn ≡ Some (256 - length (waiting conn h)) =
+        ap (λ t. if t && conn.info then Some (if overran conn h then 256 else 256 - length (waiting conn h)) else None) up
+        ∙ ap (λ t. if t then Some (if overran conn h then 256 else 256 - length (waiting conn h)) else None) info
+        ∙ ap (λ t. Some (if t then 256 else 256 - length (waiting conn h))) fine in
+        let low : r ≤ 256 - length (waiting conn h) =
+        room_most (least slacks) (256 - length (waiting conn h))
+        (least_least slacks k (256 - length (waiting conn h)) (slack_conns h w.connections k ∙ ap (slack_by h) e ∙ is)) in
+        let few : length (waiting conn h) ≤ 256 =
+        ltb-false 256 (length (waiting conn h))
+        (ap (λ (cs : List Change). nat_lt 256 (length cs)) (waiting_is conn h shut) ∙ sym (overran_open h conn shut) ∙ fine) in
         omega arith
 
-    calm : ((conn : Connection) → numbered number w.connections ≡ Some conn → conn.info ≡ true → conn.shut ≡ None → overran conn h ≡ false) → ⊥
+    calm : ((conn : Connection) → numbered number w.connections ≡ Some conn → conn.info ≡ true → conn.shut ≡ None → overran conn h ≡ false)
+        → ⊥
     calm fine =
         let shut = open_shut later.shut o.open_now in
         let s = (there buses events more (λ k. k ≡ number) (256 - r) few).1 number later refl o.there in
         let f = s.few o.info shut in
         let e = enough in
         let v = within in
-        let low : length (untold_by later.go_step later.items later.done (history buses (course buses (events ++ more)))) ≤ 256 = omega arith in
-        let no : overran later (history buses (course buses (events ++ more))) ≡ false = overran_open (history buses (course buses (events ++ more))) later shut ∙ le-ltb 256 _ low in
+        let low : length (untold_by later.go_step later.items later.done (history buses (course buses (events ++ more)))) ≤ 256 =
+        omega arith in
+        let no : overran later (history buses (course buses (events ++ more))) ≡ false =
+        overran_open (history buses (course buses (events ++ more))) later shut ∙ le-ltb 256 _ low in
         let yes = o.over in
         cc
       where
-        few : (k : ℕ) (conn : Connection) → k ≡ number → numbered k w.connections ≡ Some conn → conn.info ≡ true → conn.shut ≡ None → length (waiting conn h) ≤ 256 - r
+        few : (k : ℕ) (conn : Connection) → k ≡ number → numbered k w.connections ≡ Some conn → conn.info ≡ true → conn.shut ≡ None
+            → length (waiting conn h) ≤ 256 - r
         few k conn same e info shut = waits k conn e info shut (fine conn (ap (λ m. numbered m w.connections) (sym same) ∙ e) info shut)
 
     by : (o : Option Connection) → numbered number w.connections ≡ o → (conn : Connection) × IsOverrun buses w number conn
@@ -363,8 +439,13 @@ few_close_none buses events more enough number later o = by (numbered number w.c
         same : (other : Connection) → numbered number w.connections ≡ Some other → other ≡ conn
         same other there = let it : Some other ≡ Some conn = sym there ∙ e in cc
 
-        over : (t : Bool) → overran conn h ≡ t → (i : Bool) → conn.info ≡ i → (s : Option ℕ) → conn.shut ≡ s → (conn : Connection) × IsOverrun buses w number conn
+        over : (t : Bool) → overran conn h ≡ t → (i : Bool) → conn.info ≡ i → (s : Option ℕ) → conn.shut ≡ s
+            → (conn : Connection) × IsOverrun buses w number conn
         over true t true i None s = (conn, record { there = e; info = i; open_now = ap (λ (s : Option ℕ). is_none s) s; over = t })
         over false t i k s l = absurd (calm (λ other there info shut. ap (λ (c : Connection). overran c h) (same other there) ∙ t))
-        over true t false i s l = absurd (calm (λ other there info shut. let no : other.info ≡ false = ap (λ (c : Connection). c.info) (same other there) ∙ i in cc))
-        over true t true i (Some n) s = absurd (calm (λ other there info shut. let no : other.shut ≡ Some n = ap (λ (c : Connection). c.shut) (same other there) ∙ s in cc))
+        over true t false i s l =
+            absurd (calm
+            (λ other there info shut. let no : other.info ≡ false = ap (λ (c : Connection). c.info) (same other there) ∙ i in cc))
+        over true t true i (Some n) s =
+            absurd (calm
+            (λ other there info shut. let no : other.shut ≡ Some n = ap (λ (c : Connection). c.shut) (same other there) ∙ s in cc))

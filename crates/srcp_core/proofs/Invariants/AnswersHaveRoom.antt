@@ -1,5 +1,6 @@
 -- What the answer to a line leaves of its connection: the line that has begun, and how many bytes are unsent.
-use Rattle.std.proofs.Common.{◌≡◌, ℕ, ◌+◌, ◌<◌, ◌≤◌, ◌^◌, Bool, true, false, cond, List, [], ◌∷◌, map, length, length-append, refl, sym, ◌∙◌, subst, arith}
+use Rattle.std.proofs.Common.{◌≡◌, ℕ, ◌+◌, ◌<◌, ◌≤◌, ◌^◌, Bool, true, false, cond, List, [], ◌∷◌, map, length, length-append, refl, sym}
+use Rattle.std.proofs.Common.{◌∙◌, subst, arith}
 use Rattle.std.specs.Option.{option_map}
 use Rattle.std.specs.Prelude.{not, ◌||◌, ◌&&◌, nat_lt, if◌then◌else◌, Option, Some, None, Ok, Err}
 use Rattle.std.proofs.lemmas.Bool.Decides.{nat_tests}
@@ -21,7 +22,9 @@ use Rattle.srcp_feed.specs.Feed.{Feed, is_full, told}
 use Rattle.srcp_core.specs.Handshake.{Greeting, Speaks, Chooses, Goes, Refuses}
 use Rattle.srcp_core.specs.Held.{Place, Held, place_at, at, IsSound}
 use Rattle.srcp_core.specs.Under.{wants_memory}
-use Rattle.srcp_core.specs.Machine.{told_feed, told_place, told_all, told_each, carried, unsent_of, line_begun_of, changed_in, changed_places, changed_at, with_unsent, replied, longest, longest_answer, entered_place, session_begun, goes, greeted, denied_line, one_denied, finished, obeyed, answered, asked_of, feed_in, panel_for}
+use Rattle.srcp_core.specs.Machine.{told_feed, told_place, told_all, told_each, carried, unsent_of, line_begun_of, changed_in}
+use Rattle.srcp_core.specs.Machine.{changed_places, changed_at, with_unsent, replied, longest, longest_answer, entered_place, session_begun}
+use Rattle.srcp_core.specs.Machine.{goes, greeted, denied_line, one_denied, finished, obeyed, answered, asked_of, feed_in, panel_for}
 use Rattle.srcp_core.specs.declared.connection.Panel.TheVariants.{Listening, Overran}
 use Rattle.srcp_core.specs.declared.line.Asked.{Asked}
 use Rattle.srcp_core.specs.declared.line.Asked.TheVariants.{Dropped, Greets, Commands}
@@ -50,24 +53,30 @@ told_begun change p = by (feed_in p.panel)
   where
     by : (feed : Option Feed) → (told_feed change p feed).reader.begun ≡ p.reader.begun
     by None = refl
-    by (Some feed) = elim (concerns feed.cursor change && is_full feed) as (λ t. (cond t (record p { unsent = []; panel = Overran }) (record p { panel = Listening (told change feed) })).reader.begun ≡ p.reader.begun) [
-      | true ↦ refl
-      | false ↦ refl
-    ]
+    by (Some feed) =
+        elim (concerns feed.cursor change && is_full feed)
+        as (λ t. (cond t (record p { unsent = []; panel = Overran }) (record p { panel = Listening (told change feed) })).reader.begun
+        ≡ p.reader.begun) [
+          | true ↦ refl
+          | false ↦ refl
+        ]
 
 told_slot : (change : Change) (o : Option Place) → Gains 0 o (option_map (told_place change) o)
 told_slot change None = record { few = omega arith; begun = refl }
 told_slot change (Some p) = record { few = let t = told_shorter change p in omega (arith, t); begun = told_begun change p }
 
-told_gains : (key : ℕ) (changes : List Change) (places : List (Option Place)) → Gains 0 (place_at places key) (place_at (told_each changes places) key)
+told_gains : (key : ℕ) (changes : List Change) (places : List (Option Place))
+    → Gains 0 (place_at places key) (place_at (told_each changes places) key)
 told_gains key [] places = nothing (place_at places key)
 told_gains key (change ∷ changes) places =
     both 0 0 (place_at places key) (place_at (told_all change places) key) _
-    (subst (λ (o : Option Place). Gains 0 (place_at places key) o) (sym (told_all_at change places key)) (told_slot change (place_at places key)))
+    (subst (λ (o : Option Place). Gains 0 (place_at places key) o) (sym (told_all_at change places key))
+    (told_slot change (place_at places key)))
     (told_gains key changes (told_all change places))
 
 -- a change of one connection
-changed_gains : (n key : ℕ) (change : Place → Place) (places : List (Option Place)) → ((p : Place) → Gains n (Some p) (Some (change p))) → Gains n (place_at places key) (place_at (changed_places key change places) key)
+changed_gains : (n key : ℕ) (change : Place → Place) (places : List (Option Place)) → ((p : Place) → Gains n (Some p) (Some (change p)))
+    → Gains n (place_at places key) (place_at (changed_places key change places) key)
 changed_gains n key change places gains = by (place_at places key) refl
   where
     by : (o : Option Place) → place_at places key ≡ o → Gains n o (place_at (changed_in key change places o) key)
@@ -84,10 +93,17 @@ line_few moment (Go id) now h = length-reply_line-le moment (Go id) now h tt
 line_few moment (Shows shown) now h = length-reply_line-most moment (Shows shown) now h
 line_few moment (Refused code) now h = length-reply_line-le moment (Refused code) now h tt
 
-replied_gains : (key : ℕ) (reply : Reply) (held : Held) → IsMoment held.moment → IsWellFormedReply reply → Gains (longest reply) (at held key) (at (replied key reply held) key)
+replied_gains : (key : ℕ) (reply : Reply) (held : Held) → IsMoment held.moment → IsWellFormedReply reply
+    → Gains (longest reply) (at held key) (at (replied key reply held) key)
 replied_gains key reply held now h =
     changed_gains (longest reply) key (with_unsent (reply_line held.moment reply)) held.places
-    (λ p. record { few = let l = line_few held.moment reply now h in let a = length-append p.unsent (reply_line held.moment reply) in omega (arith, l, a); begun = refl })
+    (λ p.
+    record {
+      few = let l = line_few held.moment reply now h in
+          let a = length-append p.unsent (reply_line held.moment reply) in
+          omega (arith, l, a);
+      begun = refl;
+    })
 
 denied_gains : (key : ℕ) (held : Held) → IsMoment held.moment → Gains 64 (at held key) (at (denied_line key held) key)
 denied_gains key held now = replied_gains key (Refused C500) (one_denied held) now tt
@@ -95,60 +111,82 @@ denied_gains key held now = replied_gains key (Refused C500) (one_denied held) n
 begun_gains : (key id : ℕ) (mode : Mode) (held : Held) → Gains 0 (at held key) (at (session_begun key id mode held) key)
 begun_gains key id mode held =
     let mid = carried (began id held.moment mode ∷ []) (record held { last_id = id }) in
-    both 0 0 (at held key) (at mid key) (at (session_begun key id mode held) key) (told_gains key (map change_in (began id held.moment mode ∷ [])) held.places)
+    both 0 0 (at held key) (at mid key) (at (session_begun key id mode held) key)
+    (told_gains key (map change_in (began id held.moment mode ∷ [])) held.places)
     (changed_gains 0 key (entered_place id (panel_for mode)) mid.places (λ p. record { few = omega arith; begun = refl }))
 
-goes_gains : (granted : Bool) (key : ℕ) (mode : Mode) (held : Held) → IsMoment held.moment → Gains 64 (at held key) (at (goes granted key mode held) key)
+goes_gains : (granted : Bool) (key : ℕ) (mode : Mode) (held : Held) → IsMoment held.moment
+    → Gains 64 (at held key) (at (goes granted key mode held) key)
 goes_gains granted key mode held now = by (nat_lt held.last_id 4294967295) refl granted
   where
     low : nat_lt held.last_id 4294967295 ≡ true → held.last_id + 1 < 2 ^ 32
     low t = grind (arith, nat_tests)
 
     by : (t : Bool) → nat_lt held.last_id 4294967295 ≡ t → (granted : Bool)
-        → Gains 64 (at held key) (at (if t then (if granted then replied key (Go (held.last_id + 1)) (session_begun key (held.last_id + 1) mode held) else denied_line key held) else replied key (Refused C500) held) key)
+        → Gains 64 (at held key)
+        (at
+        (if t
+        then (if granted then replied key (Go (held.last_id + 1)) (session_begun key (held.last_id + 1) mode held)
+        else denied_line key held)
+        else replied key (Refused C500) held)
+        key)
     by true e true =
         both 0 64 (at held key) (at (session_begun key (held.last_id + 1) mode held) key) _ (begun_gains key (held.last_id + 1) mode held)
         (replied_gains key (Go (held.last_id + 1)) (session_begun key (held.last_id + 1) mode held) now (low e))
     by true e false = denied_gains key held now
     by false e granted = replied_gains key (Refused C500) held now tt
 
-greeted_gains : (granted : Bool) (key : ℕ) (mode : Mode) (greeting : Greeting) (held : Held) → IsMoment held.moment → Gains 64 (at held key) (at (greeted granted key mode greeting held) key)
+greeted_gains : (granted : Bool) (key : ℕ) (mode : Mode) (greeting : Greeting) (held : Held) → IsMoment held.moment
+    → Gains 64 (at held key) (at (greeted granted key mode greeting held) key)
 greeted_gains granted key mode Speaks held now = replied_gains key Protocol held now tt
 greeted_gains granted key mode (Chooses chosen) held now =
     let mid = changed_at key (λ p. record p { mode = chosen }) held in
-    both 0 64 (at held key) (at mid key) _ (changed_gains 0 key (λ p. record p { mode = chosen }) held.places (λ p. record { few = omega arith; begun = refl })) (replied_gains key ModeReply mid now tt)
+    both 0 64 (at held key) (at mid key) _
+    (changed_gains 0 key (λ p. record p { mode = chosen }) held.places (λ p. record { few = omega arith; begun = refl }))
+    (replied_gains key ModeReply mid now tt)
 greeted_gains granted key mode Goes held now = goes_gains granted key mode held now
 greeted_gains granted key mode (Refuses code) held now = replied_gains key (Refused code) held now tt
 
 finished_gains : (ends : Bool) (key session : ℕ) (held : Held) → Gains 0 (at held key) (at (finished ends key session held) key)
 finished_gains true key session held =
     let mid = changed_at key (λ p. record p { ended = true }) held in
-    both 0 0 (at held key) (at mid key) _ (changed_gains 0 key (λ p. record p { ended = true }) held.places (λ p. record { few = omega arith; begun = refl })) (told_gains key (map change_in (freed held.rows session held.moment)) mid.places)
+    both 0 0 (at held key) (at mid key) _
+    (changed_gains 0 key (λ p. record p { ended = true }) held.places (λ p. record { few = omega arith; begun = refl }))
+    (told_gains key (map change_in (freed held.rows session held.moment)) mid.places)
 finished_gains false key session held = nothing (at held key)
 
-obeyed_gains : (key session : ℕ) (did : Effect) (held : Held) → IsMoment held.moment → IsWellFormedReply did.reply → Gains 126 (at held key) (at (obeyed key session did held) key)
+obeyed_gains : (key session : ℕ) (did : Effect) (held : Held) → IsMoment held.moment → IsWellFormedReply did.reply
+    → Gains 126 (at held key) (at (obeyed key session did held) key)
 obeyed_gains key session did held now h =
     let mid = carried did.updates held in
     let end = replied key did.reply mid in
-    most (0 + (longest did.reply + 0)) 126 (at held key) (at (obeyed key session did held) key) (let l = longest_most did.reply in omega (arith, l))
-    (both 0 (longest did.reply + 0) (at held key) (at mid key) (at (obeyed key session did held) key) (told_gains key (map change_in did.updates) held.places)
-    (both (longest did.reply) 0 (at mid key) (at end key) (at (obeyed key session did held) key) (replied_gains key did.reply mid now h) (finished_gains did.ends key session end)))
+    most (0 + (longest did.reply + 0)) 126 (at held key) (at (obeyed key session did held) key)
+    (let l = longest_most did.reply in omega (arith, l))
+    (both 0 (longest did.reply + 0) (at held key) (at mid key) (at (obeyed key session did held) key)
+    (told_gains key (map change_in did.updates) held.places)
+    (both (longest did.reply) 0 (at mid key) (at end key) (at (obeyed key session did held) key) (replied_gains key did.reply mid now h)
+    (finished_gains did.ends key session end)))
 
 -- an answer adds no more than its longest, and leaves what is begun
-pub answered_gains : (granted : Bool) (key : ℕ) (asked : Asked) (held : Held) (p : Place) (mark : Mark) → at held key ≡ Some p → asked ≡ asked_of held.buses p mark → IsSound held
+pub answered_gains : (granted : Bool) (key : ℕ) (asked : Asked) (held : Held) (p : Place) (mark : Mark) → at held key ≡ Some p
+    → asked ≡ asked_of held.buses p mark → IsSound held
     → Gains (longest_answer asked) (at held key) (at (answered granted key asked held) key)
 answered_gains granted key asked held p mark there is s = by asked is
   where
-    by : (asked : Asked) → asked ≡ asked_of held.buses p mark → Gains (longest_answer asked) (at held key) (at (answered granted key asked held) key)
+    by : (asked : Asked) → asked ≡ asked_of held.buses p mark
+        → Gains (longest_answer asked) (at held key) (at (answered granted key asked held) key)
     by Dropped is = most 0 64 (at held key) (at held key) (omega arith) (nothing (at held key))
     by (Greets mode greeting) is = greeted_gains granted key mode greeting held s.moment
     by (Commands session (Err code)) is = replied_gains key (Refused code) held s.moment tt
     by (Commands session (Ok command)) is = given (granted || not (wants_memory held.rows session held.moment command))
       where
-        given : (t : Bool) → Gains 126 (at held key) (at (cond t (obeyed key session (effect held.rows session held.moment command) held) (denied_line key held)) key)
+        given : (t : Bool)
+            → Gains 126 (at held key)
+            (at (cond t (obeyed key session (effect held.rows session held.moment command) held) (denied_line key held)) key)
         given false = most 64 126 (at held key) (at (denied_line key held) key) (omega arith) (denied_gains key held s.moment)
         given true =
             let a = asked_by held.buses s.whole.laid_out p mark session (Ok command) is in
-            let row : is_there (session_device session) held.rows ≡ true = subst (λ n. is_there (session_device n) held.rows ≡ true) a.own (s.sessions.there key p there a.live) in
+            let row : is_there (session_device session) held.rows ≡ true =
+            subst (λ n. is_there (session_device n) held.rows ≡ true) a.own (s.sessions.there key p there a.live) in
             obeyed_gains key session (effect held.rows session held.moment command) held s.moment
             (reply_told held.buses held.rows s.whole session held.moment row s.moment command)

@@ -14,7 +14,8 @@ abbrev pub change_in : Update → Change
 change_in update = update.change
 
 module _ (buses : List Bus) (brings : State → List Update)
-    (later : (state : State) → IsWhole buses state → (update : Update) (updates : List Update) → brings state ≡ update ∷ updates → IsWhole buses (updated update state) × (brings (updated update state) ≡ updates))
+    (later : (state : State) → IsWhole buses state → (update : Update) (updates : List Update) → brings state ≡ update ∷ updates
+    → IsWhole buses (updated update state) × (brings (updated update state) ≡ updates))
     (tells : (state : State) → IsWhole buses state → CanBeTold (brings state))
   where
     -- after the first of the changes that a registry brings
@@ -25,7 +26,8 @@ module _ (buses : List Bus) (brings : State → List Update)
       pub fewer : length (brings new) < length (brings state)
       pub told : IsWellFormed change
 
-    pub goes_on : (state : State) → IsWhole buses state → (change : Change) (new : State) (places : List (Option Place)) → Some change ≡ option_map change_in (slice_get (brings state) 0)
+    pub goes_on : (state : State) → IsWhole buses state → (change : Change) (new : State) (places : List (Option Place))
+        → Some change ≡ option_map change_in (slice_get (brings state) 0)
         → new ≡ option_map_or (λ update. updated update state) (slice_get (brings state) 0) state → GoesOn state change new places
     goes_on state whole change new places is after = by (brings state) refl (tells state whole) is after
       where
@@ -39,7 +41,10 @@ module _ (buses : List Bus) (brings : State → List Update)
             record {
               whole = subst (IsWhole buses) (sym after) l.0;
               rows = ap (λ us. updated_all us new) left ∙ ap (updated_all updates) after ∙ sym (ap (λ us. updated_all us state) e);
-              slots = ap (λ us. told_each (map change_in us) (told_all change places)) left ∙ ap (λ c. told_each (map change_in updates) (told_all c places)) same ∙ sym (ap (λ us. told_each (map change_in us) places) e);
+              slots =
+                  ap (λ us. told_each (map change_in us) (told_all change places)) left
+                  ∙ ap (λ c. told_each (map change_in updates) (told_all c places)) same
+                  ∙ sym (ap (λ us. told_each (map change_in us) places) e);
               fewer = let a = ap (λ us. length us) left in let b = ap (λ us. length us) e in omega (arith, a, b);
               told = subst IsWellFormed (sym same) t.0;
             }
@@ -49,7 +54,8 @@ module _ (buses : List Bus) (brings : State → List Update)
       pub nothing : brings state ≡ []
       pub same : new ≡ state
 
-    pub stops : (state new : State) → None ≡ option_map change_in (slice_get (brings state) 0) → new ≡ option_map_or (λ update. updated update state) (slice_get (brings state) 0) state → Stops state new
+    pub stops : (state new : State) → None ≡ option_map change_in (slice_get (brings state) 0)
+        → new ≡ option_map_or (λ update. updated update state) (slice_get (brings state) 0) state → Stops state new
     stops state new is after = by (brings state) refl is after
       where
         by : (updates : List Update) → brings state ≡ updates → None ≡ option_map change_in (slice_get updates 0)

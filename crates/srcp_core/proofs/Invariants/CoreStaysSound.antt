@@ -1,5 +1,6 @@
 -- What holds of every core is kept.
-use Rattle.std.proofs.Common.{inl, inr, ◌⊎◌, ◌≡◌, ◌≢◌, ℕ, ◌+◌, ◌<◌, ◌≤◌, Bool, true, false, List, [], ◌∷◌, map, refl, ap, sym, ◌∙◌, subst, arith}
+use Rattle.std.proofs.Common.{inl, inr, ◌⊎◌, ◌≡◌, ◌≢◌, ℕ, ◌+◌, ◌<◌, ◌≤◌, Bool, true, false, List, [], ◌∷◌, map, refl, ap, sym, ◌∙◌, subst}
+use Rattle.std.proofs.Common.{arith}
 use Rattle.std.specs.Prelude.{◌==◌, ◌&&◌, ◌||◌, if◌then◌else◌, Option, Some, None, is_some, slice_set, count_by}
 use Rattle.srcp_info.specs.Key.{first_key}
 use Rattle.srcp_info.specs.WellFormed.{IsMoment}
@@ -25,14 +26,18 @@ use Rattle.std.proofs.lemmas.Bool.{le-leb, eqb-false}
 use Rattle.std.proofs.Math.Nat.{pos_of_ne-zero}
 use Rattle.srcp_core.specs.declared.connection.Panel.{Panel}
 use Rattle.srcp_core.specs.declared.connection.Panel.TheVariants.{Absent, Listening, Overran}
-use Rattle.srcp_core.specs.Machine.{changed_at, changed_in, changed_places, carried, told_all, told_each, freed_of, freed_place, entered_place, session_begun, filled, filled_from, live_session_of, feed_in, is_panel, panel_for}
+use Rattle.srcp_core.specs.Machine.{changed_at, changed_in, changed_places, carried, told_all, told_each, freed_of, freed_place}
+use Rattle.srcp_core.specs.Machine.{entered_place, session_begun, filled, filled_from, live_session_of, feed_in, is_panel, panel_for}
 use Rattle.srcp_info.specs.declared.change.Shown.{Shown}
 use Rattle.srcp_core.proofs.Invariants.ChangesOneByOne.{change_in}
-use Rattle.srcp_core.proofs.Invariants.PlacesCover.{IsMild, mild_itself, mild_live, Covers, covers_itself, covers_set, covers_free, covers_told_each, told_each_count, set_count, free_other, sessions_covered, place_set, place_set_here, where_is, Where, Here, Away, no_place}
+use Rattle.srcp_core.proofs.Invariants.PlacesCover.{IsMild, mild_itself, mild_live, Covers, covers_itself, covers_set, covers_free}
+use Rattle.srcp_core.proofs.Invariants.PlacesCover.{covers_told_each, told_each_count, set_count, free_other, sessions_covered, place_set}
+use Rattle.srcp_core.proofs.Invariants.PlacesCover.{place_set_here, where_is, Where, Here, Away, no_place}
 use Rattle.srcp_core.proofs.Invariants.SessionRows.{no_session-opening}
 use Rattle.srcp_rules.proofs.OpeningLaws.{opening_whole}
 
-pub sound_opening : (buses : List Bus) → IsLayout buses → (moment : ℕ) → IsMoment moment → (last_id : ℕ) (state : State) → state ≡ opening buses moment → (places : List (Option Place)) → places ≡ []
+pub sound_opening : (buses : List Bus) → IsLayout buses → (moment : ℕ) → IsMoment moment → (last_id : ℕ) (state : State)
+    → state ≡ opening buses moment → (places : List (Option Place)) → places ≡ []
     → IsSound (record { buses = buses; rows = state; moment = moment; last_id = last_id; places = places; denied = 0 })
 sound_opening buses layout moment now last_id state is places none = record {
   moment = now;
@@ -48,31 +53,42 @@ sound_opening buses layout moment now last_id state is places none = record {
 
 -- ---- places
 
-pub sound_places : (held : Held) (places : List (Option Place)) → Covers held.places places → count_by is_some places ≤ count_by is_some held.places → IsSound held → IsSound (record held { places = places })
-sound_places held places covers fewer s = record { moment = s.moment; few = omega (arith, s.few, fewer); whole = s.whole; sessions = sessions_covered held.last_id held.rows held.places places covers s.sessions }
+pub sound_places : (held : Held) (places : List (Option Place)) → Covers held.places places
+    → count_by is_some places ≤ count_by is_some held.places → IsSound held → IsSound (record held { places = places })
+sound_places held places covers fewer s = record {
+  moment = s.moment;
+  few = omega (arith, s.few, fewer);
+  whole = s.whole;
+  sessions = sessions_covered held.last_id held.rows held.places places covers s.sessions;
+}
 
-pub covers_changed : (key : ℕ) (change : Place → Place) (places : List (Option Place)) → ((p : Place) → IsMild p (change p)) → Covers places (changed_places key change places)
+pub covers_changed : (key : ℕ) (change : Place → Place) (places : List (Option Place)) → ((p : Place) → IsMild p (change p))
+    → Covers places (changed_places key change places)
 covers_changed key change places mild = by (place_at places key) refl
   where
     by : (o : Option Place) → place_at places key ≡ o → Covers places (changed_in key change places o)
     by None e = covers_itself places
     by (Some p) e = covers_set places key p (change p) e (mild p)
 
-pub changed_count : (key : ℕ) (change : Place → Place) (places : List (Option Place)) → count_by is_some (changed_places key change places) ≡ count_by is_some places
+pub changed_count : (key : ℕ) (change : Place → Place) (places : List (Option Place))
+    → count_by is_some (changed_places key change places) ≡ count_by is_some places
 changed_count key change places = by (place_at places key) refl
   where
     by : (o : Option Place) → place_at places key ≡ o → count_by is_some (changed_in key change places o) ≡ count_by is_some places
     by None e = refl
     by (Some p) e = set_count places key p (change p) e
 
-pub sound_changed_at : (key : ℕ) (change : Place → Place) (held : Held) → ((p : Place) → IsMild p (change p)) → IsSound held → IsSound (changed_at key change held)
+pub sound_changed_at : (key : ℕ) (change : Place → Place) (held : Held) → ((p : Place) → IsMild p (change p)) → IsSound held
+    → IsSound (changed_at key change held)
 sound_changed_at key change held mild s =
     sound_places held (changed_places key change held.places) (covers_changed key change held.places mild)
     (let c = changed_count key change held.places in omega (arith, c)) s
 
 -- ---- changes of the registry
 
-pub sound_carried : (updates : List Update) (held : Held) → IsWhole held.buses (updated_all updates held.rows) → ((id : ℕ) → is_there (session_device id) (updated_all updates held.rows) ≡ is_there (session_device id) held.rows) → IsSound held → IsSound (carried updates held)
+pub sound_carried : (updates : List Update) (held : Held) → IsWhole held.buses (updated_all updates held.rows)
+    → ((id : ℕ) → is_there (session_device id) (updated_all updates held.rows) ≡ is_there (session_device id) held.rows) → IsSound held
+    → IsSound (carried updates held)
 sound_carried updates held whole same s =
     let places = told_each (map change_in updates) held.places in
     let a = sessions_covered held.last_id held.rows held.places places (covers_told_each (map change_in updates) held.places) s.sessions in
@@ -80,15 +96,26 @@ sound_carried updates held whole same s =
       moment = s.moment;
       few = let c = told_each_count (map change_in updates) held.places in omega (arith, c, s.few);
       whole = whole;
-      sessions = record { ids = a.ids; apart = a.apart; there = λ key p e live. same p.session ∙ a.there key p e live; later = λ id low. same id ∙ a.later id low };
+      sessions = record {
+        ids = a.ids;
+        apart = a.apart;
+        there = λ key p e live. same p.session ∙ a.there key p e live;
+        later = λ id low. same id ∙ a.later id low;
+      };
     }
 
 -- a command of a session that has its row
-pub sound_obeyed : (session moment : ℕ) (command : Command) (held : Held) → IsMoment moment → IsCommandOf held.buses command → is_there (session_device session) held.rows ≡ true → IsSound held
+pub sound_obeyed : (session moment : ℕ) (command : Command) (held : Held) → IsMoment moment → IsCommandOf held.buses command
+    → is_there (session_device session) held.rows ≡ true → IsSound held
     → IsSound (carried (effect held.rows session moment command).updates held)
 sound_obeyed session moment command held now of begun s =
-    sound_carried (effect held.rows session moment command).updates held (effect_kept held.buses held.rows s.whole session moment begun now command of)
-    (λ id. ap is_some (session_row-updated_all (effect held.rows session moment command).updates held.rows id (effect_elsewhere held.rows session moment command))) s
+    sound_carried (effect held.rows session moment command).updates held
+    (effect_kept held.buses held.rows s.whole session moment begun now command of)
+    (λ id.
+    ap is_some
+    (session_row-updated_all (effect held.rows session moment command).updates held.rows id
+    (effect_elsewhere held.rows session moment command)))
+    s
 
 pub sound_due : (moment : ℕ) (held : Held) → IsMoment moment → IsSound held → IsSound (carried (due held.rows moment) held)
 sound_due moment held now s =
@@ -99,13 +126,15 @@ sound_due moment held now s =
 abbrev pub IsOver : ℕ → List (Option Place) → Type 0
 IsOver session places = (key : ℕ) (p : Place) → place_at places key ≡ Some p → IsLive p → p.session ≢ session
 
-pub sound_freed : (session : ℕ) (held : Held) → IsMoment held.moment → session ≤ held.last_id → IsOver session held.places → IsSound held → IsSound (freed_of session held)
+pub sound_freed : (session : ℕ) (held : Held) → IsMoment held.moment → session ≤ held.last_id → IsOver session held.places → IsSound held
+    → IsSound (freed_of session held)
 sound_freed session held now known over s =
     let updates = freed held.rows session held.moment in
     let places = told_each (map change_in updates) held.places in
     let covers = covers_told_each (map change_in updates) held.places in
     let a = sessions_covered held.last_id held.rows held.places places covers s.sessions in
-    let others : (id : ℕ) → id ≢ session → is_there (session_device id) (updated_all updates held.rows) ≡ is_there (session_device id) held.rows =
+    let others : (id : ℕ) → id ≢ session
+    → is_there (session_device id) (updated_all updates held.rows) ≡ is_there (session_device id) held.rows =
     λ id apart. ap is_some (freed_others held.buses held.rows s.whole held.moment session id apart) in
     record {
       moment = s.moment;
@@ -114,7 +143,11 @@ sound_freed session held now known over s =
       sessions = record {
         ids = a.ids;
         apart = a.apart;
-        there = λ key p e live. others p.session (λ is. let c = covers key p e in over key c.p c.there (mild_live c.p p c.mild live) (sym c.mild.session ∙ is)) ∙ a.there key p e live;
+        there =
+            λ key p e live.
+            others p.session
+            (λ is. let c = covers key p e in over key c.p c.there (mild_live c.p p c.mild live) (sym c.mild.session ∙ is))
+            ∙ a.there key p e live;
         later = λ id low. others id (λ is. higher id low is) ∙ a.later id low;
       };
     }
@@ -134,36 +167,52 @@ session_place buses id low high = subst (λ t. 0 < rows_if t 1) (sym within) one
     within = λ i. le-leb 1 id (omega (arith, low)) i && le-leb id 4294967295 high i
 
 own_row : (id moment : ℕ) (mode : Mode) (rows : State) → is_there (session_device id) (updated (began id moment mode) rows) ≡ true
-own_row id moment mode rows = ap is_some (row_at-put_same (record { shown = record { key = first_key (session_device id); stamp = moment; value = value.Session mode }; due = None }) rows)
+own_row id moment mode rows =
+    ap is_some
+    (row_at-put_same
+    (record { shown = record { key = first_key (session_device id); stamp = moment; value = value.Session mode }; due = None })
+    rows)
 
-other_row : (id other moment : ℕ) (mode : Mode) (rows : State) → other ≢ id → is_there (session_device other) (updated (began id moment mode) rows) ≡ is_there (session_device other) rows
+other_row : (id other moment : ℕ) (mode : Mode) (rows : State) → other ≢ id
+    → is_there (session_device other) (updated (began id moment mode) rows) ≡ is_there (session_device other) rows
 other_row id other moment mode rows apart =
-    ap is_some (row_at-put_other (first_key (session_device other)) (record { shown = record { key = first_key (session_device id); stamp = moment; value = value.Session mode }; due = None }) rows
+    ap is_some
+    (row_at-put_other (first_key (session_device other))
+    (record { shown = record { key = first_key (session_device id); stamp = moment; value = value.Session mode }; due = None }) rows
     (by (same_key (first_key (session_device id)) (first_key (session_device other))) refl))
   where
     by : (t : Bool) → same_key (first_key (session_device id)) (first_key (session_device other)) ≡ t → t ≡ false
-    by true e = absurd (apart (sym (ap (λ k. k.address) (same_key-true (first_key (session_device id)) (first_key (session_device other)) e))))
+    by true e =
+        absurd (apart (sym (ap (λ k. k.address) (same_key-true (first_key (session_device id)) (first_key (session_device other)) e))))
     by false e = refl
 
 -- a place is the one whose session begins, or it was there
 abbrev IsOneOf : List (Option Place) → ℕ → ℕ → ℕ → Place → Type 0
 IsOneOf places key id m q = ((m ≡ key) × (q.session ≡ id)) ⊎ (place_at places m ≡ Some q)
 
-entered_from : (places : List (Option Place)) (key id : ℕ) (mode : Mode) (m : ℕ) (q : Place) → place_at (changed_places key (entered_place id (panel_for mode)) places) m ≡ Some q → IsOneOf places key id m q
+entered_from : (places : List (Option Place)) (key id : ℕ) (mode : Mode) (m : ℕ) (q : Place)
+    → place_at (changed_places key (entered_place id (panel_for mode)) places) m ≡ Some q → IsOneOf places key id m q
 entered_from places key id mode m q e = by (place_at places key) refl e
   where
-    by : (o : Option Place) → place_at places key ≡ o → place_at (changed_in key (entered_place id (panel_for mode)) places o) m ≡ Some q → IsOneOf places key id m q
+    by : (o : Option Place) → place_at places key ≡ o → place_at (changed_in key (entered_place id (panel_for mode)) places o) m ≡ Some q
+        → IsOneOf places key id m q
     by None at e = inr e
     by (Some p) at e = place (where_is m key)
       where
         place : Where m key → IsOneOf places key id m q
         place (Here s) =
-            let here : place_at (slice_set places key (Some (entered_place id (panel_for mode) p))) m ≡ Some (entered_place id (panel_for mode) p) = subst (λ k. place_at (slice_set places key (Some (entered_place id (panel_for mode) p))) k ≡ Some (entered_place id (panel_for mode) p)) (sym s) (place_set_here places key p (Some (entered_place id (panel_for mode) p)) at) in
+            let here : place_at (slice_set places key (Some (entered_place id (panel_for mode) p))) m
+            ≡ Some (entered_place id (panel_for mode) p) =
+            subst (λ k. place_at (slice_set places key (Some (entered_place id (panel_for mode) p))) k
+            ≡ Some (entered_place id (panel_for mode) p))
+            (sym s) (place_set_here places key p (Some (entered_place id (panel_for mode) p)) at) in
             let same : entered_place id (panel_for mode) p ≡ q = cc in
             inl (s, sym (ap (λ (r : Place). r.session) same))
         place (Away f) = inr (sym (place_set places key m (Some (entered_place id (panel_for mode) p)) f) ∙ e)
 
-sessions_begun : (last id key : ℕ) (rows new : State) (old places : List (Option Place)) → id ≡ last + 1 → ((other : ℕ) → other ≢ id → is_there (session_device other) new ≡ is_there (session_device other) rows) → is_there (session_device id) new ≡ true
+sessions_begun : (last id key : ℕ) (rows new : State) (old places : List (Option Place)) → id ≡ last + 1
+    → ((other : ℕ) → other ≢ id → is_there (session_device other) new ≡ is_there (session_device other) rows)
+    → is_there (session_device id) new ≡ true
     → ((m : ℕ) (q : Place) → place_at places m ≡ Some q → IsOneOf old key id m q) → AreSessions last rows old → AreSessions id new places
 sessions_begun last id key rows new old places next others own from a = record {
   ids = λ m q e. fits m q (from m q e);
@@ -192,33 +241,44 @@ sessions_begun last id key rows new old places next others own from a = record {
     row m q live (inl h) = ap (λ s. is_there (session_device s) new) h.1 ∙ own
     row m q live (inr h) = others q.session (older m q h) ∙ a.there m q h live
 
-pub sound_begun : (key id : ℕ) (mode : Mode) (held : Held) → IsMoment held.moment → id ≡ held.last_id + 1 → id ≤ 4294967295 → IsSound held → IsSound (session_begun key id mode held)
+pub sound_begun : (key id : ℕ) (mode : Mode) (held : Held) → IsMoment held.moment → id ≡ held.last_id + 1 → id ≤ 4294967295 → IsSound held
+    → IsSound (session_begun key id mode held)
 sound_begun key id mode held now next high s =
     let update = began id held.moment mode in
     let mid : Held = carried (update ∷ []) (record held { last_id = id }) in
-    let covered = sessions_covered held.last_id held.rows held.places mid.places (covers_told_each (map change_in (update ∷ [])) held.places) s.sessions in
+    let covered =
+    sessions_covered held.last_id held.rows held.places mid.places
+    (covers_told_each (map change_in (update ∷ [])) held.places) s.sessions in
     let told = told_each_count (map change_in (update ∷ [])) held.places in
     let count = changed_count key (entered_place id (panel_for mode)) mid.places in
     record {
       moment = s.moment;
       few = omega (arith, s.few, told, count);
       whole = began_kept held.buses held.moment now id mode held.rows (session_place held.buses id (omega (arith, next)) high) s.whole;
-      sessions = sessions_begun held.last_id id key held.rows mid.rows mid.places (changed_places key (entered_place id (panel_for mode)) mid.places) next (λ other apart. other_row id other held.moment mode held.rows apart) (own_row id held.moment mode held.rows) (entered_from mid.places key id mode) covered;
+      sessions =
+          sessions_begun held.last_id id key held.rows mid.rows mid.places
+          (changed_places key (entered_place id (panel_for mode)) mid.places) next
+          (λ other apart. other_row id other held.moment mode held.rows apart) (own_row id held.moment mode held.rows)
+          (entered_from mid.places key id mode) covered;
     }
 
 -- ---- the end of a connection
 
-pub sound_free : (key : ℕ) (held : Held) (p : Place) → at held key ≡ Some p → open_count (freed_place key held) ≤ open_count held → IsSound held → IsSound (freed_place key held)
+pub sound_free : (key : ℕ) (held : Held) (p : Place) → at held key ≡ Some p → open_count (freed_place key held) ≤ open_count held
+    → IsSound held → IsSound (freed_place key held)
 sound_free key held p e fewer s = sound_places held (slice_set held.places key None) (covers_free held.places key p e) fewer s
 
 -- no other connection has the session of the one that is gone
-pub over_free : (key : ℕ) (held : Held) (p : Place) → at held key ≡ Some p → 0 < p.session → IsSound held → IsOver p.session (slice_set held.places key None)
+pub over_free : (key : ℕ) (held : Held) (p : Place) → at held key ≡ Some p → 0 < p.session → IsSound held
+    → IsOver p.session (slice_set held.places key None)
 over_free key held p e began s m q f live same =
     let c = covers_free held.places key p e m q f in
-    free_other held.places key p e m q f (s.sessions.apart m key c.p p c.there e (subst (λ n. 0 < n) c.mild.session live.began) (sym c.mild.session ∙ same))
+    free_other held.places key p e m q f
+    (s.sessions.apart m key c.p p c.there e (subst (λ n. 0 < n) c.mild.session live.began) (sym c.mild.session ∙ same))
 
 -- and none has that of a connection whose session ended
-pub over_ended : (key : ℕ) (held : Held) (p : Place) → at held key ≡ Some p → 0 < p.session → p.ended ≡ true → IsSound held → IsOver p.session held.places
+pub over_ended : (key : ℕ) (held : Held) (p : Place) → at held key ≡ Some p → 0 < p.session → p.ended ≡ true → IsSound held
+    → IsOver p.session held.places
 over_ended key held p e began ended s m q f live same =
     let k : m ≡ key = s.sessions.apart m key q p f e live.began same in
     let is : Some q ≡ Some p = sym f ∙ ap (place_at held.places) k ∙ e in
@@ -230,36 +290,50 @@ over_ended key held p e began ended s m q f live same =
 
 -- ---- as the calls find it
 
-pub sound_set : (held : Held) (places : List (Option Place)) (key : ℕ) (change : Place → Place) → ((p : Place) → IsMild p (change p)) → places ≡ changed_places key change held.places → IsSound held → IsSound (record held { places = places })
-sound_set held places key change mild is s = subst (λ (ps : List (Option Place)). IsSound (record held { places = ps })) (sym is) (sound_changed_at key change held mild s)
+pub sound_set : (held : Held) (places : List (Option Place)) (key : ℕ) (change : Place → Place) → ((p : Place) → IsMild p (change p))
+    → places ≡ changed_places key change held.places → IsSound held → IsSound (record held { places = places })
+sound_set held places key change mild is s =
+    subst (λ (ps : List (Option Place)). IsSound (record held { places = ps })) (sym is) (sound_changed_at key change held mild s)
 
-pub begun_is : (held : Held) (key id : ℕ) (mode : Mode) (panel : Panel) (rows : State) (change : Change) (told places : List (Option Place)) → panel ≡ panel_for mode → rows ≡ updated (began id held.moment mode) held.rows → change ≡ (began id held.moment mode).change
-    → told ≡ told_all change held.places → places ≡ changed_places key (entered_place id panel) told → record held { rows = rows; last_id = id; places = places } ≡ session_begun key id mode held
+pub begun_is : (held : Held) (key id : ℕ) (mode : Mode) (panel : Panel) (rows : State) (change : Change) (told places : List (Option Place))
+    → panel ≡ panel_for mode → rows ≡ updated (began id held.moment mode) held.rows → change ≡ (began id held.moment mode).change
+    → told ≡ told_all change held.places → places ≡ changed_places key (entered_place id panel) told
+    → record held { rows = rows; last_id = id; places = places } ≡ session_begun key id mode held
 begun_is held key id mode panel rows change told places e r c t p =
     ap (λ (s : State). let h : Held = record held { rows = s; last_id = id; places = places } in h) r
-    ∙ ap (λ (ps : List (Option Place)). let h : Held = record held { rows = updated (began id held.moment mode) held.rows; last_id = id; places = ps } in h)
-    (p ∙ ap (λ panel. changed_places key (entered_place id panel) told) e ∙ ap (changed_places key (entered_place id (panel_for mode))) (t ∙ ap (λ (d : Change). told_all d held.places) c))
+    ∙ ap (λ (ps : List (Option Place)).
+    let h : Held = record held { rows = updated (began id held.moment mode) held.rows; last_id = id; places = ps } in
+    h)
+    (p ∙ ap (λ panel. changed_places key (entered_place id panel) told) e
+    ∙ ap (changed_places key (entered_place id (panel_for mode))) (t ∙ ap (λ (d : Change). told_all d held.places) c))
 
-pub sound_carried_as : (held : Held) (updates : List Update) (rows : State) (places : List (Option Place)) → rows ≡ updated_all updates held.rows → places ≡ told_each (map change_in updates) held.places → IsSound (carried updates held)
+pub sound_carried_as : (held : Held) (updates : List Update) (rows : State) (places : List (Option Place))
+    → rows ≡ updated_all updates held.rows → places ≡ told_each (map change_in updates) held.places → IsSound (carried updates held)
     → IsSound (record held { rows = rows; places = places })
 sound_carried_as held updates rows places r p s =
     subst (λ (ps : List (Option Place)). IsSound (record held { rows = rows; places = ps })) (sym p)
     (subst (λ (st : State). IsSound (record held { rows = st; places = told_each (map change_in updates) held.places })) (sym r) s)
 
 -- a connection's session ends by its own command
-pub sound_ended : (key session : ℕ) (held : Held) → IsMoment held.moment → IsSessionAt session key held → IsSound held → IsSound (freed_of session (changed_at key (λ p. record p { ended = true }) held))
+pub sound_ended : (key session : ℕ) (held : Held) → IsMoment held.moment → IsSessionAt session key held → IsSound held
+    → IsSound (freed_of session (changed_at key (λ p. record p { ended = true }) held))
 sound_ended key session held now here s =
     let ends : Place → Place = λ p. record p { ended = true } in
     let later = sound_changed_at key ends held (λ p. record { session = refl; ended = λ h. no_end p h; panel = refl }) s in
     let now_there : at (changed_at key ends held) key ≡ Some (ends here.place) = ended_here here.place here.here in
     sound_freed session (changed_at key ends held) now (subst (λ n. n ≤ held.last_id) here.own (s.sessions.ids key here.place here.here))
-    (subst (λ n. IsOver n (changed_at key ends held).places) here.own (over_ended key (changed_at key ends held) (ends here.place) now_there here.live.began refl later)) later
+    (subst (λ n. IsOver n (changed_at key ends held).places) here.own
+    (over_ended key (changed_at key ends held) (ends here.place) now_there here.live.began refl later))
+    later
   where
     no_end : (p : Place) → true ≡ false → p.ended ≡ false
     no_end p h = cc
 
-    ended_here : (p : Place) → at held key ≡ Some p → place_at (changed_in key (λ q. record q { ended = true }) held.places (at held key)) key ≡ Some (record p { ended = true })
-    ended_here p e = ap (λ (o : Option Place). place_at (changed_in key (λ q. record q { ended = true }) held.places o) key) e ∙ place_set_here held.places key p (Some (record p { ended = true })) e
+    ended_here : (p : Place) → at held key ≡ Some p
+        → place_at (changed_in key (λ q. record q { ended = true }) held.places (at held key)) key ≡ Some (record p { ended = true })
+    ended_here p e =
+        ap (λ (o : Option Place). place_at (changed_in key (λ q. record q { ended = true }) held.places o) key) e
+        ∙ place_set_here held.places key p (Some (record p { ended = true })) e
 
 pub sound_moment : (held : Held) (moment : ℕ) → IsMoment moment → IsSound held → IsSound (record held { moment = moment })
 sound_moment held moment now s = record { moment = now; few = s.few; whole = s.whole; sessions = s.sessions }
@@ -267,13 +341,16 @@ sound_moment held moment now s = record { moment = now; few = s.few; whole = s.w
 pub live_session_is : (p : Place) (session : ℕ) → Some session ≡ live_session_of (Some p) → (session ≡ p.session) × (0 < session)
 live_session_is p session e = by (p.session == 0) refl p.ended e
   where
-    by : (none : Bool) → (p.session == 0) ≡ none → (ended : Bool) → Some session ≡ (if none || ended then None else Some p.session) → (session ≡ p.session) × (0 < session)
+    by : (none : Bool) → (p.session == 0) ≡ none → (ended : Bool) → Some session ≡ (if none || ended then None else Some p.session)
+        → (session ≡ p.session) × (0 < session)
     by true q ended e = cc
     by false q true e = cc
-    by false q false e = let own : session ≡ p.session = cc in (own, subst (λ n. 0 < n) (sym own) (pos_of_ne-zero (eqb-false p.session 0 q)))
+    by false q false e =
+        let own : session ≡ p.session = cc in (own, subst (λ n. 0 < n) (sym own) (pos_of_ne-zero (eqb-false p.session 0 q)))
 
 -- a connection that is taken out, and then its session
-pub sound_hung_up : (key : ℕ) (held : Held) (p : Place) (session : ℕ) → at held key ≡ Some p → session ≡ p.session → 0 < session → open_count (freed_place key held) ≤ open_count held → IsSound held → IsSound (freed_of session (freed_place key held))
+pub sound_hung_up : (key : ℕ) (held : Held) (p : Place) (session : ℕ) → at held key ≡ Some p → session ≡ p.session → 0 < session
+    → open_count (freed_place key held) ≤ open_count held → IsSound held → IsSound (freed_of session (freed_place key held))
 sound_hung_up key held p session e own began fewer s =
     sound_freed session (freed_place key held) s.moment (subst (λ n. n ≤ held.last_id) (sym own) (s.sessions.ids key p e))
     (subst (λ n. IsOver n (freed_place key held).places) (sym own) (over_free key held p e (subst (λ n. 0 < n) own began) s))
@@ -288,6 +365,8 @@ filled_mild rows p = by p.unsent p.panel refl
     by [] (Listening feed) e = record { session = refl; ended = λ h. h; panel = ap is_panel (sym e) }
     by [] Overran e = mild_itself p
 
-pub sound_place : (key : ℕ) (held : Held) (p q : Place) → at held key ≡ Some p → IsMild p q → IsSound held → IsSound (record held { places = slice_set held.places key (Some q) })
+pub sound_place : (key : ℕ) (held : Held) (p q : Place) → at held key ≡ Some p → IsMild p q → IsSound held
+    → IsSound (record held { places = slice_set held.places key (Some q) })
 sound_place key held p q e mild s =
-    sound_places held (slice_set held.places key (Some q)) (covers_set held.places key p q e mild) (let c = set_count held.places key p q e in omega (arith, c)) s
+    sound_places held (slice_set held.places key (Some q)) (covers_set held.places key p q e mild)
+    (let c = set_count held.places key p q e in omega (arith, c)) s

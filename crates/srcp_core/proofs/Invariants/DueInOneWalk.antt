@@ -38,14 +38,17 @@ all_ahead [] = tt
 all_ahead (update ∷ updates) = (refl, all_ahead updates)
 
 -- the first of them is the first beyond the cursor
-pub first_ahead : (at : Cursor) (updates : List Update) → AreAhead at updates → find (λ update. not (has_reached at (update_key update))) updates ≡ slice_get updates 0
+pub first_ahead : (at : Cursor) (updates : List Update) → AreAhead at updates
+    → find (λ update. not (has_reached at (update_key update))) updates ≡ slice_get updates 0
 first_ahead at [] h = refl
 first_ahead at (update ∷ updates) h = rw h.0 refl
 
 -- past the first the others are ahead
-pub others_ahead : (update : Update) (updates : List Update) → IsRisingBy update_key (update ∷ updates) → AreAhead (After (update_key update)) updates
+pub others_ahead : (update : Update) (updates : List Update) → IsRisingBy update_key (update ∷ updates)
+    → AreAhead (After (update_key update)) updates
 others_ahead update updates rising =
-    all_weaker (λ other. key_cmp (update_key update) (update_key other) ≡ Less) (λ other. has_reached (After (update_key update)) (update_key other) ≡ false)
+    all_weaker (λ other. key_cmp (update_key update) (update_key other) ≡ Less)
+    (λ other. has_reached (After (update_key update)) (update_key other) ≡ false)
     (λ other less. ap not (after_from_less (update_key other) (update_key update) less)) updates rising.0
 
 -- ---- they rise
@@ -54,7 +57,8 @@ module _ (brings : Row → Update) where
   abbrev IsAtRow : Row → Type 0
   IsAtRow row = update_key (brings row) ≡ row.shown.key
 
-  brought_above : (row : Row) (rows : List Row) → IsAtRow row → AllByRecursion (λ other. key_cmp row.shown.key other.shown.key ≡ Less) rows → AllByRecursion IsAtRow rows
+  brought_above : (row : Row) (rows : List Row) → IsAtRow row → AllByRecursion (λ other. key_cmp row.shown.key other.shown.key ≡ Less) rows
+      → AllByRecursion IsAtRow rows
       → AllByRecursion (λ other. key_cmp (update_key (brings row)) (update_key other) ≡ Less) (map brings rows)
   brought_above row [] here above same = tt
   brought_above row (other ∷ rows) here above same = (rw (here, same.0) above.0, brought_above row rows here above.1 same.1)
@@ -68,7 +72,8 @@ due_rise buses state whole moment =
     let brings = λ (row : Row). due_change moment row.shown.key row.shown.value in
     brought_rise brings (filter (is_due moment) state)
     (all_weaker (λ row. IsRowOf buses row × (is_due moment row ≡ true)) (IsAtRow brings)
-    (λ row h. change_key moment row.shown.key row.shown.value (due_may moment row row.due refl h.0.due h.1) h.0.shown.value) (filter (is_due moment) state)
+    (λ row h. change_key moment row.shown.key row.shown.value (due_may moment row row.due refl h.0.due h.1) h.0.shown.value)
+    (filter (is_due moment) state)
     (each_filtered (IsRowOf buses) (is_due moment) state (each_of buses state whole)))
     (rising_filter row_key (is_due moment) state whole.rising)
 
@@ -78,7 +83,8 @@ module _ (buses : List Bus) (moment : ℕ) (now : IsMoment moment) where
   abbrev pub brings : State → List Update
   brings state = due state moment
 
-  abbrev pub later : (state : State) → IsWhole buses state → (update : Update) (updates : List Update) → brings state ≡ update ∷ updates → IsWhole buses (updated update state) × (brings (updated update state) ≡ updates)
+  abbrev pub later : (state : State) → IsWhole buses state → (update : Update) (updates : List Update) → brings state ≡ update ∷ updates
+      → IsWhole buses (updated update state) × (brings (updated update state) ≡ updates)
   later state whole = due_later buses state whole moment now
 
   abbrev pub tells : (state : State) → IsWhole buses state → CanBeTold (brings state)
@@ -88,28 +94,35 @@ module _ (buses : List Bus) (moment : ℕ) (now : IsMoment moment) where
     first : due_after state moment at ≡ slice_get (due state moment) 0
     first = first_ahead at (due state moment) ahead
 
-    after_first : (new : State) → new ≡ updated_if (due_after state moment at) state → new ≡ option_map_or (λ update. updated update state) (slice_get (due state moment) 0) state
+    after_first : (new : State) → new ≡ updated_if (due_after state moment at) state
+        → new ≡ option_map_or (λ update. updated update state) (slice_get (due state moment) 0) state
     after_first new after = after ∙ ap (λ (o : Option Update). option_map_or (λ update. updated update state) o state) first
 
     -- after the first of the changes that the moment brings beyond the cursor
-    pub due_goes_on : IsWhole buses state → (change : Change) (new : State) (places : List (Option Place)) → Some change ≡ option_map change_in (due_after state moment at)
+    pub due_goes_on : IsWhole buses state → (change : Change) (new : State) (places : List (Option Place))
+        → Some change ≡ option_map change_in (due_after state moment at)
         → new ≡ updated_if (due_after state moment at) state → GoesOn buses brings later tells state change new places
-    due_goes_on whole change new places is after = goes_on buses brings later tells state whole change new places (is ∙ ap (option_map change_in) first) (after_first new after)
+    due_goes_on whole change new places is after =
+        goes_on buses brings later tells state whole change new places (is ∙ ap (option_map change_in) first) (after_first new after)
 
     -- where there is none, nothing is left
-    pub due_stops : (new : State) → None ≡ option_map change_in (due_after state moment at) → new ≡ updated_if (due_after state moment at) state → Stops buses brings later tells state new
+    pub due_stops : (new : State) → None ≡ option_map change_in (due_after state moment at)
+        → new ≡ updated_if (due_after state moment at) state → Stops buses brings later tells state new
     due_stops new is after = stops buses brings later tells state new (is ∙ ap (option_map change_in) first) (after_first new after)
 
     -- past the first the others are ahead
-    pub due_ahead : IsWhole buses state → (change : Change) (new : State) → Some change ≡ option_map change_in (due_after state moment at) → new ≡ updated_if (due_after state moment at) state
+    pub due_ahead : IsWhole buses state → (change : Change) (new : State) → Some change ≡ option_map change_in (due_after state moment at)
+        → new ≡ updated_if (due_after state moment at) state
         → AreAhead (After (key_of change)) (due new moment)
     due_ahead whole change new is after = by (due state moment) refl (is ∙ ap (option_map change_in) first) (after_first new after)
       where
         by : (updates : List Update) → due state moment ≡ updates → Some change ≡ option_map change_in (slice_get updates 0)
-            → new ≡ option_map_or (λ update. updated update state) (slice_get updates 0) state → AreAhead (After (key_of change)) (due new moment)
+            → new ≡ option_map_or (λ update. updated update state) (slice_get updates 0) state
+            → AreAhead (After (key_of change)) (due new moment)
         by [] e is after = let bad : Some change ≡ None = is in let f : AreAhead (After (key_of change)) (due new moment) = cc in f
         by (update ∷ updates) e is after =
             let same : update.change ≡ change = cc in
             let left : updates ≡ due new moment = sym (ap brings after ∙ (later state whole update updates e).1) in
             subst (λ c. AreAhead (After (key_of c)) (due new moment)) same
-            (subst (AreAhead (After (update_key update))) left (others_ahead update updates (subst (IsRisingBy update_key) e (due_rise buses state whole moment))))
+            (subst (AreAhead (After (update_key update))) left
+            (others_ahead update updates (subst (IsRisingBy update_key) e (due_rise buses state whole moment))))

@@ -1,5 +1,6 @@
 -- What a line that was found in a piece asks for, and what it leaves of its connection.
-use Rattle.std.proofs.Common.{◌≡◌, ℕ, zero, suc, ◌+◌, ◌-◌, ◌*◌, ◌<◌, ◌≤◌, Bool, true, false, List, [], ◌∷◌, ◌++◌, drop, take, length, inl, inr, refl, ap, sym, ◌∙◌, subst, arith}
+use Rattle.std.proofs.Common.{◌≡◌, ℕ, zero, suc, ◌+◌, ◌-◌, ◌*◌, ◌<◌, ◌≤◌, Bool, true, false, List, [], ◌∷◌, ◌++◌, drop, take, length, inl}
+use Rattle.std.proofs.Common.{inr, refl, ap, sym, ◌∙◌, subst, arith}
 use Rattle.std.specs.Prelude.{◌||◌, ◌==◌, if◌then◌else◌, fold, Option, Some, None, Ok, Err, position, slice_set}
 use Rattle.srcp_info.specs.declared.change.Code.{Code}
 use Rattle.srcp_rules.specs.declared.layout.Bus.{Bus}
@@ -12,7 +13,9 @@ use Rattle.std.proofs.lemmas.List.{length-drop}
 use Rattle.std.proofs.lemmas.List.Sums.{fold-append}
 use Rattle.srcp_core.specs.Handshake.{greets}
 use Rattle.srcp_core.specs.Held.{Place, Held, IsSound, at}
-use Rattle.srcp_core.specs.Machine.{asked_of, heard_from, heard, heard_in, heard_at, longest_answer, unsent_of, unsent_at, line_begun_of, line_begun_at, answered, line_answered, lines_answered, steps_answered, steps_of_line, steps_in, HasRoom, IsAsked, IsLineAnswered, CountsEach, IsReceived, is_panel}
+use Rattle.srcp_core.specs.Machine.{asked_of, heard_from, heard, heard_in, heard_at, longest_answer, unsent_of, unsent_at, line_begun_of}
+use Rattle.srcp_core.specs.Machine.{line_begun_at, answered, line_answered, lines_answered, steps_answered, steps_of_line, steps_in}
+use Rattle.srcp_core.specs.Machine.{HasRoom, IsAsked, IsLineAnswered, CountsEach, IsReceived, is_panel}
 use Rattle.srcp_core.specs.Under.{denied_by}
 use Rattle.srcp_core.specs.declared.line.LineRecord.{LineRecord}
 use Rattle.srcp_core.specs.declared.line.Asked.{Asked}
@@ -29,7 +32,8 @@ answer_most (Commands session (Ok command)) = omega arith
 answer_most (Commands session (Err code)) = omega arith
 
 -- a line that is refused as a command has a short answer however its connection stands
-short : (i z : Bool) (p : Place) (mark : Mark) (code : Code) → longest_answer (if i then Dropped else (if z then Greets p.mode (greets mark) else Commands p.session (Err code))) ≤ 64
+short : (i z : Bool) (p : Place) (mark : Mark) (code : Code)
+    → longest_answer (if i then Dropped else (if z then Greets p.mode (greets mark) else Commands p.session (Err code))) ≤ 64
 short true z p mark code = omega arith
 short false true p mark code = omega arith
 short false false p mark code = omega arith
@@ -57,18 +61,27 @@ record AreSame (stop s : ℕ) (asked a : Asked) (new n : Place) : Type 0 where
   asks : asked ≡ a
   place : new ≡ n
 
-are_same : (stop s : ℕ) (asked a : Asked) (new n : Place) → ◌≡◌ {A = Option (ℕ × Asked) × Place} (Some (stop, asked), new) (Some (s, a), n) → AreSame stop s asked a new n
+are_same : (stop s : ℕ) (asked a : Asked) (new n : Place) → ◌≡◌ {A = Option (ℕ × Asked) × Place} (Some (stop, asked), new) (Some (s, a), n)
+    → AreSame stop s asked a new n
 are_same stop s asked a new n e =
     let both : ◌≡◌ {A = Option (ℕ × Asked)} (Some (stop, asked)) (Some (s, a)) = ap (λ (r : Option (ℕ × Asked) × Place). r.0) e in
     let pair : ◌≡◌ {A = ℕ × Asked} (stop, asked) (s, a) = cc in
-    record { stops = ap (λ (r : ℕ × Asked). r.0) pair; asks = ap (λ (r : ℕ × Asked). r.1) pair; place = ap (λ (r : Option (ℕ × Asked) × Place). r.1) e }
+    record {
+      stops = ap (λ (r : ℕ × Asked). r.0) pair;
+      asks = ap (λ (r : ℕ × Asked). r.1) pair;
+      place = ap (λ (r : Option (ℕ × Asked) × Place). r.1) e;
+    }
 
 module _ (buses : List Bus) (p new : Place) (piece : List ℕ) (start stop : ℕ) (asked : Asked) where
-  pub found : ◌≡◌ {A = Option (ℕ × Asked) × Place} (Some (stop, asked), new) (heard buses piece start p) → IsFound buses p new piece start stop asked
+  pub found : ◌≡◌ {A = Option (ℕ × Asked) × Place} (Some (stop, asked), new) (heard buses piece start p)
+      → IsFound buses p new piece start stop asked
   found e = by (position is_lf (drop start piece)) refl e
     where
-      ends : (len : ℕ) → len < length (drop start piece) → (whole : Option (List ℕ)) → extended p.reader.begun (take len (drop start piece)) ≡ whole
-          → ◌≡◌ {A = Option (ℕ × Asked) × Place} (Some (stop, asked), new) (heard_from buses p (fed_at whole (start + len + 1), after_lf whole)) → IsFound buses p new piece start stop asked
+      ends : (len : ℕ) → len < length (drop start piece) → (whole : Option (List ℕ))
+          → extended p.reader.begun (take len (drop start piece)) ≡ whole
+          → ◌≡◌ {A = Option (ℕ × Asked) × Place} (Some (stop, asked), new)
+          (heard_from buses p (fed_at whole (start + len + 1), after_lf whole))
+          → IsFound buses p new piece start stop asked
       ends len low None w e =
           let same = are_same stop (start + len + 1) asked (asked_of buses p TooLong) new (record p { reader = nothing_read }) e in
           let place : new ≡ record p { reader = nothing_read } = same.place in
@@ -85,7 +98,9 @@ module _ (buses : List Bus) (p new : Place) (piece : List ℕ) (start stop : ℕ
             few = λ h. let s = too_long_short buses p in let n = ap (λ (a : Asked). longest_answer a) is in omega (arith, s, n, at);
           }
       ends len low (Some bytes) w e =
-          let same = are_same stop (start + len + 1) asked (asked_of buses p (Line (without_cr bytes))) new (record p { reader = after_lf (Some bytes) }) e in
+          let same =
+          are_same stop (start + len + 1) asked (asked_of buses p (Line (without_cr bytes))) new
+          (record p { reader = after_lf (Some bytes) }) e in
           let place : new ≡ record p { reader = after_lf (Some bytes) } = same.place in
           let at : stop ≡ start + len + 1 = same.stops in
           let is : asked ≡ asked_of buses p (Line (without_cr bytes)) = same.asks in
@@ -100,7 +115,8 @@ module _ (buses : List Bus) (p new : Place) (piece : List ℕ) (start stop : ℕ
             few = λ h. size_of len w at is h;
           }
         where
-          size_of : (len : ℕ) → extended p.reader.begun (take len (drop start piece)) ≡ Some bytes → stop ≡ start + len + 1 → asked ≡ asked_of buses p (Line (without_cr bytes))
+          size_of : (len : ℕ) → extended p.reader.begun (take len (drop start piece)) ≡ Some bytes → stop ≡ start + len + 1
+              → asked ≡ asked_of buses p (Line (without_cr bytes))
               → p.reader.begun ≡ Some [] → longest_answer asked ≤ 64 * (stop - start)
           size_of zero w at is h =
               let none : Some [] ≡ Some bytes = ap (λ b. extended b []) (sym h) ∙ w in
@@ -110,8 +126,13 @@ module _ (buses : List Bus) (p new : Place) (piece : List ℕ) (start stop : ℕ
               omega (arith, n, s, at)
           size_of (suc len) w at is h = let m = answer_most asked in omega (arith, m, at)
 
-      by : (o : Option ℕ) → position is_lf (drop start piece) ≡ o → ◌≡◌ {A = Option (ℕ × Asked) × Place} (Some (stop, asked), new) (heard_from buses p (feed_at p.reader.begun start (drop start piece) o)) → IsFound buses p new piece start stop asked
-      by None f e = let bad : ◌≡◌ {A = Option (ℕ × Asked)} (Some (stop, asked)) None = ap (λ (r : Option (ℕ × Asked) × Place). r.0) e in absurd (let f : ⊥ = cc in f)
+      by : (o : Option ℕ) → position is_lf (drop start piece) ≡ o
+          → ◌≡◌ {A = Option (ℕ × Asked) × Place} (Some (stop, asked), new)
+          (heard_from buses p (feed_at p.reader.begun start (drop start piece) o))
+          → IsFound buses p new piece start stop asked
+      by None f e =
+          let bad : ◌≡◌ {A = Option (ℕ × Asked)} (Some (stop, asked)) None = ap (λ (r : Option (ℕ × Asked) × Place). r.0) e in
+          absurd (let f : ⊥ = cc in f)
       by (Some len) f e =
           let s = position_some is_lf (drop start piece) len f in
           ends len s.1 (extended p.reader.begun (take len (drop start piece))) refl e
@@ -144,17 +165,25 @@ pub record IsLineFound (key : ℕ) (piece : List ℕ) (start stop : ℕ) (asked 
   pub begun : line_begun_at key new ≡ Some []
   pub few : line_begun_at key old ≡ Some [] → longest_answer asked ≤ 64 * (stop - start)
 
-pub line_found : (key : ℕ) (piece : List ℕ) (start stop : ℕ) (asked : Asked) (old new : Held) → ◌≡◌ {A = Option (ℕ × Asked) × Held} (Some (stop, asked), new) (heard_at key piece start old)
+pub line_found : (key : ℕ) (piece : List ℕ) (start stop : ℕ) (asked : Asked) (old new : Held)
+    → ◌≡◌ {A = Option (ℕ × Asked) × Held} (Some (stop, asked), new) (heard_at key piece start old)
     → IsLineFound key piece start stop asked old new
 line_found key piece start stop asked old new e = by (at old key) refl e
   where
-    by : (o : Option Place) → at old key ≡ o → ◌≡◌ {A = Option (ℕ × Asked) × Held} (Some (stop, asked), new) (heard_in key piece start old o) → IsLineFound key piece start stop asked old new
-    by None there e = let bad : ◌≡◌ {A = Option (ℕ × Asked)} (Some (stop, asked)) None = ap (λ (r : Option (ℕ × Asked) × Held). r.0) e in absurd (let f : ⊥ = cc in f)
+    by : (o : Option Place) → at old key ≡ o
+        → ◌≡◌ {A = Option (ℕ × Asked) × Held} (Some (stop, asked), new) (heard_in key piece start old o)
+        → IsLineFound key piece start stop asked old new
+    by None there e =
+        let bad : ◌≡◌ {A = Option (ℕ × Asked)} (Some (stop, asked)) None = ap (λ (r : Option (ℕ × Asked) × Held). r.0) e in
+        absurd (let f : ⊥ = cc in f)
     by (Some p) there e =
         let after : Place = (heard old.buses piece start p).1 in
-        let answer : ◌≡◌ {A = Option (ℕ × Asked)} (Some (stop, asked)) (heard old.buses piece start p).0 = ap (λ (r : Option (ℕ × Asked) × Held). r.0) e in
+        let answer : ◌≡◌ {A = Option (ℕ × Asked)} (Some (stop, asked)) (heard old.buses piece start p).0 =
+        ap (λ (r : Option (ℕ × Asked) × Held). r.0) e in
         let held : new ≡ record old { places = slice_set old.places key (Some after) } = ap (λ (r : Option (ℕ × Asked) × Held). r.1) e in
-        let f = found old.buses p after piece start stop asked (ap (λ (a : Option (ℕ × Asked)). let r : Option (ℕ × Asked) × Place = (a, after) in r) answer) in
+        let f =
+        found old.buses p after piece start stop asked
+        (ap (λ (a : Option (ℕ × Asked)). let r : Option (ℕ × Asked) × Place = (a, after) in r) answer) in
         let here : at new key ≡ Some after = ap (λ (h : Held). at h key) held ∙ place_set_here old.places key p (Some after) there in
         record {
           onward = f.onward;
@@ -169,12 +198,14 @@ line_found key piece start stop asked old new e = by (at old key) refl e
         }
 
 -- reading refuses nothing
-pub heard_denied : (key : ℕ) (piece : List ℕ) (from : ℕ) (held : Held) (o : Option Place) → (heard_in key piece from held o).1.denied ≡ held.denied
+pub heard_denied : (key : ℕ) (piece : List ℕ) (from : ℕ) (held : Held) (o : Option Place)
+    → (heard_in key piece from held o).1.denied ≡ held.denied
 heard_denied key piece from held None = refl
 heard_denied key piece from held (Some p) = refl
 
 -- the line was found on the connection of that key
-pub line_asks : (key : ℕ) (piece : List ℕ) (start stop : ℕ) (asked : Asked) (old new : Held) → ◌≡◌ {A = Option (ℕ × Asked) × Held} (Some (stop, asked), new) (heard_at key piece start old) → IsAsked key asked new
+pub line_asks : (key : ℕ) (piece : List ℕ) (start stop : ℕ) (asked : Asked) (old new : Held)
+    → ◌≡◌ {A = Option (ℕ × Asked) × Held} (Some (stop, asked), new) (heard_at key piece start old) → IsAsked key asked new
 line_asks key piece start stop asked old new e =
     let f = line_found key piece start stop asked old new e in
     record { place = f.place; mark = f.mark; here = f.here; is = f.asks }
@@ -186,7 +217,8 @@ nothing_begun key piece held idle =
     let none : length (unsent_at key held) ≡ 0 = ap (λ (bs : List ℕ). length bs) idle in
     record { far = omega arith; idle = λ e. none; room = omega (arith, none); begun = λ low. absurd (omega (arith, low)) }
 
-module _ (key : ℕ) (piece : List ℕ) (start stop : ℕ) (asked : Asked) (held mid : Held) (e : ◌≡◌ {A = Option (ℕ × Asked) × Held} (Some (stop, asked), mid) (heard_at key piece start held)) where
+module _ (key : ℕ) (piece : List ℕ) (start stop : ℕ) (asked : Asked) (held mid : Held)
+    (e : ◌≡◌ {A = Option (ℕ × Asked) × Held} (Some (stop, asked), mid) (heard_at key piece start held)) where
   -- the line has room for its answer
   pub line_room : length piece ≤ 256 → HasRoom key piece start held → length (unsent_at key mid) + longest_answer asked ≤ 16640
   line_room few t =
@@ -207,7 +239,11 @@ module _ (key : ℕ) (piece : List ℕ) (start stop : ℕ) (asked : Asked) (held
         far = f.within;
         idle = λ z. absurd (let o = f.onward in omega (arith, z, o));
         room = elim (where_is start 0) [
-          | Here z ↦ let i = t.idle z in let m = answer_most asked in let o = f.onward in let w = g.few in omega (arith, z, i, m, o, w, same)
+          | Here z ↦ let i = t.idle z in
+              let m = answer_most asked in
+              let o = f.onward in
+              let w = g.few in
+              omega (arith, z, i, m, o, w, same)
           | Away n ↦ let low : 0 < start = elim (cases_lt 0 start) [ inl h ↦ h | inr h ↦ absurd (n (omega (arith, h))) ] in
               let l = f.few (t.begun low) in let o = f.onward in let w = g.few in let r = t.room in omega (arith, l, o, w, r, same)
         ];
@@ -215,14 +251,21 @@ module _ (key : ℕ) (piece : List ℕ) (start stop : ℕ) (asked : Asked) (held
       }
 
   -- and is answered
-  pub line_is_answered : (did : LineRecord) (new : Held) → new ≡ answered did.granted key asked mid → steps_in did ≡ steps_answered did.granted asked mid
-      → new.denied ≡ denied_by mid.denied (did.granted ∷ []) → IsSound mid → HasRoom key piece start held → IsLineAnswered key piece start stop did held new
+  pub line_is_answered : (did : LineRecord) (new : Held) → new ≡ answered did.granted key asked mid
+      → steps_in did ≡ steps_answered did.granted asked mid
+      → new.denied ≡ denied_by mid.denied (did.granted ∷ []) → IsSound mid → HasRoom key piece start held
+      → IsLineAnswered key piece start stop did held new
   line_is_answered did new is steps counted s t = record {
     onward = (line_found key piece start stop asked held mid e).onward;
     room = subst (HasRoom key piece stop) (sym is) (room_after did.granted s t);
-    is = ap (λ (h : Held). let r : ℕ × Held = (stop, h) in r) is ∙ ap (λ (r : Option (ℕ × Asked) × Held). line_answered key did.granted (start, held) r) e;
+    is =
+        ap (λ (h : Held). let r : ℕ × Held = (stop, h) in r) is
+        ∙ ap (λ (r : Option (ℕ × Asked) × Held). line_answered key did.granted (start, held) r) e;
     steps = steps ∙ ap (λ (r : Option (ℕ × Asked) × Held). steps_of_line did.granted r) e;
-    counted = counted ∙ ap (λ k. denied_by k (did.granted ∷ [])) (ap (λ (r : Option (ℕ × Asked) × Held). r.1.denied) e ∙ heard_denied key piece start held (at held key));
+    counted =
+        counted
+        ∙ ap (λ k. denied_by k (did.granted ∷ []))
+        (ap (λ (r : Option (ℕ × Asked) × Held). r.1.denied) e ∙ heard_denied key piece start held (at held key));
   }
 
 -- the lines up to a place of the piece are answered
@@ -236,22 +279,34 @@ pub nothing_taken : (key : ℕ) (piece : List ℕ) (first : Held) → unsent_at 
 nothing_taken key piece first idle = record { room = nothing_begun key piece first idle; grants = []; counted = tt; is = refl }
 
 counts_push : (key : ℕ) (piece : List ℕ) (grants : List Bool) (before : ℕ × Held) (granted : Bool) → CountsEach key piece before grants
-    → CountsEach key piece (fold (λ before granted. line_answered key granted before (heard_at key piece before.0 before.1)) before grants) (granted ∷ []) → CountsEach key piece before (grants ++ granted ∷ [])
+    → CountsEach key piece (fold (λ before granted. line_answered key granted before (heard_at key piece before.0 before.1)) before grants)
+    (granted ∷ [])
+    → CountsEach key piece before (grants ++ granted ∷ [])
 counts_push key piece [] before granted a e = e
-counts_push key piece (g ∷ grants) before granted a e = (a.0, counts_push key piece grants (line_answered key g before (heard_at key piece before.0 before.1)) granted a.1 e)
+counts_push key piece (g ∷ grants) before granted a e =
+    (a.0, counts_push key piece grants (line_answered key g before (heard_at key piece before.0 before.1)) granted a.1 e)
 
-pub line_added : (key : ℕ) (piece : List ℕ) (first : Held) (start stop : ℕ) (did : LineRecord) (held new : Held) → IsLineAnswered key piece start stop did held new
+pub line_added : (key : ℕ) (piece : List ℕ) (first : Held) (start stop : ℕ) (did : LineRecord) (held new : Held)
+    → IsLineAnswered key piece start stop did held new
     → AreAnswered key piece first start held → AreAnswered key piece first stop new
 line_added key piece first start stop did held new l t = record {
   room = l.room;
   grants = t.grants ++ did.granted ∷ [];
   counted = counts_push key piece t.grants (0, first) did.granted t.counted
-      (subst (λ (b : ℕ × Held). CountsEach key piece b (did.granted ∷ [])) t.is (sym (ap (λ (r : ℕ × Held). r.1.denied) l.is) ∙ l.counted, tt));
+      (subst (λ (b : ℕ × Held). CountsEach key piece b (did.granted ∷ [])) t.is
+      (sym (ap (λ (r : ℕ × Held). r.1.denied) l.is) ∙ l.counted, tt));
   is =
       l.is
       ∙ ap (λ (b : ℕ × Held). line_answered key did.granted b (heard_at key piece b.0 b.1)) t.is
-      ∙ sym (fold-append (λ before granted. line_answered key granted before (heard_at key piece before.0 before.1)) (0, first) t.grants (did.granted ∷ []));
+      ∙ sym (fold-append (λ before granted. line_answered key granted before (heard_at key piece before.0 before.1)) (0, first) t.grants
+      (did.granted ∷ []));
 }
 
-pub lines_end : (key : ℕ) (piece : List ℕ) (first : Held) (start : ℕ) (held new : Held) → ◌≡◌ {A = Option (ℕ × Asked) × Held} (None, new) (heard_at key piece start held) → AreAnswered key piece first start held → IsReceived key piece first new
-lines_end key piece first start held new e t = record { grants = t.grants; counted = t.counted; rest = e ∙ ap (λ (b : ℕ × Held). heard_at key piece b.0 b.1) t.is }
+pub lines_end : (key : ℕ) (piece : List ℕ) (first : Held) (start : ℕ) (held new : Held)
+    → ◌≡◌ {A = Option (ℕ × Asked) × Held} (None, new) (heard_at key piece start held) → AreAnswered key piece first start held
+    → IsReceived key piece first new
+lines_end key piece first start held new e t = record {
+  grants = t.grants;
+  counted = t.counted;
+  rest = e ∙ ap (λ (b : ℕ × Held). heard_at key piece b.0 b.1) t.is;
+}

@@ -26,11 +26,14 @@ pub record IsAskedBy (buses : List Bus) (p : Place) (session : ℕ) (command : R
   pub live : IsLive p
   pub of : IfOk command (IsCommandOf buses)
 
-pub asked_by : (buses : List Bus) → IsLayout buses → (p : Place) (mark : Mark) (session : ℕ) (command : Result Command Code) → Commands session command ≡ asked_of buses p mark → IsAskedBy buses p session command
+pub asked_by : (buses : List Bus) → IsLayout buses → (p : Place) (mark : Mark) (session : ℕ) (command : Result Command Code)
+    → Commands session command ≡ asked_of buses p mark → IsAskedBy buses p session command
 asked_by buses layout p mark session command e = by (is_panel p.panel) p.ended refl (p.session == 0) refl e
   where
     by : (i n : Bool) → p.ended ≡ n → (z : Bool) → (p.session == 0) ≡ z
-        → Commands session command ≡ (if i || n then Dropped else (if z then Greets p.mode (greets mark) else Commands p.session (command_of buses mark))) → IsAskedBy buses p session command
+        → Commands session command
+        ≡ (if i || n then Dropped else (if z then Greets p.mode (greets mark) else Commands p.session (command_of buses mark)))
+        → IsAskedBy buses p session command
     by true n h z q e = cc
     by false true h z q e = cc
     by false false h true q e = cc

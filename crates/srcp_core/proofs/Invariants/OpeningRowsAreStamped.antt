@@ -1,5 +1,6 @@
 -- The rows of an opening registry are stamped with a moment, one after another.
-use Rattle.std.proofs.Common.{◌≡◌, ℕ, ◌<◌, Bool, true, false, not, cond, List, [], ◌∷◌, ◌++◌, map, length, refl, ap, sym, ◌∙◌, subst, true≢false, arith}
+use Rattle.std.proofs.Common.{◌≡◌, ℕ, ◌<◌, Bool, true, false, not, cond, List, [], ◌∷◌, ◌++◌, map, length, refl, ap, sym, ◌∙◌, subst}
+use Rattle.std.proofs.Common.{true≢false, arith}
 use Rattle.std.proofs.lemmas.List.{map-append}
 use Rattle.std.specs.List.{AllByRecursion, filter, range_with_len}
 use Rattle.std.specs.Ordering.{is_gt}
@@ -15,7 +16,8 @@ use Rattle.srcp_info.specs.declared.key.Key.{Key}
 use Rattle.srcp_info.specs.declared.value.Value.TheVariants as value
 use Rattle.srcp_info.proofs.ClientLaws.{after_from_less, after_not_itself, all_append, all_weaker, filter-put_high, put_over, reached_below}
 use Rattle.srcp_rules.specs.declared.layout.Bus.{Bus}
-use Rattle.srcp_rules.specs.State.{State, IsRising, IsRowOf, power_device, fb_device, first_row, has_row, opening, opening_on, put_row, row_after, row_at}
+use Rattle.srcp_rules.specs.State.{State, IsRising, IsRowOf, power_device, fb_device, first_row, has_row, opening, opening_on, put_row}
+use Rattle.srcp_rules.specs.State.{row_after, row_at}
 use Rattle.srcp_rules.proofs.FindLaws.{each_filtered, found_holds}
 use Rattle.srcp_rules.proofs.PutLaws.{put_row-past}
 use Rattle.srcp_rules.proofs.SoughtLaws.{beyond, fewer_beyond}
@@ -36,17 +38,23 @@ stamped_beyond moment at state = map (λ row. stamped_unless moment (has_reached
 
 -- ---- the opening registry
 
-map_made : (moment bus : ℕ) (ports : List ℕ) → map (stamped moment) (map (λ port. first_row 0 (fb_device bus port) (value.Fb false)) ports) ≡ map (λ port. first_row moment (fb_device bus port) (value.Fb false)) ports
+map_made : (moment bus : ℕ) (ports : List ℕ)
+    → map (stamped moment) (map (λ port. first_row 0 (fb_device bus port) (value.Fb false)) ports)
+    ≡ map (λ port. first_row moment (fb_device bus port) (value.Fb false)) ports
 map_made moment bus [] = refl
-map_made moment bus (port ∷ ports) = ap (λ (rows : State). first_row moment (fb_device bus port) (value.Fb false) ∷ rows) (map_made moment bus ports)
+map_made moment bus (port ∷ ports) =
+    ap (λ (rows : State). first_row moment (fb_device bus port) (value.Fb false) ∷ rows) (map_made moment bus ports)
 
-map_power : (moment bus : ℕ) (on : Bool) → map (stamped moment) (cond on (first_row 0 (power_device bus) (value.Power false []) ∷ []) []) ≡ cond on (first_row moment (power_device bus) (value.Power false []) ∷ []) []
+map_power : (moment bus : ℕ) (on : Bool)
+    → map (stamped moment) (cond on (first_row 0 (power_device bus) (value.Power false []) ∷ []) [])
+    ≡ cond on (first_row moment (power_device bus) (value.Power false []) ∷ []) []
 map_power moment bus true = refl
 map_power moment bus false = refl
 
 map_bus : (moment : ℕ) (bus : Bus) → map (stamped moment) (opening_on 0 bus) ≡ opening_on moment bus
 map_bus moment bus =
-    map-append (stamped moment) (cond bus.power (first_row 0 (power_device bus.number) (value.Power false []) ∷ []) []) (map (λ port. first_row 0 (fb_device bus.number port) (value.Fb false)) (range_with_len 1 bus.fb_ports))
+    map-append (stamped moment) (cond bus.power (first_row 0 (power_device bus.number) (value.Power false []) ∷ []) [])
+    (map (λ port. first_row 0 (fb_device bus.number port) (value.Fb false)) (range_with_len 1 bus.fb_ports))
     ∙ (λ i. map_power moment bus.number bus.power i ++ map_made moment bus.number (range_with_len 1 bus.fb_ports) i)
 
 -- it is stamped as a whole
@@ -58,21 +66,25 @@ opening_stamped moment (bus ∷ buses) =
 
 -- ---- the row that is found
 
-pub found_there : (at : Cursor) (state : State) (row : Row) → IsRising state → row_after at state ≡ Some row → row_at row.shown.key state ≡ Some row
+pub found_there : (at : Cursor) (state : State) (row : Row) → IsRising state → row_after at state ≡ Some row
+    → row_at row.shown.key state ≡ Some row
 found_there at [] row rising next = let bad : None ≡ Some row = next in cc
 found_there at (first ∷ state) row rising next = by (found_there at state row rising.1) (has_reached at first.shown.key) next
   where
-    by : (row_after at state ≡ Some row → row_at row.shown.key state ≡ Some row) → (b : Bool) → cond (not b) (Some first) (row_after at state) ≡ Some row → row_at row.shown.key (first ∷ state) ≡ Some row
+    by : (row_after at state ≡ Some row → row_at row.shown.key state ≡ Some row) → (b : Bool)
+        → cond (not b) (Some first) (row_after at state) ≡ Some row → row_at row.shown.key (first ∷ state) ≡ Some row
     by ih true e = row_at-later first state rising row.shown.key row (ih e)
     by ih false e =
         let same : first ≡ row = cc in
         subst (λ (other : Row). row_at other.shown.key (first ∷ state) ≡ Some other) same (row_at-first first state)
 
-pub row_found : (buses : List Bus) (at : Cursor) (state : State) (row : Row) → AllByRecursion (IsRowOf buses) state → row_after at state ≡ Some row → IsRowOf buses row
+pub row_found : (buses : List Bus) (at : Cursor) (state : State) (row : Row) → AllByRecursion (IsRowOf buses) state
+    → row_after at state ≡ Some row → IsRowOf buses row
 row_found buses at state row each next = found_holds (IsRowOf buses) (λ other. not (has_reached at other.shown.key)) state each row next
 
 -- it has a row of its key, and is one of the layout with the other stamp too
-pub stamped_there : (moment : ℕ) (at : Cursor) (state : State) (row : Row) → IsRising state → row_after at state ≡ Some row → has_row row.shown.key state ≡ true
+pub stamped_there : (moment : ℕ) (at : Cursor) (state : State) (row : Row) → IsRising state → row_after at state ≡ Some row
+    → has_row row.shown.key state ≡ true
 stamped_there moment at state row rising next = ap is_some (found_there at state row rising next)
 
 pub stamped_fits : (buses : List Bus) (moment : ℕ) (row : Row) → IsMoment moment → IsRowOf buses row → IsRowOf buses (stamped moment row)
@@ -107,7 +119,8 @@ module _ (moment : ℕ) (at : Cursor) where
   stamped_next [] row rising next = let bad : None ≡ Some row = next in cc
   stamped_next (first ∷ state) row rising next = by (stamped_next state row rising.1) (has_reached at first.shown.key) refl next
     where
-      later : StampedNext row state → (less : key_cmp first.shown.key row.shown.key ≡ Less) → has_reached at first.shown.key ≡ true → StampedNext row (first ∷ state)
+      later : StampedNext row state → (less : key_cmp first.shown.key row.shown.key ≡ Less) → has_reached at first.shown.key ≡ true
+          → StampedNext row (first ∷ state)
       later rest less r =
           ap (stamped_beyond moment (After row.shown.key)) (put_row-past (stamped moment row) (first ∷ []) state (less, tt))
           ∙ (λ i. stamped_unless moment ((ap (λ o. not (is_gt o)) less ∙ sym r) i) first ∷ rest i)
@@ -115,11 +128,16 @@ module _ (moment : ℕ) (at : Cursor) where
       here : has_reached at first.shown.key ≡ false → StampedNext first (first ∷ state)
       here r =
           ap (stamped_beyond moment (After first.shown.key)) (put_over row_key (stamped moment first) [] first state refl tt rising.0)
-          ∙ (λ i. stamped_unless moment (ap not (after_not_itself first.shown.key) i) (stamped moment first) ∷ above first.shown.key r state rising.0 i)
+          ∙ (λ i. stamped_unless moment (ap not (after_not_itself first.shown.key) i) (stamped moment first)
+          ∷ above first.shown.key r state rising.0 i)
           ∙ ap (λ b. stamped_unless moment b first ∷ stamped_beyond moment at state) (sym r)
 
-      by : (row_after at state ≡ Some row → StampedNext row state) → (b : Bool) → has_reached at first.shown.key ≡ b → cond (not b) (Some first) (row_after at state) ≡ Some row → StampedNext row (first ∷ state)
-      by ih true r e = later (ih e) (found_holds (λ other. key_cmp first.shown.key other.shown.key ≡ Less) (λ other. not (has_reached at other.shown.key)) state rising.0 row e) r
+      by : (row_after at state ≡ Some row → StampedNext row state) → (b : Bool) → has_reached at first.shown.key ≡ b
+          → cond (not b) (Some first) (row_after at state) ≡ Some row → StampedNext row (first ∷ state)
+      by ih true r e =
+          later (ih e)
+          (found_holds (λ other. key_cmp first.shown.key other.shown.key ≡ Less)
+          (λ other. not (has_reached at other.shown.key)) state rising.0 row e) r
       by ih false r e =
           let same : first ≡ row = cc in
           subst (λ (other : Row). StampedNext other (first ∷ state)) same (here r)
@@ -129,7 +147,8 @@ module _ (moment : ℕ) (at : Cursor) where
   stamped_none [] next = refl
   stamped_none (first ∷ state) next = by (stamped_none state) (has_reached at first.shown.key) refl next
     where
-      by : (row_after at state ≡ None → stamped_beyond moment at state ≡ state) → (b : Bool) → has_reached at first.shown.key ≡ b → cond (not b) (Some first) (row_after at state) ≡ None → stamped_beyond moment at (first ∷ state) ≡ first ∷ state
+      by : (row_after at state ≡ None → stamped_beyond moment at state ≡ state) → (b : Bool) → has_reached at first.shown.key ≡ b
+          → cond (not b) (Some first) (row_after at state) ≡ None → stamped_beyond moment at (first ∷ state) ≡ first ∷ state
       by ih true r e = (λ i. stamped_unless moment (r i) first ∷ ih e i)
       by ih false r e = cc
 
@@ -138,20 +157,25 @@ module _ (moment : ℕ) (at : Cursor) where
 pub stamped_rising : (moment : ℕ) (state : State) (row : Row) → IsRising state → IsRising (put_row (stamped moment row) state)
 stamped_rising moment state row rising = rising-updated (record { change = Put (stamped moment row).shown; due = row.due }) state rising
 
-pub stamped_each : (buses : List Bus) (row : Row) (state : State) → IsRowOf buses row → AllByRecursion (IsRowOf buses) state → AllByRecursion (IsRowOf buses) (put_row row state)
+pub stamped_each : (buses : List Bus) (row : Row) (state : State) → IsRowOf buses row → AllByRecursion (IsRowOf buses) state
+    → AllByRecursion (IsRowOf buses) (put_row row state)
 stamped_each buses row state of each =
-    all_append (IsRowOf buses) (filter (λ other. is_after row.shown.key other.shown.key) state) (row ∷ filter (λ other. is_after other.shown.key row.shown.key) state)
+    all_append (IsRowOf buses) (filter (λ other. is_after row.shown.key other.shown.key) state)
+    (row ∷ filter (λ other. is_after other.shown.key row.shown.key) state)
     (left (λ other. is_after row.shown.key other.shown.key)) (of, left (λ other. is_after other.shown.key row.shown.key))
   where
     left : (p : Row → Bool) → AllByRecursion (IsRowOf buses) (filter p state)
-    left p = all_weaker (λ other. IsRowOf buses other × (p other ≡ true)) (IsRowOf buses) (λ other h. h.0) (filter p state) (each_filtered (IsRowOf buses) p state each)
+    left p =
+        all_weaker (λ other. IsRowOf buses other × (p other ≡ true)) (IsRowOf buses) (λ other h. h.0) (filter p state)
+        (each_filtered (IsRowOf buses) p state each)
 
 -- fewer rows are left beyond it
 pub fewer_stamped : (moment : ℕ) (at : Cursor) (state : State) (row : Row) → IsRising state → row_after at state ≡ Some row
     → length (beyond (After row.shown.key) (put_row (stamped moment row) state)) < length (beyond at state)
 fewer_stamped moment at state row rising next =
     let same : beyond (After row.shown.key) (put_row (stamped moment row) state) ≡ beyond (After row.shown.key) state =
-    filter-put_high row_key (λ other. not (has_reached (After row.shown.key) other.shown.key)) (stamped moment row) state (λ other h. twice (is_after other.shown.key row.shown.key) h) in
+    filter-put_high row_key (λ other. not (has_reached (After row.shown.key) other.shown.key)) (stamped moment row) state
+    (λ other h. twice (is_after other.shown.key row.shown.key) h) in
     let size = ap (λ (rows : State). length rows) same in
     let less = fewer_beyond at state rising row next in
     omega (arith, size, less)

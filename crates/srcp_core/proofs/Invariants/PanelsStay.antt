@@ -6,7 +6,8 @@ use Rattle.std.proofs.lemmas.Bool.{or_parts}
 use Rattle.slab.specs.Slab.{Slab, get, Updates}
 use Rattle.srcp_info.specs.declared.change.Change.{Change}
 use Rattle.srcp_core.specs.Held.{Place, place_at}
-use Rattle.srcp_core.specs.Machine.{fresh_place, has_panel, is_panel, feed_in, slack_in, slack_at, told_feed, told_place, told_all, told_each}
+use Rattle.srcp_core.specs.Machine.{fresh_place, has_panel, is_panel, feed_in, slack_in, slack_at, told_feed, told_place, told_all}
+use Rattle.srcp_core.specs.Machine.{told_each}
 use Rattle.srcp_core.specs.Waits.{least, lesser}
 use Rattle.srcp_core.specs.declared.connection.Panel.{Panel}
 use Rattle.srcp_core.specs.declared.connection.Panel.TheVariants.{Absent, Listening, Overran}

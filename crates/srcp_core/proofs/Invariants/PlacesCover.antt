@@ -43,7 +43,11 @@ covers_across a b c f g key q e =
     record {
       p = t.p;
       there = t.there;
-      mild = record { session = s.mild.session ∙ t.mild.session; ended = λ h. t.mild.ended (s.mild.ended h); panel = s.mild.panel ∙ t.mild.panel };
+      mild = record {
+        session = s.mild.session ∙ t.mild.session;
+        ended = λ h. t.mild.ended (s.mild.ended h);
+        panel = s.mild.panel ∙ t.mild.panel;
+      };
     }
 
 -- ---- a place is set
@@ -52,14 +56,16 @@ pub no_place : (key : ℕ) (p : Place) → place_at [] key ≡ Some p → ⊥
 no_place zero p e = cc
 no_place (suc key) p e = cc
 
-pub place_set : (places : List (Option Place)) (key m : ℕ) (slot : Option Place) → m ≢ key → place_at (slice_set places key slot) m ≡ place_at places m
+pub place_set : (places : List (Option Place)) (key m : ℕ) (slot : Option Place) → m ≢ key
+    → place_at (slice_set places key slot) m ≡ place_at places m
 place_set [] key m slot h = refl
 place_set (x ∷ places) zero zero slot h = absurd (h refl)
 place_set (x ∷ places) zero (suc m) slot h = refl
 place_set (x ∷ places) (suc key) zero slot h = refl
 place_set (x ∷ places) (suc key) (suc m) slot h = place_set places key m slot (λ e. h (ap (λ n. suc n) e))
 
-pub place_set_here : (places : List (Option Place)) (key : ℕ) (p : Place) (slot : Option Place) → place_at places key ≡ Some p → place_at (slice_set places key slot) key ≡ slot
+pub place_set_here : (places : List (Option Place)) (key : ℕ) (p : Place) (slot : Option Place) → place_at places key ≡ Some p
+    → place_at (slice_set places key slot) key ≡ slot
 place_set_here [] key p slot h = absurd (no_place key p h)
 place_set_here (x ∷ places) zero p slot h = refl
 place_set_here (x ∷ places) (suc key) p slot h = place_set_here places key p slot h
@@ -74,29 +80,35 @@ where_is zero (suc n) = Away (λ e. omega (arith, e))
 where_is (suc m) zero = Away (λ e. omega (arith, e))
 where_is (suc m) (suc n) = elim (where_is m n) [ Here e ↦ Here (ap (λ k. suc k) e) | Away f ↦ Away (λ e. f (omega (arith, e))) ]
 
-pub covers_set : (places : List (Option Place)) (key : ℕ) (p q : Place) → place_at places key ≡ Some p → IsMild p q → Covers places (slice_set places key (Some q))
+pub covers_set : (places : List (Option Place)) (key : ℕ) (p q : Place) → place_at places key ≡ Some p → IsMild p q
+    → Covers places (slice_set places key (Some q))
 covers_set places key p q at mild m r e = by (where_is m key)
   where
     by : Where m key → Source places m r
     by (Here s) =
-        let here : place_at (slice_set places key (Some q)) m ≡ Some q = subst (λ k. place_at (slice_set places key (Some q)) k ≡ Some q) (sym s) (place_set_here places key p (Some q) at) in
+        let here : place_at (slice_set places key (Some q)) m ≡ Some q =
+        subst (λ k. place_at (slice_set places key (Some q)) k ≡ Some q) (sym s) (place_set_here places key p (Some q) at) in
         let same : q ≡ r = cc in
         record { p = p; there = subst (λ k. place_at places k ≡ Some p) (sym s) at; mild = subst (IsMild p) same mild }
     by (Away f) = record { p = r; there = sym (place_set places key m (Some q) f) ∙ e; mild = mild_itself r }
 
-pub covers_free : (places : List (Option Place)) (key : ℕ) (p : Place) → place_at places key ≡ Some p → Covers places (slice_set places key None)
+pub covers_free : (places : List (Option Place)) (key : ℕ) (p : Place) → place_at places key ≡ Some p
+    → Covers places (slice_set places key None)
 covers_free places key p at m r e = by (where_is m key)
   where
     by : Where m key → Source places m r
     by (Here s) =
-        let here : place_at (slice_set places key None) m ≡ None = subst (λ k. place_at (slice_set places key None) k ≡ None) (sym s) (place_set_here places key p None at) in
+        let here : place_at (slice_set places key None) m ≡ None =
+        subst (λ k. place_at (slice_set places key None) k ≡ None) (sym s) (place_set_here places key p None at) in
         let bad : Some r ≡ None = sym e ∙ here in
         cc
     by (Away f) = record { p = r; there = sym (place_set places key m None f) ∙ e; mild = mild_itself r }
 
-pub free_other : (places : List (Option Place)) (key : ℕ) (p : Place) → place_at places key ≡ Some p → (m : ℕ) (r : Place) → place_at (slice_set places key None) m ≡ Some r → m ≢ key
+pub free_other : (places : List (Option Place)) (key : ℕ) (p : Place) → place_at places key ≡ Some p → (m : ℕ) (r : Place)
+    → place_at (slice_set places key None) m ≡ Some r → m ≢ key
 free_other places key p at m r e s =
-    let here : place_at (slice_set places key None) m ≡ None = subst (λ k. place_at (slice_set places key None) k ≡ None) (sym s) (place_set_here places key p None at) in
+    let here : place_at (slice_set places key None) m ≡ None =
+    subst (λ k. place_at (slice_set places key None) k ≡ None) (sym s) (place_set_here places key p None at) in
     let bad : Some r ≡ None = sym e ∙ here in
     cc
 
@@ -119,27 +131,38 @@ covers_told change places key q e = by (place_at places key) refl (sym (told_all
   where
     by : (o : Option Place) → place_at places key ≡ o → option_map (told_place change) o ≡ Some q → Source places key q
     by None at h = cc
-    by (Some p) at h = let same : told_place change p ≡ q = cc in record { p = p; there = at; mild = subst (IsMild p) same (told_mild change p) }
+    by (Some p) at h = let same : told_place change p ≡ q = cc in record {
+      p = p;
+      there = at;
+      mild = subst (IsMild p) same (told_mild change p);
+    }
 
 pub covers_told_each : (changes : List Change) (places : List (Option Place)) → Covers places (told_each changes places)
 covers_told_each [] places = covers_itself places
-covers_told_each (change ∷ changes) places = covers_across places (told_all change places) (told_each changes (told_all change places)) (covers_told change places) (covers_told_each changes (told_all change places))
+covers_told_each (change ∷ changes) places =
+    covers_across places (told_all change places) (told_each changes (told_all change places)) (covers_told change places)
+    (covers_told_each changes (told_all change places))
 
-pub told_each_count : (changes : List Change) (places : List (Option Place)) → count_by is_some (told_each changes places) ≡ count_by is_some places
+pub told_each_count : (changes : List Change) (places : List (Option Place))
+    → count_by is_some (told_each changes places) ≡ count_by is_some places
 told_each_count [] places = refl
 told_each_count (change ∷ changes) places = told_each_count changes (told_all change places) ∙ told_all_count change places
 
 -- ---- how many are open
 
-pub set_count : (places : List (Option Place)) (key : ℕ) (p q : Place) → place_at places key ≡ Some p → count_by is_some (slice_set places key (Some q)) ≡ count_by is_some places
+pub set_count : (places : List (Option Place)) (key : ℕ) (p q : Place) → place_at places key ≡ Some p
+    → count_by is_some (slice_set places key (Some q)) ≡ count_by is_some places
 set_count [] key p q h = refl
 set_count (None ∷ places) zero p q h = cc
 set_count (Some x ∷ places) zero p q h = count_by_cons is_some (Some q) places ∙ sym (count_by_cons is_some (Some x) places)
-set_count (x ∷ places) (suc key) p q h = count_by_cons is_some x (slice_set places key (Some q)) ∙ ap (λ n. (if is_some x then 1 else 0) + n) (set_count places key p q h) ∙ sym (count_by_cons is_some x places)
+set_count (x ∷ places) (suc key) p q h =
+    count_by_cons is_some x (slice_set places key (Some q)) ∙ ap (λ n. (if is_some x then 1 else 0) + n) (set_count places key p q h)
+    ∙ sym (count_by_cons is_some x places)
 
 -- ---- the sessions
 
-pub sessions_covered : (last : ℕ) (rows : State) (old new : List (Option Place)) → Covers old new → AreSessions last rows old → AreSessions last rows new
+pub sessions_covered : (last : ℕ) (rows : State) (old new : List (Option Place)) → Covers old new → AreSessions last rows old
+    → AreSessions last rows new
 sessions_covered last rows old new f a = record {
   ids = λ key q e. let s = f key q e in subst (λ n. n ≤ last) (sym s.mild.session) (a.ids key s.p s.there);
   apart = λ m n q r e g low same.
@@ -155,9 +178,11 @@ sessions_covered last rows old new f a = record {
 -- ---- the connection at one place is changed
 
 -- by the connection that was found there
-pub set_as : (places : List (Option Place)) (key : ℕ) (change : Place → Place) (p q : Place) → place_at places key ≡ Some p → q ≡ change p → slice_set places key (Some q) ≡ changed_places key change places
+pub set_as : (places : List (Option Place)) (key : ℕ) (change : Place → Place) (p q : Place) → place_at places key ≡ Some p → q ≡ change p
+    → slice_set places key (Some q) ≡ changed_places key change places
 set_as places key change p q there is = ap (λ (q : Place). slice_set places key (Some q)) is ∙ sym (ap (changed_in key change places) there)
 
 -- nothing, where there is none
-pub none_as : (places : List (Option Place)) (key : ℕ) (change : Place → Place) → place_at places key ≡ None → places ≡ changed_places key change places
+pub none_as : (places : List (Option Place)) (key : ℕ) (change : Place → Place) → place_at places key ≡ None
+    → places ≡ changed_places key change places
 none_as places key change none = sym (ap (changed_in key change places) none)

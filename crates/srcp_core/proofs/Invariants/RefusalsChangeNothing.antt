@@ -6,7 +6,9 @@ use Rattle.srcp_info.specs.declared.change.Code.TheVariants.{C414, C415, C416, C
 use Rattle.srcp_info.specs.declared.change.Reply.TheVariants.{Accepted, Refused}
 use Rattle.srcp_info.specs.declared.change.Row.{Row}
 use Rattle.srcp_rules.specs.declared.command.Command.{Command}
-use Rattle.srcp_rules.specs.declared.command.Command.TheVariants.{GetSession, TermSession, GetPower, SetPower, CheckPower, InitPower, GetGl, SetGl, CheckGl, InitGl, TermGl, GetGa, SetGa, CheckGa, InitGa, TermGa, GetFb, SetFb, CheckFb, InitFb, GetLock, SetLock, CheckLock, TermLock}
+use Rattle.srcp_rules.specs.declared.command.Command.TheVariants.{GetSession, TermSession, GetPower, SetPower, CheckPower, InitPower, GetGl}
+use Rattle.srcp_rules.specs.declared.command.Command.TheVariants.{SetGl, CheckGl, InitGl, TermGl, GetGa, SetGa, CheckGa, InitGa, TermGa}
+use Rattle.srcp_rules.specs.declared.command.Command.TheVariants.{GetFb, SetFb, CheckFb, InitFb, GetLock, SetLock, CheckLock, TermLock}
 use Rattle.srcp_rules.specs.declared.obeyed.Obeyed.{Obeyed}
 use Rattle.srcp_rules.specs.Effect.{Effect, effect, refused, accepted, showing, done, checked, term_session, set_gl, set_ga, set_lock}
 use Rattle.srcp_rules.specs.Obeyed.{IsObeyed, Took}
@@ -40,7 +42,8 @@ ends code session (Some id) e = by (id == session)
     by true = refl
     by false = refl
 
-pub refused_changes : (code : Code) (state : State) (session moment : ℕ) (command : Command) → ChangesNothing code (effect state session moment command)
+pub refused_changes : (code : Code) (state : State) (session moment : ℕ) (command : Command)
+    → ChangesNothing code (effect state session moment command)
 refused_changes code state session moment (GetSession id) = shows code _
 refused_changes code state session moment (TermSession id) = ends code session id
 refused_changes code state session moment (GetPower bus) = shows code _
@@ -93,7 +96,8 @@ never_done (Err code) f e = let same : code ≡ C500 = cc in f.never (ap (λ (c 
 
 never_checked : (result : Result (List Update) Code) → IsFine result → (checked result).reply ≢ Refused C500
 never_checked (Ok updates) f e = cc
-never_checked (Err code) f e = let same : code ≡ C500 = cc in f.never (ap (λ (c : Code). let r : Result (List Update) Code = Err c in r) same)
+never_checked (Err code) f e =
+    let same : code ≡ C500 = cc in f.never (ap (λ (c : Code). let r : Result (List Update) Code = Err c in r) same)
 
 never_shown : (row : Option Row) → (showing row).reply ≢ Refused C500
 never_shown None e = cc
@@ -115,14 +119,17 @@ never_denied state session moment (SetPower bus on text) = λ e. cc
 never_denied state session moment (CheckPower bus on text) = λ e. cc
 never_denied state session moment (InitPower bus) = λ e. cc
 never_denied state session moment (GetGl bus address) = never_shown _
-never_denied state session moment (SetGl bus address mode v vmax functions) = never_done _ (refuses _ C416 _ c416 (refuses _ C418 _ c418 (refuses _ C414 _ c414 (fine _))))
+never_denied state session moment (SetGl bus address mode v vmax functions) =
+    never_done _ (refuses _ C416 _ c416 (refuses _ C418 _ c418 (refuses _ C414 _ c414 (fine _))))
 never_denied state session moment (CheckGl bus address mode v vmax functions) =
-    never_checked (set_gl state session moment bus address mode v vmax functions) (refuses _ C416 _ c416 (refuses _ C418 _ c418 (refuses _ C414 _ c414 (fine _))))
+    never_checked (set_gl state session moment bus address mode v vmax functions)
+    (refuses _ C416 _ c416 (refuses _ C418 _ c418 (refuses _ C414 _ c414 (fine _))))
 never_denied state session moment (InitGl bus address letter version steps functions) = never_done _ (refuses _ C414 _ c414 (fine _))
 never_denied state session moment (TermGl bus address) = never_done _ (refuses _ C416 _ c416 (refuses _ C414 _ c414 (fine _)))
 never_denied state session moment (GetGa bus address port) = never_shown _
 never_denied state session moment (SetGa bus address port on time) = never_done _ (refuses _ C416 _ c416 (refuses _ C414 _ c414 (fine _)))
-never_denied state session moment (CheckGa bus address port on time) = never_checked (set_ga state session moment bus address port on time) (refuses _ C416 _ c416 (refuses _ C414 _ c414 (fine _)))
+never_denied state session moment (CheckGa bus address port on time) =
+    never_checked (set_ga state session moment bus address port on time) (refuses _ C416 _ c416 (refuses _ C414 _ c414 (fine _)))
 never_denied state session moment (InitGa bus address letter ports) = never_done _ (refuses _ C414 _ c414 (fine _))
 never_denied state session moment (TermGa bus address) = never_done _ (refuses _ C416 _ c416 (refuses _ C414 _ c414 (fine _)))
 never_denied state session moment (GetFb bus port) = never_shown _
@@ -130,23 +137,29 @@ never_denied state session moment (SetFb bus port on) = λ e. cc
 never_denied state session moment (CheckFb bus port on) = λ e. cc
 never_denied state session moment (InitFb bus) = λ e. cc
 never_denied state session moment (GetLock bus group address) = never_shown _
-never_denied state session moment (SetLock bus group address seconds) = never_done _ (refuses _ C416 _ c416 (refuses _ C414 _ c414 (fine _)))
-never_denied state session moment (CheckLock bus group address seconds) = never_checked (set_lock state session moment group bus address seconds) (refuses _ C416 _ c416 (refuses _ C414 _ c414 (fine _)))
+never_denied state session moment (SetLock bus group address seconds) =
+    never_done _ (refuses _ C416 _ c416 (refuses _ C414 _ c414 (fine _)))
+never_denied state session moment (CheckLock bus group address seconds) =
+    never_checked (set_lock state session moment group bus address seconds) (refuses _ C416 _ c416 (refuses _ C414 _ c414 (fine _)))
 never_denied state session moment (TermLock bus group address) = never_done _ (refuses _ C416 _ c416 (refuses _ C414 _ c414 (fine _)))
 
 module _ (state after : State) (session moment : ℕ) (command : Command) (obeyed : Obeyed) where
   -- where 500 was answered, the command wanted memory
-  pub denied_wants : IsObeyed state after session moment command obeyed → obeyed.reply ≡ Refused C500 → wants_memory state session moment command ≡ true
+  pub denied_wants : IsObeyed state after session moment command obeyed → obeyed.reply ≡ Refused C500
+      → wants_memory state session moment command ≡ true
   denied_wants (inl took) e = absurd (never_denied state session moment command (sym took.told.reply ∙ e))
-  denied_wants (inr wants) e = ap (λ t. t && is_accepted (effect state session moment command).reply) wants.0 ∙ ap is_accepted wants.1.accepts
+  denied_wants (inr wants) e =
+      ap (λ t. t && is_accepted (effect state session moment command).reply) wants.0 ∙ ap is_accepted wants.1.accepts
 
 module _ (state after : State) (session moment : ℕ) (command : Command) (obeyed : Obeyed) where
   -- where 500 was answered, the registry is as it was
   pub denied_same : IsObeyed state after session moment command obeyed → obeyed.reply ≡ Refused C500 → after ≡ state
-  denied_same (inl took) e = took.rows ∙ ap (λ us. updated_all us state) (refused_changes C500 state session moment command (sym took.told.reply ∙ e))
+  denied_same (inl took) e =
+      took.rows ∙ ap (λ us. updated_all us state) (refused_changes C500 state session moment command (sym took.told.reply ∙ e))
   denied_same (inr wants) e = wants.1.rows
 
   -- and else the command took effect
-  pub given_took : IsObeyed state after session moment command obeyed → obeyed.reply ≢ Refused C500 → Took (effect state session moment command) state after obeyed
+  pub given_took : IsObeyed state after session moment command obeyed → obeyed.reply ≢ Refused C500
+      → Took (effect state session moment command) state after obeyed
   given_took (inl took) n = took
   given_took (inr wants) n = absurd (n wants.1.told.reply)

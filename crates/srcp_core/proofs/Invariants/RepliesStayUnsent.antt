@@ -13,7 +13,8 @@ use Rattle.srcp_rules.specs.State.{Update, is_there, session_device}
 use Rattle.srcp_feed.specs.Cursor.{concerns}
 use Rattle.srcp_feed.specs.Feed.{Feed, is_full, told}
 use Rattle.srcp_core.specs.Held.{Place, Held, place_at, IsLive, IsSound, IsSessionAt}
-use Rattle.srcp_core.specs.Machine.{told_feed, told_place, told_all, told_each, carried, unsent_of, changed_in, with_unsent, replied, longest, session_begun, goes, feed_in}
+use Rattle.srcp_core.specs.Machine.{told_feed, told_place, told_all, told_each, carried, unsent_of, changed_in, with_unsent, replied}
+use Rattle.srcp_core.specs.Machine.{longest, session_begun, goes, feed_in}
 use Rattle.srcp_core.specs.declared.connection.Panel.TheVariants.{Listening, Overran}
 use Rattle.srcp_core.proofs.Invariants.EveryPlaceIsTold.{told_all_at}
 use Rattle.srcp_core.proofs.Invariants.ChangesOneByOne.{change_in}
@@ -26,16 +27,20 @@ told_shorter change p = by (feed_in p.panel)
   where
     by : (feed : Option Feed) → length (told_feed change p feed).unsent ≤ length p.unsent
     by None = omega arith
-    by (Some feed) = elim (concerns feed.cursor change && is_full feed) as (λ t. length (cond t (record p { unsent = []; panel = Overran }) (record p { panel = Listening (told change feed) })).unsent ≤ length p.unsent) [
-      | true ↦ omega arith
-      | false ↦ omega arith
-    ]
+    by (Some feed) =
+        elim (concerns feed.cursor change && is_full feed)
+        as (λ t. length (cond t (record p { unsent = []; panel = Overran }) (record p { panel = Listening (told change feed) })).unsent
+        ≤ length p.unsent) [
+          | true ↦ omega arith
+          | false ↦ omega arith
+        ]
 
 slot_shorter : (change : Change) (o : Option Place) → length (unsent_of (option_map (told_place change) o)) ≤ length (unsent_of o)
 slot_shorter change None = omega arith
 slot_shorter change (Some p) = told_shorter change p
 
-pub told_each_shorter : (changes : List Change) (places : List (Option Place)) (key : ℕ) → length (unsent_of (place_at (told_each changes places) key)) ≤ length (unsent_of (place_at places key))
+pub told_each_shorter : (changes : List Change) (places : List (Option Place)) (key : ℕ)
+    → length (unsent_of (place_at (told_each changes places) key)) ≤ length (unsent_of (place_at places key))
 told_each_shorter [] places key = omega arith
 told_each_shorter (change ∷ changes) places key =
     let rest = told_each_shorter changes (told_all change places) key in
@@ -58,10 +63,16 @@ told_live change p = by (feed_in p.panel)
   where
     by : (feed : Option Feed) → ((told_feed change p feed).session ≡ p.session) × ((told_feed change p feed).ended ≡ p.ended)
     by None = (refl, refl)
-    by (Some feed) = elim (concerns feed.cursor change && is_full feed) as (λ t. ((cond t (record p { unsent = []; panel = Overran }) (record p { panel = Listening (told change feed) })).session ≡ p.session) × ((cond t (record p { unsent = []; panel = Overran }) (record p { panel = Listening (told change feed) })).ended ≡ p.ended)) [
-      | true ↦ (refl, refl)
-      | false ↦ (refl, refl)
-    ]
+    by (Some feed) =
+        elim (concerns feed.cursor change && is_full feed)
+        as (λ t.
+        ((cond t (record p { unsent = []; panel = Overran }) (record p { panel = Listening (told change feed) })).session
+        ≡ p.session)
+        × ((cond t (record p { unsent = []; panel = Overran }) (record p { panel = Listening (told change feed) })).ended
+        ≡ p.ended)) [
+          | true ↦ (refl, refl)
+          | false ↦ (refl, refl)
+        ]
 
 -- the connection at the place of these, with its session
 pub record IsSessionIn (session key : ℕ) (places : List (Option Place)) : Type 0 where
@@ -70,7 +81,8 @@ pub record IsSessionIn (session key : ℕ) (places : List (Option Place)) : Type
   pub own : place.session ≡ session
   pub live : IsLive place
 
-told_session : (session key : ℕ) (changes : List Change) (places : List (Option Place)) → IsSessionIn session key places → IsSessionIn session key (told_each changes places)
+told_session : (session key : ℕ) (changes : List Change) (places : List (Option Place)) → IsSessionIn session key places
+    → IsSessionIn session key (told_each changes places)
 told_session session key [] places s = s
 told_session session key (change ∷ changes) places s =
     let l = told_live change s.place in
@@ -81,23 +93,34 @@ told_session session key (change ∷ changes) places s =
       live = record { began = subst (λ n. 0 < n) (sym l.0) s.live.began; not_ended = l.1 ∙ s.live.not_ended };
     })
 
-pub session_replied : (session key : ℕ) (reply : Reply) (updates : List Update) (held : Held) → IsSessionAt session key held → IsSessionAt session key (replied key reply (carried updates held))
+pub session_replied : (session key : ℕ) (reply : Reply) (updates : List Update) (held : Held) → IsSessionAt session key held
+    → IsSessionAt session key (replied key reply (carried updates held))
 session_replied session key reply updates held s =
-    let t = told_session session key (map change_in updates) held.places (record { place = s.place; here = s.here; own = s.own; live = s.live }) in
+    let t =
+    told_session session key (map change_in updates) held.places
+    (record { place = s.place; here = s.here; own = s.own; live = s.live }) in
     let line = with_unsent (reply_line held.moment reply) in
     record {
       place = line t.place;
-      here = ap (λ (o : Option Place). place_at (changed_in key line (carried updates held).places o) key) t.here ∙ place_set_here (carried updates held).places key t.place (Some (line t.place)) t.here;
+      here =
+          ap (λ (o : Option Place). place_at (changed_in key line (carried updates held).places o) key) t.here
+          ∙ place_set_here (carried updates held).places key t.place (Some (line t.place)) t.here;
       own = t.own;
       live = record { began = t.live.began; not_ended = t.live.not_ended };
     }
 
 -- its row is there
-pub session_row : (session key : ℕ) (held : Held) → IsSound held → IsSessionAt session key held → is_there (session_device session) held.rows ≡ true
-session_row session key held s h = subst (λ n. is_there (session_device n) held.rows ≡ true) h.own (s.sessions.there key h.place h.here h.live)
+pub session_row : (session key : ℕ) (held : Held) → IsSound held → IsSessionAt session key held
+    → is_there (session_device session) held.rows ≡ true
+session_row session key held s h =
+    subst (λ n. is_there (session_device n) held.rows ≡ true) h.own (s.sessions.there key h.place h.here h.live)
 
 -- a session that was given memory begins
-pub goes_granted : (held : Held) (key : ℕ) (mode : Mode) (last : ℕ) (mid new : Held) → last < 4294967295 → last ≡ held.last_id → mid ≡ session_begun key (last + 1) mode held → new ≡ replied key (Go (last + 1)) mid → new ≡ goes true key mode held
+pub goes_granted : (held : Held) (key : ℕ) (mode : Mode) (last : ℕ) (mid new : Held) → last < 4294967295 → last ≡ held.last_id
+    → mid ≡ session_begun key (last + 1) mode held → new ≡ replied key (Go (last + 1)) mid → new ≡ goes true key mode held
 goes_granted held key mode last mid new low is m n =
     n ∙ ap (replied key (Go (last + 1))) m ∙ ap (λ k. replied key (Go (k + 1)) (session_begun key (k + 1) mode held)) is
-    ∙ sym (ap (λ t. if t then replied key (Go (held.last_id + 1)) (session_begun key (held.last_id + 1) mode held) else replied key (Refused C500) held) (lt-ltb held.last_id 4294967295 (subst (λ k. k < 4294967295) is low)))
+    ∙ sym (ap
+    (λ t. if t then replied key (Go (held.last_id + 1)) (session_begun key (held.last_id + 1) mode held)
+    else replied key (Refused C500) held)
+    (lt-ltb held.last_id 4294967295 (subst (λ k. k < 4294967295) is low)))

@@ -18,8 +18,10 @@ beyond_start [] = refl
 beyond_start (row ∷ state) = ap (λ (rows : State). row ∷ rows) (beyond_start state)
 
 -- the row that is found is the next to be listed
-pub one_listed : (told : State) (at : Cursor) (state : State) (row : Row) → IsRising state → row_after at state ≡ Some row → told ++ beyond at state ≡ state → (told ++ row ∷ []) ++ beyond (After row.shown.key) state ≡ state
-one_listed told at state row rising next all = append_assoc told (row ∷ []) _ ∙ ap (λ (rows : State). told ++ rows) (sym (beyond-next at row state rising next)) ∙ all
+pub one_listed : (told : State) (at : Cursor) (state : State) (row : Row) → IsRising state → row_after at state ≡ Some row
+    → told ++ beyond at state ≡ state → (told ++ row ∷ []) ++ beyond (After row.shown.key) state ≡ state
+one_listed told at state row rising next all =
+    append_assoc told (row ∷ []) _ ∙ ap (λ (rows : State). told ++ rows) (sym (beyond-next at row state rising next)) ∙ all
 
 -- and where none is found, all are listed
 pub all_listed : (told : State) (at : Cursor) (state : State) → row_after at state ≡ None → told ++ beyond at state ≡ state → told ≡ state
@@ -27,11 +29,14 @@ all_listed told at state none all = sym (append-nil told) ∙ ap (λ (rows : Sta
 
 -- each row of a whole registry can be written
 rows_well_formed : (buses : List Bus) (state : State) → IsWhole buses state → AllByRecursion (λ row. IsWellFormedShown row.shown) state
-rows_well_formed buses state whole = each_found (λ row. IsWellFormedShown row.shown) state whole.rising (λ key row h. (whole.rows key row h).shown)
+rows_well_formed buses state whole =
+    each_found (λ row. IsWellFormedShown row.shown) state whole.rising (λ key row h. (whole.rows key row h).shown)
 
 pub shown_tellable : (buses : List Bus) (state : State) → IsWhole buses state → AllByRecursion IsWellFormedShown (shown_rows state)
 shown_tellable buses state whole = all_shown IsWellFormedShown state (rows_well_formed buses state whole)
 
-pub told_well_formed : {E : Type 0} (buses : List Bus) (state : State) (told : Result State E) → IsWhole buses state → IfOk told (λ rows. rows ≡ state) → IfOk told (AllByRecursion (λ row. IsWellFormedShown row.shown))
-told_well_formed buses state (Ok rows) whole is = subst (AllByRecursion (λ row. IsWellFormedShown row.shown)) (sym is) (rows_well_formed buses state whole)
+pub told_well_formed : {E : Type 0} (buses : List Bus) (state : State) (told : Result State E) → IsWhole buses state
+    → IfOk told (λ rows. rows ≡ state) → IfOk told (AllByRecursion (λ row. IsWellFormedShown row.shown))
+told_well_formed buses state (Ok rows) whole is =
+    subst (AllByRecursion (λ row. IsWellFormedShown row.shown)) (sym is) (rows_well_formed buses state whole)
 told_well_formed buses state (Err e) whole is = tt

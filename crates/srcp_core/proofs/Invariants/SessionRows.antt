@@ -32,19 +32,25 @@ IsOther row = is_session row.shown.key.group ≡ false
 
 other_on : (moment : ℕ) (bus : Bus) → AllByRecursion IsOther (opening_on moment bus)
 other_on moment bus =
-    all_append IsOther (cond bus.power (first_row moment (power_device bus.number) (value.Power false []) ∷ []) []) (map (λ port. first_row moment (fb_device bus.number port) (value.Fb false)) (range_with_len 1 bus.fb_ports))
-    (elim bus.power as (λ t. AllByRecursion IsOther (cond t (first_row moment (power_device bus.number) (value.Power false []) ∷ []) [])) [ true ↦ (refl, tt) | false ↦ tt ])
+    all_append IsOther (cond bus.power (first_row moment (power_device bus.number) (value.Power false []) ∷ []) [])
+    (map (λ port. first_row moment (fb_device bus.number port) (value.Fb false)) (range_with_len 1 bus.fb_ports))
+    (elim bus.power as (λ t. AllByRecursion IsOther (cond t (first_row moment (power_device bus.number) (value.Power false []) ∷ []) [])) [
+      | true ↦ (refl, tt)
+      | false ↦ tt
+    ])
     (all_made IsOther (λ port. first_row moment (fb_device bus.number port) (value.Fb false)) (λ n. refl) (range_with_len 1 bus.fb_ports))
 
 other_opening : (moment : ℕ) (buses : List Bus) → AllByRecursion IsOther (opening buses moment)
 other_opening moment [] = tt
-other_opening moment (bus ∷ buses) = all_append IsOther (opening_on moment bus) (opening buses moment) (other_on moment bus) (other_opening moment buses)
+other_opening moment (bus ∷ buses) =
+    all_append IsOther (opening_on moment bus) (opening buses moment) (other_on moment bus) (other_opening moment buses)
 
 -- at the beginning no session has a row
 pub no_session-opening : (buses : List Bus) (moment id : ℕ) → is_there (session_device id) (opening buses moment) ≡ false
 no_session-opening buses moment id = by (row_at (first_key (session_device id)) (opening buses moment)) refl
   where
-    by : (o : Option Row) → row_at (first_key (session_device id)) (opening buses moment) ≡ o → is_some (row_at (first_key (session_device id)) (opening buses moment)) ≡ false
+    by : (o : Option Row) → row_at (first_key (session_device id)) (opening buses moment) ≡ o
+        → is_some (row_at (first_key (session_device id)) (opening buses moment)) ≡ false
     by None e = ap is_some e
     by (Some row) e =
         let other = row_at-all IsOther (first_key (session_device id)) (opening buses moment) (other_opening moment buses) row e in

@@ -1,5 +1,6 @@
 //! What answers a line: the handshake before the session, and commands after it.
-ghost use Rattle.std.specs.Prelude.{◌≡◌, ◌≢◌, ◌+◌, ◌≤◌, [], ◌∷◌, true, false, length, Ok, OnOk, OnErr, OnSome, IfNone, IfSome, IfOk};
+ghost use Rattle.std.specs.Prelude.{◌≡◌, ◌≢◌, ◌+◌, ◌≤◌, [], ◌∷◌, true, false, length, Ok, OnOk, OnErr, OnSome, IfNone};
+ghost use Rattle.std.specs.Prelude.{IfSome, IfOk};
 ghost use Rattle.srcp_info.specs.WellFormed.{IsWellFormedReply};
 ghost use Rattle.srcp_info.specs.declared.change.Code.TheVariants.{C500};
 ghost use Rattle.srcp_info.specs.declared.change.Reply.TheVariants.{Refused};
@@ -8,7 +9,10 @@ ghost use Rattle.srcp_rules.specs.Effect.{effect};
 ghost use Rattle.srcp_rules.specs.State.{session_device, is_there};
 ghost use Rattle.srcp_core.specs.Held.{IsSessionAt, IsSound};
 ghost use Rattle.srcp_core.specs.Under.{denied_by, wants_memory};
-ghost use Rattle.srcp_core.specs.Machine.{changed_at, unsent_at, one_denied, replied, denied_line, session_begun, goes, greeted, carried, freed_of, answered, commanded, longest, longest_answer, steps_answered, steps_gone, steps_greeted, steps_commanded, steps_in, IsAsked};
+ghost use Rattle.srcp_core.specs.Machine.{changed_at, unsent_at, one_denied, replied, denied_line, session_begun, goes};
+ghost use Rattle.srcp_core.specs.Machine.{greeted, carried, freed_of, answered, commanded, longest, longest_answer};
+ghost use Rattle.srcp_core.specs.Machine.{steps_answered, steps_gone, steps_greeted, steps_commanded, steps_in};
+ghost use Rattle.srcp_core.specs.Machine.{IsAsked};
 
 use super::Core;
 use super::walk::{any_panel, free_all, tell_all, tell_each};
@@ -130,7 +134,8 @@ impl<'a, R: Rows> Core<'a, R> {
         requires session { IsSessionAt session conn self.old }
         requires row { is_there (session_device session) self.old.rows ≡ true }
         requires command { IfOk command (IsCommandOf self.old.buses) }
-        requires room { length (unsent_at conn self.old) + longest_answer (Asked.Commands session command) ≤ MOST_UNSENT }
+        requires room { length (unsent_at conn self.old) + longest_answer (Asked.Commands session command)
+            ≤ MOST_UNSENT }
         ensures core { self.new ≡ commanded result.granted conn session command self.old }
         ensures steps { steps_in result ≡ steps_commanded result.granted session command self.old }
         ensures counted { self.new.denied ≡ denied_by self.old.denied (result.granted ∷ []) }
@@ -186,9 +191,12 @@ impl<'a, R: Rows> Core<'a, R> {
         requires command { IsCommandOf self.old.buses command.now }
         ensures refused { IfNone result (self.new ≡ self.old) }
         ensures wants { IfNone result (wants_memory self.old.rows session self.old.moment command.now ≡ true) }
-        ensures carried { OnSome result (self.new ≡ carried (effect self.old.rows session self.old.moment command.now).updates self.old) }
-        ensures reply { IfSome result (λ obeyed. obeyed.reply ≡ (effect self.old.rows session self.old.moment command.now).reply) }
-        ensures ends { IfSome result (λ obeyed. obeyed.ends ≡ (effect self.old.rows session self.old.moment command.now).ends) }
+        ensures carried { OnSome result
+            (self.new ≡ carried (effect self.old.rows session self.old.moment command.now).updates self.old) }
+        ensures reply { IfSome result
+            (λ obeyed. obeyed.reply ≡ (effect self.old.rows session self.old.moment command.now).reply) }
+        ensures ends { IfSome result
+            (λ obeyed. obeyed.ends ≡ (effect self.old.rows session self.old.moment command.now).ends) }
         ensures well_formed { IfSome result (λ obeyed. IsWellFormedReply obeyed.reply) }
     {
         obey_into(

@@ -54,7 +54,8 @@ impl<'a, R: Rows> Core<'a, R> {
     /// # Errors
     /// `NoSuch` if there is no such connection, and then nothing changes.
     pub fn hangup(&mut self, conn: usize) -> Result<(), CoreFault>
-        ensures absent { MatchResult result (λ _. IsSome (at self.old conn)) (λ fault. (fault ≡ CoreFault.NoSuch) × (at self.old conn ≡ None)) }
+        ensures absent { MatchResult result (λ _. IsSome (at self.old conn))
+            (λ fault. (fault ≡ CoreFault.NoSuch) × (at self.old conn ≡ None)) }
         ensures core { self.new ≡ hung_up conn self.old }
     {
         let Some(connection) = self.connections.try_remove(conn) else {

@@ -22,7 +22,8 @@ impl<'a, R: Rows> Core<'a, R> {
     /// `NoSuch` if there is no such connection, and then nothing changes.
     pub fn outgoing(&mut self, conn: usize) -> Result<&[u8], CoreFault>
         ensures* ends { sem 𝓛 (EndsAs R.row R.Rows self.entry (let_out conn self.old)) }
-        ensures absent { MatchResult result (λ _. IsSome (at self.old conn)) (λ fault. (fault ≡ CoreFault.NoSuch) × (at self.old conn ≡ None)) }
+        ensures absent { MatchResult result (λ _. IsSome (at self.old conn))
+            (λ fault. (fault ≡ CoreFault.NoSuch) × (at self.old conn ≡ None)) }
         ensures bytes { IfOk result (λ bytes. bytes.now ≡ unsent_at conn (let_out conn self.old)) }
         ensures one_line { unsent_at conn self.old ≡ [] → IfOk result (λ bytes. length bytes.now ≤ LONGEST_LINE) }
     {

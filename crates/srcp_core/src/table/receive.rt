@@ -15,10 +15,11 @@ impl<'a, R: Rows> Core<'a, R> {
     /// dropped. Its laws are `accepted`, `refused`, `bytes` and `takes` of `laws::calls_follow`.
     ///
     /// # Errors
-    /// The first of these that applies, and then nothing changes: `NoSuch` if there is no such connection, `Closing` if it
-    /// ended or overran, `Busy` while bytes of it are unsent, `PieceTooLong` for more than 256 bytes.
+    /// The first of these that applies, and then nothing changes: `NoSuch` if there is no such connection, `Closing` if
+    /// it ended or overran, `Busy` while bytes of it are unsent, `PieceTooLong` for more than 256 bytes.
     pub fn receive(&mut self, conn: usize, piece: &[u8]) -> Result<(), CoreFault>
-        ensures fault { MatchResult result (λ _. bytes_fault conn piece.now self.old ≡ None) (λ fault. bytes_fault conn piece.now self.old ≡ Some fault) }
+        ensures fault { MatchResult result (λ _. bytes_fault conn piece.now self.old ≡ None)
+            (λ fault. bytes_fault conn piece.now self.old ≡ Some fault) }
         ensures refused { OnErr result (self.new ≡ self.old) }
         ensures received { OnOk result (IsReceived conn piece.now self.old self.new) }
     {
@@ -60,8 +61,8 @@ impl<'a, R: Rows> Core<'a, R> {
         }
     }
 
-    /// Reads the piece on from `start` and answers its next line. Returns the offset after that line, and what came of it. It is
-    /// inlined with all that it calls, so that the record of a line is not made where no run is recorded.
+    /// Reads the piece on from `start` and answers its next line. Returns the offset after that line, and what came of
+    /// it. It is inlined with all that it calls, so that the record of a line is not made where no run is recorded.
     #[inline(always)]
     pub(crate) fn answer_line(
         &mut self,

@@ -69,7 +69,8 @@ pub(crate) fn tell_all(connections: &mut Slab<Connection>, panels: bool, change:
 
 /// Returns one more than the greatest key of a connection; 0 if there is none.
 fn end_of_keys(connections: &Slab<Connection>) -> usize
-    ensures { (change : Change) → told_upto change result connections.now.slots ≡ told_all change connections.now.slots }
+    ensures { (change : Change)
+        → told_upto change result connections.now.slots ≡ told_all change connections.now.slots }
 {
     // Called for its contract, which says that no key is greater.
     let _ = connections.capacity();
@@ -104,7 +105,8 @@ pub(crate) fn free_all<R: Rows>(
     requires panels { panels ≡ list_any has_panel connections.old.slots }
     ensures layout { R.buses rows.new ≡ R.buses rows.old }
     ensures rows { R.state rows.new ≡ updated_all (freed (R.state rows.old) session moment) (R.state rows.old) }
-    ensures slots { connections.new.slots ≡ told_each (map (λ update. update.change) (freed (R.state rows.old) session moment)) connections.old.slots }
+    ensures slots { connections.new.slots
+        ≡ told_each (map (λ update. update.change) (freed (R.state rows.old) session moment)) connections.old.slots }
     ensures capacity { connections.new.capacity ≡ connections.old.capacity }
 {
     while let Some(change) = free_next(rows, session, moment) {
@@ -123,7 +125,8 @@ pub(crate) fn carry_out_due<R: Rows>(
     requires panels { panels ≡ list_any has_panel connections.old.slots }
     ensures layout { R.buses rows.new ≡ R.buses rows.old }
     ensures rows { R.state rows.new ≡ updated_all (due (R.state rows.old) moment) (R.state rows.old) }
-    ensures slots { connections.new.slots ≡ told_each (map (λ update. update.change) (due (R.state rows.old) moment)) connections.old.slots }
+    ensures slots { connections.new.slots
+        ≡ told_each (map (λ update. update.change) (due (R.state rows.old) moment)) connections.old.slots }
     ensures capacity { connections.new.capacity ≡ connections.old.capacity }
 {
     let mut at = Cursor::Start;

@@ -5,6 +5,11 @@ use Rattle.srcp_core.proofs.recorder.finish_all.Goals.{in-Some, in_default}
 
 pub loop-index-preserved : goal.loop-index-preserved
 loop-index-preserved g c = elim c.match-keys-index.branch [
-  | in-Some w ↦ ap (λ v. v.items) w.connections-is ∙ finish_noted c.args.core.now c.loop-index.index w.in-Some.key c.args.keys.now c.args.connections.now.items c.loop-index.connections.items w.finish-in-Some.new.connections.items w.finish.result w.in-Some.is w.finish.ensures c.loop-index.invariant w.finish-in-Some.ensures
-  | in_default w ↦ ap (λ v. v.items) w.connections-is ∙ finish_kept c.args.core.now c.loop-index.index c.args.keys.now c.args.connections.now.items c.loop-index.connections.items c.loop-index-test.true w.in_default.is c.loop-index.invariant
+  | in-Some w ↦ ap (λ v. v.items) w.connections-is
+      ∙ finish_noted c.args.core.now c.loop-index.index w.in-Some.key c.args.keys.now c.args.connections.now.items
+      c.loop-index.connections.items w.finish-in-Some.new.connections.items w.finish.result w.in-Some.is w.finish.ensures
+      c.loop-index.invariant w.finish-in-Some.ensures
+  | in_default w ↦ ap (λ v. v.items) w.connections-is
+      ∙ finish_kept c.args.core.now c.loop-index.index c.args.keys.now c.args.connections.now.items c.loop-index.connections.items
+      c.loop-index-test.true w.in_default.is c.loop-index.invariant
 ]

@@ -8,7 +8,10 @@ use Rattle.srcp_core.proofs.runner.bytes.Goals as goal
 
 pub returns-in_default : goal.returns-in_default
 returns-in_default g c =
-    keeps_same c.args.recorder.now (λ r e. no_bytes_happens c.args.conn c.args.piece.now r c.args.core.now (ap (key_of c.args.conn) (sym e) ∙ sym c.key.ensures ∙ c.in_default.is))
+    keeps_same c.args.recorder.now
+    (λ r e.
+    no_bytes_happens c.args.conn c.args.piece.now r c.args.core.now
+    (ap (key_of c.args.conn) (sym e) ∙ sym c.key.ensures ∙ c.in_default.is))
 
 pub returns-in-Some-bytes_fault : goal.returns-in-Some-bytes_fault
 returns-in-Some-bytes_fault g c =
@@ -25,7 +28,9 @@ loop-stop-init g c =
       few = room.0;
       room = room.1;
       reads = keeps_same c.args.recorder.now
-          (λ r e. reads_first c.args.conn c.in-Some.key c.args.piece.now r c.args.core.now (ap (key_of c.args.conn) (sym e) ∙ sym c.key.ensures ∙ c.in-Some.is) free);
+          (λ r e.
+          reads_first c.args.conn c.in-Some.key c.args.piece.now r c.args.core.now
+          (ap (key_of c.args.conn) (sym e) ∙ sym c.key.ensures ∙ c.in-Some.is) free);
     }
 
 pub loop-stop-preserved : goal.loop-stop-preserved

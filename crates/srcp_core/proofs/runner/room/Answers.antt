@@ -9,12 +9,17 @@ use Rattle.srcp_core.proofs.runner.room.Goals.{then-left-eq0-via-then-left-eq0, 
 
 pub returns-in_default : goal.returns-in_default
 returns-in_default g c =
-    keeps_same c.args.recorder.now (λ r e. no_room_happens c.args.conn c.args.bytes r c.args.core.now (ap (key_of c.args.conn) (sym e) ∙ sym c.key.ensures ∙ c.in_default.is))
+    keeps_same c.args.recorder.now
+    (λ r e.
+    no_room_happens c.args.conn c.args.bytes r c.args.core.now
+    (ap (key_of c.args.conn) (sym e) ∙ sym c.key.ensures ∙ c.in_default.is))
 
 pub loop-count-init : goal.loop-count-init
 loop-count-init g c = record {
   gives = keeps_same c.args.recorder.now
-      (λ r e. gives_first c.args.conn c.in-Some.key c.args.bytes r c.args.core.now (ap (key_of c.args.conn) (sym e) ∙ sym c.key.ensures ∙ c.in-Some.is));
+      (λ r e.
+      gives_first c.args.conn c.in-Some.key c.args.bytes r c.args.core.now
+      (ap (key_of c.args.conn) (sym e) ∙ sym c.key.ensures ∙ c.in-Some.is));
   denied = refl;
 }
 

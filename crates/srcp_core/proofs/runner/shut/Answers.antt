@@ -9,7 +9,8 @@ use Rattle.srcp_core.proofs.runner.shut.Goals as goal
 
 pub returns-in_default : goal.returns-in_default
 returns-in_default g c =
-    keeps_same c.args.recorder.now (λ r e. no_shut_happens c.args.conn r c.args.core.now (ap (key_of c.args.conn) (sym e) ∙ sym c.key.ensures ∙ c.in_default.is))
+    keeps_same c.args.recorder.now
+    (λ r e. no_shut_happens c.args.conn r c.args.core.now (ap (key_of c.args.conn) (sym e) ∙ sym c.key.ensures ∙ c.in_default.is))
 
 pub returns-in-Err : goal.returns-in-Err
 returns-in-Err g c =
@@ -27,7 +28,8 @@ returns-in_ok-step g c =
     (ends
     ∙ ap (λ (x : Recording). stepped (Ended c.in-Some-session.session c.moment.result ∷ []) x) gone
     ∙ ap (λ o. with_end o c.moment.result (shut c.args.conn r)) (sym c.in-Some-session.is ∙ c.live_session-session.ensures)) refl
-    (shut_happens c.args.conn c.in-Some.key r c.args.core.now c.hangup.new.self c.moment.result (ap (key_of c.args.conn) (sym e) ∙ sym c.key.ensures ∙ c.in-Some.is) c.hangup.ensures.core c.moment.ensures))
+    (shut_happens c.args.conn c.in-Some.key r c.args.core.now c.hangup.new.self c.moment.result
+    (ap (key_of c.args.conn) (sym e) ∙ sym c.key.ensures ∙ c.in-Some.is) c.hangup.ensures.core c.moment.ensures))
     c.shut.ensures c.in_ok-step.ensures
 
 pub returns-in_default-session : goal.returns-in_default-session
@@ -38,5 +40,6 @@ returns-in_default-session g c =
     (shut c.args.conn r)) (shut c.args.conn r) c.hangup.new.self c.hangup.new.self
     (ap (λ o. with_end o c.hangup.new.self.moment (shut c.args.conn r)) (sym c.in_default-session.is
     ∙ c.live_session-session.ensures)) refl
-    (shut_happens c.args.conn c.in-Some.key r c.args.core.now c.hangup.new.self c.hangup.new.self.moment (ap (key_of c.args.conn) (sym e) ∙ sym c.key.ensures ∙ c.in-Some.is) c.hangup.ensures.core refl))
+    (shut_happens c.args.conn c.in-Some.key r c.args.core.now c.hangup.new.self c.hangup.new.self.moment
+    (ap (key_of c.args.conn) (sym e) ∙ sym c.key.ensures ∙ c.in-Some.is) c.hangup.ensures.core refl))
     c.shut.ensures

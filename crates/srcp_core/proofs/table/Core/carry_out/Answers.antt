@@ -11,10 +11,22 @@ use Rattle.srcp_core.proofs.table.Core.carry_out.Goals as goal
 
 pub invariant_of-self-2 : goal.invariant_of-self-2
 invariant_of-self-2 g c =
-    let held : Held = record { buses = c.self.inside.layout.now; rows = g.R.Rows.state c.self.inside.rows; moment = c.self.inside.moment; last_id = c.self.inside.last_id; places = c.self.inside.connections.slots; denied = c.self.inside.denied } in
-    let row : is_there (session_device c.args.session) held.rows ≡ true = ap (λ (h : Held). is_there (session_device c.args.session) h.rows) c.self.view_is ∙ c.requires.row in
-    let of : IsCommandOf held.buses c.args.command.now = subst (λ (h : Held). IsCommandOf h.buses c.args.command.now) (sym c.self.view_is) c.requires.command in
-    let did = given_took held.rows _ c.args.session held.moment c.args.command.now _ c.obey_into.ensures.obeyed (c.is_denied.ensures.given c.if-is_denied.false) in (
+    let held : Held =
+    record {
+      buses = c.self.inside.layout.now;
+      rows = g.R.Rows.state c.self.inside.rows;
+      moment = c.self.inside.moment;
+      last_id = c.self.inside.last_id;
+      places = c.self.inside.connections.slots;
+      denied = c.self.inside.denied;
+    } in
+    let row : is_there (session_device c.args.session) held.rows ≡ true =
+    ap (λ (h : Held). is_there (session_device c.args.session) h.rows) c.self.view_is ∙ c.requires.row in
+    let of : IsCommandOf held.buses c.args.command.now =
+    subst (λ (h : Held). IsCommandOf h.buses c.args.command.now) (sym c.self.view_is) c.requires.command in
+    let did =
+    given_took held.rows _ c.args.session held.moment c.args.command.now _ c.obey_into.ensures.obeyed
+    (c.is_denied.ensures.given c.if-is_denied.false) in (
       sound_carried_as held (effect held.rows c.args.session held.moment c.args.command.now).updates _ _ did.rows
           (c.tell_each.ensures.slots ∙ ap (λ cs. told_each cs held.places) (c.as_slice.ensures.value ∙ did.told.changes))
           (sound_obeyed c.args.session held.moment c.args.command.now held c.self.invariant.0.moment of row c.self.invariant.0),
@@ -25,8 +37,18 @@ invariant_of-self-2 g c =
 
 pub invariant_of-self : goal.invariant_of-self
 invariant_of-self g c =
-    let held : Held = record { buses = c.self.inside.layout.now; rows = g.R.Rows.state c.self.inside.rows; moment = c.self.inside.moment; last_id = c.self.inside.last_id; places = c.self.inside.connections.slots; denied = c.self.inside.denied } in
-    let same = denied_same held.rows _ c.args.session held.moment c.args.command.now _ c.obey_into.ensures.obeyed (c.is_denied.ensures.denied c.if-is_denied.true) in (
+    let held : Held =
+    record {
+      buses = c.self.inside.layout.now;
+      rows = g.R.Rows.state c.self.inside.rows;
+      moment = c.self.inside.moment;
+      last_id = c.self.inside.last_id;
+      places = c.self.inside.connections.slots;
+      denied = c.self.inside.denied;
+    } in
+    let same =
+    denied_same held.rows _ c.args.session held.moment c.args.command.now _ c.obey_into.ensures.obeyed
+    (c.is_denied.ensures.denied c.if-is_denied.true) in (
       subst (λ (s : State). IsSound (record held { rows = s })) (sym same) c.self.invariant.0,
       c.obey_into.ensures.layout ∙ c.self.invariant.1,
       c.self.invariant.2,

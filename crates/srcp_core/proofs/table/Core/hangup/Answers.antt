@@ -10,7 +10,15 @@ use Rattle.srcp_core.proofs.table.Core.hangup.Goals as goal
 
 pub invariant_of-self-in-Some-live_session : goal.invariant_of-self-in-Some-live_session
 invariant_of-self-in-Some-live_session g c =
-    let held : Held = record { buses = c.self.inside.layout.now; rows = g.R.Rows.state c.self.inside.rows; moment = c.self.inside.moment; last_id = c.self.inside.last_id; places = c.self.inside.connections.slots; denied = c.self.inside.denied } in
+    let held : Held =
+    record {
+      buses = c.self.inside.layout.now;
+      rows = g.R.Rows.state c.self.inside.rows;
+      moment = c.self.inside.moment;
+      last_id = c.self.inside.last_id;
+      places = c.self.inside.connections.slots;
+      denied = c.self.inside.denied;
+    } in
     let there : at held c.args.conn ≡ Some c.in-Some.connection = sym c.in-Some.ensures.value in
     let count : open_count (freed_place c.args.conn held) ≤ open_count held =
     let n = ap (λ (ps : List (Option Place)). count_by is_some ps) c.in-Some.ensures.slots in omega (arith, n, c.in-Some.ensures.len) in

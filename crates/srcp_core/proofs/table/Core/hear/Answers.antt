@@ -10,7 +10,8 @@ pub invariant_of-self-2 : goal.invariant_of-self-2
 invariant_of-self-2 g c =
     let p = c.in_ok-connection.connection.now in
     let there = sym c.get_mut.ensures.value ∙ ap option_copied_mut c.in_ok-connection.was in
-    let mild = subst (IsMild p) (sym (ap (λ r. r.1) c.hear.ensures)) (heard_mild c.self.inside.layout.now c.args.piece.now c.args.start p) in (
+    let mild =
+    subst (IsMild p) (sym (ap (λ r. r.1) c.hear.ensures)) (heard_mild c.self.inside.layout.now c.args.piece.now c.args.start p) in (
       sound_place c.args.conn _ p c.hear.new.self there mild c.self.invariant.0,
       c.self.invariant.1,
       c.self.invariant.2,

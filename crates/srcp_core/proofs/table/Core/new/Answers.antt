@@ -14,8 +14,10 @@ stamp_all-requires g c = record {
 
 pub invariant_of-result : goal.invariant_of-result
 invariant_of-result g c = (
-  sound_opening c.args.layout.now c.buses.ensures.laid_out c.args.moment c.ranges.moment.fits c.args.last_id (g.R.Rows.state c.stamp_all.new.rows)
-      (c.stamp_all.ensures.rows ∙ ap (λ buses. opening buses c.args.moment) c.in_ok-rows.ensures.layout) c.in_ok-connections.connections.slots c.in_ok-connections.ensures.empty,
+  sound_opening c.args.layout.now c.buses.ensures.laid_out c.args.moment c.ranges.moment.fits c.args.last_id
+      (g.R.Rows.state c.stamp_all.new.rows)
+      (c.stamp_all.ensures.rows ∙ ap (λ buses. opening buses c.args.moment) c.in_ok-rows.ensures.layout)
+      c.in_ok-connections.connections.slots c.in_ok-connections.ensures.empty,
   c.stamp_all.ensures.layout ∙ c.in_ok-rows.ensures.layout,
   c.in_ok-connections.ensures.capacity,
   sym (ap (list_any has_panel) c.in_ok-connections.ensures.empty),

@@ -6,7 +6,9 @@ use Rattle.srcp_core.proofs.Invariants.RowLists.{beyond_start, one_listed, all_l
 use Rattle.srcp_core.proofs.table.finish.all_rows.Goals as goal
 
 pub loop-row-init : goal.loop-row-init
-loop-row-init g c = ap (λ (told : State). told ++ beyond Start (g.R.Rows.state c.args.rows.now)) c.new-told.ensures ∙ beyond_start (g.R.Rows.state c.args.rows.now)
+loop-row-init g c =
+    ap (λ (told : State). told ++ beyond Start (g.R.Rows.state c.args.rows.now)) c.new-told.ensures
+    ∙ beyond_start (g.R.Rows.state c.args.rows.now)
 
 pub loop-row-smaller : goal.loop-row-smaller
 loop-row-smaller g c = fewer_beyond c.loop-row.at (g.R.Rows.state c.args.rows.now) c.requires c.in-Some.row.now (sym c.in-Some.ensures)
@@ -14,7 +16,8 @@ loop-row-smaller g c = fewer_beyond c.loop-row.at (g.R.Rows.state c.args.rows.no
 pub loop-row-preserved : goal.loop-row-preserved
 loop-row-preserved g c =
     ap (λ (told : State). told ++ beyond (After c.in-Some.row.now.shown.key) (g.R.Rows.state c.args.rows.now)) c.in_ok-extend.ensures.ok
-    ∙ one_listed c.loop-row.told c.loop-row.at (g.R.Rows.state c.args.rows.now) c.in-Some.row.now c.requires (sym c.in-Some.ensures) c.loop-row.invariant
+    ∙ one_listed c.loop-row.told c.loop-row.at (g.R.Rows.state c.args.rows.now) c.in-Some.row.now c.requires
+    (sym c.in-Some.ensures) c.loop-row.invariant
 
 pub returns : goal.returns
 returns g c = all_listed c.loop-row.told c.loop-row.at (g.R.Rows.state c.args.rows.now) (sym c.in_default.ensures) c.loop-row.invariant

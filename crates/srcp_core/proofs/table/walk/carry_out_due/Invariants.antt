@@ -12,9 +12,11 @@ invariant-loop-change g l = record {
   layout : g.R.Rows.buses l.rows ≡ g.R.Rows.buses l.fn.rows;
   whole : IsWhole (g.R.Rows.buses l.fn.rows) (g.R.Rows.state l.rows);
   ahead : AreAhead l.at (due (g.R.Rows.state l.rows) l.moment);
-  rows : updated_all (due (g.R.Rows.state l.rows) l.moment) (g.R.Rows.state l.rows) ≡ updated_all (due (g.R.Rows.state l.fn.rows) l.moment) (g.R.Rows.state l.fn.rows);
+  rows : updated_all (due (g.R.Rows.state l.rows) l.moment) (g.R.Rows.state l.rows)
+      ≡ updated_all (due (g.R.Rows.state l.fn.rows) l.moment) (g.R.Rows.state l.fn.rows);
   panels : l.panels ≡ list_any has_panel l.connections.slots;
-  slots : told_each (map change_in (due (g.R.Rows.state l.rows) l.moment)) l.connections.slots ≡ told_each (map change_in (due (g.R.Rows.state l.fn.rows) l.moment)) l.fn.connections.slots;
+  slots : told_each (map change_in (due (g.R.Rows.state l.rows) l.moment)) l.connections.slots
+      ≡ told_each (map change_in (due (g.R.Rows.state l.fn.rows) l.moment)) l.fn.connections.slots;
   capacity : l.connections.capacity ≡ l.fn.connections.capacity;
 }
 

@@ -10,9 +10,11 @@ abbrev pub invariant-loop-change : goal.invariant-loop-change
 invariant-loop-change g l = record {
   layout : g.R.Rows.buses l.rows ≡ g.R.Rows.buses l.fn.rows;
   whole : IsWhole (g.R.Rows.buses l.fn.rows) (g.R.Rows.state l.rows);
-  rows : updated_all (freed (g.R.Rows.state l.rows) l.session l.moment) (g.R.Rows.state l.rows) ≡ updated_all (freed (g.R.Rows.state l.fn.rows) l.session l.moment) (g.R.Rows.state l.fn.rows);
+  rows : updated_all (freed (g.R.Rows.state l.rows) l.session l.moment) (g.R.Rows.state l.rows)
+      ≡ updated_all (freed (g.R.Rows.state l.fn.rows) l.session l.moment) (g.R.Rows.state l.fn.rows);
   panels : l.panels ≡ list_any has_panel l.connections.slots;
-  slots : told_each (map change_in (freed (g.R.Rows.state l.rows) l.session l.moment)) l.connections.slots ≡ told_each (map change_in (freed (g.R.Rows.state l.fn.rows) l.session l.moment)) l.fn.connections.slots;
+  slots : told_each (map change_in (freed (g.R.Rows.state l.rows) l.session l.moment)) l.connections.slots
+      ≡ told_each (map change_in (freed (g.R.Rows.state l.fn.rows) l.session l.moment)) l.fn.connections.slots;
   capacity : l.connections.capacity ≡ l.fn.connections.capacity;
 }
 

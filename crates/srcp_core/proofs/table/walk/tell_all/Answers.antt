@@ -15,11 +15,17 @@ loop-key-preserved c = record {
     | in-Some w ↦
         ap (λ (s : Slab Place). s.slots) w.connections-is
         ∙ ap (λ (p : Place). slice_set c.loop-key.connections.slots c.loop-key.key (Some p)) w.tell.ensures
-        ∙ ap (λ (change : Change). slice_set c.loop-key.connections.slots c.loop-key.key (Some (told_place change w.in-Some.connection.now))) c.new-told.ensures
-        ∙ told_step_some c.args.change.now c.loop-key.key c.args.connections.now.slots c.loop-key.connections.slots w.in-Some.connection.now c.loop-key.invariant.slots (sym c.get_mut.ensures.value ∙ ap option_copied_mut w.in-Some.is)
+        ∙ ap (λ (change : Change).
+        slice_set c.loop-key.connections.slots c.loop-key.key (Some (told_place change w.in-Some.connection.now)))
+        c.new-told.ensures
+        ∙ told_step_some c.args.change.now c.loop-key.key c.args.connections.now.slots c.loop-key.connections.slots w.in-Some.connection.now
+        c.loop-key.invariant.slots
+        (sym c.get_mut.ensures.value ∙ ap option_copied_mut w.in-Some.is)
     | in_default w ↦
         ap (λ (s : Slab Place). s.slots) w.connections-is
-        ∙ told_step_none c.args.change.now c.loop-key.key c.args.connections.now.slots c.loop-key.connections.slots c.loop-key.invariant.slots (sym c.get_mut.ensures.value ∙ ap option_copied_mut w.in_default.is)
+        ∙ told_step_none c.args.change.now c.loop-key.key c.args.connections.now.slots c.loop-key.connections.slots
+        c.loop-key.invariant.slots
+        (sym c.get_mut.ensures.value ∙ ap option_copied_mut w.in_default.is)
   ];
   capacity = elim c.match-get_mut.branch [
     | in-Some w ↦ ap (λ (s : Slab Place). s.capacity) w.connections-is ∙ c.loop-key.invariant.capacity
@@ -30,7 +36,8 @@ loop-key-preserved c = record {
 pub returns-clause-slots : goal.returns-clause-slots
 returns-clause-slots c =
     let e : c.loop-key.key ≡ c.end_of_keys-end.result = omega (arith, c.loop-key.auto.key-end, c.loop-key-test.false) in
-    c.loop-key.invariant.slots ∙ ap (λ (key : ℕ). told_upto c.args.change.now key c.args.connections.now.slots) e ∙ c.end_of_keys-end.ensures c.args.change.now
+    c.loop-key.invariant.slots ∙ ap (λ (key : ℕ). told_upto c.args.change.now key c.args.connections.now.slots) e
+    ∙ c.end_of_keys-end.ensures c.args.change.now
 
 pub returns-then-not-panels-clause-slots : goal.returns-then-not-panels-clause-slots
 returns-then-not-panels-clause-slots c = sym (told_to_none c.args.change.now _ (sym c.requires.panels ∙ c.if-not-panels.true))
