@@ -1,5 +1,6 @@
 -- The parts of a text that is cut at its first space.
-use Rattle.std.proofs.Common.{◌≡◌, ℕ, zero, suc, ◌++◌, subst, ◌+◌, ◌-◌, ◌<◌, ◌≤◌, Bool, false, eqb, List, [], ◌∷◌, length, take, take_all, drop, refl, sym, ap, ◌∙◌, arith, Some, None, inl, inr}
+use Rattle.std.proofs.Common.{◌≡◌, ℕ, zero, suc, ◌++◌, subst, ◌+◌, ◌-◌, ◌<◌, ◌≤◌, Bool, false, eqb, List, [], ◌∷◌, length, take, take_all}
+use Rattle.std.proofs.Common.{drop, refl, sym, ap, ◌∙◌, arith, Some, None, inl, inr}
 use Rattle.std.specs.List.{slice_split, list_any, position, position_or_len}
 use Rattle.std.proofs.lemmas.Bool.{cases_Bool, cases_lt, lt-ltb, le-ltb, eqb-true}
 use Rattle.std.proofs.lemmas.List.Splits.{slice_split_first, length-slice_split, join_with_byte-slice_split}
@@ -36,7 +37,9 @@ module _ (cut : ℕ) where
   clear_none text none =
       elim (cases_lt (position_or_len is_cut text) (length text)) [
         | inl lt ↦ (let h = rw (lt-ltb (position_or_len is_cut text) (length text) lt) at none in cc)
-        | inr ge ↦ subst (λ (front : List ℕ). list_any is_cut front ≡ false) (take_all (position_or_len is_cut text) text ge) (clear_to text (position_or_len is_cut text) refl)
+        | inr ge ↦
+            subst (λ (front : List ℕ). list_any is_cut front ≡ false) (take_all (position_or_len is_cut text) text ge)
+            (clear_to text (position_or_len is_cut text) refl)
       ]
 
   place_of : (text : List ℕ) (place : ℕ) → position is_cut text ≡ Some place → (place ≡ position_or_len is_cut text) × (place < length text)
@@ -53,7 +56,8 @@ module _ (cut : ℕ) where
   clear_some text place some = clear_to text place (place_of text place some).0
 
   -- the first one stands behind them
-  whole_at : (text : List ℕ) (place : ℕ) → place ≡ position_or_len is_cut text → place < length text → text ≡ take place text ++ cut ∷ drop (place + 1) text
+  whole_at : (text : List ℕ) (place : ℕ) → place ≡ position_or_len is_cut text → place < length text
+      → text ≡ take place text ++ cut ∷ drop (place + 1) text
   whole_at [] place is within = absurd (omega arith)
   whole_at (byte ∷ text) zero is within =
       elim (cases_Bool (eqb byte cut)) [
@@ -69,7 +73,8 @@ module _ (cut : ℕ) where
             rw next (ap (λ rest. byte ∷ rest) (whole_at text place (omega arith) (omega arith)))
       ]
 
-  pub whole_some : (text : List ℕ) (place : ℕ) → position is_cut text ≡ Some place → text ≡ take place text ++ cut ∷ take (length text - (place + 1)) (drop (place + 1) text)
+  pub whole_some : (text : List ℕ) (place : ℕ) → position is_cut text ≡ Some place
+      → text ≡ take place text ++ cut ∷ take (length text - (place + 1)) (drop (place + 1) text)
   whole_some text place some =
       let at = place_of text place some in
       rw (between_to_end text (place + 1) (length text) (omega arith)) (whole_at text place at.0 at.1)
@@ -81,13 +86,15 @@ module _ (cut : ℕ) where
         | inr ge ↦ split_none text ge
       ]
 
-  pub cut_some : (text : List ℕ) (place : ℕ) → position is_cut text ≡ Some place → slice_split is_cut text ≡ take place text ∷ slice_split is_cut (take (length text - (place + 1)) (drop (place + 1) text))
+  pub cut_some : (text : List ℕ) (place : ℕ) → position is_cut text ≡ Some place
+      → slice_split is_cut text ≡ take place text ∷ slice_split is_cut (take (length text - (place + 1)) (drop (place + 1) text))
   cut_some text place some =
       elim (cases_lt (position_or_len is_cut text) (length text)) [
         | inl lt ↦
             let h = rw (lt-ltb (position_or_len is_cut text) (length text) lt) at some in
             let same : position_or_len is_cut text ≡ place = cc in
-            rw (← same, between_to_end text (position_or_len is_cut text + 1) (length text) (omega arith)) (slice_split_first is_cut text 0 lt)
+            rw (← same, between_to_end text (position_or_len is_cut text + 1) (length text) (omega arith))
+            (slice_split_first is_cut text 0 lt)
         | inr ge ↦ (let h = rw (le-ltb (position_or_len is_cut text) (length text) ge) at some in cc)
       ]
 
@@ -105,11 +112,15 @@ pub open_more : (text : List ℕ) → open_line (parts_behind 32 (Some text)) �
 open_more text = open_parts (parts_behind 32 (Some text)) (some_part text)
 
 -- the parts of the text of a piece are the text again
-bytes_parts : (conn text : List ℕ) (parts : List (List ℕ)) → parts_behind 32 (Some text) ≡ parts → bytes_line (conn ∷ parts) ≡ (connection conn >>= (λ n. or_fault Escape (unescaped text) >>= (λ piece. Ok (Bytes n piece))))
-bytes_parts conn text [] is = absurd (let some = some_part text in let none : length (parts_behind 32 (Some text)) ≡ 0 = ap length is in omega arith)
+bytes_parts : (conn text : List ℕ) (parts : List (List ℕ)) → parts_behind 32 (Some text) ≡ parts
+    → bytes_line (conn ∷ parts) ≡ (connection conn >>= (λ n. or_fault Escape (unescaped text) >>= (λ piece. Ok (Bytes n piece))))
+bytes_parts conn text [] is =
+    absurd (let some = some_part text in let none : length (parts_behind 32 (Some text)) ≡ 0 = ap length is in omega arith)
 bytes_parts conn text (part ∷ parts) is =
     let same : join_with_byte 32 (part ∷ parts) ≡ text = ap (join_with_byte 32) (sym is) ∙ join_with_byte-slice_split 32 text in
     rw same refl
 
-pub bytes_text : (conn text : List ℕ) → bytes_line (conn ∷ parts_behind 32 (Some text)) ≡ (connection conn >>= (λ n. or_fault Escape (unescaped text) >>= (λ piece. Ok (Bytes n piece))))
+pub bytes_text : (conn text : List ℕ)
+    → bytes_line (conn ∷ parts_behind 32 (Some text))
+    ≡ (connection conn >>= (λ n. or_fault Escape (unescaped text) >>= (λ piece. Ok (Bytes n piece))))
 bytes_text conn text = bytes_parts conn text (parts_behind 32 (Some text)) refl

@@ -1,5 +1,6 @@
 -- What is printed, one line after another.
-use Rattle.std.proofs.Common.{◌≡◌, ℕ, suc, ◌+◌, ◌-◌, ◌<◌, false, eqb, List, [], ◌∷◌, ◌++◌, length, get_or, refl, sym, ◌∙◌, arith, inl, inr, length-append}
+use Rattle.std.proofs.Common.{◌≡◌, ℕ, suc, ◌+◌, ◌-◌, ◌<◌, false, eqb, List, [], ◌∷◌, ◌++◌, length, get_or, refl, sym, ◌∙◌, arith, inl, inr}
+use Rattle.std.proofs.Common.{length-append}
 use Rattle.std.specs.Prelude.{◌≤◌, ◌^◌, decimal, not}
 use Rattle.std.specs.List.{list_any}
 use Rattle.std.proofs.lemmas.Bool.{cases_Bool, or_parts}
@@ -47,5 +48,6 @@ finish_most finish.Overrun = omega arith
 finish_most finish.Shut = omega arith
 
 -- what stands behind some bytes makes them longer by its length
-pub length_behind : (before text after : List ℕ) (most : ℕ) → after ≡ before ++ text → length text ≤ most → length after ≤ length before + most
+pub length_behind : (before text after : List ℕ) (most : ℕ) → after ≡ before ++ text → length text ≤ most
+    → length after ≤ length before + most
 length_behind before text after most is short = rw (is, length-append before text) (omega (arith, short))

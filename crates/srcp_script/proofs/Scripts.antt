@@ -24,15 +24,21 @@ script-events_from bytes = same (events_from 0 (slice_split is_lf bytes))
     same (Ok events) = refl
     same (Err fault) = refl
 
-pub line_skipped : (before : ℕ) (line : List ℕ) (lines : List (List ℕ)) → is_skipped line ≡ true → events_from before (line ∷ lines) ≡ events_from (before + 1) lines
+pub line_skipped : (before : ℕ) (line : List ℕ) (lines : List (List ℕ)) → is_skipped line ≡ true
+    → events_from before (line ∷ lines) ≡ events_from (before + 1) lines
 line_skipped before line lines skipped = rw skipped refl
 
-pub line_faulty : (before : ℕ) (line : List ℕ) (lines : List (List ℕ)) (events : List Event) (cause : Cause) → is_skipped line ≡ false → event_of line ≡ Err cause → behind_events events (events_from before (line ∷ lines)) ≡ Err (record { line = before + 1; cause = cause })
+pub line_faulty : (before : ℕ) (line : List ℕ) (lines : List (List ℕ)) (events : List Event) (cause : Cause) → is_skipped line ≡ false
+    → event_of line ≡ Err cause
+    → behind_events events (events_from before (line ∷ lines)) ≡ Err (record { line = before + 1; cause = cause })
 line_faulty before line lines events cause counts wrong = rw (counts, wrong) refl
 
-pub line_read : (before : ℕ) (line : List ℕ) (lines : List (List ℕ)) (events : List Event) (event : Event) → is_skipped line ≡ false → event_of line ≡ Ok event → behind_events events (events_from before (line ∷ lines)) ≡ behind_events (events ++ event ∷ []) (events_from (before + 1) lines)
+pub line_read : (before : ℕ) (line : List ℕ) (lines : List (List ℕ)) (events : List Event) (event : Event) → is_skipped line ≡ false
+    → event_of line ≡ Ok event
+    → behind_events events (events_from before (line ∷ lines)) ≡ behind_events (events ++ event ∷ []) (events_from (before + 1) lines)
 line_read before line lines events event counts reads = rw (counts, reads) (pushed (events_from (before + 1) lines))
   where
-    pushed : (more : Result (List Event) ScriptFault) → behind_events events (more >>= (λ rest. Ok (event ∷ rest))) ≡ behind_events (events ++ event ∷ []) more
+    pushed : (more : Result (List Event) ScriptFault)
+        → behind_events events (more >>= (λ rest. Ok (event ∷ rest))) ≡ behind_events (events ++ event ∷ []) more
     pushed (Ok rest) = ap Ok (sym (append_assoc events (event ∷ []) rest))
     pushed (Err fault) = refl

@@ -1,5 +1,7 @@
 -- What a script says: from its bytes to its events, or to the first fault.
-use Rattle.std.specs.Prelude.{ℕ, ◌+◌, ◌*◌, Bool, not, ◌&&◌, ◌||◌, ◌==◌, nat_lt, if◌then◌else◌, List, [], ◌∷◌, ◌++◌, filter, slice_index, Option, Some, None, option_map, option_and_then, Result, Ok, Err, codes}
+use Rattle.std.specs.Prelude.{ℕ, ◌+◌, ◌*◌, Bool, not, ◌&&◌, ◌||◌, ◌==◌, nat_lt, if◌then◌else◌, List, [], ◌∷◌, ◌++◌}
+use Rattle.std.specs.Prelude.{filter, slice_index, Option, Some, None, option_map, option_and_then, Result, Ok, Err}
+use Rattle.std.specs.Prelude.{codes}
 use Rattle.std.specs.Char.{is_digit, digit_value}
 use Rattle.std.specs.List.{enumerate_from, slice_split, join_with_byte}
 use Rattle.std.specs.Str.{bytes_eq}
@@ -68,7 +70,8 @@ or_fault cause (Some a) = Ok a
 
 -- a number within its limits
 abbrev pub number_from : (least most : ℕ) → List ℕ → Result ℕ Cause
-number_from least most part = or_fault Number (number_of most part) >>= (λ n. if nat_lt n least then Err Number else Ok n)
+number_from least most part =
+    or_fault Number (number_of most part) >>= (λ n. if nat_lt n least then Err Number else Ok n)
 
 -- the number of a connection, counted from 1
 abbrev pub connection : List ℕ → Result ℕ Cause

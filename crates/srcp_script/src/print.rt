@@ -9,7 +9,8 @@ ghost use Rattle.srcp_info.specs.Line.{line};
 ghost use Rattle.srcp_info.specs.WellFormed.{IsWellFormedShown};
 ghost use Rattle.srcp_info.specs.declared.change.Change.TheVariants as change;
 ghost use Rattle.srcp_rules.specs.State.{shown_rows};
-ghost use Rattle.srcp_script.specs.Output.{finish_word, fault_word, ended, connection_line, refusal_line, rows_line, printed_end};
+ghost use Rattle.srcp_script.specs.Output.{finish_word, fault_word, ended, connection_line, refusal_line, rows_line};
+ghost use Rattle.srcp_script.specs.Output.{printed_end};
 
 use srcp_core::{ConnRecord, CoreFault, Finish, Record, Refusal};
 use srcp_info::{InfoLine, Row, Shown, write_shown};

@@ -2,7 +2,8 @@
 
 ghost use Rattle.std.specs.Prelude.{◌≡◌, ◌≢◌, ◌∷◌, [], length, MatchResult, Ok, Err};
 ghost use Rattle.std.specs.Option.{option_copied};
-ghost use Rattle.srcp_script.specs.Script.{event_of, open_line, bytes_line, room_line, at_line, shut_line, connection, size, moment, parts_behind};
+ghost use Rattle.srcp_script.specs.Script.{event_of, open_line, bytes_line, room_line, at_line, shut_line, connection};
+ghost use Rattle.srcp_script.specs.Script.{size, moment, parts_behind};
 
 use crate::cut::cut_at;
 use crate::script::Cause;

@@ -14,4 +14,5 @@ loop-bytes-preserved c =
     let first : unescaped (92 ∷ escape) ≡ after byte (unescaped c.in_ok-byte.behind.now) = search rules in
     let items : c.push.new.self.items ≡ had ++ plain ++ byte ∷ [] = search rules in
     c.loop-bytes.invariant ∙ unescaped_escape c.loop-bytes.rest.now plain escape had cut ∙ ap (behind (had ++ plain)) first
-    ∙ behind_after (had ++ plain) byte (unescaped c.in_ok-byte.behind.now) ∙ ap (λ bytes. behind bytes (unescaped c.in_ok-byte.behind.now)) (sym items)
+    ∙ behind_after (had ++ plain) byte (unescaped c.in_ok-byte.behind.now)
+    ∙ ap (λ bytes. behind bytes (unescaped c.in_ok-byte.behind.now)) (sym items)
