@@ -1,5 +1,6 @@
 -- The number that an argument gives, read as the definition reads it.
-use Rattle.std.proofs.Common.{◌≡◌, ℕ, ◌≤◌, true, not, ◌&&◌, List, [], ◌∷◌, length, Option, Some, None, Result, Ok, Err, refl, arith, inl, inr}
+use Rattle.std.proofs.Common.{◌≡◌, ℕ, ◌≤◌, true, not, ◌&&◌, List, [], ◌∷◌, length, Option, Some, None, Result, Ok, Err, refl, arith, inl}
+use Rattle.std.proofs.Common.{inr}
 use Rattle.std.specs.Prelude.{nat_le, option_and_then}
 use Rattle.std.specs.Str.{all_ascii_digits}
 use Rattle.std.specs.Str.Parse.{AllDigits, IsNumeral, ParsesUnsigned, digits_value, without_leading_plus}
@@ -32,7 +33,8 @@ IsNumeral-is_numeral (c ∷ cs) h = (omega arith, pass_digits (c ∷ cs) (and_pa
 -- ---- the number of turns
 
 -- what reading a text may give says that the text is read as a number of 64 bits
-module _ {E : Type 0} (gives : List ℕ → Result ℕ E → Type 0) (reads : (text : List ℕ) (r : Result ℕ E) → gives text r → ParsesUnsigned 64 10 text r) where
+module _ {E : Type 0} (gives : List ℕ → Result ℕ E → Type 0)
+    (reads : (text : List ℕ) (r : Result ℕ E) → gives text r → ParsesUnsigned 64 10 text r) where
   turns_of-read : (text : List ℕ) (r : Option ℕ) → ReadsOne gives text r → r ≡ turns_of text
   turns_of-read text (Some turns) h =
       let ds : List ℕ = without_leading_plus text in
@@ -51,6 +53,7 @@ module _ {E : Type 0} (gives : List ℕ → Result ℕ E → Type 0) (reads : (t
       ]
 
   -- the number that an argument gives, where it is there and can be read
-  pub turns_of-given : (given : Option (List ℕ)) (r : Option ℕ) → (given ≡ None → r ≡ None) → ((text : List ℕ) → given ≡ Some text → ReadsOne gives text r) → r ≡ option_and_then turns_of given
+  pub turns_of-given : (given : Option (List ℕ)) (r : Option ℕ) → (given ≡ None → r ≡ None)
+      → ((text : List ℕ) → given ≡ Some text → ReadsOne gives text r) → r ≡ option_and_then turns_of given
   turns_of-given None r none value = none refl
   turns_of-given (Some text) r none value = turns_of-read text r (value text refl)

@@ -1,5 +1,6 @@
 -- A text that is written, whole or in part.
-use Rattle.std.proofs.Common.{◌≡◌, ℕ, ◌+◌, ◌<◌, ◌≤◌, List, ◌++◌, refl, get_or, drop, length, take, Option, Result, Ok, Err, arith, subst, sym, ap, ◌∙◌, append_assoc, length-append}
+use Rattle.std.proofs.Common.{◌≡◌, ℕ, ◌+◌, ◌<◌, ◌≤◌, List, ◌++◌, refl, get_or, drop, length, take, Option, Result, Ok, Err, arith, subst}
+use Rattle.std.proofs.Common.{sym, ap, ◌∙◌, append_assoc, length-append}
 use Rattle.std.proofs.lemmas.List.{at_drop_more, take-append-le}
 use Rattle.std.specs.Result.{IsErrAnd}
 use Rattle.std.specs.List.{flat_map, enumerate_from}
@@ -56,7 +57,9 @@ written_behind first text (Err fault) old mid new before w = (
   record {
     count = length first + w.1.count;
     within = omega (arith, w.1.within, length-append first text);
-    appends = subst (Appends old new) (sym (take-append-add first text w.1.count)) (Appends-trans old mid new first (take w.1.count text) before w.1.appends);
+    appends =
+        subst (Appends old new) (sym (take-append-add first text w.1.count))
+        (Appends-trans old mid new first (take w.1.count text) before w.1.appends);
   },
 )
 

@@ -1,9 +1,11 @@
 -- What the program's words ask it to do.
-use Rattle.std.specs.Prelude.{ℕ, Bool, true, false, List, Option, Some, None, option_and_then, option_map, unwrap_or, if◌then◌else◌, codes}
+use Rattle.std.specs.Prelude.{ℕ, Bool, true, false, List, Option, Some, None, option_and_then, option_map, unwrap_or}
+use Rattle.std.specs.Prelude.{if◌then◌else◌, codes}
 use Rattle.std.specs.Str.{bytes_eq}
 use Rattle.std.specs.Str.Parse.{without_leading_plus}
 use Rattle.clap.specs.Simple.{on_top}
-use Rattle.clap.specs.Words.{App, Row, Rule, Text, first_of, one_of, new_app, new_rule, subcommand_of, with_rule, with_subcommand}
+use Rattle.clap.specs.Words.{App, Row, Rule, Text, first_of, one_of, new_app, new_rule, subcommand_of, with_rule}
+use Rattle.clap.specs.Words.{with_subcommand}
 use Rattle.clap.specs.declared.builder.value_parser.ValueParser.TheVariants.{Unsigned}
 use Rattle.srcp_text.specs.Words.{number_of}
 use Rattle.srcp_tool.specs.declared.tool.Tool.{Tool}
@@ -13,7 +15,8 @@ use Rattle.srcp_tool.specs.declared.tool.Tool.TheVariants as tool
 
 -- `--config F`, which some subcommands need
 abbrev pub config_rule : (required : Bool) → Rule
-config_rule needed = record (new_rule (codes "config")) { long = Some (codes "config"); value_names = 1; required = needed }
+config_rule needed =
+    record (new_rule (codes "config")) { long = Some (codes "config"); value_names = 1; required = needed }
 
 -- `--turns N`
 abbrev pub turns_rule : Rule

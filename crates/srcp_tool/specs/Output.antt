@@ -1,5 +1,6 @@
 -- What the program writes.
-use Rattle.std.specs.Prelude.{◌≡◌, ℕ, ◌+◌, ◌<◌, ◌≤◌, false, nat_lt, if◌then◌else◌, List, [], ◌++◌, map, take, flat_map, length, Option, Result, Ok, Err, codes, ⊤}
+use Rattle.std.specs.Prelude.{◌≡◌, ℕ, ◌+◌, ◌<◌, ◌≤◌, false, nat_lt, if◌then◌else◌, List, [], ◌++◌, map, take, flat_map}
+use Rattle.std.specs.Prelude.{length, Option, Result, Ok, Err, codes, ⊤}
 use Rattle.std.specs.Io.KnownBytes.{Appends}
 use Rattle.std.specs.List.{list_any, AllByRecursion}
 use Rattle.srcp_text.specs.Marks.{is_lf}
@@ -22,7 +23,8 @@ use Rattle.srcp_script.specs.Script.{script}
 use Rattle.srcp_layout_file.specs.declared.config.Config.{Config}
 use Rattle.srcp_layout_file.specs.declared.config.ConfigFault.{ConfigFault}
 use Rattle.srcp_tool.specs.declared.fault.ToolFault.{ToolFault}
-use Rattle.srcp_tool.specs.declared.fault.ToolFault.TheVariants.{Input, Output, TooLarge, Script, Line, Memory, Config as ConfigIs, Unreadable}
+use Rattle.srcp_tool.specs.declared.fault.ToolFault.TheVariants.{Input, Output, TooLarge, Script, Line, Memory}
+use Rattle.srcp_tool.specs.declared.fault.ToolFault.TheVariants.{Config as ConfigIs, Unreadable}
 use Rattle.srcp_script.specs.declared.script.ScriptFault.{ScriptFault}
 
 -- ---- replay: what a run gave

@@ -3,7 +3,9 @@
 ghost use Rattle.std.specs.Prelude.{◌≡◌, false, map, option_map, string_bytes, IfOk};
 ghost use Rattle.clap.specs.Words.{app_of, fault_of, found_of, rows_of, rule_of, subcommand_rows_of, FailsBy};
 ghost use Rattle.clap.specs.declared.builder.Command.TheViews.{out-Command as fields_of};
-ghost use Rattle.srcp_tool.specs.Arguments.{config_rule, turns_rule, server_app, over_lines_app, replay_app, mirror_app, check_app, serve_app, program_app, config_in, turns_in, subtask, task_of, task_in, task};
+ghost use Rattle.srcp_tool.specs.Arguments.{config_rule, turns_rule, server_app, over_lines_app, replay_app};
+ghost use Rattle.srcp_tool.specs.Arguments.{mirror_app, check_app, serve_app, program_app, config_in, turns_in};
+ghost use Rattle.srcp_tool.specs.Arguments.{subtask, task_of, task_in, task};
 
 use crate::tool::Tool;
 use clap::{Arg, ArgMatches, Command, Error, value_parser};

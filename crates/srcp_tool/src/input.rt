@@ -83,7 +83,8 @@ fn read_within<R: Read>(limit: usize, alloc: Global, reader: &mut R) -> Result<V
 /// `Input` where the read fails.
 pub(crate) fn read_piece<R: Read>(reader: &mut R, piece: &mut [u8]) -> Result<usize, ToolFault>
     ensures within { IfOk result (λ count. count ≤ length piece.new) }
-    ensures bytes { IfOk result (λ count. Consumes (R.remaining reader.old) (R.remaining reader.new) (take count piece.new)) }
+    ensures bytes { IfOk result
+        (λ count. Consumes (R.remaining reader.old) (R.remaining reader.new) (take count piece.new)) }
     ensures end { IfOk result (λ count. count ≡ 0 → 0 < length piece.old → IsAtEnd (R.remaining reader.new)) }
     ensures input { IfErr result (λ fault. fault ≡ ToolFault.Input) }
 {

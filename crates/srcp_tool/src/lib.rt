@@ -1,13 +1,13 @@
-//! What the program does besides serving: it reads its words (`read_words`) and a configuration's bytes (`read_config`),
-//! replays a script (`replay`), mirrors the lines of a panel (`mirror`), and checks a configuration (`check`). `ToolFault`
-//! says why it stops, what it tells of that, and the status.
+//! What the program does besides serving: it reads its words (`read_words`) and a configuration's bytes
+//! (`read_config`), replays a script (`replay`), mirrors the lines of a panel (`mirror`), and checks a configuration
+//! (`check`). `ToolFault` says why it stops, what it tells of that, and the status.
 //!
 //! `replay_text` is what a script prints, without a device.
 //! `mirror_text` is what the lines of a panel print, without a device.
 //! `check_text` is what a configuration prints, without a device.
 //!
-//! What a configuration says stands in `srcp_layout_file`, and what a script says in `srcp_script`. It asks no socket and no
-//! clock for anything: `srcp_serve` does that. It opens no file; its callers hand it readers and writers.
+//! What a configuration says stands in `srcp_layout_file`, and what a script says in `srcp_script`. It asks no socket
+//! and no clock for anything: `srcp_serve` does that. It opens no file; its callers hand it readers and writers.
 #![tactic(auto)]
 
 mod arguments;

@@ -17,9 +17,9 @@ use std::alloc::Global;
 use std::io::{Read, Write};
 use std::vec::Vec;
 
-/// What a script prints: it carries out the events over the registry of the layout, from moment 0 on and with session ids
-/// from 1 on, and tells what every connection was sent, which events were refused, and the rows at the end. The text is
-/// the same over every keeper of rows.
+/// What a script prints: it carries out the events over the registry of the layout, from moment 0 on and with
+/// session ids from 1 on, and tells what every connection was sent, which events were refused, and the rows at
+/// the end. The text is the same over every keeper of rows.
 ///
 /// # Errors
 /// `TooLarge` where there is more than 16,777,216 bytes, `Script` for the script's first fault, `Memory` where a growth

@@ -52,7 +52,8 @@ impl MirroredLines {
     /// where a growth was refused.
     pub(super) fn take(&mut self, piece: &[u8]) -> Result<(), MirrorFault>
         requires { self.old.count + length piece.now < 2 ^ 64 }
-        ensures taken { OnOk result ((input : List ℕ) → HasTaken self.old input → HasTaken self.new (input ++ piece.now)) }
+        ensures taken { OnOk result
+            ((input : List ℕ) → HasTaken self.old input → HasTaken self.new (input ++ piece.now)) }
         ensures refused { IsErrOf result MirrorFault.NotInfo
             → (input : List ℕ) → HasTaken self.old input → RefusesLine (input ++ piece.now) (self.new.count + 1) }
         ensures count { self.new.count ≤ self.old.count + length piece.now }
@@ -72,7 +73,8 @@ impl MirroredLines {
     /// Applies the line that has begun, at its LF.
     fn end_line(&mut self) -> Result<(), MirrorFault>
         requires { self.old.count + 1 < 2 ^ 64 }
-        ensures taken { OnOk result ((input : List ℕ) → HasTaken self.old input → HasTaken self.new (input ++ 10 ∷ [])) }
+        ensures taken { OnOk result
+            ((input : List ℕ) → HasTaken self.old input → HasTaken self.new (input ++ 10 ∷ [])) }
         ensures refused { IsErrOf result MirrorFault.NotInfo
             → (input : List ℕ) → HasTaken self.old input → RefusesLine (input ++ 10 ∷ []) (self.new.count + 1) }
         ensures count { self.new.count ≤ self.old.count + 1 }

@@ -11,5 +11,7 @@ pub returns : goal.returns
 returns c =
     let found = found_of c.args.found.now in
     c.unwrap_or.ensures
-    ∙ ap (λ turns. unwrap_or turns 18446744073709551615) (turns_of-given (λ text r. ParsesUnsigned 64 10 text r × ExplainsUnsignedError 10 text r × HasUnsignedDigitsIfOk text r) (λ text r h. h.0) (one_text found (codes "turns")) c.get_one.result c.get_one.ensures.none c.get_one.ensures.value)
+    ∙ ap (λ turns. unwrap_or turns 18446744073709551615)
+    (turns_of-given (λ text r. ParsesUnsigned 64 10 text r × ExplainsUnsignedError 10 text r × HasUnsignedDigitsIfOk text r)
+    (λ text r h. h.0) (one_text found (codes "turns")) c.get_one.result c.get_one.ensures.none c.get_one.ensures.value)
     ∙ ap (λ given. unwrap_or (option_and_then turns_of given) 18446744073709551615) (one_text-rows found (codes "turns"))

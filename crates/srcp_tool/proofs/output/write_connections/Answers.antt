@@ -13,7 +13,8 @@ returns-in_err-write_connection g c =
     let within : index < length connections = omega arith in
     let next = connections_next connections index connection within c.index-connections-index.is in
     failed (flat_map connection_lines (enumerate_from 1 connections)) fault _ _ _ c.from_residual.ensures.1
-    (fails_next _ _ (connection_lines (index + 1, connection)) (flat_map connection_lines (enumerate_from (index + 1 + 1) (drop (index + 1) connections)))
+    (fails_next _ _ (connection_lines (index + 1, connection))
+    (flat_map connection_lines (enumerate_from (index + 1 + 1) (drop (index + 1) connections)))
     fault _ _ _ c.loop-index.invariant next c.in_err-write_connection.ensures)
 
 pub loop-index-preserved : goal.loop-index-preserved
@@ -23,5 +24,6 @@ loop-index-preserved g c =
     let connection = c.index-connections-index.result in
     let within : index < length connections = omega arith in
     let next = connections_next connections index connection within c.index-connections-index.is in
-    written_next _ _ (connection_lines (index + 1, connection)) (flat_map connection_lines (enumerate_from (index + 1 + 1) (drop (index + 1) connections)))
+    written_next _ _ (connection_lines (index + 1, connection))
+    (flat_map connection_lines (enumerate_from (index + 1 + 1) (drop (index + 1) connections)))
     _ _ _ c.loop-index.invariant next c.in_ok-write_connection.ensures

@@ -12,8 +12,10 @@ loop-done-preserved g c =
     let at = g.W.Write.contents c.loop-done.writer in
     let now = g.W.Write.contents c.write.new.self in
     let piece : Appends at now (take c.in-Ok.count (drop done text)) =
-    subst (λ (b : List ℕ). Appends at now (take c.in-Ok.count b)) (between_to_end text done (length text) (omega arith)) c.in-Ok.ensures.bytes in
-    let both : Appends before now (take done text ++ take c.in-Ok.count (drop done text)) = Appends-trans before at now _ _ c.loop-done.invariant.written piece in
+    subst (λ (b : List ℕ). Appends at now (take c.in-Ok.count b))
+    (between_to_end text done (length text) (omega arith)) c.in-Ok.ensures.bytes in
+    let both : Appends before now (take done text ++ take c.in-Ok.count (drop done text)) =
+    Appends-trans before at now _ _ c.loop-done.invariant.written piece in
     record {
       within = omega (arith, c.in-Ok.ensures.bound, length-drop done text);
       written = subst (λ (b : List ℕ). Appends before now b) (sym (take-add done c.in-Ok.count text)) both;

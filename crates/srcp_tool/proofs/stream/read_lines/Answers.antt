@@ -7,7 +7,8 @@ loop-preserved g c =
     let sofar = c.loop.invariant in
     let count = c.in_ok-count.count in
     let bytes = take count c.read_piece.new.piece in
-    let many : length (take count c.read_piece.new.piece) ≡ count = length-take-le count c.read_piece.new.piece c.in_ok-count.ensures.within in (
+    let many : length (take count c.read_piece.new.piece) ≡ count =
+    length-take-le count c.read_piece.new.piece c.in_ok-count.ensures.within in (
       sofar.0 ++ bytes,
       Consumes-trans _ _ _ sofar.0 bytes sofar.1 c.in_ok-count.ensures.bytes,
       omega (arith, sofar.2, many, length-append sofar.0 bytes),
