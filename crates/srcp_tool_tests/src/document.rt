@@ -61,7 +61,8 @@ fn reads_what_is_left_out_and_what_is_not_read(rt: HostRuntime) {
             (4303, 1, 4),
         ),
         (
-            "bus = [{number = 9, groups = [\"GA\"], ga_max = 1, ga_ports = 8}, {number = 2, groups = [\"GA\"], ga_max = 1, ga_ports = 3}]",
+            "bus = [{number = 9, groups = [\"GA\"], ga_max = 1, ga_ports = 8}, \
+             {number = 2, groups = [\"GA\"], ga_max = 1, ga_ports = 3}]",
             (4303, 2, 3),
         ),
     ];

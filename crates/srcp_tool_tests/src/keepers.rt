@@ -36,11 +36,13 @@ room 1 120\nat 400\nroom 1 10000\nat 2000\nroom 1 10000\nat 9000\nroom 1 10000\n
 open\nroom 2 1000\nbytes 2 SET CONNECTIONMODE SRCP INFO\\nGO\\n\nroom 2 300
 bytes 1 TERM 1 GA 5\\nINIT 1 GA 5 M\\nTERM 1 GL 9\\nINIT 1 GL 8 N 1 28 3\\n\nroom 1 1000\nroom 2 10000\n",
     // The end of a session frees what it locked.
-    b"at 1000\nopen\nroom 1 1000\nbytes 1 GO\\nINIT 1 GL 2 N 1 28 0\\nINIT 1 GA 2 N\\nINIT 1 GL 1 N 1 28 0\\n\nroom 1 1000
+    b"at 1000\nopen\nroom 1 1000\nbytes 1 GO\\nINIT 1 GL 2 N 1 28 0\\nINIT 1 GA 2 N\\nINIT 1 GL 1 N 1 28 0\\n
+room 1 1000
 bytes 1 SET 1 LOCK GA 2 0\\nSET 1 LOCK GL 2 0\\nSET 1 LOCK GL 1 60\\n\nroom 1 1000
 open\nroom 2 1000\nbytes 2 SET CONNECTIONMODE SRCP INFO\\nGO\\n\nroom 2 10000\nshut 1\nroom 2 10000\n",
     // Refusals, and rows that are looked up.
-    b"open\nroom 1 1000\nbytes 1 GO\\nGET 2 POWER\\nGET 3 POWER\\nGET 1 GL 3\\nSET 1 GA 3 0 1 -1\\nGET 1 FB 4\\n\nroom 1 1000
+    b"open\nroom 1 1000\nbytes 1 GO\\nGET 2 POWER\\nGET 3 POWER\\nGET 1 GL 3\\nSET 1 GA 3 0 1 -1\\nGET 1 FB 4\\n
+room 1 1000
 bytes 1 INIT 1 GA 9 N\\nGET 1 GA 9 3\\nGET 1 GA 9 4\\nGET 0 SESSION 1\\nTERM 0 SESSION 1\\n\nroom 1 1000\nroom 9 1\n",
 ];
 
