@@ -54,9 +54,11 @@ pub fn put_stamp<const N: usize>(moment: u64, line: &mut ArrayVec<u8, N>)
     ensures { line.new.items ≡ line.old.items ++ stamp moment }
 {
     let mut text = [0; 24];
-    // The digit 1 before the milliseconds keeps their zeros. The point then takes its place.
-    itoa::write_digits(1000 + moment % 1000, &mut text, 24);
+    let thousandths = moment % 1000;
     text[20] = b'.';
+    text[21] = b'0' + (thousandths / 100) as u8;
+    text[22] = b'0' + (thousandths / 10 % 10) as u8;
+    text[23] = b'0' + (thousandths % 10) as u8;
     let start = itoa::write_digits(moment / 1000, &mut text, 20);
     put_bytes(&text[start..], line);
 }

@@ -1,21 +1,14 @@
-use Rattle.std.proofs.Common.{ℕ, ◌-◌, ◌%◌, drop, arith, rules, length-drop}
+use Rattle.std.proofs.Common.{ℕ, ◌-◌, drop, arith, rules, length-drop}
 use Rattle.std.proofs.lemmas.Fmt.{length-decimal-le}
 use Rattle.std.proofs.lemmas.List.{take_all}
-use Rattle.srcp_text.proofs.StampLaws.{drop-point}
 use Rattle.srcp_text.proofs.put.put_stamp.Goals as goal
-
-pub write_digits-requires : goal.write_digits-requires
-write_digits-requires g c = search (rules, length-decimal-le 4)
 
 pub write_digits-start-requires : goal.write_digits-start-requires
 write_digits-start-requires g c = search (rules, length-decimal-le 20)
 
 pub returns : goal.returns
 returns g c =
-    let text = c.write_digits in
-    let tail =
-    drop-point text.new.buf text.result (c.args.moment % 1000) (omega arith) (omega arith) text.ensures.start text.ensures.written in
-    let written = rw tail at c.write_digits-start.ensures.written in
+    let written = c.write_digits-start.ensures.written in
     let whole =
     take_all (24 - c.write_digits-start.result) (drop c.write_digits-start.result c.write_digits-start.new.buf)
     (omega (arith, length-drop {A = ℕ})) in
