@@ -55,7 +55,7 @@ impl Rows for Nested {
     }
 
     fn row(&self, key: &Key) -> Option<&Row> {
-        value_at(&self.by_number, key.bus)?.row(key)
+        self.by_number.get(&key.bus)?.row(key)
     }
 
     fn row_after(&self, cursor: Cursor) -> Option<&Row> {
@@ -112,7 +112,7 @@ impl Nested {
         let Cursor::After(last) = cursor else {
             return None;
         };
-        let rows = value_at(&self.by_number, last.bus)?;
+        let rows = self.by_number.get(&last.bus)?;
         rows.row_after_in_group(last.bus, last.group, cursor)
     }
 
@@ -162,7 +162,7 @@ fn add_bus(buses: &mut BTreeMap<u8, BusRows>, number: u8, rows: BusRows) -> Resu
     }
 }
 
-/// Finds the value at a key. A range compares keys in fewer steps than a look-up.
+/// Finds the value at a key. A range compares keys in fewer steps than a look-up, but costs more if keys are few.
 #[inline(always)]
 fn value_at<K: Ord + Copy, V>(entries: &BTreeMap<K, V>, key: K) -> Option<&V>
     ensures { option_copied result ≡ get K.cmp entries.now key }

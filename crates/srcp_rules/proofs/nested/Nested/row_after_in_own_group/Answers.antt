@@ -17,7 +17,7 @@ found cursor some all h None e = tt
 found cursor some all h (Some row) e = h row.now e
 
 pub row_after_in_group-requires : goal.row_after_in_group-requires
-row_after_in_group-requires c = found_bus c.self.invariant c.in_ok-rows.ensures
+row_after_in_group-requires c = found_bus c.self.invariant c.in_ok-rows.ensures.value
 
 pub returns : goal.returns
 returns c =
@@ -25,6 +25,6 @@ returns c =
     subst (λ (cursor : Cursor). IfSome c.row_after_in_group.result (λ row. Some row.now ≡ row_after cursor c.args.self.now.state))
     (sym c.in-After.is)
     (found (cursor.After last) (group_rows c.in_ok-rows.rows.now last.group) c.args.self.now.state
-    (λ row h. row_after-own_bus c.self.invariant last c.in_ok-rows.ensures row h
+    (λ row h. row_after-own_bus c.self.invariant last c.in_ok-rows.ensures.value row h
     ∙ ap (λ (kept : Kept). row_after (cursor.After last) kept.state) c.self.view_is)
     c.row_after_in_group.result c.row_after_in_group.ensures)

@@ -6,18 +6,18 @@ use Rattle.srcp_rules.proofs.NestedLaws.{found_bus, row_at-bus, row_at-no_bus}
 use Rattle.srcp_rules.proofs.nested.NestedRows.row.Goals as goal
 
 pub row-requires : goal.row-requires
-row-requires c = (c.args.key.now.bus, found_bus c.self.invariant c.in_ok-value_at.ensures)
+row-requires c = (c.args.key.now.bus, found_bus c.self.invariant c.in_ok-get.ensures.value)
 
 pub returns : goal.returns
 returns c =
     let key = c.args.key.now in
     c.row.ensures
-    ∙ row_at-bus c.self.invariant key c.in_ok-value_at.ensures
+    ∙ row_at-bus c.self.invariant key c.in_ok-get.ensures.value
     ∙ ap (λ (kept : Kept). row_at key kept.state) c.self.view_is
 
-pub returns-in_err-value_at : goal.returns-in_err-value_at
-returns-in_err-value_at c =
+pub returns-in_err-get : goal.returns-in_err-get
+returns-in_err-get c =
     let key = c.args.key.now in
     ap option_copied c.from_residual.ensures
-    ∙ row_at-no_bus c.self.invariant key c.in_err-value_at.ensures
+    ∙ row_at-no_bus c.self.invariant key c.in_err-get.ensures.value
     ∙ ap (λ (kept : Kept). row_at key kept.state) c.self.view_is
