@@ -85,6 +85,7 @@ impl<R: Rows> Rows for Indexed<R> {
         Ok(())
     }
 
+    #[inline(always)]
     fn set(&mut self, row: Row) {
         if !may_rank(row.shown.key.group) {
             return self.rows.set(row);
