@@ -2,8 +2,6 @@
 //! (`read_config`), replays a script (`replay`), mirrors the lines of a panel (`mirror`), and checks a configuration
 //! (`check`). `ToolFault` says why it stops, what it tells of that, and the status.
 //!
-//! `replay_text` is what a script prints, without a device.
-//! `mirror_text` is what the lines of a panel print, without a device.
 //! `check_text` is what a configuration prints, without a device.
 //!
 //! What a configuration says stands in `srcp_layout_file`, and what a script says in `srcp_script`. It asks no socket
@@ -23,6 +21,6 @@ pub use arguments::read_words;
 pub use checking::{check, check_text};
 pub use fault::ToolFault;
 pub use input::read_config;
-pub use playback::{replay, replay_text};
-pub use stream::{mirror, mirror_text};
+pub use playback::replay;
+pub use stream::mirror;
 pub use tool::Tool;

@@ -17,30 +17,9 @@ use std::alloc::Global;
 use std::io::{Read, Write};
 use std::vec::Vec;
 
-/// What a script prints: it carries out the events over the registry of the layout, from moment 0 on and with
-/// session ids from 1 on, and tells what every connection was sent, which events were refused, and the rows at
-/// the end. The text is the same over every keeper of rows.
-///
-/// # Errors
-/// `TooLarge` where there is more than 16,777,216 bytes, `Script` for the script's first fault, `Memory` where a growth
-/// was refused, in the run too.
-pub fn replay_text<K: Rows>(
-    alloc: Global,
-    layout: &Layout,
-    input: &[u8],
-) -> Result<Vec<u8>, ToolFault>
-    ensures text { IfOk result (λ text. replayed layout.now input.now ≡ Ok text.items) }
-    ensures stops { IfErr result (RefusesFor (λ fault. replayed layout.now input.now ≡ Err fault)) }
-{
-    let told = run_script::<K>(alloc, layout, input)?;
-    let mut text = Vec::new(alloc);
-    match write_record(alloc, &told, &mut text) {
-        Ok(()) => Ok(text),
-        Err(_) => Err(ToolFault::Memory),
-    }
-}
-
-/// Reads a script to the end of the input, and writes what it prints (`replay_text`).
+/// Reads a script to the end of the input, and writes what it prints: it carries out the events over the registry of the
+/// layout, from moment 0 on and with session ids from 1 on, and tells what every connection was sent, which events were
+/// refused, and the rows at the end. The text is the same over every keeper of rows.
 ///
 /// # Errors
 /// `Input` where a read fails, `TooLarge` where there is more than 16,777,216 bytes, `Script` for the script's first

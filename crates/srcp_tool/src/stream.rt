@@ -18,37 +18,6 @@ use std::alloc::{AllocError, Global};
 use std::io::{Read, Write};
 use std::vec::Vec;
 
-/// The rows of a client that applies the information lines of the input, as lines in key order. Lines
-/// end in LF alone; what follows the last LF is not applied.
-///
-/// # Errors
-/// `TooLarge` where there is more than 16,777,216 bytes, `Line` for the first line that is no
-/// information line, `Memory` where a growth was refused.
-pub fn mirror_text(alloc: Global, input: &[u8]) -> Result<Vec<u8>, ToolFault>
-    ensures text { IfOk result (λ text. Mirrors input.now text.items) }
-    ensures stops { IfErr result (RefusesFor (RefusesInput input.now)) }
-{
-    let mirror = take_lines(alloc, input)?;
-    let text = print_listing(alloc, &mirror)?;
-    Ok(text)
-}
-
-/// Applies the lines of the input.
-fn take_lines(alloc: Global, input: &[u8]) -> Result<Mirror, ToolFault>
-    ensures within { IfOk result (λ rows. length input.now ≤ input_limit) }
-    ensures holds { IfOk result (λ rows. ClientHolds input.now rows) }
-    ensures stops { IfErr result (RefusesFor (RefusesInput input.now)) }
-{
-    if input.len() > INPUT_LIMIT {
-        return Err(ToolFault::TooLarge);
-    }
-    let mut lines = MirroredLines::new(alloc);
-    match take_piece(&mut lines, None, input)? {
-        Some(line) => Err(ToolFault::Line(line)),
-        None => Ok(lines.into_mirror()),
-    }
-}
-
 /// Reads information lines to the end of the input, and writes the rows of a client that applies them,
 /// as lines in key order. Lines end in LF alone; what follows the last LF is not applied. The input is
 /// not kept: memory is taken for the rows and for what is written of them.
