@@ -1,0 +1,113 @@
+"""The tables of the pages for those who change the program: what they name is in the code, with the values that they say."""
+import re
+
+from pages import TOP
+
+CRATES = TOP / "crates"
+
+
+def rows_under(page, heading):
+    """The cells of each row of the first table behind a heading of a page."""
+    table = (TOP / "docs" / page).read_text().partition(f"\n## {heading}\n")[2].partition("\n|")[2].partition("\n\n")[0]
+    return [[cell.strip() for cell in line.strip()[1:-1].split("|")] for line in table.splitlines()[2:]]
+
+
+def quoted(cell):
+    """What stands between backticks in a cell."""
+    return re.findall(r"`([^`]*)`", cell)
+
+
+def is_in(text, word):
+    return re.search(rf"\b{re.escape(word)}\b", text) is not None
+
+
+def walk_of_the_architecture_page(_):
+    """Each file of the walk is there, and each name beside it stands in it or in a file of the rows above."""
+    rows, passed, named = rows_under("architecture.md", "A command on its way"), "", set()
+    for number, files, told in rows:
+        if missing := [file for file in quoted(files) if not (CRATES / file).is_file()]:
+            return f"step {number}: no file {missing}"
+        if again := named & set(quoted(files)):
+            return f"step {number}: {sorted(again)} stands above"
+        named |= set(quoted(files))
+        here = "".join((CRATES / file).read_text() for file in quoted(files))
+        passed += here
+        words = [word for text in quoted(told) for word in re.findall(r"^[A-Za-z_]\w*$", text)]
+        if missing := [word for word in words if not is_in(passed, word)]:
+            return f"step {number}: no {missing}"
+        if not any(is_in(here, word) for word in words):
+            return f"step {number}: nothing is named that stands in its files"
+    return None if len(rows) > 20 else f"{len(rows)} rows"
+
+
+def value_of(expression, constants):
+    """The number that a constant of the code is set to, by those that it names."""
+    words = {word: constants[word] for word in re.findall(r"[A-Z]\w*", expression)}
+    return eval(re.sub(r" as \w+", "", expression), {"__builtins__": {}}, words)
+
+
+def constants_of_the_code():
+    """Each constant of the code that is a number: {(file, name): value}."""
+    found, values = {}, {}
+    for file in CRATES.glob("*/src/**/*.rt"):
+        for name, expression in re.findall(r"^(?:pub(?:\(\w+\))? )?const ([A-Z_]+): \w+ = ([^;]*);", file.read_text(), re.M):
+            found[str(file.relative_to(CRATES)), name] = expression
+    for _ in range(3):  # a constant may be set by others
+        by_name = {name: value for (_, name), value in values.items()}
+        for place, expression in found.items():
+            try:
+                values[place] = value_of(expression, by_name)
+            except (KeyError, SyntaxError, TypeError):
+                continue
+    return values
+
+
+def limits_of_the_architecture_page(_):
+    """Each limit has the value that its constant is set to, and is not below the number that the page says it needs."""
+    rows, values = rows_under("architecture.md", "Limits"), constants_of_the_code()
+    names = {name for _, name in values}
+    for limit, value, constant, least, _ in rows:
+        value, (file, *name) = int(value.replace(",", "")), quoted(constant)
+        got = values.get((file, *name))
+        if len(name) == 1 and "<" in name[0]:
+            got = value if name[0] in (CRATES / file).read_text() and str(value) in name[0] else None
+        if got != value:
+            return f"{limit}: {value} on the page, {got} in {constant}"
+        if missing := [word for word in quoted(least) if word not in names]:
+            return f"{limit}: no {missing}"
+        if least.isdecimal() and value < int(least):
+            return f"{limit}: {value} is less than {least}"
+    return None if len(rows) > 30 else f"{len(rows)} rows"
+
+
+def refusals_of_the_architecture_page(_):
+    """What refuses a wrong limit is there: a file of the proof, a name in the crates, or a case."""
+    cases = "".join(file.read_text() for file in (TOP / "tests").glob("*.py"))
+    code = "".join(file.read_text() for part in ("src", "specs", "proofs") for file in CRATES.glob(f"*/{part}/**/*.*t*"))
+    for limit, *_, refuses in rows_under("architecture.md", "Limits"):
+        for text in quoted(refuses):
+            is_case = (TOP / "tests" / "cases" / text).is_dir() or f"def {text.replace('-', '_')}(program)" in cases
+            if not (is_case or (CRATES / text).exists() or is_in(code, text.rstrip("!"))):
+                return f"{limit}: no {text}"
+    return None
+
+
+def clauses_of_the_core_page(_):
+    """Each call of the table has the clauses that it lists, and no others."""
+    files = [CRATES / "srcp_core/src/table.rt", *(CRATES / "srcp_core/src/table").glob("*.rt")]
+    code = "".join(file.read_text() for file in files)
+    call, listed = None, {}
+    for first, clause, _ in rows_under("core-proof.md", "What the clauses of a call say"):
+        call = (quoted(first) or [call])[0]
+        listed.setdefault(call, []).extend(quoted(clause) or [""])
+    for call, clauses in listed.items():
+        head = re.search(rf"^    pub fn {call}\(.*?^    {{$", code, re.M | re.S)
+        found = re.findall(r"^ +ensures\*? ?(\w*) ?{", head[0] if head else "", re.M)
+        if sorted(found) != sorted(clauses):
+            return f"{call}: {clauses} on the page, {found} in the code"
+    public = set(re.findall(r"^    pub fn (\w+)", code, re.M))
+    return None if public == set(listed) else f"the page has {sorted(listed)}, the code {sorted(public)}"
+
+
+PAGE_TABLE_CASES = (walk_of_the_architecture_page, limits_of_the_architecture_page, refusals_of_the_architecture_page,
+                    clauses_of_the_core_page)
