@@ -21,8 +21,10 @@ JSON (`functions` as a list, or as {"2": 1}), and what is left out stays; to 1/G
 import asyncio
 import json
 
-from broker import connect, matches, publish
+# `program` first: it says which Python it takes.
 from program import arguments, names, run, say
+
+from broker import connect, matches, publish
 from srcp import Mirror, Refused, keys_of
 from stop import stop_all
 from topics import announced, commands_for, device_of, node, shown

@@ -3,7 +3,11 @@ import argparse
 import asyncio
 import signal
 import sys
-import tomllib
+
+try:
+    import tomllib
+except ImportError:
+    sys.exit("-- this takes Python 3.11 or later")
 
 said = {}
 

@@ -15,6 +15,8 @@ import threading
 import time
 import tty
 
+if sys.version_info < (3, 11):
+    sys.exit("-- this takes Python 3.11 or later")
 NUMBER = r"(0|[1-9]\d*)"
 SYNTAX = {"power": r"([01])", "throttle": rf"t {NUMBER} (-1|{NUMBER}) ([01])", "accessory": rf"a {NUMBER} ([01])",
           "function": rf"F {NUMBER} {NUMBER} ([01])", "sensors": "Q", "status": "s", "cabs": "#", "stop": "!"}

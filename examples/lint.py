@@ -5,7 +5,7 @@ import argparse
 import json
 import re
 import socket
-import tomllib
+import tomllib  # Python 3.11 or later has it
 from difflib import get_close_matches
 
 NUMBERS = {"port": range(1, 65536), "number": range(1, 251), "gl_max": range(1, 10240), "ga_max": range(1, 2045),

@@ -9,6 +9,8 @@ import signal
 import socket
 import sys
 
+if sys.version_info < (3, 11):
+    sys.exit("this takes Python 3.11 or later")
 STEPS, FASTEST, SECONDS = 28, 65535, 5
 BACKWARD, FORWARD, EMERGENCY_STOP = 0, 1, 2
 ENDS = (signal.SIGINT, signal.SIGTERM, signal.SIGHUP)

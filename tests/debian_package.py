@@ -9,7 +9,7 @@ from contextlib import contextmanager
 from pathlib import Path
 
 from pages import TOP, reader_of_a_page, take_bridges
-from serving import SECONDS, WELCOME, Client, free_port, wait_for
+from serving import SECONDS, WELCOME, Client, TriedNothing, free_port, wait_for
 
 PACKAGING = TOP / "packaging"
 CONF = "etc/srcp_server.toml"
@@ -19,10 +19,9 @@ def with_dpkg_deb(case):
     """The case if dpkg-deb is there; else it says that it tried nothing."""
     @functools.wraps(case)
     def tries(program):
-        if shutil.which("dpkg-deb"):
-            return case(program)
-        print(f"not tried, since there is no dpkg-deb here: {case.__name__.replace('_', '-')}")
-        return None
+        if not shutil.which("dpkg-deb"):
+            raise TriedNothing("there is no dpkg-deb here")
+        return case(program)
     return tries
 
 
@@ -83,8 +82,7 @@ def package_is_the_same_to_the_byte(program):
 def package_asks_for_the_c_library_of_the_program(program):
     """No symbol of the program is newer than the C library that the package and the page of installing name."""
     if not shutil.which("objdump"):
-        print("not tried, since there is no objdump here: package-asks-for-the-c-library-of-the-program")
-        return None
+        raise TriedNothing("there is no objdump here")
     told = subprocess.run(["objdump", "-T", program], capture_output=True, text=True, timeout=SECONDS).stdout
     newest = max(tuple(map(int, version.split("."))) for version in re.findall(r"GLIBC_([\d.]+)", told))
     asked = re.search(r"libc6 \(>= ([\d.]+)\)", (PACKAGING / "debian" / "control").read_text())[1]

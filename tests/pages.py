@@ -7,6 +7,7 @@ that tests cannot count on are stood in for by those of stand_ins/. `./test` is 
 """
 import os
 import re
+import shlex
 import shutil
 import signal
 import subprocess
@@ -18,7 +19,7 @@ from pathlib import Path
 from queue import Empty, Queue
 from urllib.request import urlopen
 
-from serving import SECONDS, Client, free_ports, served, wait_for
+from serving import SECONDS, Client, TriedNothing, free_ports, served, wait_for
 
 TOP = Path(__file__).resolve().parent.parent
 STAND_INS = Path(__file__).resolve().parent / "stand_ins"
@@ -196,8 +197,7 @@ def follow(page, program):
     if fault:
         return fault
     if any("./package" in line for block in blocks for line in block) and not shutil.which("dpkg-deb"):
-        print(f"not tried, since there is no dpkg-deb here: the commands of {page}")
-        return None
+        raise TriedNothing("there is no dpkg-deb here")
     with reader_of_a_page(program) as reader:
         return next((fault for block in blocks if (fault := reader.follows(block))), None)
 
@@ -247,8 +247,7 @@ def choices_that_cases_show(_):
 def first_screen_of_the_readme(program):
     """Its two commands serve the layout, and the page of it for a browser."""
     if not (TOP / "bridges" / "web.py").exists():
-        print("not tried, since bridges/ is not here: first-screen-of-the-readme")
-        return None
+        raise TriedNothing("bridges/ is not here")
     kind, commands = BLOCK.findall((TOP / "README.md").read_text())[0]
     with reader_of_a_page(program) as reader:
         take_bridges(reader)
@@ -262,6 +261,50 @@ def first_screen_of_the_readme(program):
 
 def commands_of_the_readme(program):
     return follow("README.md", program)
+
+
+def holder_of_a_port(program):
+    """The command of the README's table names the program that has the port: to root, and to nobody else."""
+    command = re.search(r"`sudo (ss [^`]*)`", (TOP / "README.md").read_text())[1]
+    if os.geteuid() or not all(map(shutil.which, ("ss", "setpriv"))):
+        raise TriedNothing("it takes root, ss (of iproute2) and setpriv (of util-linux)")
+    with served(program) as (port, server):
+        words = shlex.split(command.replace(":4303", f":{port}"))
+        nobody = ["setpriv", "--reuid=65534", "--regid=65534", "--clear-groups"]
+        told = [subprocess.run([*user, *words], capture_output=True, text=True, timeout=SECONDS).stdout
+                for user in ([], nobody)]
+    got = [(text.count(f"127.0.0.1:{port} "), f'("srcp_server",pid={server.pid},' in text) for text in told]
+    return None if got == [(1, True), (1, False)] else f"root is told {told[0]!r}, nobody {told[1]!r}"
+
+
+def older_pythons():
+    """The Pythons before that of the README that run here, if they know the syntax: 3.7 and those before stop at it."""
+    names = [name for minor in range(8, python_of_the_readme()) if (name := shutil.which(f"python3.{minor}"))]
+    return [name for name in names if not subprocess.run([name, "--version"], capture_output=True).returncode]
+
+
+def python_of_the_readme():
+    """The minor version of the least Python that the README asks for."""
+    return int(re.search(r"Python 3\.(\d+) or later", (TOP / "README.md").read_text())[1])
+
+
+def programs_that_ask_for_python(_):
+    """Each program of examples/ and bridges/, and the tests, refuse a Python before that of the README, and say which one
+    they take: one that claims to be older, and the older ones that are here. This Python they accept."""
+    minor = python_of_the_readme()
+    older = f"import runpy, sys; sys.modules['tomllib'], sys.version_info = None, (3, {minor - 1}, 9, 'final', 0); " \
+            "sys.argv = [sys.argv[1], '--help']; sys.path[0] = sys.argv[0].rpartition('/')[0]; " \
+            "runpy.run_path(sys.argv[0], run_name='__main__')"
+    starts = [[sys.executable], [sys.executable, "-c", older], *([name] for name in older_pythons())]
+    programs = [file for folder in ("examples", "bridges", "tests") for file in sorted((TOP / folder).glob("*.py"))
+                if file.read_text().startswith("#!") and file.name != "run_out_of_memory.py"]
+    for file in programs:
+        for start in starts:
+            done = subprocess.run([*start, file, "--help"], capture_output=True, text=True, timeout=SECONDS)
+            refuses = done.returncode == 1 and done.stdout == "" and f"Python 3.{minor} or later" in done.stderr
+            if refuses == (len(start) == 1 and start[0] == sys.executable):
+                return f"{file.name} by {start[0]}: {done.returncode}, {done.stdout[:60]!r}, {done.stderr[-200:]!r}"
+    return None if len(programs) > 8 else f"programs: {programs}"
 
 
 def commands_of_the_protocol_page(program):
@@ -317,7 +360,8 @@ def links_between_pages(_):
     return None
 
 
-PAGE_CASES = (first_screen_of_the_readme, commands_of_the_readme, commands_of_the_protocol_page,
+PAGE_CASES = (first_screen_of_the_readme, commands_of_the_readme, holder_of_a_port, programs_that_ask_for_python,
+              commands_of_the_protocol_page,
               commands_of_the_replay_page, commands_of_the_install_page, commands_of_the_configuration_page,
               choices_before_go, choices_in_a_session, choices_that_cases_show, clauses_of_the_proofs_page,
               contracts_that_the_proofs_page_quotes, links_between_pages)

@@ -5,8 +5,8 @@ are named. Cases of bridges/ run beside each other.
 
 A case is a folder: `args` (one word a line), `stdin`, or in `stdin.from` the path of a file to read in its place,
 `config.toml` where it needs one, `status`, and what is expected: `stdout` and `stderr` to the byte, or in `expect.json`
-what single connections are sent, the word that each ends with, and the refused events. The last line counts the cases;
-the status is 0 only where all of them pass.
+what single connections are sent, the word that each ends with, and the refused events. In what is expected, the words of
+TEXTS stand for texts of the program. The last line counts the cases; the status is 0 only where all of them pass.
 """
 import json
 import os
@@ -21,7 +21,10 @@ from concurrent.futures import ThreadPoolExecutor
 from functools import partial
 from pathlib import Path
 
-from bridge_tests import BRIDGE_CASES, TriedNothing
+if sys.version_info < (3, 11):
+    sys.exit("this takes Python 3.11 or later")
+
+from bridge_tests import BRIDGE_CASES
 from clients import CLIENT_CASES
 from debian_package import PACKAGE_CASES
 from door import DOOR_CASES
@@ -30,16 +33,18 @@ from inputs import INPUT_CASES
 from lingering import LINGERING_CASES
 from lint_and_status import LOOKING_CASES
 from pacing import PACING_CASES
+from page_tables import PAGE_TABLE_CASES
 from pages import PAGE_CASES
 from run_script import RUN_SCRIPT_CASES
 from safety import SAFETY_CASES
-from serving import SERVING_CASES
+from serving import SERVING_CASES, WELCOME, TriedNothing
 from tables import TABLE_CASES
 
 TESTS = Path(__file__).resolve().parent
 CASES = TESTS / "cases"
 INPUT_LIMIT = 16_777_216
 CONFIG_LIMIT = 1_048_576
+TEXTS = {b"{WELCOME}": WELCOME.removesuffix(b"\n"), b"{VERSION}": WELCOME.partition(b";")[0]}
 SECONDS = 300
 
 
@@ -82,6 +87,12 @@ def run_case(folder, program):
         path = folder / name
         return path.read_bytes() if path.exists() else None
 
+    def expected(name):
+        text = content(name)
+        for word in TEXTS if text else ():
+            text = text.replace(word, TEXTS[word])
+        return text
+
     elsewhere = content("stdin.from")
     stdin = content(elsewhere.decode().strip() if elsewhere else "stdin")
     done = subprocess.run([program, *content("args").decode().splitlines()], input=stdin, capture_output=True, cwd=folder,
@@ -89,11 +100,11 @@ def run_case(folder, program):
     if done.returncode != int(content("status")):
         return f"status {done.returncode}, want {content('status').decode().strip()}; stderr {done.stderr[:200]!r}"
     for name, got in (("stdout", done.stdout), ("stderr", done.stderr)):
-        want = content(name)
+        want = expected(name)
         if want is not None and (fault := difference(name, got, want)):
             return fault
-    expected = content("expect.json")
-    return unexpected_record(done.stdout, json.loads(expected)) if expected else None
+    record = expected("expect.json")
+    return unexpected_record(done.stdout, json.loads(record)) if record else None
 
 
 def ended(done, status, text, out=b""):
@@ -233,8 +244,8 @@ STREAM_CASES = (input_past_its_limit, input_at_its_limit, input_that_cannot_be_r
                 script_past_its_limit, script_at_its_limit, script_that_cannot_be_read, run_that_cannot_be_written,
                 run_in_little_memory, full_bus_that_stalls_nobody)
 ALL_CASES = (STREAM_CASES + TABLE_CASES + INPUT_CASES + SERVING_CASES + DOOR_CASES + FAULT_CASES + CLIENT_CASES
-             + PAGE_CASES + RUN_SCRIPT_CASES + SAFETY_CASES + LOOKING_CASES + PACKAGE_CASES + LINGERING_CASES + PACING_CASES
-             + BRIDGE_CASES)
+             + PAGE_CASES + PAGE_TABLE_CASES + RUN_SCRIPT_CASES + SAFETY_CASES + LOOKING_CASES + PACKAGE_CASES
+             + LINGERING_CASES + PACING_CASES + BRIDGE_CASES)
 BESIDE = 10  # cases of bridges/ at once
 
 

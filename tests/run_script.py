@@ -10,7 +10,7 @@ import time
 from contextlib import contextmanager
 from pathlib import Path
 
-from serving import SECONDS
+from serving import SECONDS, TriedNothing
 
 TOP = Path(__file__).resolve().parent.parent
 TOOLS = ("bash", "cat", "dirname", "env", "find", "grep", "mktemp", "nproc", "rm", "sed", "touch")
@@ -112,8 +112,7 @@ def run_that_builds_side_by_side(program):
     On two processors they are built in turn, the dearest first."""
     available = int(re.search(r"MemAvailable: *(\d+)", Path("/proc/meminfo").read_text())[1])
     if available < 9_000_000:
-        print("not tried, since there is no memory for two provers here: run-that-builds-side-by-side")
-        return None
+        raise TriedNothing("there is no memory for two provers here")
     log, lines = log_of_a_build(program, 3)
     got = log[:2], sorted(log[2:4]), sorted(log[4:6]), log[6:], lines[0], lines[-1], len(lines)
     want = (["begin low", "end low"], ["begin left", "begin right"], ["end left", "end right"],

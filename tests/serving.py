@@ -21,6 +21,10 @@ WELCOME = b"srcp_server 1.0; SRCP 0.8.4; SRCPOTHER 0.8.3\n"
 SECONDS = 20
 
 
+class TriedNothing(Exception):
+    """What a case needs is not here."""
+
+
 def free_ports(count):
     """So many ports that nobody listens at, each another."""
     with ExitStack() as stack:

@@ -5,11 +5,9 @@ TriedNothing.
 """
 import unittest
 
+from serving import TriedNothing
+
 from . import common
-
-
-class TriedNothing(Exception):
-    """What a case needs is not installed here."""
 
 
 def case_of(kind, method):
