@@ -28,6 +28,7 @@ echo "end $crate" >> '{log}'
 CRATES = """low: toml
 left: low
 right: low clap
+idle: low
 srcp_server: left right
 low_tests: low
 """
@@ -65,6 +66,16 @@ def run_without_the_kit(program):
     with repository_of_one_crate(program) as (top, environment):
         status, told, printed = outcome_of_run(top, environment)
     is_told = status == 1 and printed == "" and "program rt is not on the PATH" in told and "README.md" in told
+    return None if is_told else f"got {(status, told, printed)!r}"
+
+
+def run_with_a_kit_that_does_not_run(program):
+    """As on a machine without python3, in which `rt` is written."""
+    with repository_of_one_crate(program) as (top, environment):
+        (top / "tools" / "rt").write_text("#!/usr/bin/env python-that-is-not-here\n")
+        (top / "tools" / "rt").chmod(0o755)
+        status, told, printed = outcome_of_run(top, environment)
+    is_told = status == 1 and printed == "" and "it takes python3" in told and "README.md" in told
     return None if is_told else f"got {(status, told, printed)!r}"
 
 
@@ -109,7 +120,7 @@ def log_of_a_build(program, processors):
 
 def run_that_builds_side_by_side(program):
     """Crates that do not need each other are begun together, if there are processors for it; those above wait for both.
-    On two processors they are built in turn, the dearest first."""
+    On two processors they are built in turn, the dearest first. A crate that the program does not need is not built."""
     available = int(re.search(r"MemAvailable: *(\d+)", Path("/proc/meminfo").read_text())[1])
     if available < 9_000_000:
         raise TriedNothing("there is no memory for two provers here")
@@ -166,5 +177,5 @@ def run_on_a_terminal(program):
     return None if is_told else f"got {(done.returncode, done.stderr, done.stdout)!r}"
 
 
-RUN_SCRIPT_CASES = (run_without_the_kit, run_that_builds, run_with_another_kit, run_that_builds_side_by_side,
-                    run_whose_build_fails, run_that_is_interrupted, run_on_a_terminal)
+RUN_SCRIPT_CASES = (run_without_the_kit, run_with_a_kit_that_does_not_run, run_that_builds, run_with_another_kit,
+                    run_that_builds_side_by_side, run_whose_build_fails, run_that_is_interrupted, run_on_a_terminal)
