@@ -92,6 +92,15 @@ def refusals_of_the_architecture_page(_):
     return None
 
 
+def limits_of_the_protocol_page(_):
+    """Each limit that clients are told is one of the table of all limits, or the greatest moment."""
+    known = {value for _, value, *_ in rows_under("architecture.md", "Limits")} | {"1", str(2 ** 64 - 1)}
+    rows = rows_under("protocol.md", "Limits")
+    told = [(limit, number) for limit, value in rows for number in re.findall(r"\d+(?:,\d{3})*", value)]
+    unknown = [(limit, number) for limit, number in told if number not in known]
+    return f"no such limit: {unknown}" if unknown else None if len(told) > 8 else f"{len(rows)} rows"
+
+
 def clauses_of_the_core_page(_):
     """Each call of the table has the clauses that it lists, and no others."""
     files = [CRATES / "srcp_core/src/table.rt", *(CRATES / "srcp_core/src/table").glob("*.rt")]
@@ -110,4 +119,4 @@ def clauses_of_the_core_page(_):
 
 
 PAGE_TABLE_CASES = (walk_of_the_architecture_page, limits_of_the_architecture_page, refusals_of_the_architecture_page,
-                    clauses_of_the_core_page)
+                    limits_of_the_protocol_page, clauses_of_the_core_page)
