@@ -79,6 +79,30 @@ def package_is_the_same_to_the_byte(program):
 
 
 @with_dpkg_deb
+def package_that_is_purged_leaves_nothing(program):
+    """Of the bridges neither links of units that were enabled nor what they kept. One that is removed leaves both."""
+    with package_of(program) as (package,), tempfile.TemporaryDirectory() as folder:
+        root = Path(folder)
+        subprocess.run(["dpkg-deb", "--control", package, root / "DEBIAN"], check=True, timeout=SECONDS)
+        links, kept = root / "etc/systemd/system/multi-user.target.wants", root / "var/lib/private/srcp_bridge_keep"
+        for made in (links, kept, root / "tools"):
+            made.mkdir(parents=True)
+        for unit in ("srcp_bridge@web", "ssh"):
+            (links / f"{unit}.service").symlink_to("/lib/systemd/system/none.service")
+        (kept / "layout.srcp").write_text("INIT 1 GL 3 N 1 28 5\n")
+        (kept.parent.parent / kept.name).symlink_to(kept)
+        (root / "tools" / "rm").symlink_to(shutil.which("rm"))
+        script = re.sub(r" (/(?:etc|var)/)", rf" {root}\1", (root / "DEBIAN" / "postrm").read_text())
+        left = []
+        for verb in ("remove", "purge"):
+            subprocess.run([shutil.which("sh"), "-c", script, "postrm", verb], check=True, timeout=SECONDS,
+                           env={"PATH": str(root / "tools")})
+            left.append((sorted(link.stem for link in links.iterdir()), sorted(path.name for path in root.rglob("*keep*"))))
+    want = [(["srcp_bridge@web", "ssh"], ["srcp_bridge_keep"] * 2), (["ssh"], [])]
+    return None if left == want else f"left {left}"
+
+
+@with_dpkg_deb
 def package_asks_for_the_c_library_of_the_program(program):
     """No symbol of the program is newer than the C library that the package and the page of installing name."""
     if not shutil.which("objdump"):
@@ -169,6 +193,7 @@ def manual_of_the_configuration_is_the_page(_):
 
 
 PACKAGE_CASES = (package_serves_from_what_it_holds, package_is_the_same_to_the_byte,
+                 package_that_is_purged_leaves_nothing,
                  package_asks_for_the_c_library_of_the_program, version_is_counted_once,
                  manual_and_completions_are_the_help, bash_completes_words, commands_of_the_manual_page,
                  manual_of_the_configuration_is_the_page)
