@@ -277,6 +277,18 @@ def holder_of_a_port(program):
     return None if got == [(1, True), (1, False)] else f"root is told {told[0]!r}, nobody {told[1]!r}"
 
 
+def gate_that_proves_what_is_new(_):
+    """The README says that of `./test`: it calls `rt ci`, of which the kit says so, and not with --anew, which proves all."""
+    if not (kit := shutil.which("rt")):
+        raise TriedNothing("there is no kit here")
+    page, told = [" ".join(Path(file).read_text().split()) for file in (TOP / "README.md", kit)]
+    is_said = "`./test` is the gate: it proves all that the kit has not proved on this machine yet" in page
+    keeps = "a later run in any checkout here proves and tries only what changed" in told and "--anew proves" in told
+    calls = re.findall(r"^rt (.*)$", (TOP / "test").read_text(), re.M)
+    got = is_said, keeps, calls
+    return None if got == (True, True, ["ci"]) else f"the page says it, the kit does it, and ./test calls: {got}"
+
+
 def older_pythons():
     """The Pythons before that of the README that run here, if they know the syntax: 3.7 and those before stop at it."""
     names = [name for minor in range(8, python_of_the_readme()) if (name := shutil.which(f"python3.{minor}"))]
@@ -360,8 +372,8 @@ def links_between_pages(_):
     return None
 
 
-PAGE_CASES = (first_screen_of_the_readme, commands_of_the_readme, holder_of_a_port, programs_that_ask_for_python,
-              commands_of_the_protocol_page,
+PAGE_CASES = (first_screen_of_the_readme, commands_of_the_readme, holder_of_a_port, gate_that_proves_what_is_new,
+              programs_that_ask_for_python, commands_of_the_protocol_page,
               commands_of_the_replay_page, commands_of_the_install_page, commands_of_the_configuration_page,
               choices_before_go, choices_in_a_session, choices_that_cases_show, clauses_of_the_proofs_page,
               contracts_that_the_proofs_page_quotes, links_between_pages)
