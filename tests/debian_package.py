@@ -97,7 +97,8 @@ def package_that_is_purged_leaves_nothing(program):
         for verb in ("remove", "purge"):
             subprocess.run([shutil.which("sh"), "-c", script, "postrm", verb], check=True, timeout=SECONDS,
                            env={"PATH": str(root / "tools")})
-            left.append((sorted(link.stem for link in links.iterdir()), sorted(path.name for path in root.rglob("*keep*"))))
+            stays = sorted(path.name for path in root.rglob("*keep*"))
+            left.append((sorted(link.stem for link in links.iterdir()), stays))
     want = [(["srcp_bridge@web", "ssh"], ["srcp_bridge_keep"] * 2), (["ssh"], [])]
     return None if left == want else f"left {left}"
 
@@ -119,7 +120,8 @@ def program_takes_the_instructions_that_the_page_names(program):
     """It has some of x86-64-v2, as the page of installing says, and none of those that came later: no AVX, FMA or BMI2."""
     if not shutil.which("objdump"):
         raise TriedNothing("there is no objdump here")
-    told = subprocess.run(["objdump", "-d", "--no-show-raw-insn", program], capture_output=True, text=True, timeout=SECONDS).stdout
+    disassembles = ["objdump", "-d", "--no-show-raw-insn", program]
+    told = subprocess.run(disassembles, capture_output=True, text=True, timeout=SECONDS).stdout
     words = set(re.findall(r"^ +[0-9a-f]+:\t(\w+)", told, re.M))
     later = {word for word in words if re.match(r"v[a-z]|(mulx|pdep|pext|rorx|sarx|shlx|shrx|bzhi|andn)$", word)}
     is_told = "instructions of x86-64-v2" in (TOP / "docs" / "install.md").read_text()
@@ -205,8 +207,7 @@ def manual_of_the_configuration_is_the_page(_):
 
 
 PACKAGE_CASES = (package_serves_from_what_it_holds, package_is_the_same_to_the_byte,
-                 package_that_is_purged_leaves_nothing,
-                 package_asks_for_the_c_library_of_the_program, program_takes_the_instructions_that_the_page_names,
-                 version_is_counted_once,
+                 package_that_is_purged_leaves_nothing, package_asks_for_the_c_library_of_the_program,
+                 program_takes_the_instructions_that_the_page_names, version_is_counted_once,
                  manual_and_completions_are_the_help, bash_completes_words, commands_of_the_manual_page,
                  manual_of_the_configuration_is_the_page)

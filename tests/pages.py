@@ -373,7 +373,7 @@ def links_between_pages(_):
 
 
 PAGE_CASES = (first_screen_of_the_readme, commands_of_the_readme, holder_of_a_port, gate_that_proves_what_is_new,
-              programs_that_ask_for_python, commands_of_the_protocol_page,
-              commands_of_the_replay_page, commands_of_the_install_page, commands_of_the_configuration_page,
-              choices_before_go, choices_in_a_session, choices_that_cases_show, clauses_of_the_proofs_page,
+              programs_that_ask_for_python, commands_of_the_protocol_page, commands_of_the_replay_page,
+              commands_of_the_install_page, commands_of_the_configuration_page, choices_before_go,
+              choices_in_a_session, choices_that_cases_show, clauses_of_the_proofs_page,
               contracts_that_the_proofs_page_quotes, links_between_pages)
