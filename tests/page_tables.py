@@ -1,4 +1,4 @@
-"""The tables of the pages for those who change the program: what they name is in the code, with the values that they say."""
+"""The tables of the pages for those who change the program: what they name is in the code, with the values told."""
 import re
 
 from pages import TOP
@@ -49,8 +49,9 @@ def value_of(expression, constants):
 def constants_of_the_code():
     """Each constant of the code that is a number: {(file, name): value}."""
     found, values = {}, {}
+    form = re.compile(r"^(?:pub(?:\(\w+\))? )?const ([A-Z_]+): \w+ = ([^;]*);", re.M)
     for file in CRATES.glob("*/src/**/*.rt"):
-        for name, expression in re.findall(r"^(?:pub(?:\(\w+\))? )?const ([A-Z_]+): \w+ = ([^;]*);", file.read_text(), re.M):
+        for name, expression in form.findall(file.read_text()):
             found[str(file.relative_to(CRATES)), name] = expression
     for _ in range(3):  # a constant may be set by others
         by_name = {name: value for (_, name), value in values.items()}

@@ -278,7 +278,7 @@ def holder_of_a_port(program):
 
 
 def gate_that_proves_what_is_new(_):
-    """The README says that of `./test`: it calls `rt ci`, of which the kit says so, and not with --anew, which proves all."""
+    """The README says that of `./test`: it calls `rt ci`, of which the kit says so, without --anew, which proves all."""
     if not (kit := shutil.which("rt")):
         raise TriedNothing("there is no kit here")
     page, told = [" ".join(Path(file).read_text().split()) for file in (TOP / "README.md", kit)]
