@@ -1,8 +1,8 @@
 """The tables of the pages for those who change the program: what they name is in the code, with the values told."""
 import re
+from pathlib import Path
 
-from pages import TOP
-
+TOP = Path(__file__).resolve().parent.parent
 CRATES = TOP / "crates"
 
 

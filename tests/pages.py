@@ -19,6 +19,7 @@ from pathlib import Path
 from queue import Empty, Queue
 from urllib.request import urlopen
 
+from page_tables import PAGE_TABLE_CASES
 from serving import SECONDS, Client, TriedNothing, free_ports, served, wait_for
 
 TOP = Path(__file__).resolve().parent.parent
@@ -376,4 +377,4 @@ PAGE_CASES = (first_screen_of_the_readme, commands_of_the_readme, holder_of_a_po
               programs_that_ask_for_python, commands_of_the_protocol_page, commands_of_the_replay_page,
               commands_of_the_install_page, commands_of_the_configuration_page, choices_before_go,
               choices_in_a_session, choices_that_cases_show, clauses_of_the_proofs_page,
-              contracts_that_the_proofs_page_quotes, links_between_pages)
+              contracts_that_the_proofs_page_quotes, links_between_pages, *PAGE_TABLE_CASES)
