@@ -10,16 +10,16 @@ import time
 from contextlib import contextmanager
 from pathlib import Path
 
-from serving import SECONDS, TriedNothing
+from serving import SECONDS
 
 TOP = Path(__file__).resolve().parent.parent
-TOOLS = ("bash", "cat", "dirname", "env", "find", "grep", "mktemp", "nproc", "rm", "sed", "touch")
+TOOLS = ("bash", "cat", "dirname", "env", "find", "mktemp", "nproc", "rm", "tac", "touch")
 KIT = re.search('^kit="(.*)"$', (TOP / "run").read_text(), re.M)[1]
 # Stands in for the kit: a crate takes half a second, and the log tells when each began and ended.
 RT = """#!/bin/sh
 [ "$1" != version ] || {{ echo '{kit}'; exit; }}
 crate=$(/bin/basename "$PWD")
-echo "begin $crate" >> '{log}'
+echo "begin $crate: $*" >> '{log}'
 [ "$crate" != "$BAD" ] || {{ echo 'not proved'; exit 1; }}
 /bin/sleep "${{LONG:-0.5}}"
 [ ! -f src/main.rt ] || {{ /bin/mkdir -p out && /bin/cp '{program}' out/srcp_server; }}
@@ -106,33 +106,21 @@ def run_with_another_kit(program):
     return None if KIT in (TOP / "README.md").read_text() else "README.md names another kit"
 
 
-def log_of_a_build(program, processors):
-    """What a build on `processors` begins and ends, in order, and the lines that it prints."""
+def run_that_builds_what_it_needs(program):
+    """The crates that the program needs are built in turn, each behind those that it needs, and with all processors. One
+    that it does not need is not built."""
     with repository_of_one_crate(program, crates=CRATES) as (top, environment):
         (top / "rt").rename(top / "tools" / "rt")
         (top / "tools" / "nproc").unlink()
-        (top / "tools" / "nproc").write_text(f"#!/bin/sh\necho {processors}\n")
+        (top / "tools" / "nproc").write_text("#!/bin/sh\necho 3\n")
         (top / "tools" / "nproc").chmod(0o755)
-        (top / "crates" / "right" / "lib.rt").write_text("// much to prove\n")
         _, told, _ = outcome_of_run(top, environment)
-        return (top / "log").read_text().splitlines(), built_lines(told)
-
-
-def run_that_builds_side_by_side(program):
-    """Crates that do not need each other are begun together, if there are processors for it; those above wait for both.
-    On two processors they are built in turn, the dearest first. A crate that the program does not need is not built."""
-    available = int(re.search(r"MemAvailable: *(\d+)", Path("/proc/meminfo").read_text())[1])
-    if available < 9_000_000:
-        raise TriedNothing("there is no memory for two provers here")
-    log, lines = log_of_a_build(program, 3)
-    got = log[:2], sorted(log[2:4]), sorted(log[4:6]), log[6:], lines[0], lines[-1], len(lines)
-    want = (["begin low", "end low"], ["begin left", "begin right"], ["end left", "end right"],
-            ["begin srcp_server", "end srcp_server"], "built low in N s, 3 left", "built srcp_server in N s, 0 left", 4)
-    if got != want:
-        return f"got {got}"
-    in_turn, _ = log_of_a_build(program, 2)
-    want = [f"{what} {crate}" for crate in ("low", "right", "left", "srcp_server") for what in ("begin", "end")]
-    return None if in_turn == want else f"on two processors: {in_turn}"
+        log, lines = (top / "log").read_text().splitlines(), built_lines(told)
+    words = {"srcp_server": "run --jobs 3 -- mirror"}
+    crates = ("low", "left", "right", "srcp_server")
+    want = [line for crate in crates for line in (f"begin {crate}: {words.get(crate, 'lib --jobs 3')}", f"end {crate}")]
+    want_lines = [f"built {crate} in N s, {left} left" for crate, left in zip(crates, (3, 2, 1, 0))]
+    return None if (log, lines) == (want, want_lines) else f"got {(log, lines)}"
 
 
 def run_whose_build_fails(program):
@@ -159,7 +147,7 @@ def run_that_is_interrupted(program):
             status = build.wait(SECONDS)
             time.sleep(2)
             log = (top / "log").read_text()
-        if (status, log) != (130, "begin low\n"):
+        if (status, re.sub(": .*", "", log)) != (130, "begin low\n"):
             return f"got {(status, log)!r}"
     return None
 
@@ -178,4 +166,4 @@ def run_on_a_terminal(program):
 
 
 RUN_SCRIPT_CASES = (run_without_the_kit, run_with_a_kit_that_does_not_run, run_that_builds, run_with_another_kit,
-                    run_that_builds_side_by_side, run_whose_build_fails, run_that_is_interrupted, run_on_a_terminal)
+                    run_that_builds_what_it_needs, run_whose_build_fails, run_that_is_interrupted, run_on_a_terminal)
