@@ -57,10 +57,20 @@ unless_late : (late hands : Bool) → (late ≡ true → hands ≡ false) → no
 unless_late true hands f = ap not (f refl)
 unless_late false hands f = refl
 
+-- no other call reads the clock
+called_clock : (turn : Turn) (call : Call) → turn.clock ≡ (after_call turn call).clock
+called_clock turn (ExpectCall due slack) = refl
+called_clock turn (NowCall answer) = refl
+called_clock turn (AcceptCall answer) = refl
+called_clock turn (ReadCall peer answer buffer) = refl
+called_clock turn (WriteCall peer bytes answer) = refl
+called_clock turn (CloseCall peer answer) = refl
+
 called : (t : Times) (before : Turn) (call : Call) (late : before.late ≡ true → hands_out call ≡ false) → Timed t before
     → Timed (record t { turn = after_call t.turn call; prompt = t.prompt && not (t.turn.late && hands_out call) }) (after_call before call)
 called t before call late h = record {
   same = ap (λ (u : Turn). after_call u call) h.same;
+  clock = h.clock ∙ called_clock before call;
   kept = record {
     exact = h.kept.exact;
     punctual = h.kept.punctual;
@@ -139,6 +149,7 @@ timed_wait old new turn most count ready ends quiet tells timed =
     follows : (t : Times) → Timed t turn → Timed (times_step t (Waits most count ready)) (after_wait turn)
     follows t h = record {
       same = ap after_wait h.same;
+      clock = h.clock;
       kept = record {
         exact = h.kept.exact;
         punctual = both t.punctual (in_time t.turn most) h.kept.punctual
@@ -164,6 +175,7 @@ told_rightly : (t : Times) (turn : Turn) (time : ℕ) → Timed t turn
     → Timed (told_moment (clocked t (Some time)) (Ok (moment_at turn time))) (told_at turn time (moment_at turn time))
 told_rightly t turn time h = record {
   same = ap (λ (u : Turn). told_at u time (moment_at turn time)) h.same;
+  clock = refl;
   kept = record {
     exact = both t.exact (moment_at turn time == moment_at t.turn time) h.kept.exact
         (same_number (moment_at turn time) (moment_at t.turn time) (ap (λ (u : Turn). moment_at u time) (sym h.same)));
@@ -212,7 +224,7 @@ timed_first told turn is begins log e = ⊎_elim
     (λ (f : told ≡ Some []).
     let same : log ≡ [] = cc in
     subst (λ (l : List Step). Timed (times turn.timekeeper.wall turn.timekeeper.start l) turn) (sym same)
-    (record { same = sym is; kept = record { exact = refl; punctual = refl; patient = refl; prompt = refl } }))
+    (record { same = sym is; clock = ap (λ (u : Turn). u.clock) (sym is); kept = record { exact = refl; punctual = refl; patient = refl; prompt = refl } }))
     (λ (f : told ≡ None). absurd (nothing (sym f ∙ e)))
     begins
   where

@@ -82,9 +82,10 @@ pub record AreKeptTimes (t : Times) : Type 0 where
   pub patient : t.patient ≡ true
   pub prompt : t.prompt ≡ true
 
--- a turn is what the times say
+-- a turn is what the times say, and its clock is the one that was read last
 pub record Timed (t : Times) (turn : Turn) : Type 0 where
   pub same : t.turn ≡ turn
+  pub clock : t.clock ≡ turn.clock
   pub kept : AreKeptTimes t
 
 -- so it is after all steps

@@ -11,6 +11,7 @@ use Rattle.srcp_sockets.specs.declared.turn.Turn.{Turn}
 abbrev pub first_turn : (wall start : ℕ) → Turn
 first_turn wall start = record {
   timekeeper = record { wall = wall; start = start; last = wall };
+  clock = start;
   due = None;
   slack = None;
   busy = true;
@@ -55,6 +56,7 @@ moment_at turn time =
 abbrev pub told_at : Turn → (time moment : ℕ) → Turn
 told_at turn time moment = record turn {
   timekeeper = record { wall = turn.timekeeper.wall; start = turn.timekeeper.start; last = moment };
+  clock = time;
   late = nat_lt moment (target turn.timekeeper time);
 }
 

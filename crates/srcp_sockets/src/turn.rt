@@ -16,6 +16,8 @@ const EARLIER: u64 = 128;
 pub struct Turn {
     /// The clocks at the start, and the moment that was told last.
     pub timekeeper: Timekeeper,
+    /// What the clock that is never set showed when that moment was told, in milliseconds.
+    pub clock: u64,
     /// The moment at which something falls due next, if anything does.
     pub due: Option<u64>,
     /// How many more changes may come upon each panel, if there is one.
@@ -33,6 +35,7 @@ impl Turn {
     {
         Turn {
             timekeeper: Timekeeper::new(wall, start),
+            clock: start,
             due: None,
             slack: None,
             busy: true,
@@ -95,6 +98,7 @@ impl Turn {
         self.timekeeper.pass(time, self.due);
         let moment = self.timekeeper.tell(time);
         self.late = self.timekeeper.is_late(time);
+        self.clock = time;
         Ok(moment)
     }
 
