@@ -13,14 +13,17 @@ use Rattle.srcp_sockets.specs.declared.peer.Reading.TheVariants as input
 use Rattle.srcp_sockets.specs.declared.peer.Writing.{Writing}
 use Rattle.srcp_sockets.specs.declared.peer.Writing.TheVariants as output
 use Rattle.srcp_sockets.specs.declared.peer.Peer.{Peer}
-use Rattle.srcp_sockets.specs.Steps.{Step, SaysNothing, SaysOne, Tells, Accepts, Clocks, Reads, Writes, Waits, Told, calls, call_of, refusal_told}
+use Rattle.srcp_sockets.specs.declared.stay.Stay.{Stay}
+use Rattle.srcp_sockets.specs.declared.stay.Stay.TheVariants as stay
+use Rattle.srcp_sockets.specs.Steps.{Step, SaysNothing, SaysOne, Tells, Accepts, Clocks, Closes, Reads, Shuts, Writes, Waits, Told, calls, call_of, refusal_told}
 use Rattle.srcp_serve.specs.Calls.{Call, ReadCall, WriteCall, CloseCall}
 use Rattle.srcp_serve.specs.declared.door.DoorFault.{DoorFault}
 use Rattle.srcp_serve.specs.declared.door.Got.{Got}
 use Rattle.srcp_serve.specs.declared.door.Got.TheVariants as got
-use Rattle.srcp_sockets.specs.Accounts.{Account, Sent, Received, account, account_step, told_step, is_at_rest, is_short, refused_write, untouched, waited, read_in, wrote, woken, woken_sent, woken_came}
-use Rattle.srcp_sockets.specs.Peers.{Agrees, IsKept, ReadsAs, Spares, WritesAs, after_wake, queued_more, given, got_bytes, is_resting, may_have, missed, refused, taken, woken_input, woken_output}
-use Rattle.srcp_sockets.proofs.States.{handed_as, read_as, unread_as, unwritten_as, woken_reads, woken_writes, written_as, wrote_as}
+use Rattle.srcp_sockets.specs.Accounts.{Account, Sent, Received, account, account_step, told_step, is_at_rest, is_short, refused_write, shut_down, untouched, waited, read_in, wrote, woken, woken_sent, woken_came}
+use Rattle.srcp_sockets.specs.Peers.{Agrees, ComesAs, IsKept, ReadsAs, Spares, WritesAs, after_wake, queued_more, given, got_bytes, is_lost, is_resting, may_have, missed, refused, taken, woken_input, woken_output}
+use Rattle.srcp_sockets.proofs.States.{comes_here, handed_as, read_comes, reads_here, unread_comes, unwritten_as, woken_comes, woken_writes, written_as, wrote_as}
+use Rattle.srcp_sockets.proofs.Staying.{shut_agrees, stays_drop, stays_here}
 use Rattle.srcp_sockets.proofs.Resting.{resting}
 
 -- an account after one more step
@@ -93,6 +96,8 @@ kept_write old new p count is_open tells kept =
     (λ (a : Account) (h : Agrees a p). agrees_own (p.number == p.number) _ a q (own p.number) (record {
       cut = h.cut;
       reads = h.reads;
+      stays = stays_drop a.watched a.leave p.outgoing p.stay count h.stays;
+      rightly = h.rightly;
       writes = wrote_as a.sent p.outgoing count (subst (WritesAs a.sent p.outgoing) is_open h.writes);
       honest = h.honest;
       rested = h.rested;
@@ -114,6 +119,8 @@ kept_refused old new p fault is_open tells kept =
     (own p.number) (record {
       cut = refused_cut a.sent (refusal_told fault) ∙ h.cut;
       reads = h.reads;
+      stays = h.stays;
+      rightly = h.rightly;
       writes = subst (λ (s : Writing). WritesAs (wrote a.sent p.outgoing (Err fault)) p.outgoing (refused s (refusal_told fault)))
           (sym is_open)
           (unwritten_as a.sent p.outgoing fault (subst (WritesAs a.sent p.outgoing) is_open h.writes));
@@ -129,8 +136,10 @@ kept_read old new p buffer count ready tells kept =
     kept_after old new (Reads p.number buffer (Ok count)) p q tells refl
     (λ (a : Account) (h : Agrees a p). agrees_own (p.number == p.number) _ a q (own p.number) (record {
       cut = h.cut;
-      reads = read_as a.received p.incoming buffer count p.input ready h.reads;
+      reads = read_comes a.received p.incoming buffer count p.input p.stay ready h.reads;
       writes = h.writes;
+      stays = h.stays;
+      rightly = h.rightly;
       honest = h.honest;
       rested = h.rested;
     })) kept
@@ -143,72 +152,99 @@ kept_missed old new p buffer fault ready tells kept =
     kept_after old new (Reads p.number buffer (Err fault)) p q tells refl
     (λ (a : Account) (h : Agrees a p). agrees_own (p.number == p.number) _ a q (own p.number) (record {
       cut = h.cut;
-      reads = unread_as a.received p.incoming buffer fault p.input ready h.reads;
+      reads = unread_comes a.received p.incoming buffer fault p.input p.stay ready h.reads;
       writes = h.writes;
+      stays = h.stays;
+      rightly = h.rightly;
       honest = h.honest;
       rested = h.rested;
     })) kept
 
-pub kept_taken : (old new : Option (List Step)) (p : Peer) (bytes : List ℕ) (count : ℕ)
+pub kept_shut : (old new : Option (List Step)) (p : Peer) (since : ℕ) → p.stay ≡ stay.Leaving since → p.outgoing ≡ []
+    → is_lost p.output ≡ false → Tells old (Shuts p.number) new → IsKept old p → IsKept new (record p { stay = stay.Shut since })
+kept_shut old new p since leaving none sound tells kept =
+    let q : Peer = record p { stay = stay.Shut since } in
+    kept_after old new (Shuts p.number) p q tells refl
+    (λ (a : Account) (h : Agrees a p). agrees_own (p.number == p.number) (shut_down a) a q (own p.number)
+    (shut_agrees a p since leaving none sound h)) kept
+
+pub spares_shut : (n other : ℕ) (old new : Option (List Step)) → other ≢ n → Tells old (Shuts n) new → Spares other old new
+spares_shut n other old new differ tells =
+    spares_after other old new (Shuts n) tells (λ a. skips (n == other) (shut_down a) a (alien n other differ))
+
+pub kept_taken : (old new : Option (List Step)) (p : Peer) (bytes : List ℕ) (count : ℕ) → p.stay ≡ stay.Here
     → Tells old (Told (WriteCall p.number bytes (Ok count))) new → IsKept old p
     → IsKept new (record p { outgoing = queued_more p.output p.outgoing (take count bytes); cut = nat_lt count (length bytes) })
-kept_taken old new p bytes count tells kept =
+kept_taken old new p bytes count here tells kept =
     let q : Peer = record p { outgoing = queued_more p.output p.outgoing (take count bytes); cut = nat_lt count (length bytes) } in
     kept_after old new (Told (WriteCall p.number bytes (Ok count))) p q tells refl
     (λ (a : Account) (h : Agrees a p). agrees_own (p.number == p.number) _ a q (own p.number) (record {
       cut = refl;
       reads = h.reads;
       writes = written_as a.sent p.outgoing (take count bytes) p.output h.writes;
+      stays = stays_here a.watched a.leave p.outgoing (queued_more p.output p.outgoing (take count bytes)) p.stay here h.stays;
+      rightly = h.rightly;
       honest = h.honest;
       rested = h.rested;
     })) kept
 
 -- what a read of the door told
-got_agrees : (a : Account) (p : Peer) (answer : Result Got DoorFault) (buffer rest : List ℕ) → p.incoming ≡ got_bytes answer buffer ++ rest
-    → (answer ≡ Ok got.Ended → p.input ≡ input.Ended) → Agrees a p
+got_agrees : (a : Account) (p : Peer) (answer : Result Got DoorFault) (buffer rest : List ℕ) → p.stay ≡ stay.Here
+    → p.incoming ≡ got_bytes answer buffer ++ rest → (answer ≡ Ok got.Ended → p.input ≡ input.Ended) → Agrees a p
     → Agrees (told_step p.number a (ReadCall p.number answer buffer)) (record p { incoming = rest })
-got_agrees a p (Ok (got.Bytes count)) buffer rest is ended h =
+got_agrees a p (Ok (got.Bytes count)) buffer rest here is ended h =
     let q : Peer = record p { incoming = rest } in
+    let r = reads_here a.received p.incoming p.input p.stay here h.reads in
     agrees_own (p.number == p.number) _ a q (own p.number) (record {
       cut = h.cut;
-      reads = handed_as a.received (take count buffer) rest p.input (subst (λ (b : List ℕ). ReadsAs a.received b p.input) is h.reads);
+      reads = comes_here (record a.received { handed = a.received.handed ++ take count buffer }) rest p.input p.stay here
+          (handed_as a.received (take count buffer) rest p.input (subst (λ (b : List ℕ). ReadsAs a.received b p.input) is r));
       writes = h.writes;
+      stays = h.stays;
+      rightly = h.rightly;
       honest = h.honest;
       rested = h.rested;
     })
-got_agrees a p (Ok got.Nothing) buffer rest is ended h = record {
+got_agrees a p (Ok got.Nothing) buffer rest here is ended h = record {
   cut = h.cut;
-  reads = subst (λ (b : List ℕ). ReadsAs a.received b p.input) is h.reads;
+  reads = subst (λ (b : List ℕ). ComesAs a.received b p.input p.stay) is h.reads;
   writes = h.writes;
+  stays = h.stays;
+  rightly = h.rightly;
   honest = h.honest;
   rested = h.rested;
 }
-got_agrees a p (Ok got.Ended) buffer rest is ended h =
+got_agrees a p (Ok got.Ended) buffer rest here is ended h =
     let q : Peer = record p { incoming = rest } in
-    let r : ReadsAs a.received p.incoming input.Ended = subst (ReadsAs a.received p.incoming) (ended refl) h.reads in
+    let r : ReadsAs a.received p.incoming input.Ended = subst (ReadsAs a.received p.incoming) (ended refl)
+    (reads_here a.received p.incoming p.input p.stay here h.reads) in
     agrees_own (p.number == p.number) _ a q (own p.number) (record {
       cut = h.cut;
-      reads = subst (λ (b : List ℕ). ReadsAs a.received b p.input) is h.reads;
+      reads = subst (λ (b : List ℕ). ComesAs a.received b p.input p.stay) is h.reads;
       writes = h.writes;
+      stays = h.stays;
+      rightly = h.rightly;
       honest = ap (λ b. b && a.received.ended) h.honest ∙ r.2;
       rested = h.rested;
     })
-got_agrees a p (Err fault) buffer rest is ended h = record {
+got_agrees a p (Err fault) buffer rest here is ended h = record {
   cut = h.cut;
-  reads = subst (λ (b : List ℕ). ReadsAs a.received b p.input) is h.reads;
+  reads = subst (λ (b : List ℕ). ComesAs a.received b p.input p.stay) is h.reads;
   writes = h.writes;
+  stays = h.stays;
+  rightly = h.rightly;
   honest = h.honest;
   rested = h.rested;
 }
 
 pub kept_got : (old new : Option (List Step)) (p q : Peer) (answer : Result Got DoorFault) (buffer : List ℕ)
-    → q ≡ record p { incoming = q.incoming } → p.incoming ≡ got_bytes answer buffer ++ q.incoming
+    → p.stay ≡ stay.Here → q ≡ record p { incoming = q.incoming } → p.incoming ≡ got_bytes answer buffer ++ q.incoming
     → (answer ≡ Ok got.Ended → p.input ≡ input.Ended)
     → Tells old (Told (ReadCall p.number answer buffer)) new → IsKept old p → IsKept new q
-kept_got old new p q answer buffer same is ended tells kept =
+kept_got old new p q answer buffer here same is ended tells kept =
     subst (IsKept new) (sym same)
     (kept_after old new (Told (ReadCall p.number answer buffer)) p (record p { incoming = q.incoming }) tells refl
-    (λ (a : Account) (h : Agrees a p). got_agrees a p answer buffer q.incoming is ended h) kept)
+    (λ (a : Account) (h : Agrees a p). got_agrees a p answer buffer q.incoming here is ended h) kept)
 
 -- ---- the sockets that a wait found ready
 
@@ -224,7 +260,9 @@ woken_agrees a p ready h = by (ready.socket == p.number)
     } else p)
     by true = record {
       cut = h.cut;
-      reads = woken_reads a.received p.incoming p.input ready.readable (ready.closed || ready.urgent) h.reads;
+      reads = woken_comes a.received p.incoming p.input p.stay ready.readable (ready.closed || ready.urgent) h.reads;
+      stays = h.stays;
+      rightly = h.rightly;
       writes = woken_writes a.sent p.outgoing p.output ready.writable h.writes;
       honest = h.honest;
       rested = h.rested;
@@ -271,6 +309,8 @@ kept_waited old new p most count ready rest tells kept =
       cut = h.cut;
       reads = h.reads;
       writes = h.writes;
+      stays = h.stays;
+      rightly = h.rightly;
       honest = h.honest;
       rested = ap (λ b. b && (not (a.watched || (p.number == 0)) || (is_short most || is_at_rest a.sent a.received))) h.rested
           ∙ or_so (not (a.watched || (p.number == 0))) (is_short most || is_at_rest a.sent a.received)
@@ -334,6 +374,8 @@ calls_skip log (Accepts n answer) e = filter_map-append call_of log (Accepts n a
 calls_skip log (Reads n buffer answer) e = filter_map-append call_of log (Reads n buffer answer ∷ []) ∙ append-nil (calls log)
 calls_skip log (Writes n bytes answer) e = filter_map-append call_of log (Writes n bytes answer ∷ []) ∙ append-nil (calls log)
 calls_skip log (Waits most count ready) e = filter_map-append call_of log (Waits most count ready ∷ []) ∙ append-nil (calls log)
+calls_skip log (Shuts n) e = filter_map-append call_of log (Shuts n ∷ []) ∙ append-nil (calls log)
+calls_skip log (Closes n) e = filter_map-append call_of log (Closes n ∷ []) ∙ append-nil (calls log)
 calls_skip log (Clocks answer) e = filter_map-append call_of log (Clocks answer ∷ []) ∙ append-nil (calls log)
 calls_skip log (Told call) e = cc
 

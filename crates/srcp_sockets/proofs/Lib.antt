@@ -1,6 +1,7 @@
 pub mod QueueLaws
 pub mod States
 pub mod Resting
+pub mod Staying
 pub mod Keeping
 pub mod Naming
 pub mod Lists
@@ -9,3 +10,4 @@ pub mod Tellings
 pub mod Pasts
 pub mod Followed
 pub mod Timing
+pub mod Clocking

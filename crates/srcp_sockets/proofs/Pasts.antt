@@ -9,8 +9,8 @@ use Rattle.srcp_serve.specs.declared.door.Got.{Got}
 use Rattle.srcp_serve.specs.declared.door.Got.TheVariants as got
 use Rattle.srcp_sockets.specs.declared.system.Ready.{Ready}
 use Rattle.srcp_serve.specs.Calls.{Call, ExpectCall, NowCall, AcceptCall, ReadCall, WriteCall, CloseCall}
-use Rattle.srcp_sockets.specs.Steps.{Accepts, Clocks, Reads, Step, Told, Waits, Writes}
-use Rattle.srcp_sockets.specs.Accounts.{Account, accepted, account, account_step, heard, is_at_rest, is_short, read_in, untouched, waited, woken, woken_came, woken_sent, wrote}
+use Rattle.srcp_sockets.specs.Steps.{Accepts, Clocks, Closes, Reads, Shuts, Step, Told, Waits, Writes}
+use Rattle.srcp_sockets.specs.Accounts.{Account, accepted, account, account_step, closed, heard, is_at_rest, is_short, read_in, shut_down, untouched, waited, woken, woken_came, woken_sent, wrote}
 use Rattle.srcp_sockets.proofs.Keeping.{own}
 use Rattle.srcp_sockets.proofs.Resting.{and_left, and_right}
 use Rattle.srcp_sockets.proofs.Tellings.{if_same}
@@ -50,6 +50,8 @@ honest_before socket a (Reads who buffer answer) h = sym (if_same (λ (x : Accou
 honest_before socket a (Writes who bytes answer) h = sym (if_same (λ (x : Account). x.honest) (who == socket)
     (record a { sent = wrote a.sent bytes answer }) a refl) ∙ h
 honest_before socket a (Waits most count ready) h = sym (ap (λ m. m.0) (woken_marks socket (waited socket a most) (take count ready))) ∙ h
+honest_before socket a (Shuts who) h = sym (if_same (λ (x : Account). x.honest) (who == socket) (shut_down a) a refl) ∙ h
+honest_before socket a (Closes who) h = sym (if_same (λ (x : Account). x.honest) (who == socket) (closed a) a refl) ∙ h
 honest_before socket a (Clocks answer) h = h
 honest_before socket a (Told (ExpectCall due slack)) h = h
 honest_before socket a (Told (NowCall answer)) h = h
@@ -76,6 +78,8 @@ rested_before socket a (Writes who bytes answer) h = sym (if_same (λ (x : Accou
 rested_before socket a (Waits most count ready) h = and_left a.rested
     (not (a.watched || (socket == 0)) || (is_short most || is_at_rest a.sent a.received))
     (sym (ap (λ m. m.1) (woken_marks socket (waited socket a most) (take count ready))) ∙ h)
+rested_before socket a (Shuts who) h = sym (if_same (λ (x : Account). x.rested) (who == socket) (shut_down a) a refl) ∙ h
+rested_before socket a (Closes who) h = sym (if_same (λ (x : Account). x.rested) (who == socket) (closed a) a refl) ∙ h
 rested_before socket a (Clocks answer) h = h
 rested_before socket a (Told (ExpectCall due slack)) h = h
 rested_before socket a (Told (NowCall answer)) h = h

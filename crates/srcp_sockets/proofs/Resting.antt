@@ -8,7 +8,9 @@ use Rattle.srcp_sockets.specs.declared.peer.Writing.{Writing}
 use Rattle.srcp_sockets.specs.declared.peer.Writing.TheVariants as output
 use Rattle.srcp_sockets.specs.declared.peer.Peer.{Peer}
 use Rattle.srcp_sockets.specs.Accounts.{Account, Sent, Received, is_at_rest, is_full, is_held, is_owed, is_silent}
-use Rattle.srcp_sockets.specs.Peers.{Agrees, ReadsAs, WritesAs, is_resting, rests_reading, rests_writing}
+use Rattle.srcp_sockets.specs.declared.stay.Stay.{Stay}
+use Rattle.srcp_sockets.specs.declared.stay.Stay.TheVariants as stay
+use Rattle.srcp_sockets.specs.Peers.{Agrees, ComesAs, ReadsAs, WritesAs, has_rest, is_here, is_resting, rests_reading, rests_writing}
 
 -- more is longer where it is not nothing
 longer : (front all n : ℕ) → all ≡ front + n → nat_lt front all ≡ not (n == 0)
@@ -17,7 +19,7 @@ longer front all n is = grind (arith, nat_tests)
 as_long : (front all n most : ℕ) → all ≡ front + n → (front + most == all) ≡ (n == most)
 as_long front all n most is = grind (arith, nat_tests)
 
-owed_is : (sent : Sent) (outgoing : List ℕ) → sent.written ≡ sent.took ++ outgoing → is_owed sent ≡ not (length outgoing == 0)
+pub owed_is : (sent : Sent) (outgoing : List ℕ) → sent.written ≡ sent.took ++ outgoing → is_owed sent ≡ not (length outgoing == 0)
 owed_is sent outgoing is = longer (length sent.took) (length sent.written) (length outgoing)
     (ap length is ∙ length-append sent.took outgoing)
 
@@ -109,4 +111,10 @@ rests_as sent received outgoing incoming state out is_cut w h c r =
 
 -- a peer that rests is at rest by its account
 pub resting : (a : Account) (p : Peer) → Agrees a p → is_resting p ≡ true → is_at_rest a.sent a.received ≡ true
-resting a p h r = rests_as a.sent a.received p.outgoing p.incoming p.input p.output p.cut h.writes h.reads h.cut r
+resting a p h r = by p.stay h.reads (and_left (is_here p.stay) (has_rest p) r)
+  where
+    by : (here : Stay) → ComesAs a.received p.incoming p.input here → is_here here ≡ true → is_at_rest a.sent a.received ≡ true
+    by stay.Here reads e = rests_as a.sent a.received p.outgoing p.incoming p.input p.output p.cut h.writes reads h.cut
+        (and_right (is_here p.stay) (has_rest p) r)
+    by (stay.Leaving since) reads e = absurd (true≢false (sym e))
+    by (stay.Shut since) reads e = absurd (true≢false (sym e))

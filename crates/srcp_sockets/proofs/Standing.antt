@@ -3,7 +3,7 @@ use Rattle.std.proofs.Common.{◌≡◌, ◌∙◌, ℕ, zero, suc, ◌<◌, ◌
 use Rattle.std.specs.Prelude.{◌≢◌, All, ◌&&◌, ◌||◌, fold, nat_lt, slice_index_or, take, Result}
 use Rattle.std.specs.Io.{StartsWith}
 use Rattle.std.proofs.lemmas.Bool.{cases_eq, cases_lt}
-use Rattle.std.proofs.lemmas.List.{length-set, length-append, get_or_push, get_or_append_left}
+use Rattle.std.proofs.lemmas.List.{length-set, length-append, get_or_default, get_or_push, get_or_append_left}
 use Rattle.std.proofs.lemmas.List.Edits.{length-remove, get_or-remove_below, get_or-remove_above}
 use Rattle.std.proofs.lemmas.List.Elements.{All-push}
 use Rattle.std.specs.List.{remove}
@@ -17,23 +17,33 @@ use Rattle.srcp_sockets.specs.declared.peer.Reading.{Reading}
 use Rattle.srcp_sockets.specs.declared.peer.Reading.TheVariants as input
 use Rattle.srcp_sockets.specs.declared.peer.Writing.{Writing}
 use Rattle.srcp_sockets.specs.declared.peer.Writing.TheVariants as output
+use Rattle.srcp_sockets.specs.declared.stay.Stay.TheVariants as stay
 use Rattle.srcp_sockets.specs.declared.waiting.Listening.{Listening}
 use Rattle.srcp_sockets.specs.declared.waiting.Listening.TheVariants as listening
 use Rattle.srcp_sockets.specs.declared.system.Ready.{Ready}
-use Rattle.srcp_sockets.specs.Steps.{Accepts, Step, Tells, Told, Waits, refusal_told}
+use Rattle.srcp_sockets.specs.Steps.{Accepts, Clocks, Closes, Step, Tells, Told, Waits, refusal_told}
 use Rattle.srcp_serve.specs.Calls.{Call, CloseCall}
-use Rattle.srcp_sockets.specs.Accounts.{Account, Received, Sent, accepted, account, account_step, heard, heard_refusal, is_at_rest, is_full, is_held, is_owed, is_short, is_silent, told_step, waited, woken, woken_came, woken_sent}
-use Rattle.srcp_sockets.specs.Peers.{Agrees, IsKept, ReadsAs, Spares, WritesAs, after_wake, is_resting}
+use Rattle.srcp_sockets.specs.Accounts.{Account, Received, Sent, accepted, account, account_step, clocked, closed, heard, heard_refusal, is_at_rest, is_full, is_held, is_owed, is_short, is_silent, let_go, may_close, told_step, waited, woken, woken_came, woken_sent}
+use Rattle.srcp_sockets.specs.Peers.{Agrees, IsKept, ReadsAs, Spares, WritesAs, after_wake, is_closable, is_resting}
 use Rattle.srcp_sockets.specs.Listeners.{refused_listening, woken_listening}
-use Rattle.srcp_sockets.specs.Doors.{AreApart, AreKept, AreThose, AreWithin, Fresh, HeardAs, Hears, IsAbsent, Sound, Stands}
-use Rattle.srcp_sockets.proofs.States.{starts}
-use Rattle.srcp_sockets.proofs.Keeping.{account_more, alien, all_number, or_so, own, picks, skips, spares_after, unless_long}
+use Rattle.srcp_sockets.specs.Doors.{AreApart, AreKept, AreThose, AreWithin, Closed, Fresh, HeardAs, Hears, IsAbsent, IsMissing, Sound, Stands}
+use Rattle.srcp_sockets.proofs.States.{comes_starts, starts}
+use Rattle.srcp_sockets.proofs.Staying.{clocked_agrees, gone_agrees, let_go_agrees, may_close_then}
+use Rattle.srcp_sockets.proofs.Keeping.{account_more, alien, all_number, kept_after, or_so, own, picks, skips, spares_after, unless_long}
 use Rattle.srcp_sockets.proofs.Lists.{absent_before, apart_later, kept_spared, set_kept, set_those, waited_all, within_later}
 
 -- ---- who is there
 
 nobody : Peer
-nobody = record { number = 0; outgoing = []; incoming = []; input = input.Ready; output = output.Open; cut = false }
+nobody = record {
+  number = 0;
+  outgoing = [];
+  incoming = [];
+  input = input.Ready;
+  output = output.Open;
+  cut = false;
+  stay = stay.Here;
+}
 
 pub record IsThere (socket : ℕ) (peers : List Peer) : Type 0 where
   pub place : ℕ
@@ -64,22 +74,16 @@ find socket (p ∷ more) = ⊎_elim
 pub sound_of : (a : Account) (p : Peer) → Agrees a p → Sound a
 sound_of a p h = record {
   took = took p.output h.writes;
-  handed = handed p.input h.reads;
+  handed = comes_starts a.received p.incoming p.input p.stay h.reads;
   honest = h.honest;
   rested = h.rested;
+  rightly = h.rightly;
 }
   where
     took : (o : Writing) → WritesAs a.sent p.outgoing o → StartsWith a.sent.written a.sent.took
     took output.Open w = starts a.sent.written a.sent.took p.outgoing w.0
     took output.Full w = starts a.sent.written a.sent.took p.outgoing w.0
     took output.Lost w = w.0
-
-    handed : (i : Reading) → ReadsAs a.received p.incoming i → StartsWith a.received.gave a.received.handed
-    handed input.Ready r = starts a.received.gave a.received.handed p.incoming r.0
-    handed input.Draining r = starts a.received.gave a.received.handed p.incoming r.0
-    handed input.Quiet r = starts a.received.gave a.received.handed p.incoming r.0
-    handed input.Ended r = starts a.received.gave a.received.handed p.incoming r.0
-    handed input.Failed r = starts a.received.gave a.received.handed p.incoming r.0
 
 -- what held of an account holds of it after steps that say nothing of it
 pub spared : (P : Account → Type 0) (socket : ℕ) (old new : Option (List Step)) → Spares socket old new
@@ -130,7 +134,7 @@ stands_turned old new before after listening last long kept those others stands 
       (λ l e. stands.fresh l e socket above) log is;
   closed = λ log is socket absent.
       let there = absent_before socket before after long those absent in
-      spared (λ (a : Account). a.watched ≡ false) socket old new (others socket there) (λ l e. stands.closed l e socket there) log is;
+      spared Closed socket old new (others socket there) (λ l e. stands.closed l e socket there) log is;
   heard = λ log is.
       spared (λ (a : Account). Hears a listening) 0 old new (others 0 (absent_listener last before stands.within)) stands.heard log is;
 }
@@ -146,7 +150,7 @@ woken_sound socket a (one ∷ more) h = woken_sound socket (woken socket a one) 
       sent = woken_sent a.sent one.writable;
       received = woken_came a.received one.readable (one.closed || one.urgent);
     } else a)
-    by true = record { took = h.took; handed = h.handed; honest = h.honest; rested = h.rested }
+    by true = record { took = h.took; handed = h.handed; honest = h.honest; rested = h.rested; rightly = h.rightly }
     by false = h
 
 woken_fresh : (socket : ℕ) (a : Account) (ready : List Ready) → Fresh a → Fresh (fold (woken socket) a ready)
@@ -160,15 +164,15 @@ woken_fresh socket a (one ∷ more) h = woken_fresh socket (woken socket a one) 
     by true = record { written = h.written; took = h.took; gave = h.gave; handed = h.handed }
     by false = h
 
-woken_closed : (socket : ℕ) (a : Account) (ready : List Ready) → a.watched ≡ false → (fold (woken socket) a ready).watched ≡ false
+woken_closed : (socket : ℕ) (a : Account) (ready : List Ready) → Closed a → Closed (fold (woken socket) a ready)
 woken_closed socket a [] h = h
 woken_closed socket a (one ∷ more) h = woken_closed socket (woken socket a one) more (by (one.socket == socket))
   where
-    by : (b : Bool) → (if b then record a {
+    by : (b : Bool) → Closed (if b then record a {
       sent = woken_sent a.sent one.writable;
       received = woken_came a.received one.readable (one.closed || one.urgent);
-    } else a).watched ≡ false
-    by true = h
+    } else a)
+    by true = record { watched = h.watched; kept = h.kept }
     by false = h
 
 -- the listener, when a socket was found ready
@@ -227,6 +231,7 @@ waited_sound socket a most h rests = record {
   handed = h.handed;
   honest = h.honest;
   rested = ap (λ b. b && (not (a.watched || (socket == 0)) || (is_short most || is_at_rest a.sent a.received))) h.rested ∙ rests;
+  rightly = h.rightly;
 }
 
 unwatched : (watched listener rests : Bool) → watched ≡ false → listener ≡ false → (not (watched || listener) || rests) ≡ true
@@ -253,9 +258,11 @@ stands_waited old new before after most count ready l last rest quiet tells long
       (woken_fresh socket (waited socket (account socket (tells log is).0) most) (take count ready)
       (let h : Fresh (account socket (tells log is).0) = stands.fresh (tells log is).0 (tells log is).1 socket above in
       record { written = h.written; took = h.took; gave = h.gave; handed = h.handed }));
-  closed = λ log is socket absent. subst (λ (a : Account). a.watched ≡ false) (sym (more socket log is))
+  closed = λ log is socket absent. subst Closed (sym (more socket log is))
       (woken_closed socket (waited socket (account socket (tells log is).0) most) (take count ready)
-      (stands.closed (tells log is).0 (tells log is).1 socket (absent_before socket before after long those absent)));
+      (let h : Closed (account socket (tells log is).0) =
+      stands.closed (tells log is).0 (tells log is).1 socket (absent_before socket before after long those absent) in
+      record { watched = h.watched; kept = h.kept }));
   heard = λ log is. subst (λ (a : Account). Hears a (fold woken_listening l (take count ready))) (sym (more 0 log is))
       (all_heard (waited 0 (account 0 (tells log is).0) most) l (take count ready)
       (let h : Hears (account 0 (tells log is).0) l = stands.heard (tells log is).0 (tells log is).1 in
@@ -289,7 +296,7 @@ stands_waited old new before after most count ready l last rest quiet tells long
         (listener_rests (account 0 (tells log is).0)
         (subst (λ (x : Listening). Hears (account 0 (tells log is).0) x) (quiet long) (stands.heard (tells log is).0 (tells log is).1))))))
         (λ (ne : socket ≡ 0 → ⊥). unwatched (account socket (tells log is).0).watched (socket == 0) _
-        (stands.closed (tells log is).0 (tells log is).1 socket absent) (not_listener socket ne))
+        (stands.closed (tells log is).0 (tells log is).1 socket absent).watched (not_listener socket ne))
         (cases_eq socket 0)
 
 -- ---- a door after a step of one peer, or of none
@@ -321,7 +328,15 @@ stands_told old new peers l last call nothing tells stands =
 -- ---- a newcomer
 
 abbrev pub newcomer : ℕ → Peer
-newcomer number = record { number = number; outgoing = []; incoming = []; input = input.Ready; output = output.Open; cut = false }
+newcomer number = record {
+  number = number;
+  outgoing = [];
+  incoming = [];
+  input = input.Ready;
+  output = output.Open;
+  cut = false;
+  stay = stay.Here;
+}
 
 -- what an accept says of the sockets
 accept_new : (socket : ℕ) (a : Account) (answer : Result Unit ErrorKind) → (socket ≡ 0 → ⊥) → account_step socket a
@@ -350,8 +365,10 @@ fresh_agrees number a done f s = record {
   reads = (f.gave ∙ sym (ap (λ h. h ++ []) f.handed), refl, refl, refl);
   writes = (f.written ∙ sym (ap (λ h. h ++ []) f.took), refl);
   cut = refl;
+  stays = (refl, refl, refl);
   honest = s.honest;
   rested = s.rested;
+  rightly = s.rightly;
 }
 
 -- a place of a list with one more
@@ -401,7 +418,7 @@ stands_come old new peers l last done tells stands = record {
       (λ lg e. stands.fresh lg e socket (omega (arith, above))) log is;
   closed = λ log is socket absent.
       let there = absent_push socket peers (newcomer (last + 1)) absent in
-      spared (λ (a : Account). a.watched ≡ false) socket old new (spares_come old new (last + 1) done socket there.1 tells)
+      spared Closed socket old new (spares_come old new (last + 1) done socket there.1 tells)
       (λ lg e. stands.closed lg e socket there.0) log is;
   heard = λ log is.
       spared (λ (a : Account). Hears a l) 0 old new (spares_come old new (last + 1) done 0 (λ e. omega (arith, e)) tells) stands.heard log
@@ -443,9 +460,14 @@ refused_hears a l Again h = record { fresh = h.fresh; lost = h.lost; cut = h.cut
 refused_hears a l Fault h = record { fresh = h.fresh; lost = h.lost; cut = h.cut; ended = h.ended; failed = h.failed; heard = tt }
 
 refused_sound : (a : Account) (said : Refusal) → Sound a → Sound (record a { received = heard_refusal a.received said })
-refused_sound a Later h = record { took = h.took; handed = h.handed; honest = h.honest; rested = h.rested }
+refused_sound a Later h = record { took = h.took; handed = h.handed; honest = h.honest; rested = h.rested; rightly = h.rightly }
 refused_sound a Again h = h
 refused_sound a Fault h = h
+
+refused_closed : (a : Account) (said : Refusal) → Closed a → Closed (record a { received = heard_refusal a.received said })
+refused_closed a Later h = record { watched = h.watched; kept = h.kept }
+refused_closed a Again h = h
+refused_closed a Fault h = h
 
 refused_fresh : (a : Account) (said : Refusal) → Fresh a → Fresh (record a { received = heard_refusal a.received said })
 refused_fresh a Later h = record { written = h.written; took = h.took; gave = h.gave; handed = h.handed }
@@ -481,10 +503,10 @@ stands_refused old new peers l last number fault tells stands = record {
       spared Fresh socket old new (spares_refused old new number fault socket (λ e. omega (arith, above, e)) tells)
       (λ lg e. stands.fresh lg e socket above) log is;
   closed = λ log is socket absent. ⊎_elim
-      (λ (e : socket ≡ 0). subst (λ (n : ℕ). (account n log).watched ≡ false) (sym e)
-      (ap (λ (a : Account). a.watched) (more log is) ∙ stands.closed (tells log is).0 (tells log is).1 0
-      (subst (λ (n : ℕ). IsAbsent n peers) e absent)))
-      (λ (ne : socket ≡ 0 → ⊥). spared (λ (a : Account). a.watched ≡ false) socket old new
+      (λ (e : socket ≡ 0). subst (λ (n : ℕ). Closed (account n log)) (sym e)
+      (subst Closed (sym (more log is)) (refused_closed (account 0 (tells log is).0) (refusal_told fault)
+      (stands.closed (tells log is).0 (tells log is).1 0 (subst (λ (n : ℕ). IsAbsent n peers) e absent)))))
+      (λ (ne : socket ≡ 0 → ⊥). spared Closed socket old new
       (spares_refused old new number fault socket ne tells)
       (λ lg e. stands.closed lg e socket absent) log is)
       (cases_eq socket 0);
@@ -499,20 +521,23 @@ stands_refused old new peers l last number fault tells stands = record {
         }
     more log is = ap (account 0) (tells log is).2 ∙ account_more 0 (tells log is).0 (Accepts number (Err fault))
 
--- ---- one that is let go
+-- ---- one that is closed
 
-closed_one : (number socket : ℕ) (a : Account) → Account
-closed_one number socket a = if number == socket then record a { watched = false } else a
+close_sound : (b : Bool) (a : Account) → (b ≡ true → may_close a ≡ true) → Sound a → Sound (if b then closed a else a)
+close_sound true a may h = record {
+  took = h.took;
+  handed = h.handed;
+  honest = h.honest;
+  rested = h.rested;
+  rightly = ap (λ r. r && may_close a) h.rightly ∙ may refl;
+}
+close_sound false a may h = h
 
-close_sound : (b : Bool) (a : Account) → Sound a → Sound (if b then record a { watched = false } else a)
-close_sound true a h = record { took = h.took; handed = h.handed; honest = h.honest; rested = h.rested }
-close_sound false a h = h
-
-close_fresh : (b : Bool) (a : Account) → Fresh a → Fresh (if b then record a { watched = false } else a)
+close_fresh : (b : Bool) (a : Account) → Fresh a → Fresh (if b then closed a else a)
 close_fresh true a h = record { written = h.written; took = h.took; gave = h.gave; handed = h.handed }
 close_fresh false a h = h
 
-close_hears : (b : Bool) (a : Account) (l : Listening) → Hears a l → Hears (if b then record a { watched = false } else a) l
+close_hears : (b : Bool) (a : Account) (l : Listening) → Hears a l → Hears (if b then closed a else a) l
 close_hears true a l h = record {
   fresh = record { written = h.fresh.written; took = h.fresh.took; gave = h.fresh.gave; handed = h.fresh.handed };
   lost = h.lost;
@@ -523,9 +548,9 @@ close_hears true a l h = record {
 }
 close_hears false a l h = h
 
-close_closed : (b : Bool) (a : Account) → (b ≡ false → a.watched ≡ false) → (if b then record a { watched = false } else a).watched ≡ false
-close_closed true a h = refl
-close_closed false a h = h refl
+close_closed : (b : Bool) (a : Account) → (b ≡ true → a.watched ≡ false) → (b ≡ false → Closed a) → Closed (if b then closed a else a)
+close_closed true a gone h = record { watched = gone refl; kept = refl }
+close_closed false a gone h = h refl
 
 -- the peers without the one of that number
 pub record Leaves (number : ℕ) (before after : List Peer) : Type 0 where
@@ -534,15 +559,18 @@ pub record Leaves (number : ℕ) (before after : List Peer) : Type 0 where
   pub apart : AreApart after
   pub others : (other : ℕ) → other ≢ number → IsAbsent other after → IsAbsent other before
 
-pub stands_left : (old new : Option (List Step)) (before after : List Peer) (l : Listening) (last number : ℕ)
-    (answer : Result Unit DoorFault)
-    → Tells old (Told (CloseCall number answer)) new → Leaves number before after → Stands old before l last → Stands new after l last
-stands_left old new before after l last number answer tells leaves stands = record {
+-- it may be closed
+abbrev pub IsClosable : Option (List Step) → ℕ → Type 0
+IsClosable told socket = (log : List Step) → told ≡ Some log → (may_close (account socket log) ≡ true) × ((account socket log).watched ≡ false)
+
+pub stands_closed : (old new : Option (List Step)) (before after : List Peer) (l : Listening) (last number : ℕ)
+    → Tells old (Closes number) new → Leaves number before after → IsClosable old number → Stands old before l last → Stands new after l last
+stands_closed old new before after l last number tells leaves closable stands = record {
   kept = λ k d lt.
       let f = leaves.from k d lt in
       let is_kept : IsKept old (slice_index_or after k d) = subst (IsKept old) (sym f.2) (stands.kept f.0 d f.1) in
       kept_spared old new (slice_index_or after k d)
-      (spares_after (slice_index_or after k d).number old new (Told (CloseCall number answer)) tells
+      (spares_after (slice_index_or after k d).number old new (Closes number) tells
       (λ a. skips (number == (slice_index_or after k d).number) _ a
       (alien number (slice_index_or after k d).number (leaves.absent k d lt)))) is_kept;
   apart = leaves.apart;
@@ -550,30 +578,28 @@ stands_left old new before after l last number answer tells leaves stands = reco
       let f = leaves.from k d lt in
       subst (λ (p : Peer). (0 < p.number) × (p.number ≤ last)) (sym f.2) (stands.within f.0 d f.1);
   sound = λ log is socket. subst Sound (sym (more socket log is))
-      (close_sound (number == socket) (account socket (tells log is).0) (stands.sound (tells log is).0 (tells log is).1 socket));
+      (close_sound (number == socket) (account socket (tells log is).0) (λ e. (right socket log is e).0)
+      (stands.sound (tells log is).0 (tells log is).1 socket));
   fresh = λ log is socket above. subst Fresh (sym (more socket log is))
       (close_fresh (number == socket) (account socket (tells log is).0) (stands.fresh (tells log is).0 (tells log is).1 socket above));
-  closed = λ log is socket absent. ap (λ (a : Account). a.watched) (more socket log is)
-      ∙ close_closed (number == socket) (account socket (tells log is).0) (λ alien_is.
-      stands.closed (tells log is).0 (tells log is).1 socket (leaves.others socket (differ_by socket alien_is) absent));
+  closed = λ log is socket absent. subst Closed (sym (more socket log is))
+      (close_closed (number == socket) (account socket (tells log is).0) (λ e. (right socket log is e).1) (λ alien_is.
+      stands.closed (tells log is).0 (tells log is).1 socket (leaves.others socket (differ_by socket alien_is) absent)));
   heard = λ log is. subst (λ (a : Account). Hears a l) (sym (more 0 log is))
       (close_hears (number == 0) (account 0 (tells log is).0) l (stands.heard (tells log is).0 (tells log is).1));
 }
   where
     more : (socket : ℕ) (log : List Step) (is : new ≡ Some log) → account socket log
-        ≡ (if number == socket then record (account socket (tells log is).0) { watched = false } else account socket (tells log is).0)
-    more socket log is = ap (account socket) (tells log is).2 ∙ account_more socket (tells log is).0 (Told (CloseCall number answer))
+        ≡ (if number == socket then closed (account socket (tells log is).0) else account socket (tells log is).0)
+    more socket log is = ap (account socket) (tells log is).2 ∙ account_more socket (tells log is).0 (Closes number)
 
     differ_by : (socket : ℕ) → (number == socket) ≡ false → socket ≢ number
     differ_by socket f e = true≢false (sym (own number) ∙ ap (λ n. number == n) (sym e) ∙ f)
 
-pub leaves_none : (number : ℕ) (peers : List Peer) → AreApart peers → IsAbsent number peers → Leaves number peers peers
-leaves_none number peers apart absent = record {
-  from = λ k d lt. (k, lt, refl);
-  absent = absent;
-  apart = apart;
-  others = λ other differ there. there;
-}
+    right : (socket : ℕ) (log : List Step) (is : new ≡ Some log) → (number == socket) ≡ true
+        → (may_close (account socket (tells log is).0) ≡ true) × ((account socket (tells log is).0).watched ≡ false)
+    right socket log is e = subst (λ (n : ℕ). (may_close (account n (tells log is).0) ≡ true) × ((account n (tells log is).0).watched ≡ false))
+        (grind (arith, nat_tests)) (closable (tells log is).0 (tells log is).1)
 
 -- one place was taken out
 pub leaves_one : (number : ℕ) (peers : List Peer) (i : ℕ) → i < length peers → ((d : Peer) → (slice_index_or peers i d).number ≡ number)
@@ -637,6 +663,19 @@ leaves_one number peers i within same apart = record {
         (cases_lt k i))
         (cases_lt j i)
 
+-- the peer at a place was closed, where it may be at that time of the clock that is never set
+pub stands_closed_at : (old new : Option (List Step)) (peers : List Peer) (i : ℕ) (p : Peer) (l : Listening) (last clock : ℕ)
+    → i < length peers → get_or peers i p ≡ p → is_closable clock (get_or peers i p) ≡ true
+    → ((log : List Step) → old ≡ Some log → (account p.number log).leave.clock ≡ clock) → Tells old (Closes p.number) new
+    → Stands old peers l last → Stands new (remove peers i) l last
+stands_closed_at old new peers i p l last clock within at closable shown tells stands =
+    stands_closed old new peers (remove peers i) l last p.number tells (leaves_one p.number peers i within same stands.apart)
+    (λ log is. may_close_then (account p.number log) p clock (shown log is) (subst (λ (x : Peer). is_closable clock x ≡ true) at closable)
+    (subst (IsKept old) at (stands.kept i p within) log is)) stands
+  where
+    same : (d : Peer) → (slice_index_or peers i d).number ≡ p.number
+    same d = ap (λ (x : Peer). x.number) (get_or_default peers i d p within ∙ at)
+
 -- a newcomer, by the names that the function gives
 pub stands_came : (old new : Option (List Step)) (peers items : List Peer) (peer : Peer) (l : Listening) (last number : ℕ) (done : Unit {0})
     → number ≡ last + 1 → items ≡ peers ++ peer ∷ [] → peer ≡ newcomer number
@@ -654,3 +693,128 @@ pub stands_step : (old new : Option (List Step)) (peers : List Peer) (l : Listen
     → Stands old peers l last → Stands new peers l last
 stands_step old new peers l last step nothing tells stands =
     stands_spared old new peers l last (λ other. spares_after other old new step tells (λ a. nothing other a)) stands
+
+-- ---- a step that every account goes on with
+
+-- what a step makes of each account
+pub record Goes (step : Step) (l : Listening) : Type 0 where
+  pub sound : (socket : ℕ) (a : Account) → Sound a → Sound (account_step socket a step)
+  pub fresh : (socket : ℕ) (a : Account) → Fresh a → Fresh (account_step socket a step)
+  pub closed : (socket : ℕ) (a : Account) → Closed a → Closed (account_step socket a step)
+  pub heard : (a : Account) → Hears a l → Hears (account_step 0 a step) l
+
+stands_goes : (old new : Option (List Step)) (peers : List Peer) (l : Listening) (last : ℕ) (step : Step) → Goes step l
+    → ((k : ℕ) (d : Peer) → k < length peers → IsKept new (slice_index_or peers k d)) → Tells old step new
+    → Stands old peers l last → Stands new peers l last
+stands_goes old new peers l last step goes kept tells stands = record {
+  kept = kept;
+  apart = stands.apart;
+  within = stands.within;
+  sound = λ log is socket. subst Sound (sym (more socket log is))
+      (goes.sound socket (account socket (tells log is).0) (stands.sound (tells log is).0 (tells log is).1 socket));
+  fresh = λ log is socket above. subst Fresh (sym (more socket log is))
+      (goes.fresh socket (account socket (tells log is).0) (stands.fresh (tells log is).0 (tells log is).1 socket above));
+  closed = λ log is socket absent. subst Closed (sym (more socket log is))
+      (goes.closed socket (account socket (tells log is).0) (stands.closed (tells log is).0 (tells log is).1 socket absent));
+  heard = λ log is. subst (λ (a : Account). Hears a l) (sym (more 0 log is))
+      (goes.heard (account 0 (tells log is).0) (stands.heard (tells log is).0 (tells log is).1));
+}
+  where
+    more : (socket : ℕ) (log : List Step) (is : new ≡ Some log) → account socket log ≡ account_step socket (account socket (tells log is).0) step
+    more socket log is = ap (account socket) (tells log is).2 ∙ account_more socket (tells log is).0 step
+
+-- a clock was read
+clock_goes : (answer : Option ℕ) (l : Listening) → Goes (Clocks answer) l
+clock_goes answer l = record {
+  sound = λ socket a h. record { took = h.took; handed = h.handed; honest = h.honest; rested = h.rested; rightly = h.rightly };
+  fresh = λ socket a h. record { written = h.written; took = h.took; gave = h.gave; handed = h.handed };
+  closed = λ socket a h. record { watched = h.watched; kept = h.kept };
+  heard = λ a h. record {
+    fresh = record { written = h.fresh.written; took = h.fresh.took; gave = h.fresh.gave; handed = h.fresh.handed };
+    lost = h.lost;
+    cut = h.cut;
+    ended = h.ended;
+    failed = h.failed;
+    heard = h.heard;
+  };
+}
+
+pub stands_clocked : (old new : Option (List Step)) (peers : List Peer) (l : Listening) (last : ℕ) (answer : Option ℕ)
+    → Tells old (Clocks answer) new → Stands old peers l last → Stands new peers l last
+stands_clocked old new peers l last answer tells stands = stands_goes old new peers l last (Clocks answer) (clock_goes answer l)
+    (λ k d lt. kept_after old new (Clocks answer) (slice_index_or peers k d) (slice_index_or peers k d) tells refl
+    (λ a h. clocked_agrees a (slice_index_or peers k d) answer h) (stands.kept k d lt)) tells stands
+
+-- ---- one that is let go
+
+let_go_goes : (number : ℕ) (answer : Result Unit DoorFault) (l : Listening) → Goes (Told (CloseCall number answer)) l
+let_go_goes number answer l = record {
+  sound = λ socket a h. sound (number == socket) a h;
+  fresh = λ socket a h. fresh (number == socket) a h;
+  closed = λ socket a h. shut (number == socket) a h;
+  heard = λ a h. heard (number == 0) a h;
+}
+  where
+    sound : (b : Bool) (a : Account) → Sound a → Sound (if b then let_go a else a)
+    sound true a h = record { took = h.took; handed = h.handed; honest = h.honest; rested = h.rested; rightly = h.rightly }
+    sound false a h = h
+
+    fresh : (b : Bool) (a : Account) → Fresh a → Fresh (if b then let_go a else a)
+    fresh true a h = record { written = h.written; took = h.took; gave = h.gave; handed = h.handed }
+    fresh false a h = h
+
+    shut : (b : Bool) (a : Account) → Closed a → Closed (if b then let_go a else a)
+    shut true a h = record { watched = refl; kept = h.kept }
+    shut false a h = h
+
+    heard : (b : Bool) (a : Account) → Hears a l → Hears (if b then let_go a else a) l
+    heard true a h = record {
+      fresh = record { written = h.fresh.written; took = h.fresh.took; gave = h.fresh.gave; handed = h.fresh.handed };
+      lost = h.lost;
+      cut = h.cut;
+      ended = h.ended;
+      failed = h.failed;
+      heard = h.heard;
+    }
+    heard false a h = h
+
+-- nobody was there to be let go
+pub stands_missing : (old new : Option (List Step)) (peers : List Peer) (l : Listening) (last number : ℕ) (answer : Result Unit DoorFault)
+    → IsMissing number peers → Tells old (Told (CloseCall number answer)) new → Stands old peers l last → Stands new peers l last
+stands_missing old new peers l last number answer missing tells stands =
+    stands_goes old new peers l last (Told (CloseCall number answer)) (let_go_goes number answer l)
+    (λ k d lt. kept_after old new (Told (CloseCall number answer)) (slice_index_or peers k d) (slice_index_or peers k d) tells refl
+    (λ a h. by k d lt a (number == (slice_index_or peers k d).number) (λ e. grind (arith, nat_tests)) h) (stands.kept k d lt)) tells stands
+  where
+    by : (k : ℕ) (d : Peer) → k < length peers → (a : Account) (b : Bool) → (b ≡ true → (slice_index_or peers k d).number ≡ number)
+        → Agrees a (slice_index_or peers k d) → Agrees (if b then let_go a else a) (slice_index_or peers k d)
+    by k d lt a true same h = gone_agrees a (slice_index_or peers k d) (missing k d lt (same refl)) h
+    by k d lt a false same h = h
+
+-- one that was there was let go
+pub stands_let_go : (old new : Option (List Step)) (peers : List Peer) (i : ℕ) (p q : Peer) (l : Listening) (last number since : ℕ)
+    (answer : Result Unit DoorFault) → i < length peers → get_or peers i p ≡ p → p.number ≡ number → p.stay ≡ stay.Here
+    → q ≡ record p { stay = stay.Leaving since } → ((log : List Step) → old ≡ Some log → (account number log).leave.clock ≡ since)
+    → Tells old (Told (CloseCall number answer)) new → Stands old peers l last → Stands new (set peers i q) l last
+stands_let_go old new peers i p q l last number since answer within at same here is clock tells stands =
+    let there : (get_or peers i p).number ≡ number = ap (λ (x : Peer). x.number) at ∙ same in
+    stands_one old new peers i p q l last within kept (ap (λ (x : Peer). x.number) is ∙ same ∙ sym there)
+    (λ other differ. spares_after other old new (Told (CloseCall number answer)) tells
+    (λ a. skips (number == other) _ a (alien number other (λ e. differ (e ∙ sym there))))) stands
+  where
+    before : IsKept old p
+    before = subst (IsKept old) at (stands.kept i p within)
+
+    kept : IsKept new q
+    kept later e =
+        let t = tells later e in
+        let a : Account = account p.number t.0 in
+        let after : Agrees (let_go a) (record p { stay = stay.Leaving since }) =
+        let_go_agrees a p since here (ap (λ n. (account n t.0).leave.clock) same ∙ clock t.0 t.1) (before t.0 t.1) in
+        let more : account number later ≡ account_step number (account number t.0) (Told (CloseCall number answer)) =
+        ap (account number) t.2 ∙ account_more number t.0 (Told (CloseCall number answer)) in
+        let own_is : account number later ≡ let_go (account number t.0) =
+        more ∙ picks (number == number) (let_go (account number t.0)) (account number t.0) (own number) in
+        subst (λ (x : Peer). Agrees (account x.number later) x) (sym is)
+        (subst (λ (x : Account). Agrees x (record p { stay = stay.Leaving since }))
+        (sym (ap (λ n. account n later) same ∙ own_is ∙ ap (λ n. let_go (account n t.0)) (sym same))) after)

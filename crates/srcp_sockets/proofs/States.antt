@@ -12,8 +12,10 @@ use Rattle.srcp_sockets.specs.declared.peer.Reading.TheVariants as input
 use Rattle.srcp_sockets.specs.declared.peer.Writing.{Writing}
 use Rattle.srcp_sockets.specs.declared.peer.Writing.TheVariants as output
 use Rattle.srcp_sockets.specs.Steps.{refusal_told}
+use Rattle.srcp_sockets.specs.declared.stay.Stay.{Stay}
+use Rattle.srcp_sockets.specs.declared.stay.Stay.TheVariants as stay
 use Rattle.srcp_sockets.specs.Accounts.{Sent, Received, wrote, refused_write, read_in, refused_read, woken_sent, woken_came}
-use Rattle.srcp_sockets.specs.Peers.{ReadsAs, WritesAs, refused, taken, given, given_some, missed, queued_more, may_have, woken_input, woken_output}
+use Rattle.srcp_sockets.specs.Peers.{ComesAs, ReadsAs, WritesAs, refused, taken, given, given_some, missed, queued_more, may_have, woken_input, woken_output}
 
 -- ---- the output
 
@@ -22,7 +24,7 @@ pub starts : (all front back : List ℕ) → all ≡ front ++ back → StartsWit
 starts all front back is = ap (take (length front)) is ∙ take-append_seam front back
 
 -- and with what it started with, after more
-starts_on : (all front more : List ℕ) → StartsWith all front → StartsWith (all ++ more) front
+pub starts_on : (all front more : List ℕ) → StartsWith all front → StartsWith (all ++ more) front
 starts_on all front more h =
     let long : length (take (length front) all) ≡ length front = ap length h in
     let few : length front ≤ length all = omega (arith, long, length-take (length front) all) in
@@ -141,3 +143,55 @@ woken_reads received incoming input.Quiet true false h = (h.0, h.1, h.2, ap (λ 
 woken_reads received incoming input.Quiet false false h = (h.0, h.1, h.2, ap (λ b. b || false) h.3, ap (λ b. b && true) h.4)
 woken_reads received incoming input.Ended readable closed h = h
 woken_reads received incoming input.Failed readable closed h = h
+
+-- ---- the input of a peer that may have been let go
+
+-- one that is there
+pub comes_here : (received : Received) (incoming : List ℕ) (state : Reading) (here : Stay) → here ≡ stay.Here
+    → ReadsAs received incoming state → ComesAs received incoming state here
+comes_here received incoming state now e h = subst (ComesAs received incoming state) (sym e) h
+
+pub reads_here : (received : Received) (incoming : List ℕ) (state : Reading) (here : Stay) → here ≡ stay.Here
+    → ComesAs received incoming state here → ReadsAs received incoming state
+reads_here received incoming state now e h = subst (ComesAs received incoming state) e h
+
+pub read_comes : (received : Received) (incoming buffer : List ℕ) (count : ℕ) (state : Reading) (here : Stay) → may_have state ≡ true
+    → ComesAs received incoming state here
+    → ComesAs (read_in received buffer (Ok count)) (incoming ++ take count buffer) (given state count (length buffer)) here
+read_comes received incoming buffer count state stay.Here e h = read_as received incoming buffer count state e h
+read_comes received incoming buffer count state (stay.Leaving since) e h = starts_on received.gave received.handed (take count buffer) h
+read_comes received incoming buffer count state (stay.Shut since) e h = starts_on received.gave received.handed (take count buffer) h
+
+refused_starts : (received : Received) (said : Refusal) → StartsWith received.gave received.handed
+    → StartsWith (refused_read received said).gave (refused_read received said).handed
+refused_starts received Later h = h
+refused_starts received Again h = h
+refused_starts received Fault h = h
+
+pub unread_comes : (received : Received) (incoming buffer : List ℕ) (fault : ErrorKind) (state : Reading) (here : Stay)
+    → may_have state ≡ true → ComesAs received incoming state here
+    → ComesAs (read_in received buffer (Err fault)) incoming (missed state (refusal_told fault)) here
+unread_comes received incoming buffer fault state stay.Here e h = unread_as received incoming buffer fault state e h
+unread_comes received incoming buffer fault state (stay.Leaving since) e h = refused_starts received (refusal_told fault) h
+unread_comes received incoming buffer fault state (stay.Shut since) e h = refused_starts received (refusal_told fault) h
+
+pub woken_comes : (received : Received) (incoming : List ℕ) (state : Reading) (here : Stay) (readable closed : Bool)
+    → ComesAs received incoming state here
+    → ComesAs (woken_came received readable closed) incoming (woken_input state readable closed) here
+woken_comes received incoming state stay.Here readable closed h = woken_reads received incoming state readable closed h
+woken_comes received incoming state (stay.Leaving since) readable closed h = h
+woken_comes received incoming state (stay.Shut since) readable closed h = h
+
+-- what came of any peer starts with what was handed out
+pub comes_starts : (received : Received) (incoming : List ℕ) (state : Reading) (here : Stay) → ComesAs received incoming state here
+    → StartsWith received.gave received.handed
+comes_starts received incoming state stay.Here h = by state h
+  where
+    by : (s : Reading) → ReadsAs received incoming s → StartsWith received.gave received.handed
+    by input.Ready r = starts received.gave received.handed incoming r.0
+    by input.Draining r = starts received.gave received.handed incoming r.0
+    by input.Quiet r = starts received.gave received.handed incoming r.0
+    by input.Ended r = starts received.gave received.handed incoming r.0
+    by input.Failed r = starts received.gave received.handed incoming r.0
+comes_starts received incoming state (stay.Leaving since) h = h
+comes_starts received incoming state (stay.Shut since) h = h

@@ -9,8 +9,8 @@ use Rattle.srcp_sockets.specs.declared.system.Ready.{Ready}
 use Rattle.srcp_sockets.specs.declared.system.Refusal.{Refusal}
 use Rattle.srcp_sockets.specs.declared.system.Refusal.TheVariants.{Later, Again, Fault}
 use Rattle.srcp_serve.specs.Calls.{Call, ExpectCall, NowCall, AcceptCall, ReadCall, WriteCall, CloseCall}
-use Rattle.srcp_sockets.specs.Steps.{Accepts, Clocks, Reads, Step, Told, Waits, Writes, call_of, calls, refusal_told}
-use Rattle.srcp_sockets.specs.Accounts.{Account, Received, Sent, accepted, account, account_step, heard, heard_refusal, read_in, refused_read, refused_write, untouched, waited, woken, woken_came, woken_sent, wrote}
+use Rattle.srcp_sockets.specs.Steps.{Accepts, Clocks, Closes, Reads, Shuts, Step, Told, Waits, Writes, call_of, calls, refusal_told}
+use Rattle.srcp_sockets.specs.Accounts.{Account, Received, Sent, accepted, account, account_step, closed, heard, heard_refusal, read_in, refused_read, refused_write, shut_down, untouched, waited, woken, woken_came, woken_sent, wrote}
 use Rattle.srcp_sockets.specs.Streams.{gave, gave_in, handed, handed_in, taken, taken_in, took, took_in}
 
 -- the four lists
@@ -38,6 +38,8 @@ by_calls f (Accepts number answer ∷ log) = by_calls f log
 by_calls f (Reads who buffer answer ∷ log) = by_calls f log
 by_calls f (Writes who bytes answer ∷ log) = by_calls f log
 by_calls f (Waits most count ready ∷ log) = by_calls f log
+by_calls f (Shuts who ∷ log) = by_calls f log
+by_calls f (Closes who ∷ log) = by_calls f log
 by_calls f (Clocks answer ∷ log) = by_calls f log
 
 -- ---- steps that leave a list as it is
@@ -106,6 +108,8 @@ took_step socket a (Writes who bytes (Err fault)) = same_more _ a.sent.took
     (ap (λ l. l.0.1) (refused_write_lists a (refusal_told fault))))
 took_step socket a (Waits most count ready) = same_more _ a.sent.took
     (ap (λ l. l.0.1) (woken_lists socket (waited socket a most) (take count ready)))
+took_step socket a (Shuts who) = same_more _ a.sent.took (if_same (λ (x : Account). x.sent.took) (who == socket) (shut_down a) a refl)
+took_step socket a (Closes who) = same_more _ a.sent.took (if_same (λ (x : Account). x.sent.took) (who == socket) (closed a) a refl)
 took_step socket a (Clocks answer) = sym (append-nil a.sent.took)
 took_step socket a (Told (ExpectCall due slack)) = sym (append-nil a.sent.took)
 took_step socket a (Told (NowCall answer)) = sym (append-nil a.sent.took)
@@ -132,6 +136,8 @@ gave_step socket a (Reads who buffer (Err fault)) = same_more _ a.received.gave
     (ap (λ l. l.1.0) (refused_read_lists a (refusal_told fault))))
 gave_step socket a (Waits most count ready) = same_more _ a.received.gave
     (ap (λ l. l.1.0) (woken_lists socket (waited socket a most) (take count ready)))
+gave_step socket a (Shuts who) = same_more _ a.received.gave (if_same (λ (x : Account). x.received.gave) (who == socket) (shut_down a) a refl)
+gave_step socket a (Closes who) = same_more _ a.received.gave (if_same (λ (x : Account). x.received.gave) (who == socket) (closed a) a refl)
 gave_step socket a (Clocks answer) = sym (append-nil a.received.gave)
 gave_step socket a (Told (ExpectCall due slack)) = sym (append-nil a.received.gave)
 gave_step socket a (Told (NowCall answer)) = sym (append-nil a.received.gave)
@@ -160,6 +166,8 @@ written_step socket a (Writes who bytes (Err fault)) = same_more _ a.sent.writte
     (ap (λ l. l.0.0) (refused_write_lists a (refusal_told fault))))
 written_step socket a (Waits most count ready) = same_more _ a.sent.written
     (ap (λ l. l.0.0) (woken_lists socket (waited socket a most) (take count ready)))
+written_step socket a (Shuts who) = same_more _ a.sent.written (if_same (λ (x : Account). x.sent.written) (who == socket) (shut_down a) a refl)
+written_step socket a (Closes who) = same_more _ a.sent.written (if_same (λ (x : Account). x.sent.written) (who == socket) (closed a) a refl)
 written_step socket a (Clocks answer) = sym (append-nil a.sent.written)
 written_step socket a (Told (ExpectCall due slack)) = sym (append-nil a.sent.written)
 written_step socket a (Told (NowCall answer)) = sym (append-nil a.sent.written)
@@ -189,6 +197,8 @@ handed_step socket a (Reads who buffer (Err fault)) = same_more _ a.received.han
     (ap (λ l. l.1.1) (refused_read_lists a (refusal_told fault))))
 handed_step socket a (Waits most count ready) = same_more _ a.received.handed
     (ap (λ l. l.1.1) (woken_lists socket (waited socket a most) (take count ready)))
+handed_step socket a (Shuts who) = same_more _ a.received.handed (if_same (λ (x : Account). x.received.handed) (who == socket) (shut_down a) a refl)
+handed_step socket a (Closes who) = same_more _ a.received.handed (if_same (λ (x : Account). x.received.handed) (who == socket) (closed a) a refl)
 handed_step socket a (Clocks answer) = sym (append-nil a.received.handed)
 handed_step socket a (Told (ExpectCall due slack)) = sym (append-nil a.received.handed)
 handed_step socket a (Told (NowCall answer)) = sym (append-nil a.received.handed)

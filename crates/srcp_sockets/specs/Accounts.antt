@@ -1,10 +1,10 @@
 -- What the steps so far say of one socket.
-use Rattle.std.specs.Prelude.{◌≡◌, ℕ, ◌+◌, ◌<◌, ◌==◌, ◌&&◌, ◌||◌, nat_lt, Bool, true, false, not, cond, if◌then◌else◌, List, [], ◌++◌, length, take, fold, Option, Some, None, Result, Ok, Err}
+use Rattle.std.specs.Prelude.{◌≡◌, ℕ, ◌+◌, ◌-◌, ◌<◌, ◌==◌, ◌&&◌, ◌||◌, nat_le, nat_lt, Bool, true, false, not, cond, if◌then◌else◌, List, [], ◌++◌, length, take, fold, Option, Some, None, Result, Ok, Err}
 use Rattle.std.specs.declared.io.ErrorKind.{ErrorKind}
 use Rattle.srcp_sockets.specs.declared.system.Ready.{Ready}
 use Rattle.srcp_sockets.specs.declared.system.Refusal.{Refusal}
 use Rattle.srcp_sockets.specs.declared.system.Refusal.TheVariants.{Later, Again, Fault}
-use Rattle.srcp_sockets.specs.Steps.{Step, Accepts, Clocks, Reads, Writes, Waits, Told, refusal_told}
+use Rattle.srcp_sockets.specs.Steps.{Step, Accepts, Clocks, Closes, Reads, Shuts, Writes, Waits, Told, refusal_told}
 use Rattle.srcp_serve.specs.Calls.{Call, ExpectCall, NowCall, AcceptCall, ReadCall, WriteCall, CloseCall}
 use Rattle.srcp_serve.specs.declared.door.Got.TheVariants as got
 
@@ -25,9 +25,18 @@ pub record Received : Type 0 where
   pub ended : Bool  -- a read found its end
   pub failed : Bool  -- a read failed
 
+-- how it was let go
+pub record Leave : Type 0 where
+  pub clock : ℕ  -- what the clock that is never set showed last, in milliseconds; 0 until it is read
+  pub since : ℕ  -- what it showed when the socket was let go
+  pub kept : Bool  -- it was accepted, and was not closed
+  pub shut : Bool  -- it was told that nothing more is written to it
+  pub rightly : Bool  -- it was shut down and closed only when it might be
+
 pub record Account : Type 0 where
   pub sent : Sent
   pub received : Received
+  pub leave : Leave
   pub watched : Bool  -- it was accepted, and was not let go
   pub honest : Bool  -- its end was told only after a read had found it
   pub rested : Bool  -- each long wait found it at rest
@@ -37,6 +46,7 @@ abbrev pub untouched : Account
 untouched = record {
   sent = record { written = []; took = []; full = false; lost = false; cut = false };
   received = record { gave = []; handed = []; quiet = false; draining = false; ended = false; failed = false };
+  leave = record { clock = 0; since = 0; kept = false; shut = false; rightly = true };
   watched = false;
   honest = true;
   rested = true;
@@ -72,6 +82,24 @@ is_at_rest sent received = not sent.lost && ((not (is_owed sent) || sent.full) &
 abbrev pub is_short : Option ℕ → Bool
 is_short None = false
 is_short (Some most) = nat_lt most 9
+
+-- ---- when it may be shut down and closed
+
+-- it was let go, and is not closed
+abbrev pub is_leaving : Account → Bool
+is_leaving a = not a.watched && a.leave.kept
+
+-- a peer that was let go then is kept no longer now
+abbrev pub is_over : (clock since : ℕ) → Bool
+is_over clock since = nat_le 10000 (clock - since)
+
+-- once: all that was taken for it was taken by the socket
+abbrev pub may_shut : Account → Bool
+may_shut a = is_leaving a && (not a.leave.shut && not (is_owed a.sent))
+
+-- once: so it was, and it was shut down; or a write found that it takes no more; or its time is over
+abbrev pub may_close : Account → Bool
+may_close a = is_leaving a && ((a.leave.shut && not (is_owed a.sent)) || (a.sent.lost || is_over a.leave.clock a.leave.since))
 
 -- ---- what a step says
 
@@ -127,6 +155,7 @@ abbrev pub accepted : Account → Result Unit ErrorKind → Account
 accepted a (Ok done) = record a {
   sent = record a.sent { full = false; lost = false; cut = false };
   received = record a.received { quiet = false; draining = false; ended = false; failed = false };
+  leave = record a.leave { kept = true; shut = false };
   watched = true;
 }
 accepted a (Err fault) = a
@@ -140,6 +169,29 @@ heard_refusal received Fault = received
 abbrev pub heard : Received → Result Unit ErrorKind → Received
 heard received (Ok done) = received
 heard received (Err fault) = heard_refusal received (refusal_told fault)
+
+-- the core lets it go
+abbrev pub let_go : Account → Account
+let_go a = record a {
+  watched = false;
+  leave = record a.leave { since = cond a.watched a.leave.clock a.leave.since };
+}
+
+-- it is shut down
+abbrev pub shut_down : Account → Account
+shut_down a = record a { leave = record a.leave { shut = true; rightly = a.leave.rightly && may_shut a } }
+
+-- it is closed
+abbrev pub closed : Account → Account
+closed a = record a { leave = record a.leave { kept = false; rightly = a.leave.rightly && may_close a } }
+
+-- a clock was read
+abbrev pub clock_after : ℕ → Option ℕ → ℕ
+clock_after clock (Some time) = time
+clock_after clock None = clock
+
+abbrev pub clocked : Account → Option ℕ → Account
+clocked a answer = record a { leave = record a.leave { clock = clock_after a.leave.clock answer } }
 
 -- what a call of the door says
 abbrev pub told_step : ℕ → Account → Call → Account
@@ -156,7 +208,7 @@ told_step socket a (WriteCall who bytes (Ok count)) =
       sent = record a.sent { written = a.sent.written ++ take count bytes; cut = nat_lt count (length bytes) };
     } else a
 told_step socket a (WriteCall who bytes (Err fault)) = a
-told_step socket a (CloseCall who answer) = if who == socket then record a { watched = false } else a
+told_step socket a (CloseCall who answer) = if who == socket then let_go a else a
 told_step socket a (ExpectCall due slack) = a
 told_step socket a (NowCall answer) = a
 told_step socket a (AcceptCall answer) = a
@@ -170,7 +222,9 @@ account_step socket a (Reads who buffer answer) = if who == socket
 account_step socket a (Writes who bytes answer) = if who == socket then record a { sent = wrote a.sent bytes answer }
     else a
 account_step socket a (Waits most count ready) = fold (woken socket) (waited socket a most) (take count ready)
-account_step socket a (Clocks answer) = a
+account_step socket a (Shuts who) = if who == socket then shut_down a else a
+account_step socket a (Closes who) = if who == socket then closed a else a
+account_step socket a (Clocks answer) = clocked a answer
 account_step socket a (Told call) = told_step socket a call
 
 -- what all steps say of it

@@ -2,11 +2,12 @@
 use Rattle.std.specs.Prelude.{⊤, ◌≡◌, ◌≢◌, ℕ, ◌<◌, ◌≤◌, Bool, true, false, List, [], length, slice_index_or, Option, Some}
 use Rattle.std.specs.Io.{StartsWith}
 use Rattle.srcp_sockets.specs.declared.peer.Peer.{Peer}
+use Rattle.srcp_sockets.specs.declared.stay.Stay.TheVariants as stay
 use Rattle.srcp_sockets.specs.declared.waiting.Listening.{Listening}
 use Rattle.srcp_sockets.specs.declared.waiting.Listening.TheVariants as listening
 use Rattle.srcp_sockets.specs.Steps.{Step}
 use Rattle.srcp_sockets.specs.Accounts.{Account, account}
-use Rattle.srcp_sockets.specs.Peers.{IsKept}
+use Rattle.srcp_sockets.specs.Peers.{IsKept, is_here}
 
 -- ---- the peers that are there
 
@@ -28,6 +29,15 @@ AreWithin last peers = (k : ℕ) (d : Peer) → k < length peers → (0 < (slice
 abbrev pub IsAbsent : ℕ → List Peer → Type 0
 IsAbsent socket peers = (k : ℕ) (d : Peer) → k < length peers → (slice_index_or peers k d).number ≢ socket
 
+-- it has this socket, and is there
+abbrev pub IsPresent : ℕ → Peer → Type 0
+IsPresent socket p = (p.number ≡ socket) × (p.stay ≡ stay.Here)
+
+-- none is there that has this socket
+abbrev pub IsMissing : ℕ → List Peer → Type 0
+IsMissing socket peers = (k : ℕ) (d : Peer) → k < length peers → (slice_index_or peers k d).number ≡ socket
+    → is_here (slice_index_or peers k d).stay ≡ false
+
 -- they are the same peers
 abbrev pub AreThose : List Peer → List Peer → Type 0
 AreThose old new = (k : ℕ) (d : Peer) → k < length old → (slice_index_or new k d).number
@@ -36,12 +46,14 @@ AreThose old new = (k : ℕ) (d : Peer) → k < length old → (slice_index_or n
 -- ---- each socket that ever was
 
 -- what is to hold of a socket: it took a prefix of what the door told to have taken for it; what the door handed out
--- is a prefix of what it gave; its end was told only after a read had found it; and each long wait found it at rest
+-- is a prefix of what it gave; its end was told only after a read had found it; each long wait found it at rest; and it
+-- was shut down and closed only when it might be
 pub record Sound (a : Account) : Type 0 where
   pub took : StartsWith a.sent.written a.sent.took
   pub handed : StartsWith a.received.gave a.received.handed
   pub honest : a.honest ≡ true
   pub rested : a.rested ≡ true
+  pub rightly : a.leave.rightly ≡ true
 
 abbrev pub AreSound : Option (List Step) → Type 0
 AreSound told = (log : List Step) → told ≡ Some log → (socket : ℕ) → Sound (account socket log)
@@ -57,10 +69,15 @@ pub record Fresh (a : Account) : Type 0 where
 abbrev pub AreFresh : Option (List Step) → ℕ → Type 0
 AreFresh told last = (log : List Step) → told ≡ Some log → (socket : ℕ) → last < socket → Fresh (account socket log)
 
--- who is not there is not open
+-- it is neither there nor kept
+pub record Closed (a : Account) : Type 0 where
+  pub watched : a.watched ≡ false
+  pub kept : a.leave.kept ≡ false
+
+-- so it is for all of which no peer is kept
 abbrev pub AreClosed : Option (List Step) → List Peer → Type 0
 AreClosed told peers = (log : List Step) → told ≡ Some log → (socket : ℕ) → IsAbsent socket peers
-    → (account socket log).watched ≡ false
+    → Closed (account socket log)
 
 -- ---- the listener
 

@@ -6,11 +6,13 @@ use Rattle.srcp_sockets.specs.declared.peer.Reading.{Reading}
 use Rattle.srcp_sockets.specs.declared.peer.Reading.TheVariants as input
 use Rattle.srcp_sockets.specs.declared.peer.Writing.{Writing}
 use Rattle.srcp_sockets.specs.declared.peer.Writing.TheVariants as output
+use Rattle.srcp_sockets.specs.declared.stay.Stay.{Stay}
+use Rattle.srcp_sockets.specs.declared.stay.Stay.TheVariants as stay
 use Rattle.srcp_sockets.specs.declared.waiting.Listening.{Listening}
 use Rattle.srcp_sockets.specs.declared.waiting.Listening.TheVariants as listening
 use Rattle.srcp_sockets.specs.Steps.{Step}
-use Rattle.srcp_sockets.specs.Accounts.{Account, Received, Sent}
-use Rattle.srcp_sockets.specs.Peers.{Agrees, ReadsAs, WritesAs}
+use Rattle.srcp_sockets.specs.Accounts.{Account, Leave, Received, Sent}
+use Rattle.srcp_sockets.specs.Peers.{Agrees, ComesAs, ReadsAs, StaysAs, WritesAs}
 use Rattle.srcp_sockets.specs.Doors.{HeardAs, Stands}
 
 ReadsAs-prop : (received : Received) (incoming : List ℕ) (state : Reading) → IsProp (ReadsAs received incoming state)
@@ -25,6 +27,16 @@ WritesAs-prop sent outgoing output.Open = hlevel props
 WritesAs-prop sent outgoing output.Full = hlevel props
 WritesAs-prop sent outgoing output.Lost = hlevel props
 
+ComesAs-prop : (received : Received) (incoming : List ℕ) (state : Reading) (here : Stay) → IsProp (ComesAs received incoming state here)
+ComesAs-prop received incoming state stay.Here = ReadsAs-prop received incoming state
+ComesAs-prop received incoming state (stay.Leaving since) = hlevel props
+ComesAs-prop received incoming state (stay.Shut since) = hlevel props
+
+StaysAs-prop : (watched : Bool) (leave : Leave) (outgoing : List ℕ) (here : Stay) → IsProp (StaysAs watched leave outgoing here)
+StaysAs-prop watched leave outgoing stay.Here = hlevel props
+StaysAs-prop watched leave outgoing (stay.Leaving since) = hlevel props
+StaysAs-prop watched leave outgoing (stay.Shut since) = hlevel props
+
 HeardAs-prop : (quiet : Bool) (state : Listening) → IsProp (HeardAs quiet state)
 HeardAs-prop quiet listening.Ready = hlevel props
 HeardAs-prop quiet listening.Refused = hlevel props
@@ -32,4 +44,4 @@ HeardAs-prop quiet listening.Quiet = hlevel props
 
 pub Stands-prop : (told : Option (List Step)) (peers : List Peer) (l : Listening) (last : ℕ) → IsProp
     (Stands told peers l last)
-Stands-prop told peers l last = hlevel (props, ReadsAs-prop, WritesAs-prop, HeardAs-prop)
+Stands-prop told peers l last = hlevel (props, ComesAs-prop, StaysAs-prop, WritesAs-prop, HeardAs-prop)

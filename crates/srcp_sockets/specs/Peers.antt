@@ -10,11 +10,13 @@ use Rattle.srcp_sockets.specs.declared.peer.Reading.TheVariants as input
 use Rattle.srcp_sockets.specs.declared.peer.Writing.{Writing}
 use Rattle.srcp_sockets.specs.declared.peer.Writing.TheVariants as output
 use Rattle.srcp_sockets.specs.declared.peer.Peer.{Peer}
+use Rattle.srcp_sockets.specs.declared.stay.Stay.{Stay}
+use Rattle.srcp_sockets.specs.declared.stay.Stay.TheVariants as stay
 use Rattle.srcp_serve.specs.declared.door.DoorFault.{DoorFault}
 use Rattle.srcp_serve.specs.declared.door.Got.{Got}
 use Rattle.srcp_serve.specs.declared.door.Got.TheVariants as got
 use Rattle.srcp_sockets.specs.Steps.{Step, Reads, Tells, Writes, refusal_told}
-use Rattle.srcp_sockets.specs.Accounts.{Account, Sent, Received, account}
+use Rattle.srcp_sockets.specs.Accounts.{Account, Leave, Sent, Received, account, is_over}
 
 -- what a state of the input means, where so much is held of it
 abbrev pub ReadsAs : Received → List ℕ → Reading → Type 0
@@ -34,10 +36,26 @@ WritesAs sent outgoing output.Open = (sent.written ≡ sent.took ++ outgoing) ×
 WritesAs sent outgoing output.Full = (sent.written ≡ sent.took ++ outgoing) × (sent.lost ≡ false) × (sent.full ≡ true)
 WritesAs sent outgoing output.Lost = StartsWith sent.written sent.took × (sent.lost ≡ true)
 
+-- what is known of what came of a peer: what comes of one that was let go is dropped
+abbrev pub ComesAs : Received → List ℕ → Reading → Stay → Type 0
+ComesAs received incoming state stay.Here = ReadsAs received incoming state
+ComesAs received incoming state (stay.Leaving since) = StartsWith received.gave received.handed
+ComesAs received incoming state (stay.Shut since) = StartsWith received.gave received.handed
+
+-- what it means that a peer stays so, where so much is queued for it
+abbrev pub StaysAs : (watched : Bool) → Leave → List ℕ → Stay → Type 0
+StaysAs watched leave outgoing stay.Here = (watched ≡ true) × (leave.kept ≡ true) × (leave.shut ≡ false)
+StaysAs watched leave outgoing (stay.Leaving since) = (watched ≡ false) × (leave.kept ≡ true) × (leave.since ≡ since)
+    × (leave.shut ≡ false)
+StaysAs watched leave outgoing (stay.Shut since) = (watched ≡ false) × (leave.kept ≡ true) × (leave.since ≡ since)
+    × (leave.shut ≡ true) × (outgoing ≡ [])
+
 -- a peer is what its account says
 pub record Agrees (a : Account) (p : Peer) : Type 0 where
-  pub reads : ReadsAs a.received p.incoming p.input
+  pub reads : ComesAs a.received p.incoming p.input p.stay
   pub writes : WritesAs a.sent p.outgoing p.output
+  pub stays : StaysAs a.watched a.leave p.outgoing p.stay
+  pub rightly : a.leave.rightly ≡ true
   pub cut : a.sent.cut ≡ p.cut
   pub honest : a.honest ≡ true
   pub rested : a.rested ≡ true
@@ -154,7 +172,33 @@ rests_reading outgoing input.Quiet = true
 rests_reading outgoing input.Ended = not (length outgoing == 0)
 rests_reading outgoing input.Failed = false
 
--- it may be waited for
-abbrev pub is_resting : Peer → Bool
-is_resting p = rests_writing p.outgoing p.output
+-- it is there
+abbrev pub is_here : Stay → Bool
+is_here stay.Here = true
+is_here (stay.Leaving since) = false
+is_here (stay.Shut since) = false
+
+-- nothing is to be done for it
+abbrev pub has_rest : Peer → Bool
+has_rest p = rests_writing p.outgoing p.output
     && cond p.cut (length p.outgoing == 40960) ((length p.incoming == 0) && rests_reading p.outgoing p.input)
+
+-- it is there, and may be waited for
+abbrev pub is_resting : Peer → Bool
+is_resting p = is_here p.stay && has_rest p
+
+-- ---- when a peer may be closed
+
+abbrev pub is_lost : Writing → Bool
+is_lost output.Open = false
+is_lost output.Full = false
+is_lost output.Lost = true
+
+abbrev pub closable_as : (clock : ℕ) → Writing → Stay → Bool
+closable_as clock state stay.Here = false
+closable_as clock state (stay.Leaving since) = is_lost state || is_over clock since
+closable_as clock state (stay.Shut since) = true
+
+-- it was let go, and is owed nothing, or lost, or its time is over
+abbrev pub is_closable : (clock : ℕ) → Peer → Bool
+is_closable clock p = closable_as clock p.output p.stay

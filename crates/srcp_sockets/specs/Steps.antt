@@ -17,6 +17,10 @@ pub data Step : Type 0 where
   Writes : (socket : ℕ) (bytes : List ℕ) (answer : Result ℕ ErrorKind) → Step
   -- how long a wait may be, and which sockets it found ready
   Waits : (most : Option ℕ) (count : ℕ) (ready : List Ready) → Step
+  -- a socket was told that nothing more is written to it
+  Shuts : (socket : ℕ) → Step
+  -- a socket was closed
+  Closes : (socket : ℕ) → Step
   -- what the clock showed, in milliseconds, if it could be read
   Clocks : (answer : Option ℕ) → Step
   -- a call of the door, at its end

@@ -6,12 +6,12 @@ use Rattle.srcp_serve.specs.declared.door.DoorFault.{DoorFault}
 use Rattle.srcp_serve.specs.Calls.{Call, ExpectCall, NowCall, AcceptCall, ReadCall, WriteCall, CloseCall}
 use Rattle.srcp_sockets.specs.declared.turn.Turn.{Turn}
 use Rattle.srcp_sockets.specs.Accounts.{is_short}
-use Rattle.srcp_sockets.specs.Steps.{Step, Accepts, Clocks, Reads, Told, Waits, Writes}
+use Rattle.srcp_sockets.specs.Steps.{Step, Accepts, Clocks, Closes, Reads, Shuts, Told, Waits, Writes}
 use Rattle.srcp_sockets.specs.Turns.{after_call, after_wait, first_turn, hands_out, is_pending, moment_at, time_left, told_at}
 
 pub record Times : Type 0 where
   pub turn : Turn  -- the turn, by the calls so far
-  pub clock : ℕ  -- what the clock that is never set showed last
+  pub clock : ℕ  -- what the clock that is never set showed last; 0 before it is read
   pub exact : Bool  -- each moment was the one that was to be told
   pub punctual : Bool  -- no wait ended past what falls due
   pub patient : Bool  -- each long wait came after a turn in which nothing happened, or there was no panel
@@ -20,7 +20,7 @@ pub record Times : Type 0 where
 abbrev pub first_times : (wall start : ℕ) → Times
 first_times wall start = record {
   turn = first_turn wall start;
-  clock = start;
+  clock = 0;
   exact = true;
   punctual = true;
   patient = true;
@@ -58,6 +58,8 @@ abbrev pub times_step : Times → Step → Times
 times_step t (Accepts number answer) = t
 times_step t (Reads who buffer answer) = t
 times_step t (Writes who bytes answer) = t
+times_step t (Shuts who) = t
+times_step t (Closes who) = t
 times_step t (Waits most count ready) = record t {
   turn = after_wait t.turn;
   punctual = t.punctual && in_time t.turn most;

@@ -11,7 +11,7 @@ use Rattle.srcp_sockets.specs.declared.turn.Turn.{Turn}
 abbrev pub first_turn : (wall start : ℕ) → Turn
 first_turn wall start = record {
   timekeeper = record { wall = wall; start = start; last = wall };
-  clock = start;
+  clock = 0;
   due = None;
   slack = None;
   busy = true;

@@ -11,8 +11,8 @@ use srcp_serve::{Door, DoorFault, Got};
 use std::alloc::{AllocError, Global};
 use std::vec::Vec;
 
-/// How many peers there are at most: the 64 that the core seats, and one that it turns away.
-const MOST_PEERS: usize = 65;
+/// How many peers there are at most: the 64 that the core seats, one that it turns away, and 64 that were let go.
+const MOST_PEERS: usize = 129;
 
 /// How many sockets may be found ready at once.
 pub(crate) const MOST_READY: usize = 128;

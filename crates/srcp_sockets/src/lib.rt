@@ -4,20 +4,21 @@
 //!
 //! `System` is the small trait of system calls, `MioSystem` makes them, and `SocketDoor` is the door over any of them.
 //!
-//! It is not the server's door yet: lines are not paced, a peer that is closed loses what is queued for it, and each
-//! turn flushes and polls.
+//! It is not the server's door yet: lines are not paced, and each turn flushes and polls.
 #![tactic(auto)]
 
 mod course;
 mod door;
 mod fault;
 pub mod laws;
+mod leaving;
 mod mio_system;
 mod opening;
 mod peer;
 mod peers;
 mod queue;
 mod sockets;
+mod stay;
 mod system;
 mod turn;
 mod waiting;
@@ -28,6 +29,7 @@ pub use fault::ListenFault;
 pub use mio_system::MioSystem;
 pub use peer::{Peer, Reading, Writing};
 pub use queue::{MOST_INCOMING, MOST_OUTGOING, MOST_PIECE, Outgoing, Queue};
+pub use stay::{PATIENCE, Stay};
 pub use system::{Ready, Refusal, System, refusal_of};
 pub use turn::Turn;
 pub use waiting::{Listening, PAUSE, longest_wait};

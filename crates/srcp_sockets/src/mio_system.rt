@@ -10,7 +10,7 @@ use srcp_serve::{DoorFault, Got};
 use std::alloc::Global;
 use std::io;
 use std::io::{ErrorKind, Read, Write};
-use std::net::{Net, SocketAddr};
+use std::net::{Net, Shutdown, SocketAddr};
 use std::time::{Clock, Duration};
 use std::vec::Vec;
 
@@ -114,6 +114,16 @@ impl<C: Clock + Drop> System for MioSystem<C> {
         }
     }
 
+    fn shutdown(&mut self, socket: u32) {
+        if let Ok(socket) = self.socket(socket) {
+            let _ = socket.stream.shutdown(Shutdown::Write);
+        }
+    }
+
+    fn close(&mut self, socket: u32) {
+        self.sockets.retain(|one| one.number != socket);
+    }
+
     fn wait(&mut self, most: Option<u64>, ready: &mut [Ready]) -> usize {
         let most = most.map(Duration::from_millis);
         if self.poll.poll(&mut self.events, most).is_err() {
@@ -153,7 +163,5 @@ impl<C: Clock + Drop> System for MioSystem<C> {
 
     fn told_write(&mut self, _peer: u32, _bytes: &[u8], _answer: Result<usize, DoorFault>) {}
 
-    fn told_close(&mut self, peer: u32, _answer: Result<(), DoorFault>) {
-        self.sockets.retain(|socket| socket.number != peer);
-    }
+    fn told_close(&mut self, _peer: u32, _answer: Result<(), DoorFault>) {}
 }

@@ -4,9 +4,10 @@ ghost use Rattle.std.specs.Prelude.{◌≡◌, ◌≢◌, ◌<◌, ◌≤◌, �
 ghost use Rattle.srcp_sockets.specs.Steps.{SaysNothing, Tells, Told};
 ghost use Rattle.srcp_serve.specs.Calls.{ReadCall, WriteCall};
 ghost use Rattle.srcp_sockets.specs.Times.{KeepsTimes};
-ghost use Rattle.srcp_sockets.specs.Peers.{Asks, IsKept, Offers, Spares, after_wake, queued_more, given, got_bytes, is_resting, may_have, missed, refused, rests_reading, rests_writing, taken, woken_input, woken_output};
+ghost use Rattle.srcp_sockets.specs.Peers.{Asks, IsKept, Offers, Spares, after_wake, queued_more, given, got_bytes, has_rest, is_lost, is_resting, may_have, missed, refused, rests_reading, rests_writing, taken, woken_input, woken_output};
 
 use crate::queue::{MOST_INCOMING, MOST_OUTGOING, MOST_PIECE, Outgoing, Queue};
+use crate::stay::Stay;
 use crate::system::{Ready, Refusal, System, refusal_of};
 use srcp_serve::{DoorFault, Got};
 use std::alloc::{AllocError, Global};
@@ -39,12 +40,20 @@ pub enum Writing {
 
 impl Reading {
     /// Returns whether a read may find something.
-    fn is_ready(self) -> bool
+    pub(crate) fn is_ready(self) -> bool
         ensures { result ≡ may_have self }
     {
         match self {
             Reading::Ready | Reading::Draining => true,
             Reading::Quiet | Reading::Ended | Reading::Failed => false,
+        }
+    }
+
+    /// Returns whether no read finds anything any more.
+    pub(crate) fn is_over(self) -> bool {
+        match self {
+            Reading::Ready | Reading::Draining | Reading::Quiet => false,
+            Reading::Ended | Reading::Failed => true,
         }
     }
 
@@ -112,9 +121,8 @@ impl Writing {
     }
 
     /// Returns whether the socket takes no more.
-    fn is_lost(self) -> bool
-        ensures yes { result ≡ true → self ≡ Writing.Lost }
-        ensures no { result ≡ false → self ≢ Writing.Lost }
+    pub(crate) fn is_lost(self) -> bool
+        ensures { result ≡ is_lost self }
     {
         match self {
             Writing::Lost => true,
@@ -183,6 +191,8 @@ pub struct Peer {
     pub output: Writing,
     /// Whether less was taken for it than was handed over last: the core has more for it, and takes nothing of it.
     pub cut: bool,
+    /// Whether it is there.
+    pub stay: Stay,
 }
 
 impl Peer {
@@ -198,6 +208,7 @@ impl Peer {
           input = Reading.Ready;
           output = Writing.Open;
           cut = false;
+          stay = Stay.Here;
         }) }
     {
         Ok(Peer {
@@ -207,6 +218,7 @@ impl Peer {
             input: Reading::Ready,
             output: Writing::Open,
             cut: false,
+            stay: Stay::Here,
         })
     }
 
@@ -239,6 +251,7 @@ impl Peer {
         ensures calls { SaysNothing (S.told system.old) (S.told system.new) }
         ensures times { KeepsTimes (S.told system.old) (S.told system.new) }
         ensures number { self.new.number ≡ self.old.number }
+        ensures stay { self.new.stay ≡ self.old.stay }
         ensures offered { self.old.output ≡ Writing.Open → self.old.outgoing ≢ []
             → Offers self.old.number self.old.outgoing (S.told system.old) (S.told system.new) }
     {
@@ -263,6 +276,7 @@ impl Peer {
         ensures calls { SaysNothing (S.told system.old) (S.told system.new) }
         ensures times { KeepsTimes (S.told system.old) (S.told system.new) }
         ensures number { self.new.number ≡ self.old.number }
+        ensures stay { self.new.stay ≡ self.old.stay }
         ensures asked { may_have self.old.input ≡ true → length self.old.incoming < MOST_PIECE
             → Asks self.old.number (S.told system.old) (S.told system.new) }
     {
@@ -286,7 +300,8 @@ impl Peer {
         buffer: &mut [u8],
         most: usize,
     ) -> Result<Got, DoorFault>
-        requires { IsKept (S.told system.old) self.old }
+        requires kept { IsKept (S.told system.old) self.old }
+        requires here { self.old.stay ≡ Stay.Here }
         ensures kept { IsKept (S.told system.new) self.new }
         ensures told { Tells (S.told system.old) (Told (ReadCall self.old.number result buffer.new))
             (S.told system.new) }
@@ -338,7 +353,8 @@ impl Peer {
 
     /// Takes bytes, as many as there is space for, and returns how many. What is written to a lost peer goes nowhere.
     pub fn write<S: System>(&mut self, system: &mut S, bytes: &[u8]) -> usize
-        requires { IsKept (S.told system.old) self.old }
+        requires kept { IsKept (S.told system.old) self.old }
+        requires here { self.old.stay ≡ Stay.Here }
         ensures kept { IsKept (S.told system.new) self.new }
         ensures count { result ≤ length bytes.now }
         ensures told { Tells (S.told system.old) (Told (WriteCall self.old.number bytes.now (Ok result)))
@@ -365,9 +381,21 @@ impl Peer {
         }
     }
 
-    /// Returns whether nothing happens to it unless its socket is found ready.
+    /// Returns whether it is there, and something happens to it though no socket is found ready.
+    pub(crate) fn is_busy(&self) -> bool {
+        self.stay.is_here() && !self.is_resting()
+    }
+
+    /// Returns whether it is there, and nothing happens to it unless its socket is found ready.
     pub fn is_resting(&self) -> bool
         ensures { result ≡ is_resting self.now }
+    {
+        self.stay.is_here() && self.has_rest()
+    }
+
+    /// Returns whether nothing is to be done for it unless its socket is found ready.
+    fn has_rest(&self) -> bool
+        ensures { result ≡ has_rest self.now }
     {
         if !self.output.is_resting(&self.outgoing) {
             return false;

@@ -1,6 +1,6 @@
 //! The system's sockets, with their peers.
 
-ghost use Rattle.std.specs.Prelude.{false, ◌≡◌, ◌<◌, ◌≤◌, ◌-◌, max, ℕ, ◌⊎◌, Option, Some, None, Ok, Result, IfErr, IfNone, IfOk, IfSome, List, [], length, slice_index_or, vec_capacity};
+ghost use Rattle.std.specs.Prelude.{true, false, ◌≡◌, ◌<◌, ◌≤◌, ◌-◌, max, ℕ, ◌⊎◌, Option, Some, None, Ok, Result, IfErr, IfNone, IfOk, IfSome, List, [], length, slice_index_or, vec_capacity};
 ghost use Rattle.srcp_sockets.specs.declared.peer.Peer.{Peer};
 ghost use Rattle.srcp_sockets.specs.Facts.{Stands-prop};
 ghost use Rattle.std.specs.Option.{option_map};
@@ -10,8 +10,10 @@ ghost use Rattle.srcp_sockets.specs.Turns.{first_turn};
 ghost use Rattle.srcp_serve.specs.Calls.{ExpectCall, NowCall, AcceptCall, ReadCall, WriteCall, CloseCall};
 ghost use Rattle.srcp_sockets.specs.Steps.{Accepts, SaysNothing, SaysOne, Step, Tells};
 ghost use Rattle.srcp_sockets.specs.Listeners.{refused_listening};
-ghost use Rattle.srcp_sockets.specs.Doors.{IsAbsent, Stands};
+ghost use Rattle.srcp_sockets.specs.Peers.{is_closable};
+ghost use Rattle.srcp_sockets.specs.Doors.{IsMissing, IsPresent, Stands};
 
+use crate::leaving::{first_gone, first_shut, part};
 use crate::peer::Peer;
 use crate::peers::begin_turn;
 use crate::queue::MOST_PIECE;
@@ -54,10 +56,12 @@ impl<S: System + Drop> Sockets<S> {
         self.most = Some(milliseconds);
     }
 
-    /// Begins a turn: flushes each peer, waits, and fills each peer.
+    /// Begins a turn: goes on with those that were let go, flushes each peer, waits, and fills each peer.
     pub(crate) fn begin_turn(&mut self, ready: &mut [Ready])
         ensures { SaysNothing (S.told self.old.system) (S.told self.new.system) }
     {
+        self.part();
+        self.close_gone();
         self.listening = begin_turn(
             &mut self.system,
             self.peers.as_mut_slice(),
@@ -115,7 +119,8 @@ impl<S: System + Drop> Sockets<S> {
             return Ok(None);
         }
         if self.peers.len() >= self.peers.capacity() {
-            return Err(DoorFault::Accept);
+            self.make_room();
+            return Ok(None);
         }
         let Some(number) = self.last.checked_add(1) else {
             return Err(DoorFault::Accept);
@@ -140,7 +145,7 @@ impl<S: System + Drop> Sockets<S> {
         }
     }
 
-    /// Closes the socket of a peer.
+    /// Lets a peer go. It is kept until its socket took what is queued and its input ended, 10 seconds at most.
     pub(crate) fn close(&mut self, number: u32) -> Result<(), DoorFault>
         ensures told { SaysOne (S.told self.old.system) (CloseCall number result) (S.told self.new.system) }
         ensures fault { IfErr result (λ fault. fault ≡ DoorFault.Close) }
@@ -150,10 +155,51 @@ impl<S: System + Drop> Sockets<S> {
             self.turn.note_close(Err(DoorFault::Close));
             return Err(DoorFault::Close);
         };
-        self.peers.remove(place);
+        self.peers[place].let_go(self.turn.clock);
         self.system.told_close(number, Ok(()));
         self.turn.note_close(Ok(()));
         Ok(())
+    }
+
+    /// Closes the first peer that was let go and is owed nothing. If there is none, nobody is let in until one is closed.
+    fn make_room(&mut self)
+        ensures calls { SaysNothing (S.told self.old.system) (S.told self.new.system) }
+        ensures last { self.new.last ≡ self.old.last }
+    {
+        match first_shut(self.peers.as_slice()) {
+            Some(place) => self.close_at(place),
+            None => self.listening = Listening::Refused,
+        }
+    }
+
+    /// Goes on with each peer that was let go, and closes the first for which nothing is left to do.
+    fn part(&mut self)
+        ensures calls { SaysNothing (S.told self.old.system) (S.told self.new.system) }
+        ensures last { self.new.last ≡ self.old.last }
+    {
+        part(&mut self.system, self.peers.as_mut_slice());
+    }
+
+    /// Closes the first peer that was let go and for which nothing is left to do.
+    fn close_gone(&mut self)
+        ensures calls { SaysNothing (S.told self.old.system) (S.told self.new.system) }
+        ensures last { self.new.last ≡ self.old.last }
+    {
+        if let Some(place) = first_gone(self.peers.as_slice(), self.turn.clock) {
+            self.close_at(place);
+        }
+    }
+
+    /// Closes the socket of a peer.
+    fn close_at(&mut self, place: usize)
+        requires within { place < length self.old.peers.items }
+        requires closable { (d : Peer) → is_closable self.old.turn.clock (slice_index_or self.old.peers.items place d) ≡ true }
+        ensures calls { SaysNothing (S.told self.old.system) (S.told self.new.system) }
+        ensures last { self.new.last ≡ self.old.last }
+    {
+        let number = self.peers[place].number;
+        self.peers.remove(place);
+        self.system.close(number);
     }
 
     /// Returns the moment that is to be told.
@@ -170,14 +216,14 @@ impl<S: System + Drop> Sockets<S> {
         answer
     }
 
-    /// Returns the place of the peer with that number, if one has it.
+    /// Returns the place of the peer with that number, if one is there.
     fn place(&self, number: u32) -> Option<usize>
         ensures found { IfSome result (λ place. (place < length self.now.peers.items)
-            × ((d : Peer) → (slice_index_or self.now.peers.items place d).number ≡ number)) }
-        ensures absent { IfNone result (IsAbsent number self.now.peers.items) }
+            × ((d : Peer) → IsPresent number (slice_index_or self.now.peers.items place d))) }
+        ensures none { IfNone result (IsMissing number self.now.peers.items) }
     {
         for place in 0..self.peers.len() {
-            if self.peers[place].number == number {
+            if self.peers[place].number == number && self.peers[place].stay.is_here() {
                 return Some(place);
             }
         }

@@ -2,7 +2,7 @@
 
 ghost use Rattle.std.specs.Prelude.{◌≡◌, ◌<◌, ◌≤◌, List, Option, None, IfOk, length};
 ghost use Rattle.srcp_serve.specs.Calls.{ExpectCall, NowCall, AcceptCall, ReadCall, WriteCall, CloseCall};
-ghost use Rattle.srcp_sockets.specs.Steps.{Step, Tells, Accepts, Clocks, Reads, Writes, Waits, Told, refusal_told};
+ghost use Rattle.srcp_sockets.specs.Steps.{Step, Tells, Accepts, Clocks, Closes, Reads, Shuts, Writes, Waits, Told, refusal_told};
 
 use srcp_serve::{DoorFault, Got};
 use std::io::ErrorKind;
@@ -74,6 +74,14 @@ pub trait System {
         ensures count { IfOk result (λ count. count ≤ length bytes.now) }
         ensures told { Tells (told self.old) (Writes socket bytes.now result) (told self.new) };
 
+    /// Tells a socket that nothing more is written to it.
+    fn shutdown(&mut self, socket: u32)
+        ensures { Tells (told self.old) (Shuts socket) (told self.new) };
+
+    /// Closes a socket. Its number is that of no socket from then on.
+    fn close(&mut self, socket: u32)
+        ensures { Tells (told self.old) (Closes socket) (told self.new) };
+
     /// Waits until a socket is ready, so many milliseconds at most if that is said. Returns how many were found ready,
     /// which are in front of `ready`; none where the system refuses to wait.
     fn wait(&mut self, most: Option<u64>, ready: &mut [Ready]) -> usize
@@ -104,7 +112,7 @@ pub trait System {
     fn told_write(&mut self, peer: u32, bytes: &[u8], answer: Result<usize, DoorFault>)
         ensures { Tells (told self.old) (Told (WriteCall peer bytes.now answer)) (told self.new) };
 
-    /// Is told that a peer was let go. Its socket is closed then.
+    /// Is told that a peer was let go.
     fn told_close(&mut self, peer: u32, answer: Result<(), DoorFault>)
         ensures { Tells (told self.old) (Told (CloseCall peer answer)) (told self.new) };
 }

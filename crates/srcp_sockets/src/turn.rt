@@ -16,7 +16,7 @@ const EARLIER: u64 = 128;
 pub struct Turn {
     /// The clocks at the start, and the moment that was told last.
     pub timekeeper: Timekeeper,
-    /// What the clock that is never set showed when that moment was told, in milliseconds.
+    /// What the clock that is never set showed when that moment was told, in milliseconds; 0 before the first.
     pub clock: u64,
     /// The moment at which something falls due next, if anything does.
     pub due: Option<u64>,
@@ -35,7 +35,7 @@ impl Turn {
     {
         Turn {
             timekeeper: Timekeeper::new(wall, start),
-            clock: start,
+            clock: 0,
             due: None,
             slack: None,
             busy: true,

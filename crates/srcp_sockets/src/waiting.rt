@@ -11,7 +11,8 @@ use crate::peer::Peer;
 use crate::system::Refusal;
 use crate::turn::Turn;
 
-/// How long a turn waits at most in milliseconds where a call of the system is to be made again.
+/// How long a turn waits at most in milliseconds where a call of the system is to be made again, or a peer that was let
+/// go is kept.
 pub const PAUSE: u64 = 8;
 
 /// How long a turn waits at most for what falls due, in milliseconds: an hour.
@@ -47,8 +48,9 @@ impl Listening {
 }
 
 /// Returns how many milliseconds a turn waits at most; `None` if only a socket ends the wait. It does not wait while a
-/// peer or the listener may have something, or a panel may have something coming. It waits neither past what falls due,
-/// nor longer than `most` if that is said.
+/// peer that is there or the listener may have something, or a panel may have something coming. It waits neither past
+/// what falls due, nor longer than `most` if that is said, nor longer than the pause while a peer is kept that was let
+/// go.
 pub fn longest_wait(
     peers: &[Peer],
     listening: Listening,
@@ -61,14 +63,14 @@ pub fn longest_wait(
     ensures most { (n : ℕ) → most ≡ Some n → IsWithin n result }
     ensures due { (left : ℕ) → time_left turn.now ≡ Some left → IsWithin left result }
 {
-    if turn.is_pending() || !are_resting(peers) {
+    if turn.is_pending() || peers.iter().any(|peer| peer.is_busy()) {
         return Some(0);
     }
     let left = sooner(turn.left(), most).map(|left| left.min(LONGEST_WAIT));
     match listening {
         Listening::Ready => Some(0),
-        Listening::Refused => Some(left.map_or(PAUSE, |left| left.min(PAUSE))),
-        Listening::Quiet => left,
+        Listening::Quiet if are_resting(peers) => left,
+        Listening::Quiet | Listening::Refused => Some(left.map_or(PAUSE, |left| left.min(PAUSE))),
     }
 }
 
@@ -84,7 +86,7 @@ fn sooner(one: Option<u64>, other: Option<u64>) -> Option<u64>
     }
 }
 
-/// Returns whether nothing happens to them unless a socket is found ready.
+/// Returns whether all are there, and nothing happens to them unless a socket is found ready.
 fn are_resting(peers: &[Peer]) -> bool
     ensures { result ≡ true → All (λ peer. is_resting peer ≡ true) peers.now }
 {

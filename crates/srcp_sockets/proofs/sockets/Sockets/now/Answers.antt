@@ -3,7 +3,7 @@ use Rattle.srcp_serve.specs.Calls.{NowCall}
 use Rattle.srcp_sockets.specs.Steps.{Clocks, Told}
 use Rattle.srcp_sockets.proofs.Keeping.{says_after, says_call, says_step}
 use Rattle.srcp_sockets.proofs.Naming.{named_call, named_silent}
-use Rattle.srcp_sockets.proofs.Standing.{stands_step}
+use Rattle.srcp_sockets.proofs.Standing.{stands_clocked, stands_step}
 use Rattle.srcp_sockets.proofs.Timing.{timed_moment}
 use Rattle.srcp_sockets.proofs.sockets.Sockets.now.Goals as goal
 
@@ -16,9 +16,8 @@ invariant_of-self g c =
     record {
       stands = stands_step mid new c.args.self.now.peers.items c.args.self.now.listening c.args.self.now.last (Told (NowCall answer))
           (λ s a. refl) c.told_now.ensures
-          (stands_step old mid c.args.self.now.peers.items c.args.self.now.listening c.args.self.now.last (Clocks c.clock-shown.result)
-          (λ s a. refl) c.clock-shown.ensures
-          c.args.self.now.stands);
+          (stands_clocked old mid c.args.self.now.peers.items c.args.self.now.listening c.args.self.now.last c.clock-shown.result
+          c.clock-shown.ensures c.args.self.now.stands);
       named = named_call mid new c.args.self.now.last (NowCall answer) (says_call mid new (NowCall answer) c.told_now.ensures) refl
           (named_silent old mid c.args.self.now.last (says_step old mid (Clocks c.clock-shown.result) c.clock-shown.ensures refl)
           c.args.self.now.named);

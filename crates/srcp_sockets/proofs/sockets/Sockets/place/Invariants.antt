@@ -1,7 +1,9 @@
 use Rattle.std.proofs.Common.{ℕ, ◌<◌, ◌≡◌}
-use Rattle.std.specs.Prelude.{◌≢◌, slice_index_or}
+use Rattle.std.specs.Prelude.{false, slice_index_or}
 use Rattle.srcp_sockets.specs.declared.peer.Peer.{Peer}
+use Rattle.srcp_sockets.specs.Peers.{is_here}
 use Rattle.srcp_sockets.proofs.sockets.Sockets.place.Given as goal
 
 abbrev pub invariant-loop-place : goal.invariant-loop-place
-invariant-loop-place g l = (k : ℕ) (d : Peer) → k < l.place → (slice_index_or l.self.peers.items k d).number ≢ l.number
+invariant-loop-place g l = (k : ℕ) (d : Peer) → k < l.place → (slice_index_or l.self.peers.items k d).number ≡ l.number
+    → is_here (slice_index_or l.self.peers.items k d).stay ≡ false

@@ -35,7 +35,7 @@ invariant_of-self-2 g c =
 pub returns-clause-told : goal.returns-clause-told
 returns-clause-told g c =
     let x = c.index_mut.result.now in
-    let e = ap (λ (p : Peer). p.number) c.index_mut.ensures.value ∙ c.in-Some.ensures.found.1 x in
+    let e = ap (λ (p : Peer). p.number) c.index_mut.ensures.value ∙ (c.in-Some.ensures.found.1 x).0 in
     subst (λ (n : ℕ). SaysOne (g.S.System.told c.args.self.now.system) (WriteCall n c.args.bytes.now (Ok c.write-count.result))
     (g.S.System.told c.write-count.new.system)) e
     (says_call (g.S.System.told c.args.self.now.system) (g.S.System.told c.write-count.new.system)

@@ -1,0 +1,85 @@
+-- The accounts read the clock as the times do.
+use Rattle.std.proofs.Common.{◌≡◌, ◌∙◌, ℕ, Bool, true, false, List, [], ◌∷◌, take, refl, ap, sym, ◌==◌, if◌then◌else◌, Option, Some, None, Ok, Err}
+use Rattle.std.specs.Prelude.{◌||◌, Result, fold}
+use Rattle.std.specs.declared.io.ErrorKind.{ErrorKind}
+use Rattle.srcp_serve.specs.declared.door.Got.TheVariants as got
+use Rattle.srcp_sockets.specs.declared.system.Ready.{Ready}
+use Rattle.srcp_sockets.specs.declared.turn.Turn.{Turn}
+use Rattle.srcp_serve.specs.Calls.{Call, ExpectCall, NowCall, AcceptCall, ReadCall, WriteCall, CloseCall}
+use Rattle.srcp_sockets.specs.Steps.{Accepts, Clocks, Closes, Reads, Shuts, Step, Told, Waits, Writes}
+use Rattle.srcp_sockets.specs.Accounts.{Account, accepted, account, account_step, clock_after, closed, heard, let_go, read_in, shut_down, untouched, waited, woken, woken_came, woken_sent, wrote}
+use Rattle.srcp_sockets.specs.Times.{IsTimed, Times, first_times, times, times_step}
+use Rattle.srcp_sockets.proofs.Tellings.{if_same}
+
+-- what the clock showed last, after a step
+abbrev clock_step : ℕ → Step → ℕ
+clock_step clock (Clocks answer) = clock_after clock answer
+clock_step clock other = clock
+
+abbrev shown : Account → ℕ
+shown a = a.leave.clock
+
+woken_clock : (socket : ℕ) (a : Account) (ready : List Ready) → shown (fold (woken socket) a ready) ≡ shown a
+woken_clock socket a [] = refl
+woken_clock socket a (one ∷ more) = woken_clock socket (woken socket a one) more
+    ∙ if_same shown (one.socket == socket) (record a {
+      sent = woken_sent a.sent one.writable;
+      received = woken_came a.received one.readable (one.closed || one.urgent);
+    }) a refl
+
+accepted_clock : (a : Account) (answer : Result Unit ErrorKind) → shown (accepted a answer) ≡ shown a
+accepted_clock a (Ok done) = refl
+accepted_clock a (Err fault) = refl
+
+account_clock : (socket : ℕ) (a : Account) (step : Step) → shown (account_step socket a step) ≡ clock_step (shown a) step
+account_clock socket a (Accepts number answer) = by (socket == 0)
+  where
+    by : (b : Bool) → shown (if b then record a { received = heard a.received answer } else if number == socket then accepted a answer
+        else a) ≡ shown a
+    by true = refl
+    by false = if_same shown (number == socket) (accepted a answer) a (accepted_clock a answer)
+account_clock socket a (Reads who buffer answer) = if_same shown (who == socket) (record a { received = read_in a.received buffer answer }) a refl
+account_clock socket a (Writes who bytes answer) = if_same shown (who == socket) (record a { sent = wrote a.sent bytes answer }) a refl
+account_clock socket a (Shuts who) = if_same shown (who == socket) (shut_down a) a refl
+account_clock socket a (Closes who) = if_same shown (who == socket) (closed a) a refl
+account_clock socket a (Waits most count ready) = woken_clock socket (waited socket a most) (take count ready)
+account_clock socket a (Clocks answer) = refl
+account_clock socket a (Told (ExpectCall due slack)) = refl
+account_clock socket a (Told (NowCall answer)) = refl
+account_clock socket a (Told (AcceptCall answer)) = refl
+account_clock socket a (Told (ReadCall who (Ok (got.Bytes count)) buffer)) = if_same shown (who == socket) _ a refl
+account_clock socket a (Told (ReadCall who (Ok got.Ended) buffer)) = if_same shown (who == socket) _ a refl
+account_clock socket a (Told (ReadCall who (Ok got.Nothing) buffer)) = refl
+account_clock socket a (Told (ReadCall who (Err fault) buffer)) = refl
+account_clock socket a (Told (WriteCall who bytes (Ok count))) = if_same shown (who == socket) _ a refl
+account_clock socket a (Told (WriteCall who bytes (Err fault))) = refl
+account_clock socket a (Told (CloseCall who answer)) = if_same shown (who == socket) (let_go a) a refl
+
+times_clock : (t : Times) (step : Step) → (times_step t step).clock ≡ clock_step t.clock step
+times_clock t (Accepts number answer) = refl
+times_clock t (Reads who buffer answer) = refl
+times_clock t (Writes who bytes answer) = refl
+times_clock t (Shuts who) = refl
+times_clock t (Closes who) = refl
+times_clock t (Waits most count ready) = refl
+times_clock t (Clocks (Some time)) = refl
+times_clock t (Clocks None) = refl
+times_clock t (Told (ExpectCall due slack)) = refl
+times_clock t (Told (NowCall (Ok moment))) = refl
+times_clock t (Told (NowCall (Err fault))) = refl
+times_clock t (Told (AcceptCall answer)) = refl
+times_clock t (Told (ReadCall who answer buffer)) = refl
+times_clock t (Told (WriteCall who bytes answer)) = refl
+times_clock t (Told (CloseCall who answer)) = refl
+
+both_clocks : (socket : ℕ) (a : Account) (t : Times) (log : List Step) → shown a ≡ t.clock
+    → shown (fold (account_step socket) a log) ≡ (fold times_step t log).clock
+both_clocks socket a t [] same = same
+both_clocks socket a t (step ∷ log) same = both_clocks socket (account_step socket a step) (times_step t step) log
+    (account_clock socket a step ∙ ap (λ c. clock_step c step) same ∙ sym (times_clock t step))
+
+-- the account of each socket has the clock of the turn
+pub clock_is : (told : Option (List Step)) (turn : Turn) (socket : ℕ) → IsTimed told turn → (log : List Step) → told ≡ Some log
+    → (account socket log).leave.clock ≡ turn.clock
+clock_is told turn socket timed log is =
+    both_clocks socket untouched (first_times turn.timekeeper.wall turn.timekeeper.start) log refl ∙ (timed log is).clock

@@ -1,0 +1,31 @@
+use Rattle.std.proofs.Common.{◌≡◌, ◌∙◌, List, ap, refl, sym, subst}
+use Rattle.srcp_sockets.specs.declared.peer.Peer.{Peer}
+use Rattle.srcp_sockets.specs.Doors.{Stands}
+use Rattle.srcp_sockets.specs.Steps.{Closes}
+use Rattle.srcp_sockets.proofs.Clocking.{clock_is}
+use Rattle.srcp_sockets.proofs.Keeping.{says_step}
+use Rattle.srcp_sockets.proofs.Naming.{named_silent}
+use Rattle.srcp_sockets.proofs.Standing.{stands_closed_at}
+use Rattle.srcp_sockets.proofs.Timing.{keeps_step, timed_kept}
+use Rattle.srcp_sockets.proofs.sockets.Sockets.close_at.Goals as goal
+
+pub invariant_of-self : goal.invariant_of-self
+invariant_of-self g c =
+    let old = g.S.System.told c.args.self.now.system in
+    let new = g.S.System.told c.close.new.self in
+    let self = c.args.self.now in
+    let peer = c.index.result.now in
+    record {
+      stands = subst (λ (ps : List Peer). Stands new ps self.listening self.last) (sym c.remove.ensures.items)
+          (stands_closed_at old new self.peers.items c.args.place peer self.listening self.last self.turn.clock c.requires.within
+          (sym c.index.ensures) (c.requires.closable peer)
+          (clock_is old self.turn peer.number self.timed) c.close.ensures self.stands);
+      named = named_silent old new self.last (says_step old new (Closes peer.number) c.close.ensures refl) self.named;
+      timed = timed_kept old new self.turn (keeps_step old new (Closes peer.number) c.close.ensures (λ t. refl)) self.timed;
+    }
+
+pub returns-clause-calls : goal.returns-clause-calls
+returns-clause-calls g c =
+    let old = g.S.System.told c.args.self.now.system in
+    let new = g.S.System.told c.close.new.self in
+    says_step old new (Closes c.index.result.now.number) c.close.ensures refl

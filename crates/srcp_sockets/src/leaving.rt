@@ -1,0 +1,179 @@
+//! What becomes of a peer that was let go: its socket is written what is queued for it, is shut down behind that, and is
+//! read until its input ends. A socket that is closed with input in it would reset the connection, and the peer would
+//! lose what it did not read.
+
+ghost use Rattle.std.specs.Prelude.{◌≡◌, ◌≢◌, ◌<◌, ℕ, [], true, false, IfSome, length, slice_index_or};
+ghost use Rattle.srcp_sockets.specs.declared.peer.Peer.{Peer};
+ghost use Rattle.srcp_sockets.specs.Steps.{SaysNothing};
+ghost use Rattle.srcp_sockets.specs.Times.{KeepsTimes};
+ghost use Rattle.srcp_sockets.specs.Peers.{IsKept, Spares, is_closable, is_here, is_lost};
+ghost use Rattle.srcp_sockets.specs.Doors.{AreApart, AreKept, AreThose, IsAbsent};
+
+use crate::peer::Peer;
+use crate::stay::{Stay, is_over};
+use crate::system::System;
+
+/// How often the socket of a peer that was let go is read in a turn: what still comes is dropped as fast as it comes.
+const MOST_DRAINED: u32 = 64;
+
+impl Peer {
+    /// Lets it go, at that time of the clock that is never set.
+    pub(crate) fn let_go(&mut self, since: u64)
+        ensures { self.new ≡ record self.old { stay = Stay.Leaving since } }
+    {
+        self.stay = Stay::Leaving { since };
+    }
+
+    /// Goes on with a peer that was let go.
+    pub(crate) fn part<S: System>(&mut self, system: &mut S)
+        requires { IsKept (S.told system.old) self.old }
+        ensures kept { IsKept (S.told system.new) self.new }
+        ensures others { (other : ℕ) → other ≢ self.old.number → Spares other (S.told system.old) (S.told system.new) }
+        ensures calls { SaysNothing (S.told system.old) (S.told system.new) }
+        ensures times { KeepsTimes (S.told system.old) (S.told system.new) }
+        ensures number { self.new.number ≡ self.old.number }
+    {
+        match self.stay {
+            Stay::Here => (),
+            Stay::Leaving { since } => self.finish(system, since),
+            Stay::Shut { .. } => self.drain(system),
+        }
+    }
+
+    /// Writes what is queued, and shuts the socket down once that is taken.
+    fn finish<S: System>(&mut self, system: &mut S, since: u64)
+        requires kept { IsKept (S.told system.old) self.old }
+        requires leaving { self.old.stay ≡ Stay.Leaving since }
+        ensures kept { IsKept (S.told system.new) self.new }
+        ensures others { (other : ℕ) → other ≢ self.old.number → Spares other (S.told system.old) (S.told system.new) }
+        ensures calls { SaysNothing (S.told system.old) (S.told system.new) }
+        ensures times { KeepsTimes (S.told system.old) (S.told system.new) }
+        ensures number { self.new.number ≡ self.old.number }
+    {
+        self.flush(system);
+        if self.outgoing.is_empty() && !self.output.is_lost() {
+            self.shut_down(system, since);
+        }
+    }
+
+    /// Tells its socket that nothing more is written.
+    fn shut_down<S: System>(&mut self, system: &mut S, since: u64)
+        requires kept { IsKept (S.told system.old) self.old }
+        requires leaving { self.old.stay ≡ Stay.Leaving since }
+        requires taken { self.old.outgoing ≡ [] }
+        requires sound { is_lost self.old.output ≡ false }
+        ensures kept { IsKept (S.told system.new) self.new }
+        ensures others { (other : ℕ) → other ≢ self.old.number → Spares other (S.told system.old) (S.told system.new) }
+        ensures calls { SaysNothing (S.told system.old) (S.told system.new) }
+        ensures times { KeepsTimes (S.told system.old) (S.told system.new) }
+        ensures number { self.new.number ≡ self.old.number }
+    {
+        system.shutdown(self.number);
+        self.stay = Stay::Shut { since };
+    }
+
+    /// Drops what its socket gives, as far as a turn goes.
+    fn drain<S: System>(&mut self, system: &mut S)
+        requires kept { IsKept (S.told system.old) self.old }
+        requires gone { is_here self.old.stay ≡ false }
+        ensures kept { IsKept (S.told system.new) self.new }
+        ensures others { (other : ℕ) → other ≢ self.old.number → Spares other (S.told system.old) (S.told system.new) }
+        ensures calls { SaysNothing (S.told system.old) (S.told system.new) }
+        ensures times { KeepsTimes (S.told system.old) (S.told system.new) }
+        ensures number { self.new.number ≡ self.old.number }
+    {
+        for _ in 0..MOST_DRAINED {
+            if !self.input.is_ready() {
+                return;
+            }
+            self.skip(system);
+        }
+    }
+
+    /// Drops what was read of it, and reads once more.
+    fn skip<S: System>(&mut self, system: &mut S)
+        requires kept { IsKept (S.told system.old) self.old }
+        requires gone { is_here self.old.stay ≡ false }
+        ensures kept { IsKept (S.told system.new) self.new }
+        ensures others { (other : ℕ) → other ≢ self.old.number → Spares other (S.told system.old) (S.told system.new) }
+        ensures calls { SaysNothing (S.told system.old) (S.told system.new) }
+        ensures times { KeepsTimes (S.told system.old) (S.told system.new) }
+        ensures number { self.new.number ≡ self.old.number }
+        ensures stay { self.new.stay ≡ self.old.stay }
+    {
+        self.drop_input();
+        self.fill(system);
+    }
+
+    /// Drops what was read of it.
+    fn drop_input(&mut self)
+        ensures { self.new ≡ record self.old { incoming = [] } }
+    {
+        let count = self.incoming.len();
+        self.incoming.drop_front(count);
+    }
+
+    /// Returns whether nothing is left to do for it.
+    fn is_gone(&self, clock: u64) -> bool
+        ensures { result ≡ true → is_closable clock self.now ≡ true }
+    {
+        match self.stay {
+            Stay::Here => false,
+            Stay::Leaving { since } => self.output.is_lost() || is_over(clock, since),
+            Stay::Shut { since } => {
+                self.output.is_lost() || self.input.is_over() || is_over(clock, since)
+            }
+        }
+    }
+
+    /// Returns whether it was let go and is owed nothing.
+    fn is_shut(&self) -> bool
+        ensures { (clock : ℕ) → result ≡ true → is_closable clock self.now ≡ true }
+    {
+        match self.stay {
+            Stay::Here | Stay::Leaving { .. } => false,
+            Stay::Shut { .. } => true,
+        }
+    }
+}
+
+/// Goes on with each peer that was let go.
+pub(crate) fn part<S: System>(system: &mut S, peers: &mut [Peer])
+    requires kept { AreKept (S.told system.old) peers.old }
+    requires apart { AreApart peers.old }
+    ensures kept { AreKept (S.told system.new) peers.new }
+    ensures those { AreThose peers.old peers.new }
+    ensures others { (other : ℕ) → IsAbsent other peers.old → Spares other (S.told system.old) (S.told system.new) }
+    ensures calls { SaysNothing (S.told system.old) (S.told system.new) }
+    ensures times { KeepsTimes (S.told system.old) (S.told system.new) }
+{
+    for peer in peers.iter_mut() {
+        peer.part(system);
+    }
+}
+
+/// Returns the place of the first peer for which nothing is left to do, at that time of the clock that is never set.
+pub(crate) fn first_gone(peers: &[Peer], clock: u64) -> Option<usize>
+    ensures { IfSome result (λ place. (place < length peers.now)
+        × ((d : Peer) → is_closable clock (slice_index_or peers.now place d) ≡ true)) }
+{
+    for place in 0..peers.len() {
+        if peers[place].is_gone(clock) {
+            return Some(place);
+        }
+    }
+    None
+}
+
+/// Returns the place of the first peer that was let go and is owed nothing.
+pub(crate) fn first_shut(peers: &[Peer]) -> Option<usize>
+    ensures { IfSome result (λ place. (place < length peers.now)
+        × ((clock : ℕ) (d : Peer) → is_closable clock (slice_index_or peers.now place d) ≡ true)) }
+{
+    for place in 0..peers.len() {
+        if peers[place].is_shut() {
+            return Some(place);
+        }
+    }
+    None
+}
