@@ -6,6 +6,7 @@ pub mod Keeping
 pub mod Naming
 pub mod Lists
 pub mod Standing
+pub mod Parting
 pub mod Tellings
 pub mod Pasts
 pub mod Followed

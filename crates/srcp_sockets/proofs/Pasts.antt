@@ -10,14 +10,14 @@ use Rattle.srcp_serve.specs.declared.door.Got.TheVariants as got
 use Rattle.srcp_sockets.specs.declared.system.Ready.{Ready}
 use Rattle.srcp_serve.specs.Calls.{Call, ExpectCall, NowCall, AcceptCall, ReadCall, WriteCall, CloseCall}
 use Rattle.srcp_sockets.specs.Steps.{Accepts, Clocks, Closes, Reads, Shuts, Step, Told, Waits, Writes}
-use Rattle.srcp_sockets.specs.Accounts.{Account, accepted, account, account_step, closed, heard, is_at_rest, is_short, read_in, shut_down, untouched, waited, woken, woken_came, woken_sent, wrote}
+use Rattle.srcp_sockets.specs.Accounts.{Account, accepted, account, account_step, closed, heard, is_at_rest, is_short, may_close, may_shut, read_in, shut_down, untouched, waited, woken, woken_came, woken_sent, wrote}
 use Rattle.srcp_sockets.proofs.Keeping.{own}
 use Rattle.srcp_sockets.proofs.Resting.{and_left, and_right}
 use Rattle.srcp_sockets.proofs.Tellings.{if_same}
 
 -- what is judged
-abbrev marks : Account → Bool × Bool
-marks a = (a.honest, a.rested)
+abbrev marks : Account → Bool × Bool × Bool
+marks a = (a.honest, a.rested, a.leave.rightly)
 
 woken_marks : (socket : ℕ) (a : Account) (ready : List Ready) → marks (fold (woken socket) a ready) ≡ marks a
 woken_marks socket a [] = refl
@@ -94,6 +94,38 @@ rested_before socket a (Told (WriteCall who bytes (Ok count))) h = sym (if_same 
 rested_before socket a (Told (WriteCall who bytes (Err fault))) h = h
 rested_before socket a (Told (CloseCall who answer)) h = sym (if_same (λ (x : Account). x.rested) (who == socket) _ a refl) ∙ h
 
+rightly_before : (socket : ℕ) (a : Account) (step : Step) → (account_step socket a step).leave.rightly ≡ true → a.leave.rightly ≡ true
+rightly_before socket a (Accepts number answer) h = sym (ap (λ m. m.2) (accept_marks socket number a answer)) ∙ h
+rightly_before socket a (Reads who buffer answer) h = sym (if_same (λ (x : Account). x.leave.rightly) (who == socket)
+    (record a { received = read_in a.received buffer answer }) a refl) ∙ h
+rightly_before socket a (Writes who bytes answer) h = sym (if_same (λ (x : Account). x.leave.rightly) (who == socket)
+    (record a { sent = wrote a.sent bytes answer }) a refl) ∙ h
+rightly_before socket a (Waits most count ready) h = sym
+    (ap (λ m. m.2) (woken_marks socket (waited socket a most) (take count ready))) ∙ h
+rightly_before socket a (Shuts who) h = by (who == socket) h
+  where
+    by : (b : Bool) → (if b then shut_down a else a).leave.rightly ≡ true → a.leave.rightly ≡ true
+    by true e = and_left a.leave.rightly (may_shut a) e
+    by false e = e
+rightly_before socket a (Closes who) h = by (who == socket) h
+  where
+    by : (b : Bool) → (if b then closed a else a).leave.rightly ≡ true → a.leave.rightly ≡ true
+    by true e = and_left a.leave.rightly (may_close a) e
+    by false e = e
+rightly_before socket a (Clocks answer) h = h
+rightly_before socket a (Told (ExpectCall due slack)) h = h
+rightly_before socket a (Told (NowCall answer)) h = h
+rightly_before socket a (Told (AcceptCall answer)) h = h
+rightly_before socket a (Told (ReadCall who (Ok (got.Bytes count)) buffer)) h = sym
+    (if_same (λ (x : Account). x.leave.rightly) (who == socket) _ a refl) ∙ h
+rightly_before socket a (Told (ReadCall who (Ok got.Ended) buffer)) h = sym (if_same (λ (x : Account). x.leave.rightly) (who == socket) _ a refl)
+    ∙ h
+rightly_before socket a (Told (ReadCall who (Ok got.Nothing) buffer)) h = h
+rightly_before socket a (Told (ReadCall who (Err fault) buffer)) h = h
+rightly_before socket a (Told (WriteCall who bytes (Ok count))) h = sym (if_same (λ (x : Account). x.leave.rightly) (who == socket) _ a refl) ∙ h
+rightly_before socket a (Told (WriteCall who bytes (Err fault))) h = h
+rightly_before socket a (Told (CloseCall who answer)) h = sym (if_same (λ (x : Account). x.leave.rightly) (who == socket) _ a refl) ∙ h
+
 at_first : (pr : Account → Bool) (socket : ℕ) → ((a : Account) (step : Step) → pr (account_step socket a step) ≡ true → pr a ≡ true)
     → (a : Account) (log : List Step) → pr (fold (account_step socket) a log) ≡ true → pr a ≡ true
 at_first pr socket back a [] h = h
@@ -139,3 +171,30 @@ rested_then socket before after most count ready h long there =
     long_rests a.watched (socket == 0) (is_short most) (is_at_rest a.sent a.received) there long
     (and_right a.rested (not (a.watched || (socket == 0)) || (is_short most || is_at_rest a.sent a.received))
     (sym (ap (λ m. m.1) (woken_marks socket (waited socket a most) (take count ready))) ∙ step))
+
+-- ---- it was shut down and closed only when it might be
+
+-- a judgement of a step of its own
+judged : (b rightly may other : Bool) → b ≡ true → (if b then rightly && may else other) ≡ true → may ≡ true
+judged true rightly may other e h = and_right rightly may h
+judged false rightly may other e h = absurd (true≢false (sym e))
+
+rightly_if : (b : Bool) (x a : Account) → (if b then x else a).leave.rightly ≡ (if b then x.leave.rightly else a.leave.rightly)
+rightly_if true x a = refl
+rightly_if false x a = refl
+
+pub might_shut : (socket : ℕ) (before after : List Step) → (account socket (before ++ Shuts socket ∷ after)).leave.rightly ≡ true
+    → may_shut (account socket before) ≡ true
+might_shut socket before after h =
+    let a = account socket before in
+    judged (socket == socket) a.leave.rightly (may_shut a) a.leave.rightly (own socket)
+    (sym (rightly_if (socket == socket) (shut_down a) a)
+    ∙ at_step (λ (x : Account). x.leave.rightly) socket (rightly_before socket) before after (Shuts socket) h)
+
+pub might_close : (socket : ℕ) (before after : List Step) → (account socket (before ++ Closes socket ∷ after)).leave.rightly ≡ true
+    → may_close (account socket before) ≡ true
+might_close socket before after h =
+    let a = account socket before in
+    judged (socket == socket) a.leave.rightly (may_close a) a.leave.rightly (own socket)
+    (sym (rightly_if (socket == socket) (closed a) a)
+    ∙ at_step (λ (x : Account). x.leave.rightly) socket (rightly_before socket) before after (Closes socket) h)

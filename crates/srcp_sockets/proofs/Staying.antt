@@ -1,5 +1,5 @@
 -- How far a peer is let go, by its account.
-use Rattle.std.proofs.Common.{◌≡◌, ◌∙◌, ℕ, Bool, true, false, not, List, [], drop, length, refl, ap, sym, subst, arith, ◌==◌, true≢false, Option, Some, None}
+use Rattle.std.proofs.Common.{◌≡◌, ◌∙◌, ℕ, Bool, true, false, not, List, [], drop, length, refl, ap, sym, subst, arith, ◌==◌, true≢false, Option}
 use Rattle.std.specs.Prelude.{◌&&◌, ◌||◌, cond}
 use Rattle.std.proofs.lemmas.List.{drop_all}
 use Rattle.srcp_sockets.specs.Steps.{Step}
@@ -9,7 +9,7 @@ use Rattle.srcp_sockets.specs.declared.peer.Writing.{Writing}
 use Rattle.srcp_sockets.specs.declared.peer.Writing.TheVariants as output
 use Rattle.srcp_sockets.specs.declared.stay.Stay.{Stay}
 use Rattle.srcp_sockets.specs.declared.stay.Stay.TheVariants as stay
-use Rattle.srcp_sockets.specs.Accounts.{Account, Leave, Received, Sent, account, clocked, clock_after, closed, is_leaving, is_over, is_owed, let_go, may_close, may_shut, shut_down}
+use Rattle.srcp_sockets.specs.Accounts.{Account, Leave, Received, Sent, account, clocked, clock_after, is_overdue, is_owed, let_go, may_close, shut_down}
 use Rattle.srcp_sockets.specs.Peers.{Agrees, ComesAs, IsKept, StaysAs, WritesAs, closable_as, is_closable, is_here, is_lost}
 use Rattle.srcp_sockets.proofs.Resting.{owed_is}
 use Rattle.srcp_sockets.proofs.States.{comes_starts}
@@ -163,9 +163,9 @@ closable_then : (a : Account) (outgoing : List ℕ) (state : Writing) (here : St
     → (may_close a ≡ true) × (a.watched ≡ false)
 closable_then a outgoing state stay.Here clock is e w h = absurd (true≢false (sym e))
 closable_then a outgoing state (stay.Leaving since) clock is e w h = (
-  closes_late a.watched a.leave.kept a.leave.shut (is_owed a.sent) a.sent.lost (is_over a.leave.clock a.leave.since) h.0 h.1
-      (or_lost (is_lost state) (is_over a.leave.clock a.leave.since) a.sent.lost
-      (ap (λ c. is_lost state || is_over c a.leave.since) is ∙ ap (λ s. is_lost state || is_over clock s) h.2 ∙ e)
+  closes_late a.watched a.leave.kept a.leave.shut (is_owed a.sent) a.sent.lost (is_overdue a.leave.clock a.leave.since) h.0 h.1
+      (or_lost (is_lost state) (is_overdue a.leave.clock a.leave.since) a.sent.lost
+      (ap (λ c. is_lost state || is_overdue c a.leave.since) is ∙ ap (λ s. is_lost state || is_overdue clock s) h.2 ∙ e)
       (λ l. lost_is a.sent outgoing state l w)),
   h.0,
 )
@@ -173,11 +173,11 @@ closable_then a outgoing state (stay.Shut since) clock is e w h = (by state w, h
   where
     by : (o : Writing) → WritesAs a.sent outgoing o → may_close a ≡ true
     by output.Open w = closes_shut a.watched a.leave.kept a.leave.shut (is_owed a.sent) a.sent.lost
-        (is_over a.leave.clock a.leave.since) h.0 h.1 h.3 (owed_none a.sent outgoing output.Open refl h.4 w)
+        (is_overdue a.leave.clock a.leave.since) h.0 h.1 h.3 (owed_none a.sent outgoing output.Open refl h.4 w)
     by output.Full w = closes_shut a.watched a.leave.kept a.leave.shut (is_owed a.sent) a.sent.lost
-        (is_over a.leave.clock a.leave.since) h.0 h.1 h.3 (owed_none a.sent outgoing output.Full refl h.4 w)
+        (is_overdue a.leave.clock a.leave.since) h.0 h.1 h.3 (owed_none a.sent outgoing output.Full refl h.4 w)
     by output.Lost w = closes_late a.watched a.leave.kept a.leave.shut (is_owed a.sent) a.sent.lost
-        (is_over a.leave.clock a.leave.since) h.0 h.1 (ap (λ b. b || is_over a.leave.clock a.leave.since) w.1)
+        (is_overdue a.leave.clock a.leave.since) h.0 h.1 (ap (λ b. b || is_overdue a.leave.clock a.leave.since) w.1)
 
 -- a peer that may be closed may be so by its account
 pub may_close_then : (a : Account) (p : Peer) (clock : ℕ) → a.leave.clock ≡ clock → is_closable clock p ≡ true → Agrees a p

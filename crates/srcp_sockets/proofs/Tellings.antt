@@ -136,7 +136,8 @@ gave_step socket a (Reads who buffer (Err fault)) = same_more _ a.received.gave
     (ap (λ l. l.1.0) (refused_read_lists a (refusal_told fault))))
 gave_step socket a (Waits most count ready) = same_more _ a.received.gave
     (ap (λ l. l.1.0) (woken_lists socket (waited socket a most) (take count ready)))
-gave_step socket a (Shuts who) = same_more _ a.received.gave (if_same (λ (x : Account). x.received.gave) (who == socket) (shut_down a) a refl)
+gave_step socket a (Shuts who) = same_more _ a.received.gave
+    (if_same (λ (x : Account). x.received.gave) (who == socket) (shut_down a) a refl)
 gave_step socket a (Closes who) = same_more _ a.received.gave (if_same (λ (x : Account). x.received.gave) (who == socket) (closed a) a refl)
 gave_step socket a (Clocks answer) = sym (append-nil a.received.gave)
 gave_step socket a (Told (ExpectCall due slack)) = sym (append-nil a.received.gave)
@@ -166,8 +167,10 @@ written_step socket a (Writes who bytes (Err fault)) = same_more _ a.sent.writte
     (ap (λ l. l.0.0) (refused_write_lists a (refusal_told fault))))
 written_step socket a (Waits most count ready) = same_more _ a.sent.written
     (ap (λ l. l.0.0) (woken_lists socket (waited socket a most) (take count ready)))
-written_step socket a (Shuts who) = same_more _ a.sent.written (if_same (λ (x : Account). x.sent.written) (who == socket) (shut_down a) a refl)
-written_step socket a (Closes who) = same_more _ a.sent.written (if_same (λ (x : Account). x.sent.written) (who == socket) (closed a) a refl)
+written_step socket a (Shuts who) = same_more _ a.sent.written
+    (if_same (λ (x : Account). x.sent.written) (who == socket) (shut_down a) a refl)
+written_step socket a (Closes who) = same_more _ a.sent.written
+    (if_same (λ (x : Account). x.sent.written) (who == socket) (closed a) a refl)
 written_step socket a (Clocks answer) = sym (append-nil a.sent.written)
 written_step socket a (Told (ExpectCall due slack)) = sym (append-nil a.sent.written)
 written_step socket a (Told (NowCall answer)) = sym (append-nil a.sent.written)
@@ -197,8 +200,10 @@ handed_step socket a (Reads who buffer (Err fault)) = same_more _ a.received.han
     (ap (λ l. l.1.1) (refused_read_lists a (refusal_told fault))))
 handed_step socket a (Waits most count ready) = same_more _ a.received.handed
     (ap (λ l. l.1.1) (woken_lists socket (waited socket a most) (take count ready)))
-handed_step socket a (Shuts who) = same_more _ a.received.handed (if_same (λ (x : Account). x.received.handed) (who == socket) (shut_down a) a refl)
-handed_step socket a (Closes who) = same_more _ a.received.handed (if_same (λ (x : Account). x.received.handed) (who == socket) (closed a) a refl)
+handed_step socket a (Shuts who) = same_more _ a.received.handed
+    (if_same (λ (x : Account). x.received.handed) (who == socket) (shut_down a) a refl)
+handed_step socket a (Closes who) = same_more _ a.received.handed
+    (if_same (λ (x : Account). x.received.handed) (who == socket) (closed a) a refl)
 handed_step socket a (Clocks answer) = sym (append-nil a.received.handed)
 handed_step socket a (Told (ExpectCall due slack)) = sym (append-nil a.received.handed)
 handed_step socket a (Told (NowCall answer)) = sym (append-nil a.received.handed)

@@ -1,5 +1,5 @@
 -- What the steps so far say of one socket.
-use Rattle.std.specs.Prelude.{◌≡◌, ℕ, ◌+◌, ◌-◌, ◌<◌, ◌==◌, ◌&&◌, ◌||◌, nat_le, nat_lt, Bool, true, false, not, cond, if◌then◌else◌, List, [], ◌++◌, length, take, fold, Option, Some, None, Result, Ok, Err}
+use Rattle.std.specs.Prelude.{ℕ, ◌+◌, ◌-◌, ◌==◌, ◌&&◌, ◌||◌, nat_le, nat_lt, Bool, true, false, not, cond, if◌then◌else◌, List, [], ◌++◌, length, take, fold, Option, Some, None, Result, Ok, Err}
 use Rattle.std.specs.declared.io.ErrorKind.{ErrorKind}
 use Rattle.srcp_sockets.specs.declared.system.Ready.{Ready}
 use Rattle.srcp_sockets.specs.declared.system.Refusal.{Refusal}
@@ -90,8 +90,8 @@ abbrev pub is_leaving : Account → Bool
 is_leaving a = not a.watched && a.leave.kept
 
 -- a peer that was let go then is kept no longer now
-abbrev pub is_over : (clock since : ℕ) → Bool
-is_over clock since = nat_le 10000 (clock - since)
+abbrev pub is_overdue : (clock since : ℕ) → Bool
+is_overdue clock since = nat_le 10000 (clock - since)
 
 -- once: all that was taken for it was taken by the socket
 abbrev pub may_shut : Account → Bool
@@ -99,7 +99,8 @@ may_shut a = is_leaving a && (not a.leave.shut && not (is_owed a.sent))
 
 -- once: so it was, and it was shut down; or a write found that it takes no more; or its time is over
 abbrev pub may_close : Account → Bool
-may_close a = is_leaving a && ((a.leave.shut && not (is_owed a.sent)) || (a.sent.lost || is_over a.leave.clock a.leave.since))
+may_close a = is_leaving a
+    && ((a.leave.shut && not (is_owed a.sent)) || (a.sent.lost || is_overdue a.leave.clock a.leave.since))
 
 -- ---- what a step says
 

@@ -29,6 +29,12 @@ AreWithin last peers = (k : ℕ) (d : Peer) → k < length peers → (0 < (slice
 abbrev pub IsAbsent : ℕ → List Peer → Type 0
 IsAbsent socket peers = (k : ℕ) (d : Peer) → k < length peers → (slice_index_or peers k d).number ≢ socket
 
+-- one of them has this socket
+pub record IsThere (socket : ℕ) (peers : List Peer) : Type 0 where
+  pub place : ℕ
+  pub within : place < length peers
+  pub same : (d : Peer) → (slice_index_or peers place d).number ≡ socket
+
 -- it has this socket, and is there
 abbrev pub IsPresent : ℕ → Peer → Type 0
 IsPresent socket p = (p.number ≡ socket) × (p.stay ≡ stay.Here)

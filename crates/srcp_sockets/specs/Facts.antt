@@ -1,5 +1,5 @@
 -- What a door is has one proof at most.
-use Rattle.std.specs.Prelude.{◌≡◌, ℕ, Bool, List, Option}
+use Rattle.std.specs.Prelude.{ℕ, Bool, List, Option}
 use Rattle.std.proofs.Props.{props}
 use Rattle.srcp_sockets.specs.declared.peer.Peer.{Peer}
 use Rattle.srcp_sockets.specs.declared.peer.Reading.{Reading}
@@ -11,8 +11,8 @@ use Rattle.srcp_sockets.specs.declared.stay.Stay.TheVariants as stay
 use Rattle.srcp_sockets.specs.declared.waiting.Listening.{Listening}
 use Rattle.srcp_sockets.specs.declared.waiting.Listening.TheVariants as listening
 use Rattle.srcp_sockets.specs.Steps.{Step}
-use Rattle.srcp_sockets.specs.Accounts.{Account, Leave, Received, Sent}
-use Rattle.srcp_sockets.specs.Peers.{Agrees, ComesAs, ReadsAs, StaysAs, WritesAs}
+use Rattle.srcp_sockets.specs.Accounts.{Leave, Received, Sent}
+use Rattle.srcp_sockets.specs.Peers.{ComesAs, ReadsAs, StaysAs, WritesAs}
 use Rattle.srcp_sockets.specs.Doors.{HeardAs, Stands}
 
 ReadsAs-prop : (received : Received) (incoming : List ℕ) (state : Reading) → IsProp (ReadsAs received incoming state)
@@ -27,12 +27,14 @@ WritesAs-prop sent outgoing output.Open = hlevel props
 WritesAs-prop sent outgoing output.Full = hlevel props
 WritesAs-prop sent outgoing output.Lost = hlevel props
 
-ComesAs-prop : (received : Received) (incoming : List ℕ) (state : Reading) (here : Stay) → IsProp (ComesAs received incoming state here)
+ComesAs-prop : (received : Received) (incoming : List ℕ) (state : Reading) (here : Stay) → IsProp
+    (ComesAs received incoming state here)
 ComesAs-prop received incoming state stay.Here = ReadsAs-prop received incoming state
 ComesAs-prop received incoming state (stay.Leaving since) = hlevel props
 ComesAs-prop received incoming state (stay.Shut since) = hlevel props
 
-StaysAs-prop : (watched : Bool) (leave : Leave) (outgoing : List ℕ) (here : Stay) → IsProp (StaysAs watched leave outgoing here)
+StaysAs-prop : (watched : Bool) (leave : Leave) (outgoing : List ℕ) (here : Stay) → IsProp
+    (StaysAs watched leave outgoing here)
 StaysAs-prop watched leave outgoing stay.Here = hlevel props
 StaysAs-prop watched leave outgoing (stay.Leaving since) = hlevel props
 StaysAs-prop watched leave outgoing (stay.Shut since) = hlevel props

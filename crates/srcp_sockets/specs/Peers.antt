@@ -1,5 +1,5 @@
 -- What a peer's states mean.
-use Rattle.std.specs.Prelude.{◌≡◌, ℕ, ◌<◌, ◌≤◌, ◌==◌, ◌&&◌, ◌||◌, nat_lt, Bool, true, false, not, if◌then◌else◌, cond, List, [], ◌++◌, length, take, drop, Option, Some, None, Result, Ok, Err}
+use Rattle.std.specs.Prelude.{◌≡◌, ℕ, ◌==◌, ◌&&◌, ◌||◌, nat_lt, Bool, true, false, not, if◌then◌else◌, cond, List, [], ◌++◌, length, take, drop, Option, Some, Result, Ok, Err}
 use Rattle.std.specs.Io.{StartsWith}
 use Rattle.std.specs.declared.io.ErrorKind.{ErrorKind}
 use Rattle.srcp_sockets.specs.declared.system.Ready.{Ready}
@@ -16,7 +16,7 @@ use Rattle.srcp_serve.specs.declared.door.DoorFault.{DoorFault}
 use Rattle.srcp_serve.specs.declared.door.Got.{Got}
 use Rattle.srcp_serve.specs.declared.door.Got.TheVariants as got
 use Rattle.srcp_sockets.specs.Steps.{Step, Reads, Tells, Writes, refusal_told}
-use Rattle.srcp_sockets.specs.Accounts.{Account, Leave, Sent, Received, account, is_over}
+use Rattle.srcp_sockets.specs.Accounts.{Account, Leave, Sent, Received, account, is_overdue}
 
 -- what a state of the input means, where so much is held of it
 abbrev pub ReadsAs : Received → List ℕ → Reading → Type 0
@@ -196,7 +196,7 @@ is_lost output.Lost = true
 
 abbrev pub closable_as : (clock : ℕ) → Writing → Stay → Bool
 closable_as clock state stay.Here = false
-closable_as clock state (stay.Leaving since) = is_lost state || is_over clock since
+closable_as clock state (stay.Leaving since) = is_lost state || is_overdue clock since
 closable_as clock state (stay.Shut since) = true
 
 -- it was let go, and is owed nothing, or lost, or its time is over

@@ -7,8 +7,9 @@ ghost use Rattle.srcp_sockets.specs.declared.peer.Peer.{Peer};
 ghost use Rattle.srcp_serve.specs.declared.door.Got.{Got};
 ghost use Rattle.srcp_sockets.specs.declared.system.Ready.{Ready};
 ghost use Rattle.srcp_serve.specs.Calls.{ReadCall};
-ghost use Rattle.srcp_sockets.specs.Accounts.{account, is_at_rest, is_short};
-ghost use Rattle.srcp_sockets.specs.Steps.{Step, Told, Waits};
+ghost use Rattle.srcp_sockets.specs.Accounts.{account, is_at_rest, is_short, may_close, may_shut};
+ghost use Rattle.srcp_sockets.specs.Steps.{Closes, Shuts, Step, Told, Waits};
+ghost use Rattle.srcp_sockets.specs.Doors.{IsThere};
 ghost use Rattle.srcp_sockets.specs.Times.{AreKeptTimes, times};
 ghost use Rattle.srcp_sockets.specs.Streams.{gave, handed, taken, took};
 
@@ -26,8 +27,8 @@ pub fn sockets_follow<S: System + Drop>(door: &SocketDoor<S>)
     let _sockets = &door.sockets;
 }
 
-/// What a socket did not take of what the door told to have taken for its peer is held, while the peer is there, in
-/// order; unless a write found that the socket takes no more.
+/// What a socket did not take of what the door told to have taken for its peer is held in order, while the peer is there
+/// or is kept; unless a write found that the socket takes no more.
 pub fn untaken_is_held<S: System + Drop>(door: &SocketDoor<S>)
     ensures { (log : List Step) → S.told door.now.sockets.system ≡ Some log → (k : ℕ) (d : Peer)
         → k < length door.now.sockets.peers.items
@@ -53,6 +54,23 @@ pub fn waits_are_safe<S: System + Drop>(door: &SocketDoor<S>)
         → S.told door.now.sockets.system ≡ Some (before ++ Waits most count ready ∷ after) → is_short most ≡ false
         → (socket : ℕ) → ((account socket before).watched || (socket == 0)) ≡ true
         → is_at_rest (account socket before).sent (account socket before).received ≡ true }
+{
+    let _sockets = &door.sockets;
+}
+
+/// A socket was shut down and closed once at most, after the core let its peer go. It was shut down when all that was
+/// taken for it was taken by the socket. It was closed when that was so and it was shut down, or a write had found that it
+/// takes no more, or 10 seconds were over by the clock that was read. A socket that was accepted and is not closed has a
+/// peer.
+pub fn closed_rightly<S: System + Drop>(door: &SocketDoor<S>)
+    ensures shut { (before after : List Step) (socket : ℕ)
+        → S.told door.now.sockets.system ≡ Some (before ++ Shuts socket ∷ after)
+        → may_shut (account socket before) ≡ true }
+    ensures closed { (before after : List Step) (socket : ℕ)
+        → S.told door.now.sockets.system ≡ Some (before ++ Closes socket ∷ after)
+        → may_close (account socket before) ≡ true }
+    ensures kept { (log : List Step) (socket : ℕ) → S.told door.now.sockets.system ≡ Some log
+        → (account socket log).leave.kept ≡ true → IsThere socket door.now.sockets.peers.items }
 {
     let _sockets = &door.sockets;
 }

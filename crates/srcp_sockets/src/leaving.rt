@@ -1,5 +1,5 @@
-//! What becomes of a peer that was let go: its socket is written what is queued for it, is shut down behind that, and is
-//! read until its input ends. A socket that is closed with input in it would reset the connection, and the peer would
+//! What becomes of a peer that was let go: its socket is written what is queued, is shut down behind that, and is read
+//! until its input ends. A socket that is closed with input in it would reset the connection, and the peer would
 //! lose what it did not read.
 
 ghost use Rattle.std.specs.Prelude.{◌≡◌, ◌≢◌, ◌<◌, ℕ, [], true, false, IfSome, length, slice_index_or};
@@ -10,7 +10,7 @@ ghost use Rattle.srcp_sockets.specs.Peers.{IsKept, Spares, is_closable, is_here,
 ghost use Rattle.srcp_sockets.specs.Doors.{AreApart, AreKept, AreThose, IsAbsent};
 
 use crate::peer::Peer;
-use crate::stay::{Stay, is_over};
+use crate::stay::{Stay, is_overdue};
 use crate::system::System;
 
 /// How often the socket of a peer that was let go is read in a turn: what still comes is dropped as fast as it comes.
@@ -119,9 +119,9 @@ impl Peer {
     {
         match self.stay {
             Stay::Here => false,
-            Stay::Leaving { since } => self.output.is_lost() || is_over(clock, since),
+            Stay::Leaving { since } => self.output.is_lost() || is_overdue(clock, since),
             Stay::Shut { since } => {
-                self.output.is_lost() || self.input.is_over() || is_over(clock, since)
+                self.output.is_lost() || self.input.has_ended() || is_overdue(clock, since)
             }
         }
     }

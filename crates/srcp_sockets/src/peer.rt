@@ -50,7 +50,7 @@ impl Reading {
     }
 
     /// Returns whether no read finds anything any more.
-    pub(crate) fn is_over(self) -> bool {
+    pub(crate) fn has_ended(self) -> bool {
         match self {
             Reading::Ready | Reading::Draining | Reading::Quiet => false,
             Reading::Ended | Reading::Failed => true,

@@ -10,7 +10,7 @@ ghost use Rattle.srcp_sockets.specs.Turns.{first_turn};
 ghost use Rattle.srcp_serve.specs.Calls.{ExpectCall, NowCall, AcceptCall, ReadCall, WriteCall, CloseCall};
 ghost use Rattle.srcp_sockets.specs.Steps.{Accepts, SaysNothing, SaysOne, Step, Tells};
 ghost use Rattle.srcp_sockets.specs.Listeners.{refused_listening};
-ghost use Rattle.srcp_sockets.specs.Peers.{is_closable};
+ghost use Rattle.srcp_sockets.specs.Peers.{is_closable, is_here};
 ghost use Rattle.srcp_sockets.specs.Doors.{IsMissing, IsPresent, Stands};
 
 use crate::leaving::{first_gone, first_shut, part};
@@ -32,6 +32,8 @@ pub(crate) struct Sockets<S: System + Drop> {
     listening: Listening,
     // The number of the peer that came last.
     last: u32,
+    // The place of the peer that was read or written last.
+    recent: usize,
     turn: Turn,
     // How long a turn waits at most, in milliseconds, where that was said.
     pub most: Option<u64>,
@@ -93,6 +95,7 @@ impl<S: System + Drop> Sockets<S> {
             peers: Vec::with_capacity(alloc, most)?,
             listening: Listening::Ready,
             last: 0,
+            recent: 0,
             turn,
             most: None,
         })
@@ -172,7 +175,7 @@ impl<S: System + Drop> Sockets<S> {
         }
     }
 
-    /// Goes on with each peer that was let go, and closes the first for which nothing is left to do.
+    /// Goes on with each peer that was let go.
     fn part(&mut self)
         ensures calls { SaysNothing (S.told self.old.system) (S.told self.new.system) }
         ensures last { self.new.last ≡ self.old.last }
@@ -193,7 +196,8 @@ impl<S: System + Drop> Sockets<S> {
     /// Closes the socket of a peer.
     fn close_at(&mut self, place: usize)
         requires within { place < length self.old.peers.items }
-        requires closable { (d : Peer) → is_closable self.old.turn.clock (slice_index_or self.old.peers.items place d) ≡ true }
+        requires closable { (d : Peer) → is_closable self.old.turn.clock
+            (slice_index_or self.old.peers.items place d) ≡ true }
         ensures calls { SaysNothing (S.told self.old.system) (S.told self.new.system) }
         ensures last { self.new.last ≡ self.old.last }
     {
@@ -216,14 +220,45 @@ impl<S: System + Drop> Sockets<S> {
         answer
     }
 
-    /// Returns the place of the peer with that number, if one is there.
+    /// Returns the place of the peer with that number, if one is there. It looks first where the last one was, since a
+    /// peer is written line by line, and then behind that, since peers are visited nearly as they came.
     fn place(&self, number: u32) -> Option<usize>
         ensures found { IfSome result (λ place. (place < length self.now.peers.items)
             × ((d : Peer) → IsPresent number (slice_index_or self.now.peers.items place d))) }
         ensures none { IfNone result (IsMissing number self.now.peers.items) }
     {
+        if self.is_at(self.recent, number) {
+            return Some(self.recent);
+        }
+        let next = self.recent.saturating_add(1);
+        if self.is_at(next, number) {
+            return Some(next);
+        }
+        self.find(number)
+    }
+
+    /// Returns whether the peer with that number is there, and has the place.
+    fn is_at(&self, place: usize, number: u32) -> bool
+        ensures yes { result ≡ true → (place < length self.now.peers.items)
+            × ((d : Peer) → IsPresent number (slice_index_or self.now.peers.items place d)) }
+        ensures no { result ≡ false → place < length self.now.peers.items → (d : Peer)
+            → (slice_index_or self.now.peers.items place d).number ≡ number
+            → is_here (slice_index_or self.now.peers.items place d).stay ≡ false }
+    {
+        match self.peers.get(place) {
+            Some(peer) => peer.number == number && peer.stay.is_here(),
+            None => false,
+        }
+    }
+
+    /// Returns the place of the peer with that number, if one is there.
+    fn find(&self, number: u32) -> Option<usize>
+        ensures found { IfSome result (λ place. (place < length self.now.peers.items)
+            × ((d : Peer) → IsPresent number (slice_index_or self.now.peers.items place d))) }
+        ensures none { IfNone result (IsMissing number self.now.peers.items) }
+    {
         for place in 0..self.peers.len() {
-            if self.peers[place].number == number && self.peers[place].stay.is_here() {
+            if self.is_at(place, number) {
                 return Some(place);
             }
         }
@@ -263,6 +298,7 @@ impl<S: System + Drop> Sockets<S> {
             self.turn.note_read(Err(DoorFault::Read));
             return Err(DoorFault::Read);
         };
+        self.recent = place;
         let answer = self.peers[place].read(&mut self.system, buffer, MOST_PIECE);
         self.turn.note_read(answer);
         answer
@@ -279,6 +315,7 @@ impl<S: System + Drop> Sockets<S> {
             self.turn.note_write(Err(DoorFault::Write));
             return Err(DoorFault::Write);
         };
+        self.recent = place;
         let count = self.peers[place].write(&mut self.system, bytes);
         self.turn.note_write(Ok(count));
         Ok(count)

@@ -1,7 +1,7 @@
 //! Whether a peer is there, and how far it is let go.
 
 ghost use Rattle.std.specs.Prelude.{◌≡◌, true};
-ghost use Rattle.srcp_sockets.specs.Accounts.{is_over};
+ghost use Rattle.srcp_sockets.specs.Accounts.{is_overdue};
 ghost use Rattle.srcp_sockets.specs.Peers.{is_here};
 
 /// How long a peer that was let go is kept at most, in milliseconds.
@@ -33,8 +33,8 @@ impl Stay {
 }
 
 /// Returns whether a peer that was let go then is kept no longer.
-pub(crate) fn is_over(clock: u64, since: u64) -> bool
-    ensures { result ≡ is_over clock since }
+pub(crate) fn is_overdue(clock: u64, since: u64) -> bool
+    ensures { result ≡ is_overdue clock since }
 {
     PATIENCE <= clock.saturating_sub(since)
 }

@@ -3,7 +3,8 @@ use Rattle.srcp_serve.specs.Calls.{NowCall}
 use Rattle.srcp_sockets.specs.Steps.{Clocks, Told}
 use Rattle.srcp_sockets.proofs.Keeping.{says_after, says_call, says_step}
 use Rattle.srcp_sockets.proofs.Naming.{named_call, named_silent}
-use Rattle.srcp_sockets.proofs.Standing.{stands_clocked, stands_step}
+use Rattle.srcp_sockets.proofs.Parting.{stands_clocked}
+use Rattle.srcp_sockets.proofs.Standing.{stands_step}
 use Rattle.srcp_sockets.proofs.Timing.{timed_moment}
 use Rattle.srcp_sockets.proofs.sockets.Sockets.now.Goals as goal
 

@@ -1,4 +1,4 @@
-use Rattle.std.proofs.Common.{◌≡◌, List, length, rules, ap, subst, sym, ◌∙◌}
+use Rattle.std.proofs.Common.{◌≡◌, List, length, ap, subst, sym, ◌∙◌}
 use Rattle.std.proofs.lemmas.List.{with_items_is}
 use Rattle.srcp_sockets.specs.declared.peer.Peer.{Peer}
 use Rattle.srcp_sockets.specs.Doors.{AreThose, IsAbsent, Stands}

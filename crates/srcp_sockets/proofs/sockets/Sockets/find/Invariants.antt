@@ -2,7 +2,7 @@ use Rattle.std.proofs.Common.{ℕ, ◌<◌, ◌≡◌}
 use Rattle.std.specs.Prelude.{false, slice_index_or}
 use Rattle.srcp_sockets.specs.declared.peer.Peer.{Peer}
 use Rattle.srcp_sockets.specs.Peers.{is_here}
-use Rattle.srcp_sockets.proofs.sockets.Sockets.place.Given as goal
+use Rattle.srcp_sockets.proofs.sockets.Sockets.find.Given as goal
 
 abbrev pub invariant-loop-place : goal.invariant-loop-place
 invariant-loop-place g l = (k : ℕ) (d : Peer) → k < l.place → (slice_index_or l.self.peers.items k d).number ≡ l.number

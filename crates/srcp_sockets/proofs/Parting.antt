@@ -1,0 +1,305 @@
+-- A peer is let go, and its socket is closed.
+use Rattle.std.proofs.Common.{◌≡◌, ◌∙◌, ℕ, ◌<◌, ◌≤◌, ◌+◌, ◌-◌, Bool, true, false, List, length, refl, ap, sym, subst, arith, ⊎_elim, get_or, set, ◌==◌, if◌then◌else◌, Option, Some, true≢false}
+use Rattle.std.specs.Prelude.{◌≢◌, ◌&&◌, nat_lt, slice_index_or, Result}
+use Rattle.std.proofs.lemmas.Bool.{cases_eq, cases_lt}
+use Rattle.std.proofs.lemmas.List.{get_or_default}
+use Rattle.std.proofs.lemmas.List.Edits.{length-remove, get_or-remove_below, get_or-remove_above}
+use Rattle.std.specs.List.{remove}
+use Rattle.srcp_serve.specs.declared.door.DoorFault.{DoorFault}
+use Rattle.std.proofs.lemmas.Bool.Decides.{nat_tests}
+use Rattle.srcp_sockets.specs.declared.peer.Peer.{Peer}
+use Rattle.srcp_sockets.specs.declared.stay.Stay.TheVariants as stay
+use Rattle.srcp_sockets.specs.declared.waiting.Listening.{Listening}
+use Rattle.srcp_sockets.specs.Steps.{Clocks, Closes, Step, Tells, Told}
+use Rattle.srcp_serve.specs.Calls.{CloseCall}
+use Rattle.srcp_sockets.specs.Accounts.{Account, account, account_step, closed, let_go, may_close}
+use Rattle.srcp_sockets.specs.Peers.{Agrees, IsKept, is_closable}
+use Rattle.srcp_sockets.specs.Doors.{AreApart, Closed, Fresh, Hears, IsAbsent, IsMissing, Sound, Stands}
+use Rattle.srcp_sockets.proofs.Staying.{clocked_agrees, gone_agrees, let_go_agrees, may_close_then}
+use Rattle.srcp_sockets.proofs.Keeping.{account_more, alien, kept_after, own, picks, skips, spares_after}
+use Rattle.srcp_sockets.proofs.Lists.{kept_spared}
+use Rattle.srcp_sockets.proofs.Standing.{stands_one}
+
+-- ---- a step that every account goes on with
+
+-- what a step makes of each account
+pub record Goes (step : Step) (l : Listening) : Type 0 where
+  pub sound : (socket : ℕ) (a : Account) → Sound a → Sound (account_step socket a step)
+  pub fresh : (socket : ℕ) (a : Account) → Fresh a → Fresh (account_step socket a step)
+  pub closed : (socket : ℕ) (a : Account) → Closed a → Closed (account_step socket a step)
+  pub heard : (a : Account) → Hears a l → Hears (account_step 0 a step) l
+
+stands_goes : (old new : Option (List Step)) (peers : List Peer) (l : Listening) (last : ℕ) (step : Step) → Goes step l
+    → ((k : ℕ) (d : Peer) → k < length peers → IsKept new (slice_index_or peers k d)) → Tells old step new
+    → Stands old peers l last → Stands new peers l last
+stands_goes old new peers l last step goes kept tells stands = record {
+  kept = kept;
+  apart = stands.apart;
+  within = stands.within;
+  sound = λ log is socket. subst Sound (sym (more socket log is))
+      (goes.sound socket (account socket (tells log is).0) (stands.sound (tells log is).0 (tells log is).1 socket));
+  fresh = λ log is socket above. subst Fresh (sym (more socket log is))
+      (goes.fresh socket (account socket (tells log is).0) (stands.fresh (tells log is).0 (tells log is).1 socket above));
+  closed = λ log is socket absent. subst Closed (sym (more socket log is))
+      (goes.closed socket (account socket (tells log is).0) (stands.closed (tells log is).0 (tells log is).1 socket absent));
+  heard = λ log is. subst (λ (a : Account). Hears a l) (sym (more 0 log is))
+      (goes.heard (account 0 (tells log is).0) (stands.heard (tells log is).0 (tells log is).1));
+}
+  where
+    more : (socket : ℕ) (log : List Step) (is : new ≡ Some log) → account socket log
+        ≡ account_step socket (account socket (tells log is).0) step
+    more socket log is = ap (account socket) (tells log is).2 ∙ account_more socket (tells log is).0 step
+
+-- a clock was read
+clock_goes : (answer : Option ℕ) (l : Listening) → Goes (Clocks answer) l
+clock_goes answer l = record {
+  sound = λ socket a h. record { took = h.took; handed = h.handed; honest = h.honest; rested = h.rested; rightly = h.rightly };
+  fresh = λ socket a h. record { written = h.written; took = h.took; gave = h.gave; handed = h.handed };
+  closed = λ socket a h. record { watched = h.watched; kept = h.kept };
+  heard = λ a h. record {
+    fresh = record { written = h.fresh.written; took = h.fresh.took; gave = h.fresh.gave; handed = h.fresh.handed };
+    lost = h.lost;
+    cut = h.cut;
+    ended = h.ended;
+    failed = h.failed;
+    heard = h.heard;
+  };
+}
+
+pub stands_clocked : (old new : Option (List Step)) (peers : List Peer) (l : Listening) (last : ℕ) (answer : Option ℕ)
+    → Tells old (Clocks answer) new → Stands old peers l last → Stands new peers l last
+stands_clocked old new peers l last answer tells stands = stands_goes old new peers l last (Clocks answer) (clock_goes answer l)
+    (λ k d lt. kept_after old new (Clocks answer) (slice_index_or peers k d) (slice_index_or peers k d) tells refl
+    (λ a h. clocked_agrees a (slice_index_or peers k d) answer h) (stands.kept k d lt)) tells stands
+
+-- ---- one that is let go
+
+let_go_goes : (number : ℕ) (answer : Result Unit DoorFault) (l : Listening) → Goes (Told (CloseCall number answer)) l
+let_go_goes number answer l = record {
+  sound = λ socket a h. sound (number == socket) a h;
+  fresh = λ socket a h. fresh (number == socket) a h;
+  closed = λ socket a h. shut (number == socket) a h;
+  heard = λ a h. heard (number == 0) a h;
+}
+  where
+    sound : (b : Bool) (a : Account) → Sound a → Sound (if b then let_go a else a)
+    sound true a h = record { took = h.took; handed = h.handed; honest = h.honest; rested = h.rested; rightly = h.rightly }
+    sound false a h = h
+
+    fresh : (b : Bool) (a : Account) → Fresh a → Fresh (if b then let_go a else a)
+    fresh true a h = record { written = h.written; took = h.took; gave = h.gave; handed = h.handed }
+    fresh false a h = h
+
+    shut : (b : Bool) (a : Account) → Closed a → Closed (if b then let_go a else a)
+    shut true a h = record { watched = refl; kept = h.kept }
+    shut false a h = h
+
+    heard : (b : Bool) (a : Account) → Hears a l → Hears (if b then let_go a else a) l
+    heard true a h = record {
+      fresh = record { written = h.fresh.written; took = h.fresh.took; gave = h.fresh.gave; handed = h.fresh.handed };
+      lost = h.lost;
+      cut = h.cut;
+      ended = h.ended;
+      failed = h.failed;
+      heard = h.heard;
+    }
+    heard false a h = h
+
+-- nobody was there to be let go
+pub stands_missing : (old new : Option (List Step)) (peers : List Peer) (l : Listening) (last number : ℕ) (answer : Result Unit DoorFault)
+    → IsMissing number peers → Tells old (Told (CloseCall number answer)) new → Stands old peers l last → Stands new peers l last
+stands_missing old new peers l last number answer missing tells stands =
+    stands_goes old new peers l last (Told (CloseCall number answer)) (let_go_goes number answer l)
+    (λ k d lt. kept_after old new (Told (CloseCall number answer)) (slice_index_or peers k d) (slice_index_or peers k d) tells refl
+    (λ a h. by k d lt a (number == (slice_index_or peers k d).number) (λ e. grind (arith, nat_tests)) h) (stands.kept k d lt)) tells stands
+  where
+    by : (k : ℕ) (d : Peer) → k < length peers → (a : Account) (b : Bool) → (b ≡ true → (slice_index_or peers k d).number ≡ number)
+        → Agrees a (slice_index_or peers k d) → Agrees (if b then let_go a else a) (slice_index_or peers k d)
+    by k d lt a true same h = gone_agrees a (slice_index_or peers k d) (missing k d lt (same refl)) h
+    by k d lt a false same h = h
+
+-- one that was there was let go
+pub stands_let_go : (old new : Option (List Step)) (peers : List Peer) (i : ℕ) (p q : Peer) (l : Listening) (last number since : ℕ)
+    (answer : Result Unit DoorFault) → i < length peers → get_or peers i p ≡ p → p.number ≡ number → p.stay ≡ stay.Here
+    → q ≡ record p { stay = stay.Leaving since } → ((log : List Step) → old ≡ Some log → (account number log).leave.clock ≡ since)
+    → Tells old (Told (CloseCall number answer)) new → Stands old peers l last → Stands new (set peers i q) l last
+stands_let_go old new peers i p q l last number since answer within at same here is clock tells stands =
+    let there : (get_or peers i p).number ≡ number = ap (λ (x : Peer). x.number) at ∙ same in
+    stands_one old new peers i p q l last within kept (ap (λ (x : Peer). x.number) is ∙ same ∙ sym there)
+    (λ other differ. spares_after other old new (Told (CloseCall number answer)) tells
+    (λ a. skips (number == other) _ a (alien number other (λ e. differ (e ∙ sym there))))) stands
+  where
+    before : IsKept old p
+    before = subst (IsKept old) at (stands.kept i p within)
+
+    kept : IsKept new q
+    kept later e =
+        let t = tells later e in
+        let a : Account = account p.number t.0 in
+        let after : Agrees (let_go a) (record p { stay = stay.Leaving since }) =
+        let_go_agrees a p since here (ap (λ n. (account n t.0).leave.clock) same ∙ clock t.0 t.1) (before t.0 t.1) in
+        let more : account number later ≡ account_step number (account number t.0) (Told (CloseCall number answer)) =
+        ap (account number) t.2 ∙ account_more number t.0 (Told (CloseCall number answer)) in
+        let own_is : account number later ≡ let_go (account number t.0) =
+        more ∙ picks (number == number) (let_go (account number t.0)) (account number t.0) (own number) in
+        subst (λ (x : Peer). Agrees (account x.number later) x) (sym is)
+        (subst (λ (x : Account). Agrees x (record p { stay = stay.Leaving since }))
+        (sym (ap (λ n. account n later) same ∙ own_is ∙ ap (λ n. let_go (account n t.0)) (sym same))) after)
+
+-- ---- one that is closed
+
+close_sound : (b : Bool) (a : Account) → (b ≡ true → may_close a ≡ true) → Sound a → Sound (if b then closed a else a)
+close_sound true a may h = record {
+  took = h.took;
+  handed = h.handed;
+  honest = h.honest;
+  rested = h.rested;
+  rightly = ap (λ r. r && may_close a) h.rightly ∙ may refl;
+}
+close_sound false a may h = h
+
+close_fresh : (b : Bool) (a : Account) → Fresh a → Fresh (if b then closed a else a)
+close_fresh true a h = record { written = h.written; took = h.took; gave = h.gave; handed = h.handed }
+close_fresh false a h = h
+
+close_hears : (b : Bool) (a : Account) (l : Listening) → Hears a l → Hears (if b then closed a else a) l
+close_hears true a l h = record {
+  fresh = record { written = h.fresh.written; took = h.fresh.took; gave = h.fresh.gave; handed = h.fresh.handed };
+  lost = h.lost;
+  cut = h.cut;
+  ended = h.ended;
+  failed = h.failed;
+  heard = h.heard;
+}
+close_hears false a l h = h
+
+close_closed : (b : Bool) (a : Account) → (b ≡ true → a.watched ≡ false) → (b ≡ false → Closed a) → Closed (if b then closed a else a)
+close_closed true a gone h = record { watched = gone refl; kept = refl }
+close_closed false a gone h = h refl
+
+-- the peers without the one of that number
+pub record Leaves (number : ℕ) (before after : List Peer) : Type 0 where
+  pub from : (k : ℕ) (d : Peer) → k < length after → (j : ℕ) × (j < length before) × (slice_index_or after k d ≡ slice_index_or before j d)
+  pub absent : IsAbsent number after
+  pub apart : AreApart after
+  pub others : (other : ℕ) → other ≢ number → IsAbsent other after → IsAbsent other before
+
+-- it may be closed
+abbrev pub IsClosable : Option (List Step) → ℕ → Type 0
+IsClosable told socket = (log : List Step) → told ≡ Some log → (may_close (account socket log) ≡ true)
+    × ((account socket log).watched ≡ false)
+
+pub stands_closed : (old new : Option (List Step)) (before after : List Peer) (l : Listening) (last number : ℕ)
+    → Tells old (Closes number) new → Leaves number before after → IsClosable old number → Stands old before l last
+    → Stands new after l last
+stands_closed old new before after l last number tells leaves closable stands = record {
+  kept = λ k d lt.
+      let f = leaves.from k d lt in
+      let is_kept : IsKept old (slice_index_or after k d) = subst (IsKept old) (sym f.2) (stands.kept f.0 d f.1) in
+      kept_spared old new (slice_index_or after k d)
+      (spares_after (slice_index_or after k d).number old new (Closes number) tells
+      (λ a. skips (number == (slice_index_or after k d).number) _ a
+      (alien number (slice_index_or after k d).number (leaves.absent k d lt)))) is_kept;
+  apart = leaves.apart;
+  within = λ k d lt.
+      let f = leaves.from k d lt in
+      subst (λ (p : Peer). (0 < p.number) × (p.number ≤ last)) (sym f.2) (stands.within f.0 d f.1);
+  sound = λ log is socket. subst Sound (sym (more socket log is))
+      (close_sound (number == socket) (account socket (tells log is).0) (λ e. (right socket log is e).0)
+      (stands.sound (tells log is).0 (tells log is).1 socket));
+  fresh = λ log is socket above. subst Fresh (sym (more socket log is))
+      (close_fresh (number == socket) (account socket (tells log is).0) (stands.fresh (tells log is).0 (tells log is).1 socket above));
+  closed = λ log is socket absent. subst Closed (sym (more socket log is))
+      (close_closed (number == socket) (account socket (tells log is).0) (λ e. (right socket log is e).1) (λ alien_is.
+      stands.closed (tells log is).0 (tells log is).1 socket (leaves.others socket (differ_by socket alien_is) absent)));
+  heard = λ log is. subst (λ (a : Account). Hears a l) (sym (more 0 log is))
+      (close_hears (number == 0) (account 0 (tells log is).0) l (stands.heard (tells log is).0 (tells log is).1));
+}
+  where
+    more : (socket : ℕ) (log : List Step) (is : new ≡ Some log) → account socket log
+        ≡ (if number == socket then closed (account socket (tells log is).0) else account socket (tells log is).0)
+    more socket log is = ap (account socket) (tells log is).2 ∙ account_more socket (tells log is).0 (Closes number)
+
+    differ_by : (socket : ℕ) → (number == socket) ≡ false → socket ≢ number
+    differ_by socket f e = true≢false (sym (own number) ∙ ap (λ n. number == n) (sym e) ∙ f)
+
+    right : (socket : ℕ) (log : List Step) (is : new ≡ Some log) → (number == socket) ≡ true
+        → (may_close (account socket (tells log is).0) ≡ true) × ((account socket (tells log is).0).watched ≡ false)
+    right socket log is e = subst
+        (λ (n : ℕ). (may_close (account n (tells log is).0) ≡ true) × ((account n (tells log is).0).watched ≡ false))
+        (grind (arith, nat_tests)) (closable (tells log is).0 (tells log is).1)
+
+-- one place was taken out
+pub leaves_one : (number : ℕ) (peers : List Peer) (i : ℕ) → i < length peers → ((d : Peer) → (slice_index_or peers i d).number ≡ number)
+    → AreApart peers → Leaves number peers (remove peers i)
+leaves_one number peers i within same apart = record {
+  from = λ k d lt. (received k, came_in k lt, came_is k d lt);
+  absent = λ k d lt e. apart (received k) i d (came_in k lt) within (came_not k)
+      (ap (λ (p : Peer). p.number) (sym (came_is k d lt)) ∙ e ∙ sym (same d));
+  apart = λ j k d lj lk differ e. apart (received j) (received k) d (came_in j lj) (came_in k lk) (came_differ j k differ)
+      (ap (λ (p : Peer). p.number) (sym (came_is j d lj)) ∙ e ∙ ap (λ (p : Peer). p.number) (came_is k d lk));
+  others = λ other differ absent k d lt e. ⊎_elim
+      (λ (low : k < i). absent k d (omega (arith, low, within, length-remove peers i within))
+      (ap (λ (p : Peer). p.number) (get_or-remove_below peers i d k low within) ∙ e))
+      (λ (high : i ≤ k). ⊎_elim
+      (λ (here : k ≡ i). differ (sym e ∙ ap (λ n. (slice_index_or peers n d).number) here ∙ same d))
+      (λ (not_here : k ≡ i → ⊥).
+      let back : (k - 1) + 1 ≡ k = omega (arith, high, not_here) in
+      absent (k - 1) d (omega (arith, high, not_here, lt, length-remove peers i within))
+      (ap (λ (p : Peer). p.number) (get_or-remove_above peers i d (k - 1) (omega (arith, high, not_here)) within)
+      ∙ ap (λ n. (slice_index_or peers n d).number) back ∙ e))
+      (cases_eq k i))
+      (cases_lt k i);
+}
+  where
+    received : ℕ → ℕ
+    received k = if nat_lt k i then k else k + 1
+
+    came_low : (k : ℕ) → k < i → received k ≡ k
+    came_low k low = grind (arith, nat_tests)
+
+    came_high : (k : ℕ) → i ≤ k → received k ≡ k + 1
+    came_high k high = grind (arith, nat_tests)
+
+    came_in : (k : ℕ) → k < length (remove peers i) → received k < length peers
+    came_in k lt = ⊎_elim
+        (λ (low : k < i). omega (arith, lt, came_low k low, length-remove peers i within))
+        (λ (high : i ≤ k). omega (arith, lt, came_high k high, length-remove peers i within))
+        (cases_lt k i)
+
+    came_is : (k : ℕ) (d : Peer) → k < length (remove peers i) → slice_index_or (remove peers i) k d ≡ slice_index_or peers (received k) d
+    came_is k d lt = ⊎_elim
+        (λ (low : k < i). get_or-remove_below peers i d k low within ∙ ap (λ n. slice_index_or peers n d) (sym (came_low k low)))
+        (λ (high : i ≤ k). get_or-remove_above peers i d k high within ∙ ap (λ n. slice_index_or peers n d) (sym (came_high k high)))
+        (cases_lt k i)
+
+    came_not : (k : ℕ) → received k ≢ i
+    came_not k e = ⊎_elim
+        (λ (low : k < i). omega (arith, low, e, came_low k low))
+        (λ (high : i ≤ k). omega (arith, high, e, came_high k high))
+        (cases_lt k i)
+
+    came_differ : (j k : ℕ) → j ≢ k → received j ≢ received k
+    came_differ j k differ e = ⊎_elim
+        (λ (jl : j < i). ⊎_elim
+        (λ (kl : k < i). differ (omega (arith, e, came_low j jl, came_low k kl)))
+        (λ (kh : i ≤ k). omega (arith, e, jl, kh, came_low j jl, came_high k kh))
+        (cases_lt k i))
+        (λ (jh : i ≤ j). ⊎_elim
+        (λ (kl : k < i). omega (arith, e, kl, jh, came_high j jh, came_low k kl))
+        (λ (kh : i ≤ k). differ (omega (arith, e, came_high j jh, came_high k kh)))
+        (cases_lt k i))
+        (cases_lt j i)
+
+-- the peer at a place was closed, where it may be at that time of the clock that is never set
+pub stands_closed_at : (old new : Option (List Step)) (peers : List Peer) (i : ℕ) (p : Peer) (l : Listening) (last clock : ℕ)
+    → i < length peers → get_or peers i p ≡ p → is_closable clock (get_or peers i p) ≡ true
+    → ((log : List Step) → old ≡ Some log → (account p.number log).leave.clock ≡ clock) → Tells old (Closes p.number) new
+    → Stands old peers l last → Stands new (remove peers i) l last
+stands_closed_at old new peers i p l last clock within at closable shown tells stands =
+    stands_closed old new peers (remove peers i) l last p.number tells (leaves_one p.number peers i within same stands.apart)
+    (λ log is. may_close_then (account p.number log) p clock (shown log is) (subst (λ (x : Peer). is_closable clock x ≡ true) at closable)
+    (subst (IsKept old) at (stands.kept i p within) log is)) stands
+  where
+    same : (d : Peer) → (slice_index_or peers i d).number ≡ p.number
+    same d = ap (λ (x : Peer). x.number) (get_or_default peers i d p within ∙ at)
