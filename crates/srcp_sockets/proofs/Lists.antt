@@ -5,11 +5,12 @@ use Rattle.std.proofs.lemmas.Bool.{cases_eq}
 use Rattle.std.proofs.lemmas.List.{get_or_default, length-set}
 use Rattle.srcp_sockets.specs.declared.peer.Peer.{Peer}
 use Rattle.srcp_sockets.specs.declared.system.Ready.{Ready}
-use Rattle.srcp_sockets.specs.Steps.{Step, Tells, Waits}
+use Rattle.srcp_sockets.specs.Steps.{Clocks, Step, Tells, Waits}
 use Rattle.srcp_sockets.specs.Accounts.{Account, account, is_short}
 use Rattle.srcp_sockets.specs.Peers.{Agrees, IsKept, Spares, after_wake, is_resting}
 use Rattle.srcp_sockets.specs.Doors.{AreApart, AreKept, AreThose, AreWithin, IsAbsent}
-use Rattle.srcp_sockets.proofs.Keeping.{all_number, kept_waited}
+use Rattle.srcp_sockets.proofs.Keeping.{all_number, kept_after, kept_waited}
+use Rattle.srcp_sockets.proofs.Staying.{clocked_agrees}
 
 -- a peer of which nothing is told stays what its account says
 pub kept_spared : (old new : Option (List Step)) (p : Peer) → Spares p.number old new → IsKept old p → IsKept new p
@@ -90,6 +91,13 @@ within_later last first peers long those within k d lt =
     let low : k < length first = omega (arith, lt, long) in
     let w = within k d low in
     (subst (λ (n : ℕ). 0 < n) (sym (those k d low)) w.0, subst (λ (n : ℕ). n ≤ last) (sym (those k d low)) w.1)
+
+-- all peers after a clock was read
+pub clocked_all : (old new : Option (List Step)) (peers : List Peer) (answer : Option ℕ) → Tells old (Clocks answer) new
+    → AreKept old peers → AreKept new peers
+clocked_all old new peers answer tells kept k d lt =
+    let p : Peer = slice_index_or peers k d in
+    kept_after old new (Clocks answer) p p tells refl (λ a h. clocked_agrees a p answer h) (kept k d lt)
 
 -- all peers after a wait, which is long only where all rest
 pub waited_all : (old new : Option (List Step)) (peers later : List Peer) (most : Option ℕ) (count : ℕ) (ready : List Ready)

@@ -15,9 +15,9 @@ use Rattle.srcp_serve.specs.Calls.{CloseCall}
 use Rattle.srcp_sockets.specs.Accounts.{Account, account, account_step, closed, let_go, may_close}
 use Rattle.srcp_sockets.specs.Peers.{Agrees, IsKept, is_closable}
 use Rattle.srcp_sockets.specs.Doors.{AreApart, Closed, Fresh, Hears, IsAbsent, IsMissing, Sound, Stands}
-use Rattle.srcp_sockets.proofs.Staying.{clocked_agrees, gone_agrees, let_go_agrees, may_close_then}
+use Rattle.srcp_sockets.proofs.Staying.{gone_agrees, let_go_agrees, may_close_then}
 use Rattle.srcp_sockets.proofs.Keeping.{account_more, alien, kept_after, own, picks, skips, spares_after}
-use Rattle.srcp_sockets.proofs.Lists.{kept_spared}
+use Rattle.srcp_sockets.proofs.Lists.{clocked_all, kept_spared}
 use Rattle.srcp_sockets.proofs.Standing.{stands_one}
 
 -- ---- a step that every account goes on with
@@ -69,8 +69,7 @@ clock_goes answer l = record {
 pub stands_clocked : (old new : Option (List Step)) (peers : List Peer) (l : Listening) (last : ℕ) (answer : Option ℕ)
     → Tells old (Clocks answer) new → Stands old peers l last → Stands new peers l last
 stands_clocked old new peers l last answer tells stands = stands_goes old new peers l last (Clocks answer) (clock_goes answer l)
-    (λ k d lt. kept_after old new (Clocks answer) (slice_index_or peers k d) (slice_index_or peers k d) tells refl
-    (λ a h. clocked_agrees a (slice_index_or peers k d) answer h) (stands.kept k d lt)) tells stands
+    (clocked_all old new peers answer tells stands.kept) tells stands
 
 -- ---- one that is let go
 

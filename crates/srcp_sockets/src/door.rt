@@ -17,8 +17,7 @@ const MOST_PEERS: usize = 129;
 /// How many sockets may be found ready at once.
 pub(crate) const MOST_READY: usize = 128;
 
-/// A door over the system's sockets.
-#[derive(Drop)]
+/// A door over the system's sockets. If it is dropped it delivers what was taken.
 pub struct SocketDoor<S: System + Drop> {
     pub(crate) sockets: Sockets<S>,
     alloc: Global,
@@ -74,6 +73,19 @@ impl<S: System + Drop> SocketDoor<S> {
         ensures sockets { self.new.sockets ≡ self.old.sockets }
     {
         self.faults = self.faults.saturating_add(1);
+    }
+}
+
+impl<S: System + Drop> Drop for SocketDoor<S> {
+    /// Delivers what was taken, for 10 seconds at most.
+    fn drop(self) {
+        let SocketDoor {
+            sockets,
+            alloc: _,
+            mut ready,
+            faults: _,
+        } = self;
+        sockets.deliver(ready.as_mut_slice());
     }
 }
 

@@ -8,6 +8,7 @@
 #![tactic(auto)]
 
 mod course;
+mod delivering;
 mod door;
 mod fault;
 pub mod laws;

@@ -381,6 +381,11 @@ impl Peer {
         }
     }
 
+    /// Returns whether something is queued that its socket may still take.
+    pub(crate) fn is_owed(&self) -> bool {
+        !self.outgoing.is_empty() && !self.output.is_lost()
+    }
+
     /// Returns whether it is there, and something happens to it though no socket is found ready.
     pub(crate) fn is_busy(&self) -> bool {
         self.stay.is_here() && !self.is_resting()

@@ -37,7 +37,7 @@ pub(crate) fn begin_turn<S: System>(
 }
 
 /// Flushes each peer.
-fn flush<S: System>(system: &mut S, peers: &mut [Peer])
+pub(crate) fn flush<S: System>(system: &mut S, peers: &mut [Peer])
     requires kept { AreKept (S.told system.old) peers.old }
     requires apart { AreApart peers.old }
     ensures kept { AreKept (S.told system.new) peers.new }
@@ -89,7 +89,7 @@ fn wait<S: System>(
 }
 
 /// Notes which sockets are ready.
-fn wake(peers: &mut [Peer], ready: &[Ready])
+pub(crate) fn wake(peers: &mut [Peer], ready: &[Ready])
     ensures { (k : ℕ) (d : Peer) → k < length peers.old
         → slice_index_or peers.new k d ≡ fold after_wake (slice_index_or peers.old k d) ready.now }
 {

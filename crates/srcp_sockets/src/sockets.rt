@@ -13,10 +13,12 @@ ghost use Rattle.srcp_sockets.specs.Listeners.{refused_listening};
 ghost use Rattle.srcp_sockets.specs.Peers.{is_closable, is_here};
 ghost use Rattle.srcp_sockets.specs.Doors.{IsMissing, IsPresent, Stands};
 
+use crate::delivering::deliver;
 use crate::leaving::{first_gone, first_shut, part};
 use crate::peer::Peer;
 use crate::peers::begin_turn;
 use crate::queue::MOST_PIECE;
+use crate::stay::PATIENCE;
 use crate::system::{Ready, Refusal, System, refusal_of};
 use crate::turn::Turn;
 use crate::waiting::Listening;
@@ -74,6 +76,21 @@ impl<S: System + Drop> Sockets<S> {
             ready,
         );
         self.turn.wait();
+    }
+
+    /// Delivers what was taken, for 10 seconds at most, and lets the sockets go.
+    pub(crate) fn deliver(self, ready: &mut [Ready]) {
+        let Sockets {
+            mut system,
+            mut peers,
+            listening: _,
+            last: _,
+            recent: _,
+            turn,
+            most: _,
+        } = self;
+        let until = turn.clock.saturating_add(PATIENCE);
+        deliver(&mut system, peers.as_mut_slice(), until, ready);
     }
 
     /// Returns sockets with nobody in it, over a system that told nothing.

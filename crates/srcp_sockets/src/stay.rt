@@ -4,7 +4,8 @@ ghost use Rattle.std.specs.Prelude.{◌≡◌, true};
 ghost use Rattle.srcp_sockets.specs.Accounts.{is_overdue};
 ghost use Rattle.srcp_sockets.specs.Peers.{is_here};
 
-/// How long a peer that was let go is kept at most, in milliseconds.
+/// How long a peer that was let go is kept at most, in milliseconds; and how long what was taken is delivered when the
+/// door ends.
 pub const PATIENCE: u64 = 10_000;
 
 /// Whether a peer is there, and how far it is let go.
