@@ -1,6 +1,6 @@
 -- How much lines weigh, and what is seen of the pacing.
 use Rattle.std.specs.Prelude.{◌≡◌, ◌≢◌, ℕ, ◌+◌, ◌-◌, ◌<◌, ◌≤◌, ◌==◌, Bool, ◌||◌, ◌&&◌, not, cond}
-use Rattle.std.specs.Prelude.{nat_lt, Option, ⊤, List, [], ◌∷◌, ◌++◌, length, take, fold, count_by}
+use Rattle.std.specs.Prelude.{nat_le, nat_lt, Option, ⊤, List, [], ◌∷◌, ◌++◌, length, take, fold, count_by}
 use Rattle.std.specs.Bool.{MatchBool}
 use Rattle.std.specs.Option.{unwrap_or}
 use Rattle.srcp_rules.specs.Weight.{weight}
@@ -99,6 +99,11 @@ abbrev pub Allows : Pace → Share → (piece : List ℕ) (count : ℕ) → Type
 Allows (Paced left) share piece count = IsLongest share.line (cond share.mark 0 left) piece count
 Allows OneLine share piece count =
     MatchBool share.mark (IsLongest share.line 0 piece count) (IsOneLine share.line piece count)
+
+-- lines that weigh so much may be let through
+abbrev pub fits : Pace → (weight : ℕ) → Bool
+fits (Paced left) weight = nat_le weight left
+fits OneLine weight = nat_le weight 11
 
 -- how much may be let through after lines that weigh so much
 abbrev pub spent : Pace → (weight : ℕ) → Pace

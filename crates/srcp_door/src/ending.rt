@@ -1,49 +1,67 @@
-//! When the end of a peer is told.
+//! When the end of a peer may be told.
 
-ghost use Rattle.std.specs.Prelude.{◌≡◌, ◌≢◌, ◌↔◌, ◌⊎◌, true, false};
+ghost use Rattle.std.specs.Prelude.{◌≡◌, ◌≢◌, ◌↔◌, ◌⊎◌, ◌<◌, false, true, IsTrue, ℕ};
 ghost use Rattle.srcp_door.specs.Ends.{begun, written};
 
-/// How far a peer is on the way to its end, which is told only after a turn in which no write to it was asked, with
-/// nothing gathered for it.
-#[derive(Clone, Copy, PartialEq, Eq)]
+/// How many times a peer is written to in a visit, at most.
+pub const MOST_WRITES: u32 = 300;
+
+/// How far a peer is on the way to its end. That is told once its input is over, a whole visit behind that had no more
+/// for it, and its socket took all of it. So changes that go on coming put it off no longer than that.
+#[derive(Clone, Copy)]
 pub enum Ending {
     /// Its input is not over.
     Open,
-    /// Its input is over, and no write to it was asked since the turn began.
-    Quiet,
-    /// Its input is over, and a write to it was asked in this turn.
-    Written,
-    /// Its end is told.
-    Told,
+    /// Its input is over. It was written to so many times in this visit; `MOST_WRITES` if a write was cut.
+    Settling { writes: u32 },
+    /// Its input is over, and a whole visit wrote to it fewer times than that.
+    Settled,
 }
 
 impl Ending {
-    /// Returns what follows the begin of a turn, where `ended` says that the input is over and none of it held, and `gathered` that
-    /// something is gathered for the peer.
-    pub fn begin_turn(self, ended: bool, gathered: bool) -> Ending
-        ensures next { result ≡ begun self ended gathered }
-        ensures told { result ≡ Ending.Told ↔ ((self ≡ Ending.Quiet) ⊎ (self ≡ Ending.Told)) × (gathered ≡ false) }
+    /// Returns what follows the begin of a visit, where `ended` says that the input is over and none of it held.
+    pub fn begin_visit(self, ended: bool) -> Ending
+        ensures next { result ≡ begun self ended }
         ensures open { result ≡ Ending.Open ↔ (self ≡ Ending.Open) × (ended ≡ false) }
-        ensures never { result ≢ Ending.Written }
+        ensures settled { result ≡ Ending.Settled → (self ≡ Ending.Settled)
+            ⊎ (writes : ℕ) × (self ≡ Ending.Settling writes) × (writes < MOST_WRITES) }
     {
         match self {
-            Ending::Open if ended => Ending::Quiet,
-            Ending::Open => Ending::Open,
-            Ending::Written => Ending::Quiet,
-            Ending::Quiet | Ending::Told if gathered => Ending::Quiet,
-            Ending::Quiet | Ending::Told => Ending::Told,
+            Ending::Open if !ended => Ending::Open,
+            Ending::Settled => Ending::Settled,
+            Ending::Settling { writes } if writes < MOST_WRITES => Ending::Settled,
+            Ending::Open | Ending::Settling { .. } => Ending::Settling { writes: 0 },
         }
     }
 
-    /// Returns what follows a write that was asked.
-    pub fn written(self) -> Ending
-        ensures next { result ≡ written self }
-        ensures untold { (result ≢ Ending.Told) × (result ≢ Ending.Quiet) }
-        ensures open { result ≡ Ending.Open ↔ self ≡ Ending.Open }
+    /// Returns what follows a write, of which all was taken or not.
+    pub fn written(self, all: bool) -> Ending
+        ensures next { result ≡ written self all }
+        ensures cut { all ≡ false → result ≢ Ending.Open → (self ≡ Ending.Settled)
+            ⊎ (result ≡ Ending.Settling MOST_WRITES) }
     {
         match self {
-            Ending::Open => Ending::Open,
-            Ending::Quiet | Ending::Written | Ending::Told => Ending::Written,
+            Ending::Settling { writes } if all && writes < MOST_WRITES => Ending::Settling {
+                writes: writes + 1,
+            },
+            Ending::Settling { .. } => Ending::Settling {
+                writes: MOST_WRITES,
+            },
+            state => state,
         }
+    }
+
+    /// Returns whether its input is not over.
+    pub fn is_open(self) -> bool
+        ensures { IsTrue result ↔ self ≡ Ending.Open }
+    {
+        matches!(self, Ending::Open)
+    }
+
+    /// Returns whether its end may be told once its socket took all.
+    pub fn is_settled(self) -> bool
+        ensures { IsTrue result ↔ self ≡ Ending.Settled }
+    {
+        matches!(self, Ending::Settled)
     }
 }

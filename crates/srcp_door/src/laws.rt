@@ -2,6 +2,7 @@
 
 ghost use Rattle.std.specs.Prelude.{◌*◌, ◌+◌, ◌≤◌};
 
+use crate::ending::MOST_WRITES;
 use crate::held::MOST_GATHERED;
 use crate::pacing::{MOST_SLACK, RESERVE};
 use srcp_info::LONGEST_LINE;
@@ -14,7 +15,7 @@ pub fn turns_suffice()
     ensures lines { RESERVE + MOST_CHANGES ≤ MOST_SLACK }
 {}
 
-/// The 300 lines that a peer is written in a turn at most can be gathered.
+/// The lines that a peer is written in a visit at most can be gathered.
 pub fn visits_fit()
-    ensures { 300 * LONGEST_LINE ≤ MOST_GATHERED }
+    ensures { MOST_WRITES * LONGEST_LINE ≤ MOST_GATHERED }
 {}

@@ -13,9 +13,9 @@ mod pacing;
 mod read_ahead;
 mod timekeeper;
 
-pub use ending::Ending;
+pub use ending::{Ending, MOST_WRITES};
 pub use held::{Gathered, HandedOver, Held, MOST_GATHERED};
 pub use link::Link;
-pub use pacing::{Line, MOST_SLACK, Pace, Pacing, RESERVE, Share};
+pub use pacing::{Allowed, Line, MOST_SLACK, Pace, Pacing, RESERVE, Share};
 pub use read_ahead::{Filled, Given, Input, MOST_AHEAD, MOST_PIECE, ReadAhead};
 pub use timekeeper::Timekeeper;

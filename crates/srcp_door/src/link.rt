@@ -83,12 +83,11 @@ impl Link {
     /// Begins a turn, after its socket was handed what is gathered and was read. With `clear` its mark is cleared.
     pub fn begin_turn(&mut self, clear: bool)
         ensures ending { (ended : Bool) → (IsTrue ended ↔ ((self.old.ahead.bytes ≡ []) × (self.old.ahead.input ≡ Input.Ended)))
-            → self.new.ending ≡ begun self.old.ending ended (not (length self.old.gathered == 0)) }
+            → self.new.ending ≡ begun self.old.ending ended }
         ensures share { self.new.share ≡ record { line = self.old.share.line; mark = cond clear false self.old.share.mark } }
         ensures others { self.new ≡ record { gathered = self.old.gathered; ahead = self.old.ahead; ending = self.new.ending; share = self.new.share; lost = self.old.lost } }
     {
-        let gathered = !self.gathered.is_empty();
-        self.ending = self.ending.begin_turn(self.ahead.is_over(), gathered);
+        self.ending = self.ending.begin_visit(self.ahead.is_over());
         if clear {
             self.share.mark = false;
         }
@@ -103,7 +102,7 @@ impl Link {
             → let piece = take (min (length buffer.old) MOST_PIECE) self.old.ahead.bytes in
             Allows pacing.old.pace self.old.share piece (length (given result buffer.new)) }
         ensures told { self.old.ahead.bytes ≡ [] → (self.new ≡ self.old)
-            × (result ≡ cond pacing.old.end (due_end self.old.lost self.old.ahead.input self.old.ending) Given.Nothing)
+            × (result ≡ cond pacing.old.end (due_end self.old.lost self.old.ahead.input self.old.ending self.old.gathered) Given.Nothing)
             × (pacing.new ≡ record { pace = pacing.old.pace; refused = pacing.old.refused; end = cond (is_told result) false pacing.old.end }) }
         ensures handed { self.old.ahead.bytes ≢ [] → let handed = given result buffer.new in
             let piece = take (min (length buffer.old) MOST_PIECE) self.old.ahead.bytes in
@@ -135,7 +134,7 @@ impl Link {
         !self.ahead.is_empty()
             || self.lost
             || self.ahead.input() == Input::Failed
-            || self.ending != Ending::Open && self.gathered.is_empty()
+            || !self.ending.is_open() && self.gathered.is_empty()
     }
 
     /// Returns whether something is gathered that its socket may still take.
@@ -147,7 +146,7 @@ impl Link {
 
     /// Returns what is told where nothing is held of it.
     fn told_end(&self, pacing: &mut Pacing) -> Given
-        ensures result { result ≡ cond pacing.old.end (due_end self.now.lost self.now.ahead.input self.now.ending) Given.Nothing }
+        ensures result { result ≡ cond pacing.old.end (due_end self.now.lost self.now.ahead.input self.now.ending self.now.gathered) Given.Nothing }
         ensures pacing { pacing.new ≡ record { pace = pacing.old.pace; refused = pacing.old.refused; end = cond (is_told result) false pacing.old.end } }
     {
         let due = self.due_end();
@@ -159,11 +158,11 @@ impl Link {
 
     /// Returns what is due to be told where nothing is held of it.
     fn due_end(&self) -> Given
-        ensures { result ≡ due_end self.now.lost self.now.ahead.input self.now.ending }
+        ensures { result ≡ due_end self.now.lost self.now.ahead.input self.now.ending self.now.gathered }
     {
         if self.lost || self.ahead.input() == Input::Failed {
             Given::Failed
-        } else if self.ending == Ending::Told {
+        } else if self.ending.is_settled() && self.gathered.is_empty() {
             Given::Ended
         } else {
             Given::Nothing
@@ -174,12 +173,14 @@ impl Link {
     pub fn write(&mut self, bytes: &[u8]) -> usize
         ensures count { result ≡ cond self.old.lost (length bytes.now) (min (length bytes.now) (MOST_GATHERED - length self.old.gathered)) }
         ensures gathered { self.new.gathered ≡ cond self.old.lost self.old.gathered (self.old.gathered ++ take result bytes.now) }
-        ensures others { self.new ≡ record { gathered = self.new.gathered; ahead = self.old.ahead; ending = written self.old.ending; share = self.old.share; lost = self.old.lost } }
+        ensures others { self.new ≡ record { gathered = self.new.gathered; ahead = self.old.ahead; ending = written self.old.ending (result == length bytes.now); share = self.old.share; lost = self.old.lost } }
     {
-        self.ending = self.ending.written();
         if self.lost {
+            self.ending = self.ending.written(true);
             return bytes.len();
         }
-        self.gathered.take(bytes)
+        let count = self.gathered.take(bytes);
+        self.ending = self.ending.written(count == bytes.len());
+        count
     }
 }

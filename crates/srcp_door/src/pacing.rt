@@ -1,7 +1,7 @@
 //! How many lines are let through in a turn.
 
-ghost use Rattle.std.specs.Prelude.{◌≡◌, ◌<◌, ◌≤◌, ◌+◌, ◌↔◌, ◌⊎◌, ◌==◌, false, true, not, cond, IsTrue, length, take};
-ghost use Rattle.srcp_door.specs.Pacing.{Allows, Budget, IsFirstWeight, IsLongest, IsShort, budget_after};
+ghost use Rattle.std.specs.Prelude.{◌≡◌, ◌<◌, ◌≤◌, ◌+◌, ◌↔◌, ◌⊎◌, ◌==◌, ◌&&◌, false, true, not, cond, IsTrue, length, take};
+ghost use Rattle.srcp_door.specs.Pacing.{Allows, Budget, IsFirstWeight, IsLongest, IsShort, budget_after, fits};
 ghost use Rattle.srcp_door.specs.Pacing.{line_after, line_weight, lines, pace_of, share_after, spent, weight_of};
 
 use memchr::memchr;
@@ -69,9 +69,20 @@ pub enum Pace {
     OneLine,
 }
 
+/// What may be handed out of a piece.
+#[derive(Clone, Copy)]
+pub struct Allowed {
+    /// How many of its bytes.
+    pub count: usize,
+    /// Whether a line is kept back of a peer that got none since the marks were cleared.
+    pub refused: bool,
+}
+
 impl Pace {
     /// Returns what may be let through in a turn, by how many changes may come before a panel overruns, if one is there.
-    fn of_turn(slack: Option<usize>, tick: bool) -> Pace
+    /// With `tick` it is one line though the panels may take none, so that nobody starves behind a panel that does not
+    /// read.
+    pub fn of_turn(slack: Option<usize>, tick: bool) -> Pace
         ensures { result ≡ pace_of slack tick }
     {
         let left = slack.unwrap_or(MOST_SLACK).saturating_sub(RESERVE);
@@ -92,6 +103,35 @@ impl Pace {
             },
             Pace::OneLine if weight > 0 => Pace::Paced { left: 0 },
             Pace::OneLine => Pace::OneLine,
+        }
+    }
+
+    /// Returns how many bytes of a peer's piece may be handed out now: all of a piece in which no line ends, and else
+    /// those of whole lines, as many as may go. A peer that has its mark gets none that weighs something, and one that
+    /// gets such a line gets its mark.
+    pub fn allow(&mut self, share: &mut Share, piece: &[u8]) -> Allowed
+        ensures allowed { Allows self.old share.old piece.now result.count }
+        ensures within { result.count ≤ length piece.now }
+        ensures share { share.new ≡ share_after share.old (take result.count piece.now) }
+        ensures pace { self.new ≡ spent self.old (weight_of share.old.line (take result.count piece.now)) }
+        ensures fits { fits self.old (weight_of share.old.line (take result.count piece.now)) ≡ true }
+        ensures refused { result.refused ≡ (not (lines (take result.count piece.now) == lines piece.now)
+            && not share.new.mark) }
+        ensures fair { IsTrue result.refused → IsShort self.new }
+    {
+        let left = match *self {
+            Pace::Paced { left } => left,
+            Pace::OneLine => first_weight(piece, share.line),
+        };
+        let most = if share.mark { 0 } else { left };
+        let front = front_within(piece, share.line, most);
+        let count = front.prefix.count;
+        *self = self.after(front.weight);
+        share.line = share.line.after(&piece[..count]);
+        share.mark |= front.weight > 0;
+        Allowed {
+            count,
+            refused: front.more && !share.mark,
         }
     }
 }
@@ -172,18 +212,9 @@ impl Pacing {
         ensures budget { self.new ≡ budget_after self.old share.old piece.now (take result piece.now) }
         ensures fair { IsTrue self.new.refused → IsShort self.new.pace }
     {
-        let left = match self.pace {
-            Pace::Paced { left } => left,
-            Pace::OneLine => first_weight(piece, share.line),
-        };
-        let most = if share.mark { 0 } else { left };
-        let front = front_within(piece, share.line, most);
-        let count = front.prefix.count;
-        self.pace = self.pace.after(front.weight);
-        share.line = share.line.after(&piece[..count]);
-        share.mark |= front.weight > 0;
-        self.refused |= front.more && !share.mark;
-        count
+        let allowed = self.pace.allow(share, piece);
+        self.refused |= allowed.refused;
+        allowed.count
     }
 
     /// Returns whether the end of a peer may be told now, which is then the one of this turn.
@@ -206,6 +237,7 @@ fn front_within(piece: &[u8], line: Line, most: usize) -> Front
     ensures more { result.more ≡ not (result.prefix.lines == lines piece.now) }
     ensures light { IsTrue result.more → most < result.weight + MOST_CHANGES }
     ensures next { most ≡ 0 → IsFirstWeight line piece.now result.next }
+    ensures small { result.next ≤ MOST_CHANGES }
 {
     let mut line = line;
     let mut prefix = Prefix { count: 0, lines: 0 };
@@ -241,7 +273,8 @@ fn front_within(piece: &[u8], line: Line, most: usize) -> Front
 
 /// Returns how much the first line of a piece weighs that weighs something; 0 if none does.
 fn first_weight(piece: &[u8], line: Line) -> usize
-    ensures { IsFirstWeight line piece.now result }
+    ensures first { IsFirstWeight line piece.now result }
+    ensures most { result ≤ MOST_CHANGES }
 {
     front_within(piece, line, 0).next
 }
