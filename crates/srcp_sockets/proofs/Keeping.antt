@@ -20,9 +20,16 @@ use Rattle.srcp_serve.specs.Calls.{Call, ReadCall, WriteCall, CloseCall}
 use Rattle.srcp_serve.specs.declared.door.DoorFault.{DoorFault}
 use Rattle.srcp_serve.specs.declared.door.Got.{Got}
 use Rattle.srcp_serve.specs.declared.door.Got.TheVariants as got
-use Rattle.srcp_sockets.specs.Accounts.{Account, Sent, Received, account, account_step, told_step, is_at_rest, is_short, refused_write, shut_down, untouched, waited, read_in, wrote, woken, woken_sent, woken_came}
-use Rattle.srcp_sockets.specs.Peers.{Agrees, ComesAs, IsKept, ReadsAs, Spares, WritesAs, after_wake, queued_more, given, got_bytes, is_lost, is_resting, may_have, missed, refused, taken, woken_input, woken_output}
+use Rattle.srcp_sockets.specs.Accounts.{Account, Sent, Received, account, account_step, told_step, is_at_rest, is_short, refused_read, refused_write, shut_down, untouched, waited, read_in, wrote, woken, woken_sent, woken_came}
+use Rattle.srcp_door.specs.Pacing.{line_after}
+use Rattle.srcp_door.specs.declared.ending.Ending.{Ending}
+use Rattle.srcp_door.specs.declared.pacing.Line.{Line}
+use Rattle.srcp_door.specs.declared.pacing.Line.TheVariants as line
+use Rattle.srcp_door.specs.declared.pacing.Share.{Share}
+use Rattle.srcp_sockets.specs.Peers.{Agrees, ComesAs, IsKept, ReadsAs, Spares, WritesAs, after_wake, queued_more, given, is_lost, is_resting, may_have, missed, refused, taken, woken_input, woken_output}
+use Rattle.srcp_sockets.specs.Turns.{got_bytes}
 use Rattle.srcp_sockets.proofs.States.{comes_here, handed_as, read_comes, reads_here, unread_comes, unwritten_as, woken_comes, woken_writes, written_as, wrote_as}
+use Rattle.srcp_sockets.proofs.Lined.{line_after-append}
 use Rattle.srcp_sockets.proofs.Staying.{shut_agrees, stays_drop, stays_here}
 use Rattle.srcp_sockets.proofs.Resting.{resting}
 
@@ -87,11 +94,11 @@ spares_read n other old new buffer answer differ tells =
 agrees_own : (b : Bool) (x y : Account) (p : Peer) → b ≡ true → Agrees x p → Agrees (if b then x else y) p
 agrees_own b x y p e h = subst (λ (a : Account). Agrees a p) (sym (picks b x y e)) h
 
-pub kept_write : (old new : Option (List Step)) (p : Peer) (count : ℕ) → p.output ≡ output.Open
+pub kept_write : (old new : Option (List Step)) (p : Peer) (count : ℕ) (asked : Bool) → p.output ≡ output.Open
     → Tells old (Writes p.number p.outgoing (Ok count)) new → IsKept old p
-    → IsKept new (record p { outgoing = drop count p.outgoing; output = taken count (length p.outgoing) })
-kept_write old new p count is_open tells kept =
-    let q : Peer = record p { outgoing = drop count p.outgoing; output = taken count (length p.outgoing) } in
+    → IsKept new (record p { outgoing = drop count p.outgoing; output = taken count (length p.outgoing); asked = asked })
+kept_write old new p count asked is_open tells kept =
+    let q : Peer = record p { outgoing = drop count p.outgoing; output = taken count (length p.outgoing); asked = asked } in
     kept_after old new (Writes p.number p.outgoing (Ok count)) p q tells refl
     (λ (a : Account) (h : Agrees a p). agrees_own (p.number == p.number) _ a q (own p.number) (record {
       cut = h.cut;
@@ -99,6 +106,7 @@ kept_write old new p count is_open tells kept =
       stays = stays_drop a.watched a.leave p.outgoing p.stay count h.stays;
       rightly = h.rightly;
       writes = wrote_as a.sent p.outgoing count (subst (WritesAs a.sent p.outgoing) is_open h.writes);
+      line = h.line;
       honest = h.honest;
       rested = h.rested;
     })) kept
@@ -109,11 +117,11 @@ refused_cut sent Later = refl
 refused_cut sent Again = refl
 refused_cut sent Fault = refl
 
-pub kept_refused : (old new : Option (List Step)) (p : Peer) (fault : ErrorKind) → p.output ≡ output.Open
+pub kept_refused : (old new : Option (List Step)) (p : Peer) (fault : ErrorKind) (asked : Bool) → p.output ≡ output.Open
     → Tells old (Writes p.number p.outgoing (Err fault)) new → IsKept old p
-    → IsKept new (record p { output = refused p.output (refusal_told fault) })
-kept_refused old new p fault is_open tells kept =
-    let q : Peer = record p { output = refused p.output (refusal_told fault) } in
+    → IsKept new (record p { output = refused p.output (refusal_told fault); asked = asked })
+kept_refused old new p fault asked is_open tells kept =
+    let q : Peer = record p { output = refused p.output (refusal_told fault); asked = asked } in
     kept_after old new (Writes p.number p.outgoing (Err fault)) p q tells refl
     (λ (a : Account) (h : Agrees a p). agrees_own (p.number == p.number) (record a { sent = wrote a.sent p.outgoing (Err fault) }) a q
     (own p.number) (record {
@@ -124,6 +132,7 @@ kept_refused old new p fault is_open tells kept =
       writes = subst (λ (s : Writing). WritesAs (wrote a.sent p.outgoing (Err fault)) p.outgoing (refused s (refusal_told fault)))
           (sym is_open)
           (unwritten_as a.sent p.outgoing fault (subst (WritesAs a.sent p.outgoing) is_open h.writes));
+      line = h.line;
       honest = h.honest;
       rested = h.rested;
     })) kept
@@ -140,9 +149,16 @@ kept_read old new p buffer count ready tells kept =
       writes = h.writes;
       stays = h.stays;
       rightly = h.rightly;
+      line = h.line;
       honest = h.honest;
       rested = h.rested;
     })) kept
+
+-- a read that failed hands out nothing
+refused_handed : (received : Received) (said : Refusal) → (refused_read received said).handed ≡ received.handed
+refused_handed received Later = refl
+refused_handed received Again = refl
+refused_handed received Fault = refl
 
 pub kept_missed : (old new : Option (List Step)) (p : Peer) (buffer : List ℕ) (fault : ErrorKind) → may_have p.input ≡ true
     → Tells old (Reads p.number buffer (Err fault)) new → IsKept old p
@@ -156,6 +172,7 @@ kept_missed old new p buffer fault ready tells kept =
       writes = h.writes;
       stays = h.stays;
       rightly = h.rightly;
+      line = h.line ∙ ap (line_after line.Ended) (sym (refused_handed a.received (refusal_told fault)));
       honest = h.honest;
       rested = h.rested;
     })) kept
@@ -172,11 +189,19 @@ pub spares_shut : (n other : ℕ) (old new : Option (List Step)) → other ≢ n
 spares_shut n other old new differ tells =
     spares_after other old new (Shuts n) tells (λ a. skips (n == other) (shut_down a) a (alien n other differ))
 
-pub kept_taken : (old new : Option (List Step)) (p : Peer) (bytes : List ℕ) (count : ℕ) → p.stay ≡ stay.Here
+pub kept_taken : (old new : Option (List Step)) (p : Peer) (bytes : List ℕ) (count : ℕ) (ending : Ending) → p.stay ≡ stay.Here
     → Tells old (Told (WriteCall p.number bytes (Ok count))) new → IsKept old p
-    → IsKept new (record p { outgoing = queued_more p.output p.outgoing (take count bytes); cut = nat_lt count (length bytes) })
-kept_taken old new p bytes count here tells kept =
-    let q : Peer = record p { outgoing = queued_more p.output p.outgoing (take count bytes); cut = nat_lt count (length bytes) } in
+    → IsKept new (record p {
+      outgoing = queued_more p.output p.outgoing (take count bytes);
+      cut = nat_lt count (length bytes);
+      ending = ending;
+    })
+kept_taken old new p bytes count ending here tells kept =
+    let q : Peer = record p {
+      outgoing = queued_more p.output p.outgoing (take count bytes);
+      cut = nat_lt count (length bytes);
+      ending = ending;
+    } in
     kept_after old new (Told (WriteCall p.number bytes (Ok count))) p q tells refl
     (λ (a : Account) (h : Agrees a p). agrees_own (p.number == p.number) _ a q (own p.number) (record {
       cut = refl;
@@ -184,16 +209,19 @@ kept_taken old new p bytes count here tells kept =
       writes = written_as a.sent p.outgoing (take count bytes) p.output h.writes;
       stays = stays_here a.watched a.leave p.outgoing (queued_more p.output p.outgoing (take count bytes)) p.stay here h.stays;
       rightly = h.rightly;
+      line = h.line;
       honest = h.honest;
       rested = h.rested;
     })) kept
 
 -- what a read of the door told
-got_agrees : (a : Account) (p : Peer) (answer : Result Got DoorFault) (buffer rest : List ℕ) → p.stay ≡ stay.Here
-    → p.incoming ≡ got_bytes answer buffer ++ rest → (answer ≡ Ok got.Ended → p.input ≡ input.Ended) → Agrees a p
-    → Agrees (told_step p.number a (ReadCall p.number answer buffer)) (record p { incoming = rest })
-got_agrees a p (Ok (got.Bytes count)) buffer rest here is ended h =
-    let q : Peer = record p { incoming = rest } in
+got_agrees : (a : Account) (p : Peer) (answer : Result Got DoorFault) (buffer rest : List ℕ) (share : Share) (asked : Bool)
+    → p.stay ≡ stay.Here → p.incoming ≡ got_bytes answer buffer ++ rest
+    → share.line ≡ line_after p.share.line (got_bytes answer buffer)
+    → (answer ≡ Ok got.Ended → p.input ≡ input.Ended) → Agrees a p
+    → Agrees (told_step p.number a (ReadCall p.number answer buffer)) (record p { incoming = rest; share = share; asked = asked })
+got_agrees a p (Ok (got.Bytes count)) buffer rest share asked here is lined ended h =
+    let q : Peer = record p { incoming = rest; share = share; asked = asked } in
     let r = reads_here a.received p.incoming p.input p.stay here h.reads in
     agrees_own (p.number == p.number) _ a q (own p.number) (record {
       cut = h.cut;
@@ -202,20 +230,23 @@ got_agrees a p (Ok (got.Bytes count)) buffer rest here is ended h =
       writes = h.writes;
       stays = h.stays;
       rightly = h.rightly;
+      line = lined ∙ ap (λ (l : Line). line_after l (take count buffer)) h.line
+          ∙ sym (line_after-append line.Ended a.received.handed (take count buffer));
       honest = h.honest;
       rested = h.rested;
     })
-got_agrees a p (Ok got.Nothing) buffer rest here is ended h = record {
+got_agrees a p (Ok got.Nothing) buffer rest share asked here is lined ended h = record {
   cut = h.cut;
   reads = subst (λ (b : List ℕ). ComesAs a.received b p.input p.stay) is h.reads;
   writes = h.writes;
   stays = h.stays;
   rightly = h.rightly;
+  line = lined ∙ h.line;
   honest = h.honest;
   rested = h.rested;
 }
-got_agrees a p (Ok got.Ended) buffer rest here is ended h =
-    let q : Peer = record p { incoming = rest } in
+got_agrees a p (Ok got.Ended) buffer rest share asked here is lined ended h =
+    let q : Peer = record p { incoming = rest; share = share; asked = asked } in
     let r : ReadsAs a.received p.incoming input.Ended = subst (ReadsAs a.received p.incoming) (ended refl)
     (reads_here a.received p.incoming p.input p.stay here h.reads) in
     agrees_own (p.number == p.number) _ a q (own p.number) (record {
@@ -224,27 +255,48 @@ got_agrees a p (Ok got.Ended) buffer rest here is ended h =
       writes = h.writes;
       stays = h.stays;
       rightly = h.rightly;
+      line = lined ∙ h.line;
       honest = ap (λ b. b && a.received.ended) h.honest ∙ r.2;
       rested = h.rested;
     })
-got_agrees a p (Err fault) buffer rest here is ended h = record {
+got_agrees a p (Err fault) buffer rest share asked here is lined ended h = record {
   cut = h.cut;
   reads = subst (λ (b : List ℕ). ComesAs a.received b p.input p.stay) is h.reads;
   writes = h.writes;
   stays = h.stays;
   rightly = h.rightly;
+  line = lined ∙ h.line;
   honest = h.honest;
   rested = h.rested;
 }
 
 pub kept_got : (old new : Option (List Step)) (p q : Peer) (answer : Result Got DoorFault) (buffer : List ℕ)
-    → p.stay ≡ stay.Here → q ≡ record p { incoming = q.incoming } → p.incoming ≡ got_bytes answer buffer ++ q.incoming
+    → p.stay ≡ stay.Here → q ≡ record p { incoming = q.incoming; share = q.share; asked = q.asked }
+    → p.incoming ≡ got_bytes answer buffer ++ q.incoming
+    → q.share.line ≡ line_after p.share.line (got_bytes answer buffer)
     → (answer ≡ Ok got.Ended → p.input ≡ input.Ended)
     → Tells old (Told (ReadCall p.number answer buffer)) new → IsKept old p → IsKept new q
-kept_got old new p q answer buffer here same is ended tells kept =
+kept_got old new p q answer buffer here same is lined ended tells kept =
     subst (IsKept new) (sym same)
-    (kept_after old new (Told (ReadCall p.number answer buffer)) p (record p { incoming = q.incoming }) tells refl
-    (λ (a : Account) (h : Agrees a p). got_agrees a p answer buffer q.incoming here is ended h) kept)
+    (kept_after old new (Told (ReadCall p.number answer buffer)) p
+    (record p { incoming = q.incoming; share = q.share; asked = q.asked }) tells refl
+    (λ (a : Account) (h : Agrees a p). got_agrees a p answer buffer q.incoming q.share q.asked here is lined ended h) kept)
+
+-- its mark was cleared, or it went on on the way to its end
+pub kept_visit : (told : Option (List Step)) (p : Peer) (share : Share) (ending : Ending) → share.line ≡ p.share.line → IsKept told p
+    → IsKept told (record p { share = share; ending = ending })
+kept_visit told p share ending same kept log is =
+    let h = kept log is in
+    record {
+      cut = h.cut;
+      reads = h.reads;
+      writes = h.writes;
+      stays = h.stays;
+      rightly = h.rightly;
+      line = same ∙ h.line;
+      honest = h.honest;
+      rested = h.rested;
+    }
 
 -- ---- the sockets that a wait found ready
 
@@ -264,6 +316,7 @@ woken_agrees a p ready h = by (ready.socket == p.number)
       stays = h.stays;
       rightly = h.rightly;
       writes = woken_writes a.sent p.outgoing p.output ready.writable h.writes;
+      line = h.line;
       honest = h.honest;
       rested = h.rested;
     }
@@ -311,6 +364,7 @@ kept_waited old new p most count ready rest tells kept =
       writes = h.writes;
       stays = h.stays;
       rightly = h.rightly;
+      line = h.line;
       honest = h.honest;
       rested = ap (λ b. b && (not (a.watched || (p.number == 0)) || (is_short most || is_at_rest a.sent a.received))) h.rested
           ∙ or_so (not (a.watched || (p.number == 0))) (is_short most || is_at_rest a.sent a.received)
@@ -319,25 +373,28 @@ kept_waited old new p most count ready rest tells kept =
 
 -- ---- the same, by the names that a function gives to the parts
 
-pub wrote_peer : (old new : Option (List Step)) (p : Peer) (count all : ℕ) (front left : List ℕ) (out : Writing) → p.output ≡ output.Open
+pub wrote_peer : (old new : Option (List Step)) (p : Peer) (count all : ℕ) (front left : List ℕ) (out : Writing) (asked : Bool)
+    → p.output ≡ output.Open
     → front ≡ p.outgoing → left ≡ drop count p.outgoing → all ≡ length p.outgoing → out ≡ taken count all
-    → Tells old (Writes p.number front (Ok count)) new → IsKept old p → IsKept new (record p { outgoing = left; output = out })
-wrote_peer old new p count all front left out is_open fronted lefted alled outed tells kept =
+    → Tells old (Writes p.number front (Ok count)) new → IsKept old p
+    → IsKept new (record p { outgoing = left; output = out; asked = asked })
+wrote_peer old new p count all front left out asked is_open fronted lefted alled outed tells kept =
     let told : Tells old (Writes p.number p.outgoing (Ok count)) new = subst
     (λ (f : List ℕ). Tells old (Writes p.number f (Ok count)) new) fronted tells in
-    let k = kept_write old new p count is_open told kept in
-    subst (λ (o : Writing). IsKept new (record p { outgoing = left; output = o })) (sym (outed ∙ ap (taken count) alled))
-    (subst (λ (l : List ℕ). IsKept new (record p { outgoing = l; output = taken count (length p.outgoing) })) (sym lefted) k)
+    let k = kept_write old new p count asked is_open told kept in
+    subst (λ (o : Writing). IsKept new (record p { outgoing = left; output = o; asked = asked })) (sym (outed ∙ ap (taken count) alled))
+    (subst (λ (l : List ℕ). IsKept new (record p { outgoing = l; output = taken count (length p.outgoing); asked = asked }))
+    (sym lefted) k)
 
 pub refused_peer : (old new : Option (List Step)) (p : Peer) (fault : ErrorKind) (front : List ℕ) (said : Refusal) (out : Writing)
-    → p.output ≡ output.Open
+    (asked : Bool) → p.output ≡ output.Open
     → front ≡ p.outgoing → said ≡ refusal_told fault → out ≡ refused p.output said
-    → Tells old (Writes p.number front (Err fault)) new → IsKept old p → IsKept new (record p { output = out })
-refused_peer old new p fault front said out is_open fronted is outed tells kept =
+    → Tells old (Writes p.number front (Err fault)) new → IsKept old p → IsKept new (record p { output = out; asked = asked })
+refused_peer old new p fault front said out asked is_open fronted is outed tells kept =
     let told : Tells old (Writes p.number p.outgoing (Err fault)) new = subst
     (λ (f : List ℕ). Tells old (Writes p.number f (Err fault)) new) fronted tells in
-    subst (λ (o : Writing). IsKept new (record p { output = o })) (sym (outed ∙ ap (refused p.output) is))
-    (kept_refused old new p fault is_open told kept)
+    subst (λ (o : Writing). IsKept new (record p { output = o; asked = asked })) (sym (outed ∙ ap (refused p.output) is))
+    (kept_refused old new p fault asked is_open told kept)
 
 pub read_peer : (old new : Option (List Step)) (p : Peer) (buffer after : List ℕ) (count room : ℕ) (state : Reading)
     → may_have p.input ≡ true

@@ -8,6 +8,7 @@ pub mod Lists
 pub mod Standing
 pub mod Parting
 pub mod Tellings
+pub mod Lined
 pub mod Pasts
 pub mod Followed
 pub mod Timing

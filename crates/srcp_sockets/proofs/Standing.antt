@@ -18,9 +18,15 @@ use Rattle.srcp_sockets.specs.declared.waiting.Listening.{Listening}
 use Rattle.srcp_sockets.specs.declared.waiting.Listening.TheVariants as listening
 use Rattle.srcp_sockets.specs.declared.system.Ready.{Ready}
 use Rattle.srcp_sockets.specs.Steps.{Accepts, Step, Tells, Told, Waits, refusal_told}
-use Rattle.srcp_serve.specs.Calls.{Call}
+use Rattle.srcp_serve.specs.Calls.{Call, ReadCall}
+use Rattle.srcp_serve.specs.declared.door.DoorFault.{DoorFault}
+use Rattle.srcp_serve.specs.declared.door.Got.{Got}
+use Rattle.srcp_serve.specs.declared.door.Got.TheVariants as got
 use Rattle.srcp_sockets.specs.Accounts.{Account, accepted, account, account_step, heard, heard_refusal, is_at_rest, is_short, told_step, waited, woken, woken_came, woken_sent}
 use Rattle.srcp_sockets.specs.Peers.{Agrees, IsKept, Spares, WritesAs, after_wake, is_resting}
+use Rattle.srcp_door.specs.Pacing.{line_after}
+use Rattle.srcp_door.specs.declared.ending.Ending.TheVariants as ending
+use Rattle.srcp_door.specs.declared.pacing.Line.TheVariants as line
 use Rattle.srcp_sockets.specs.Listeners.{refused_listening, woken_listening}
 use Rattle.srcp_sockets.specs.Doors.{AreApart, AreKept, AreThose, AreWithin, Closed, Fresh, HeardAs, Hears, IsAbsent, Sound, Stands, IsThere}
 use Rattle.srcp_sockets.proofs.States.{comes_starts, starts}
@@ -38,6 +44,9 @@ nobody = record {
   output = output.Open;
   cut = false;
   stay = stay.Here;
+  share = record { line = line.Ended; mark = true };
+  ending = ending.Open;
+  asked = true;
 }
 
 pub find : (socket : ℕ) (peers : List Peer) → IsThere socket peers ⊎ IsAbsent socket peers
@@ -315,6 +324,15 @@ pub stands_told : (old new : Option (List Step)) (peers : List Peer) (l : Listen
 stands_told old new peers l last call nothing tells stands =
     stands_spared old new peers l last (λ other. spares_after other old new (Told call) tells (λ a. nothing other a)) stands
 
+-- a read of a peer that is not there
+pub stands_missed : (old new : Option (List Step)) (peers : List Peer) (l : Listening) (last number : ℕ) (answer : Result Got DoorFault)
+    (buffer : List ℕ) → (answer ≡ Ok got.Nothing ⊎ answer ≡ Err DoorFault.Read)
+    → Tells old (Told (ReadCall number answer buffer)) new → Stands old peers l last → Stands new peers l last
+stands_missed old new peers l last number answer buffer told tells stands =
+    stands_told old new peers l last (ReadCall number answer buffer)
+    (λ socket a. ⊎_elim (λ e. ap (λ x. told_step socket a (ReadCall number x buffer)) e)
+    (λ e. ap (λ x. told_step socket a (ReadCall number x buffer)) e) told) tells stands
+
 -- ---- a newcomer
 
 abbrev pub newcomer : ℕ → Peer
@@ -326,6 +344,9 @@ newcomer number = record {
   output = output.Open;
   cut = false;
   stay = stay.Here;
+  share = record { line = line.Ended; mark = true };
+  ending = ending.Open;
+  asked = true;
 }
 
 -- what an accept says of the sockets
@@ -356,6 +377,7 @@ fresh_agrees number a done f s = record {
   writes = (f.written ∙ sym (ap (λ h. h ++ []) f.took), refl);
   cut = refl;
   stays = (refl, refl, refl);
+  line = sym (ap (line_after line.Ended) f.handed);
   honest = s.honest;
   rested = s.rested;
   rightly = s.rightly;

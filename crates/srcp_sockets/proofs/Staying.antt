@@ -43,6 +43,7 @@ clocked_agrees a p answer h = record {
   stays = stays_clocked a.watched a.leave (clock_after a.leave.clock answer) p.outgoing p.stay h.stays;
   rightly = h.rightly;
   cut = h.cut;
+  line = h.line;
   honest = h.honest;
   rested = h.rested;
 }
@@ -59,6 +60,7 @@ let_go_agrees a p since here clock h =
       stays = (refl, s.1, ap (λ w. cond w a.leave.clock a.leave.since) s.0 ∙ clock, s.2);
       rightly = h.rightly;
       cut = h.cut;
+      line = h.line;
       honest = h.honest;
       rested = h.rested;
     }
@@ -77,6 +79,7 @@ gone_agrees a p gone h = record {
   stays = stays_gone a p.outgoing p.stay gone h.stays;
   rightly = h.rightly;
   cut = h.cut;
+  line = h.line;
   honest = h.honest;
   rested = h.rested;
 }
@@ -98,6 +101,7 @@ kept_dropped told p gone kept log is =
       stays = h.stays;
       rightly = h.rightly;
       cut = h.cut;
+      line = h.line;
       honest = h.honest;
       rested = h.rested;
     }
@@ -126,6 +130,7 @@ shut_agrees a p since leaving none kept h =
       rightly = shuts a.leave.rightly a.watched a.leave.kept a.leave.shut (is_owed a.sent) h.rightly s.0 s.1 s.3
           (owed_none a.sent p.outgoing p.output kept none h.writes);
       cut = h.cut;
+      line = h.line;
       honest = h.honest;
       rested = h.rested;
     }

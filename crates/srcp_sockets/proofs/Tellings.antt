@@ -27,11 +27,11 @@ grown pr more socket one a (step ∷ log) = grown pr more socket one (account_st
     ∙ ap (λ xs. xs ++ flat_map more log) (one a step) ∙ append_assoc (pr a) (more step) (flat_map more log)
 
 -- the calls of the door alone
-abbrev in_call : (Call → List ℕ) → Step → List ℕ
+abbrev pub in_call : (Call → List ℕ) → Step → List ℕ
 in_call f (Told call) = f call
 in_call f other = []
 
-by_calls : (f : Call → List ℕ) (log : List Step) → flat_map (in_call f) log ≡ flat_map f (calls log)
+pub by_calls : (f : Call → List ℕ) (log : List Step) → flat_map (in_call f) log ≡ flat_map f (calls log)
 by_calls f [] = refl
 by_calls f (Told call ∷ log) = ap (λ xs. f call ++ xs) (by_calls f log)
 by_calls f (Accepts number answer ∷ log) = by_calls f log

@@ -1,18 +1,28 @@
 -- How the times go on from step to step.
-use Rattle.std.proofs.Common.{◌≡◌, ◌∙◌, ℕ, ◌≤◌, Bool, true, false, List, [], ◌∷◌, ◌++◌, refl, ap, sym, subst, arith, ⊎_elim, ◌⊎◌, ◌==◌, Option, Some, None, Ok, Err}
+use Rattle.std.proofs.Common.{◌≡◌, ◌∙◌, ℕ, ◌≤◌, Bool, true, false, List, [], ◌∷◌, ◌++◌, refl, ap, sym, subst, arith, ⊎_elim, ◌⊎◌, ◌==◌, Option, Some, None, Ok, Err, true≢false}
 use Rattle.std.specs.Prelude.{◌&&◌, ◌||◌, not, nat_le, fold, Result}
 use Rattle.std.specs.Option.{option_map_or}
 use Rattle.std.proofs.lemmas.List.Sums.{fold-append}
 use Rattle.std.proofs.lemmas.Bool.Decides.{nat_tests}
 use Rattle.srcp_serve.specs.declared.door.DoorFault.{DoorFault}
 use Rattle.srcp_serve.specs.declared.door.Got.{Got}
+use Rattle.srcp_serve.specs.declared.door.Got.TheVariants as got
+use Rattle.srcp_door.specs.Pacing.{fits, weight_of}
+use Rattle.srcp_door.specs.Moments.{Moments}
+use Rattle.srcp_door.specs.declared.pacing.Line.{Line}
+use Rattle.srcp_door.specs.declared.pacing.Line.TheVariants as line
+use Rattle.srcp_door.specs.declared.pacing.Pace.{Pace}
+use Rattle.srcp_door.specs.declared.pacing.Pace.TheVariants.{Paced, OneLine}
+use Rattle.srcp_sockets.specs.declared.peer.Peer.{Peer}
+use Rattle.srcp_sockets.specs.Peers.{IsKept}
+use Rattle.srcp_sockets.proofs.Lined.{line_is}
 use Rattle.srcp_sockets.specs.declared.system.Ready.{Ready}
 use Rattle.srcp_sockets.specs.declared.turn.Turn.{Turn}
 use Rattle.srcp_serve.specs.Calls.{Call, ExpectCall, NowCall, AcceptCall, ReadCall, WriteCall, CloseCall}
 use Rattle.srcp_sockets.specs.Accounts.{is_short}
 use Rattle.srcp_sockets.specs.Steps.{Clocks, Step, Tells, Told, Waits}
-use Rattle.srcp_sockets.specs.Times.{AreKeptTimes, IsTimed, IsTimedFrom, KeepsTimes, Timed, Times, clocked, ends_by, first_times, in_time, times, times_step, told_moment, told_times}
-use Rattle.srcp_sockets.specs.Turns.{after_call, after_wait, first_turn, hands_out, is_pending, moment_at, time_left, told_at}
+use Rattle.srcp_sockets.specs.Times.{AreKeptTimes, ArePaced, IsTimed, IsTimedFrom, KeepsTimes, Timed, Times, clocked, ends_by, first_times, in_time, times, times_step, told_moment, told_read, told_times}
+use Rattle.srcp_sockets.specs.Turns.{after_call, after_read, after_wait, begun, first_turn, got_bytes, hands_out, is_pending, moment_at, tells_end, time_left, told_at}
 use Rattle.srcp_sockets.specs.Waiting.{IsWithin}
 
 times_more : (wall start : ℕ) (log : List Step) (step : Step) → times wall start (log ++ step ∷ []) ≡ times_step (times wall start log) step
@@ -52,11 +62,6 @@ both a b e f = ap (λ x. x && b) e ∙ f
 
 -- ---- a call of the door, but for the moment
 
--- no input is handed out in a turn that is late
-unless_late : (late hands : Bool) → (late ≡ true → hands ≡ false) → not (late && hands) ≡ true
-unless_late true hands f = ap not (f refl)
-unless_late false hands f = refl
-
 -- no other call reads the clock
 called_clock : (turn : Turn) (call : Call) → turn.clock ≡ (after_call turn call).clock
 called_clock turn (ExpectCall due slack) = refl
@@ -66,18 +71,18 @@ called_clock turn (ReadCall peer answer buffer) = refl
 called_clock turn (WriteCall peer bytes answer) = refl
 called_clock turn (CloseCall peer answer) = refl
 
-called : (t : Times) (before : Turn) (call : Call) (late : before.late ≡ true → hands_out call ≡ false) → Timed t before
-    → Timed (record t { turn = after_call t.turn call; prompt = t.prompt && not (t.turn.late && hands_out call) }) (after_call before call)
-called t before call late h = record {
+called : (t : Times) (before : Turn) (call : Call) → Timed t before
+    → Timed (record t { turn = after_call t.turn call }) (after_call before call)
+called t before call h = record {
   same = ap (λ (u : Turn). after_call u call) h.same;
   clock = h.clock ∙ called_clock before call;
   kept = record {
     exact = h.kept.exact;
     punctual = h.kept.punctual;
     patient = h.kept.patient;
-    prompt = both t.prompt (not (t.turn.late && hands_out call)) h.kept.prompt
-        (unless_late t.turn.late (hands_out call) (λ e. late (ap (λ (u : Turn). u.late) (sym h.same) ∙ e)));
+    prompt = h.kept.prompt;
   };
+  paced = record { light = h.paced.light; once = h.paced.once };
 }
 
 pub timed_expect : (old new : Option (List Step)) (before after : Turn) (due slack : Option ℕ) → after ≡ after_call before
@@ -87,7 +92,7 @@ timed_expect old new before after due slack is tells timed =
     let call : Call = ExpectCall due slack in
     subst (IsTimed new) (sym is) (timed_step before.timekeeper.wall before.timekeeper.start old new (Told call) before
     (after_call before call) tells
-    (λ t h. called t before call (λ e. refl) h) timed)
+    (λ t h. called t before call h) timed)
 
 pub timed_accept : (old new : Option (List Step)) (before after : Turn) (answer : Result (Option ℕ) DoorFault) → after ≡ after_call before
     (AcceptCall answer)
@@ -96,17 +101,7 @@ timed_accept old new before after answer is tells timed =
     let call : Call = AcceptCall answer in
     subst (IsTimed new) (sym is) (timed_step before.timekeeper.wall before.timekeeper.start old new (Told call) before
     (after_call before call) tells
-    (λ t h. called t before call (λ e. refl) h) timed)
-
-pub timed_read : (old new : Option (List Step)) (before after : Turn) (peer : ℕ) (answer : Result Got DoorFault) (buffer : List ℕ)
-    → ((p : ℕ) (bytes : List ℕ) → after ≡ after_call before (ReadCall p answer bytes))
-    → (before.late ≡ true → hands_out (ReadCall peer answer buffer) ≡ false)
-    → Tells old (Told (ReadCall peer answer buffer)) new → IsTimed old before → IsTimed new after
-timed_read old new before after peer answer buffer is late tells timed =
-    let call : Call = ReadCall peer answer buffer in
-    subst (IsTimed new) (sym (is peer buffer)) (timed_step before.timekeeper.wall before.timekeeper.start old new (Told call) before
-    (after_call before call) tells
-    (λ t h. called t before call late h) timed)
+    (λ t h. called t before call h) timed)
 
 pub timed_write : (old new : Option (List Step)) (before after : Turn) (peer : ℕ) (bytes : List ℕ) (answer : Result ℕ DoorFault)
     → ((p : ℕ) (xs : List ℕ) → after ≡ after_call before (WriteCall p xs answer))
@@ -115,7 +110,7 @@ timed_write old new before after peer bytes answer is tells timed =
     let call : Call = WriteCall peer bytes answer in
     subst (IsTimed new) (sym (is peer bytes)) (timed_step before.timekeeper.wall before.timekeeper.start old new (Told call) before
     (after_call before call) tells
-    (λ t h. called t before call (λ e. refl) h) timed)
+    (λ t h. called t before call h) timed)
 
 pub timed_close : (old new : Option (List Step)) (before after : Turn) (peer : ℕ) (answer : Result Unit DoorFault)
     → ((p : ℕ) → after ≡ after_call before (CloseCall p answer))
@@ -124,7 +119,138 @@ timed_close old new before after peer answer is tells timed =
     let call : Call = CloseCall peer answer in
     subst (IsTimed new) (sym (is peer)) (timed_step before.timekeeper.wall before.timekeeper.start old new (Told call) before
     (after_call before call) tells
-    (λ t h. called t before call (λ e. refl) h) timed)
+    (λ t h. called t before call h) timed)
+
+-- ---- a read of the door
+
+-- no input is handed out in a turn that is late
+unless_late : (late hands : Bool) → (late ≡ true → hands ≡ false) → not (late && hands) ≡ true
+unless_late true hands f = ap not (f refl)
+unless_late false hands f = refl
+
+-- an end is told where one may be
+unless_ended : (tells ends : Bool) → (tells ≡ true → ends ≡ true) → (not tells || ends) ≡ true
+unless_ended true ends f = f refl
+unless_ended false ends f = refl
+
+read_clock : (turn : Turn) (line : Line) (answer : Result Got DoorFault) (buffer : List ℕ)
+    → turn.clock ≡ (after_read turn line answer buffer).clock
+read_clock turn line (Ok (got.Bytes count)) buffer = refl
+read_clock turn line (Ok got.Nothing) buffer = refl
+read_clock turn line (Ok got.Ended) buffer = refl
+read_clock turn line (Err fault) buffer = refl
+
+-- what is to hold of a read in a turn, of a socket whose line that is
+pub record IsAllowed (turn : Turn) (line : Line) (answer : Result Got DoorFault) (buffer : List ℕ) : Type 0 where
+  pub prompt : turn.late ≡ true → hands_out answer ≡ false
+  pub light : fits turn.pace (weight_of line (got_bytes answer buffer)) ≡ true
+  pub single : tells_end answer ≡ true → turn.ends ≡ true
+
+read_rightly : (t : Times) (before : Turn) (line : Line) (who : ℕ) (answer : Result Got DoorFault) (buffer : List ℕ)
+    → t.lines who ≡ line → IsAllowed before line answer buffer → Timed t before
+    → Timed (told_read t who answer buffer) (after_read before line answer buffer)
+read_rightly t before line who answer buffer lined allowed h = record {
+  same = ap (λ (u : Turn). after_read u (t.lines who) answer buffer) h.same ∙ ap (λ l. after_read before l answer buffer) lined;
+  clock = h.clock ∙ read_clock before line answer buffer;
+  kept = record {
+    exact = h.kept.exact;
+    punctual = h.kept.punctual;
+    patient = h.kept.patient;
+    prompt = both t.prompt (not (t.turn.late && hands_out answer)) h.kept.prompt
+        (unless_late t.turn.late (hands_out answer) (λ e. allowed.prompt (ap (λ (u : Turn). u.late) (sym h.same) ∙ e)));
+  };
+  paced = record {
+    light = both t.paced (fits t.turn.pace (weight_of (t.lines who) (got_bytes answer buffer))) h.paced.light
+        (ap (λ (u : Turn). fits u.pace (weight_of (t.lines who) (got_bytes answer buffer))) h.same
+        ∙ ap (λ l. fits before.pace (weight_of l (got_bytes answer buffer))) lined ∙ allowed.light);
+    once = both t.single (not (tells_end answer) || t.turn.ends) h.paced.once
+        (unless_ended (tells_end answer) t.turn.ends (λ e. ap (λ (u : Turn). u.ends) h.same ∙ allowed.single e));
+  };
+}
+
+read_from : (wall start : ℕ) (old new : Option (List Step)) (before : Turn) (line : Line) (who : ℕ) (answer : Result Got DoorFault)
+    (buffer : List ℕ)
+    → ((log : List Step) → old ≡ Some log → (times wall start log).lines who ≡ line) → IsAllowed before line answer buffer
+    → Tells old (Told (ReadCall who answer buffer)) new → IsTimedFrom wall start old before
+    → IsTimedFrom wall start new (after_read before line answer buffer)
+read_from wall start old new before line who answer buffer lined allowed tells timed later is =
+    let t = tells later is in
+    subst (λ (x : Times). Timed x (after_read before line answer buffer))
+    (sym (ap (times wall start) t.2 ∙ times_more wall start t.0 (Told (ReadCall who answer buffer))))
+    (read_rightly (times wall start t.0) before line who answer buffer (lined t.0 t.1) allowed (timed t.0 t.1))
+
+read_time : (turn : Turn) (line : Line) (answer : Result Got DoorFault) (buffer : List ℕ)
+    → (after_read turn line answer buffer).timekeeper ≡ turn.timekeeper
+read_time turn line (Ok (got.Bytes count)) buffer = refl
+read_time turn line (Ok got.Nothing) buffer = refl
+read_time turn line (Ok got.Ended) buffer = refl
+read_time turn line (Err fault) buffer = refl
+
+timed_by : (new : Option (List Step)) (before after : Turn) → after.timekeeper ≡ before.timekeeper
+    → IsTimedFrom before.timekeeper.wall before.timekeeper.start new after → IsTimed new after
+timed_by new before after same timed = subst (λ (m : Moments). IsTimedFrom m.wall m.start new after) (sym same) timed
+
+pub timed_read : (old new : Option (List Step)) (before after : Turn) (line : Line) (who : ℕ) (answer : Result Got DoorFault)
+    (buffer : List ℕ)
+    → after ≡ after_read before line answer buffer
+    → ((wall start : ℕ) (log : List Step) → old ≡ Some log → (times wall start log).lines who ≡ line)
+    → IsAllowed before line answer buffer
+    → Tells old (Told (ReadCall who answer buffer)) new → IsTimed old before → IsTimed new after
+timed_read old new before after line who answer buffer is lined allowed tells timed =
+    subst (IsTimed new) (sym is)
+    (timed_by new before (after_read before line answer buffer) (read_time before line answer buffer)
+    (read_from before.timekeeper.wall before.timekeeper.start old new before line who answer buffer
+    (lined before.timekeeper.wall before.timekeeper.start) allowed tells timed))
+
+-- the line of a socket's peer is the one that the times say
+pub line_kept : (told : Option (List Step)) (wall start : ℕ) (p : Peer) (log : List Step) → IsKept told p → told ≡ Some log
+    → (times wall start log).lines p.number ≡ p.share.line
+line_kept told wall start p log kept is = line_is wall start p.number log ∙ sym (kept log is).line
+
+-- a read that handed out nothing, of whatever line
+fits_none : (pace : Pace) → fits pace 0 ≡ true
+fits_none (Paced left) = grind (arith, nat_tests)
+fits_none OneLine = refl
+
+none_allowed : (turn : Turn) (line : Line) (answer : Result Got DoorFault) (buffer : List ℕ) → got_bytes answer buffer ≡ []
+    → hands_out answer ≡ false → (tells_end answer ≡ true → turn.ends ≡ true) → IsAllowed turn line answer buffer
+none_allowed turn line answer buffer none kept_back ends = record {
+  prompt = λ e. kept_back;
+  light = ap (λ xs. fits turn.pace (weight_of line xs)) none ∙ fits_none turn.pace;
+  single = ends;
+}
+
+none_from : (wall start : ℕ) (old new : Option (List Step)) (before after : Turn) (who : ℕ) (answer : Result Got DoorFault)
+    (buffer : List ℕ) → ((line : Line) → after ≡ after_read before line answer buffer)
+    → ((line : Line) → IsAllowed before line answer buffer) → Tells old (Told (ReadCall who answer buffer)) new
+    → IsTimedFrom wall start old before → IsTimedFrom wall start new after
+none_from wall start old new before after who answer buffer is allowed tells timed =
+    timed_step wall start old new (Told (ReadCall who answer buffer)) before after tells
+    (λ t h. subst (λ (u : Turn). Timed (told_read t who answer buffer) u) (sym (is (t.lines who)))
+    (read_rightly t before (t.lines who) who answer buffer refl (allowed (t.lines who)) h)) timed
+
+pub timed_nothing : (old new : Option (List Step)) (turn : Turn) (who : ℕ) (buffer : List ℕ)
+    → Tells old (Told (ReadCall who (Ok got.Nothing) buffer)) new → IsTimed old turn → IsTimed new turn
+timed_nothing old new turn who buffer tells timed =
+    none_from turn.timekeeper.wall turn.timekeeper.start old new turn turn who (Ok got.Nothing) buffer (λ line. refl)
+    (λ line. none_allowed turn line (Ok got.Nothing) buffer refl refl (λ e. absurd (true≢false (sym e)))) tells timed
+
+-- nobody was there: that was told, or nothing
+pub timed_missed : (old new : Option (List Step)) (before after : Turn) (who : ℕ) (answer : Result Got DoorFault) (buffer : List ℕ)
+    → (answer ≡ Ok got.Nothing ⊎ answer ≡ Err DoorFault.Read)
+    → ((line : Line) (bytes : List ℕ) → after ≡ after_read before line answer bytes)
+    → (tells_end answer ≡ true → before.ends ≡ true)
+    → Tells old (Told (ReadCall who answer buffer)) new → IsTimed old before → IsTimed new after
+timed_missed old new before after who answer buffer told is ends tells timed =
+    timed_by new before after (ap (λ (u : Turn). u.timekeeper) (is line.Ended buffer) ∙ read_time before line.Ended answer buffer)
+    (none_from before.timekeeper.wall before.timekeeper.start old new before after who answer buffer (λ line. is line buffer)
+    (λ line. none_allowed before line answer buffer none kept_back ends) tells timed)
+  where
+    none : got_bytes answer buffer ≡ []
+    none = ⊎_elim (λ e. ap (λ a. got_bytes a buffer) e) (λ e. ap (λ a. got_bytes a buffer) e) told
+
+    kept_back : hands_out answer ≡ false
+    kept_back = ⊎_elim (λ e. ap hands_out e) (λ e. ap hands_out e) told
 
 -- ---- a wait
 
@@ -159,6 +285,7 @@ timed_wait old new turn most count ready ends quiet tells timed =
             ∙ unless_long (is_short most) (is_pending turn.slack turn.busy) quiet);
         prompt = h.kept.prompt;
       };
+      paced = record { light = h.paced.light; once = h.paced.once };
     }
 
 -- ---- a moment
@@ -167,8 +294,18 @@ same_number : (n m : ℕ) → n ≡ m → (n == m) ≡ true
 same_number n m e = grind (arith, nat_tests)
 
 -- the clock showed nothing
-untold : (t : Times) (turn : Turn) → Timed t turn → Timed (told_moment (clocked t None) (Err DoorFault.Now)) turn
-untold t turn h = h
+untold : (t : Times) (turn : Turn) → Timed t turn → Timed (told_moment (clocked t None) (Err DoorFault.Now)) (begun turn false)
+untold t turn h = record {
+  same = ap (λ (u : Turn). begun u false) h.same;
+  clock = h.clock;
+  kept = record {
+    exact = h.kept.exact;
+    punctual = h.kept.punctual;
+    patient = h.kept.patient;
+    prompt = h.kept.prompt;
+  };
+  paced = record { light = h.paced.light; once = h.paced.once };
+}
 
 -- the clock showed a time, and the moment that is to be told then was told
 told_rightly : (t : Times) (turn : Turn) (time : ℕ) → Timed t turn
@@ -183,6 +320,7 @@ told_rightly t turn time h = record {
     patient = h.kept.patient;
     prompt = h.kept.prompt;
   };
+  paced = record { light = h.paced.light; once = h.paced.once };
 }
 
 clocks_then : (wall start : ℕ) (old mid new : Option (List Step)) (before after : Turn) (shown : Option ℕ) (answer : Result ℕ DoorFault)
@@ -198,15 +336,15 @@ clocks_then wall start old mid new before after shown answer follows clocks tell
     subst (λ (x : Times). Timed x after) (sym same) (follows (times wall start k.0) (timed k.0 k.1))
 
 pub timed_moment : (old mid new : Option (List Step)) (before after : Turn) (shown : Option ℕ) (answer : Result ℕ DoorFault)
-    → (shown ≡ None → (answer ≡ Err DoorFault.Now) × (after ≡ before))
+    → (shown ≡ None → (answer ≡ Err DoorFault.Now) × (after ≡ begun before false))
     → ((time : ℕ) → shown ≡ Some time → (answer ≡ Ok (moment_at before time)) × (after ≡ told_at before time (moment_at before time)))
     → Tells old (Clocks shown) mid → Tells mid (Told (NowCall answer)) new → IsTimed old before → IsTimed new after
 timed_moment old mid new before after None answer none some clocks tells timed =
     let n = none refl in
     subst (IsTimed new) (sym n.1)
-    (clocks_then before.timekeeper.wall before.timekeeper.start old mid new before before None answer
-    (λ t h. subst (λ (a : Result ℕ DoorFault). Timed (told_moment (clocked t None) a) before) (sym n.0) (untold t before h)) clocks tells
-    timed)
+    (clocks_then before.timekeeper.wall before.timekeeper.start old mid new before (begun before false) None answer
+    (λ t h. subst (λ (a : Result ℕ DoorFault). Timed (told_moment (clocked t None) a) (begun before false)) (sym n.0) (untold t before h))
+    clocks tells timed)
 timed_moment old mid new before after (Some time) answer none some clocks tells timed =
     let s = some time refl in
     subst (IsTimed new) (sym s.1)
@@ -224,7 +362,7 @@ timed_first told turn is begins log e = ⊎_elim
     (λ (f : told ≡ Some []).
     let same : log ≡ [] = cc in
     subst (λ (l : List Step). Timed (times turn.timekeeper.wall turn.timekeeper.start l) turn) (sym same)
-    (record { same = sym is; clock = ap (λ (u : Turn). u.clock) (sym is); kept = record { exact = refl; punctual = refl; patient = refl; prompt = refl } }))
+    (record { same = sym is; clock = ap (λ (u : Turn). u.clock) (sym is); kept = record { exact = refl; punctual = refl; patient = refl; prompt = refl }; paced = record { light = refl; once = refl } }))
     (λ (f : told ≡ None). absurd (nothing (sym f ∙ e)))
     begins
   where

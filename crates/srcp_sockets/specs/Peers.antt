@@ -12,9 +12,8 @@ use Rattle.srcp_sockets.specs.declared.peer.Writing.TheVariants as output
 use Rattle.srcp_sockets.specs.declared.peer.Peer.{Peer}
 use Rattle.srcp_sockets.specs.declared.stay.Stay.{Stay}
 use Rattle.srcp_sockets.specs.declared.stay.Stay.TheVariants as stay
-use Rattle.srcp_serve.specs.declared.door.DoorFault.{DoorFault}
-use Rattle.srcp_serve.specs.declared.door.Got.{Got}
-use Rattle.srcp_serve.specs.declared.door.Got.TheVariants as got
+use Rattle.srcp_door.specs.Pacing.{line_after}
+use Rattle.srcp_door.specs.declared.pacing.Line.TheVariants as line
 use Rattle.srcp_sockets.specs.Steps.{Step, Reads, Tells, Writes, refusal_told}
 use Rattle.srcp_sockets.specs.Accounts.{Account, Leave, Sent, Received, account, is_overdue}
 
@@ -57,6 +56,7 @@ pub record Agrees (a : Account) (p : Peer) : Type 0 where
   pub stays : StaysAs a.watched a.leave p.outgoing p.stay
   pub rightly : a.leave.rightly ≡ true
   pub cut : a.sent.cut ≡ p.cut
+  pub line : p.share.line ≡ line_after line.Ended a.received.handed
   pub honest : a.honest ≡ true
   pub rested : a.rested ≡ true
 
@@ -97,13 +97,6 @@ abbrev pub queued_more : Writing → List ℕ → List ℕ → List ℕ
 queued_more output.Open outgoing bytes = outgoing ++ bytes
 queued_more output.Full outgoing bytes = outgoing ++ bytes
 queued_more output.Lost outgoing bytes = outgoing
-
--- the bytes that a read of the door handed out
-abbrev pub got_bytes : Result Got DoorFault → List ℕ → List ℕ
-got_bytes (Ok (got.Bytes count)) buffer = take count buffer
-got_bytes (Ok got.Nothing) buffer = []
-got_bytes (Ok got.Ended) buffer = []
-got_bytes (Err fault) buffer = []
 
 -- a read may find something
 abbrev pub may_have : Reading → Bool
@@ -155,6 +148,21 @@ after_wake p ready = if ready.socket == p.number then record p {
   input = woken_input p.input ready.readable (ready.closed || ready.urgent);
   output = woken_output p.output ready.writable;
 } else p
+
+-- ---- what a turn does with a peer
+
+-- what is queued is to be written at once: an answer, unless input of the peer is held that the core takes; all else
+-- with `tick` alone, or if much is queued
+abbrev pub is_due : (tick : Bool) → Peer → Bool
+is_due tick p = tick || (nat_lt 3160 (length p.outgoing) || (p.asked && (p.cut || (length p.incoming == 0))))
+
+-- its input is over, and none of it held
+abbrev pub is_over : List ℕ → Reading → Bool
+is_over incoming input.Ready = false
+is_over incoming input.Draining = false
+is_over incoming input.Quiet = false
+is_over incoming input.Ended = length incoming == 0
+is_over incoming input.Failed = false
 
 -- ---- what a peer may wait for
 

@@ -1,13 +1,17 @@
 -- When it is, how long the door waits, and what it hands out meanwhile.
-use Rattle.std.specs.Prelude.{◌≡◌, ℕ, ◌==◌, ◌&&◌, ◌||◌, nat_le, Bool, true, false, not, List, fold, Option, Some, None, Result, Ok, Err}
+use Rattle.std.specs.Prelude.{◌≡◌, ℕ, ◌==◌, ◌&&◌, ◌||◌, nat_le, Bool, true, false, not, if◌then◌else◌, List, fold, Option, Some, None, Result, Ok, Err}
 use Rattle.std.specs.Option.{option_map_or}
 use Rattle.std.proofs.Props.{props}
+use Rattle.srcp_door.specs.Pacing.{fits, line_after, weight_of}
+use Rattle.srcp_door.specs.declared.pacing.Line.{Line}
+use Rattle.srcp_door.specs.declared.pacing.Line.TheVariants.{Ended}
 use Rattle.srcp_serve.specs.declared.door.DoorFault.{DoorFault}
+use Rattle.srcp_serve.specs.declared.door.Got.{Got}
 use Rattle.srcp_serve.specs.Calls.{Call, ExpectCall, NowCall, AcceptCall, ReadCall, WriteCall, CloseCall}
 use Rattle.srcp_sockets.specs.declared.turn.Turn.{Turn}
 use Rattle.srcp_sockets.specs.Accounts.{is_short}
 use Rattle.srcp_sockets.specs.Steps.{Step, Accepts, Clocks, Closes, Reads, Shuts, Told, Waits, Writes}
-use Rattle.srcp_sockets.specs.Turns.{after_call, after_wait, first_turn, hands_out, is_pending, moment_at, time_left, told_at}
+use Rattle.srcp_sockets.specs.Turns.{after_call, after_read, after_wait, begun, first_turn, got_bytes, hands_out, is_pending, moment_at, tells_end, time_left, told_at}
 
 pub record Times : Type 0 where
   pub turn : Turn  -- the turn, by the calls so far
@@ -16,6 +20,9 @@ pub record Times : Type 0 where
   pub punctual : Bool  -- no wait ended past what falls due
   pub patient : Bool  -- each long wait came after a turn in which nothing happened, or there was no panel
   pub prompt : Bool  -- no input was handed out in a turn that was late
+  pub lines : ℕ → Line  -- the line of each socket that is being handed out
+  pub paced : Bool  -- the lines that were handed out weighed no more than might go
+  pub single : Bool  -- the end of one peer was told in each turn at most
 
 abbrev pub first_times : (wall start : ℕ) → Times
 first_times wall start = record {
@@ -25,6 +32,9 @@ first_times wall start = record {
   punctual = true;
   patient = true;
   prompt = true;
+  lines = λ socket. Ended;
+  paced = true;
+  single = true;
 }
 
 -- a wait that ends after so many milliseconds at most
@@ -41,14 +51,26 @@ told_moment t (Ok moment) = record t {
   turn = told_at t.turn t.clock moment;
   exact = t.exact && (moment == moment_at t.turn t.clock);
 }
-told_moment t (Err fault) = t
+told_moment t (Err fault) = record t { turn = begun t.turn false }
+
+-- the line of each socket after a read
+abbrev pub lines_after : (ℕ → Line) → (who : ℕ) → Result Got DoorFault → List ℕ → (socket : ℕ) → Line
+lines_after lines who answer buffer socket =
+    if who == socket then line_after (lines socket) (got_bytes answer buffer) else lines socket
+
+abbrev pub told_read : Times → (who : ℕ) → Result Got DoorFault → List ℕ → Times
+told_read t who answer buffer = record t {
+  turn = after_read t.turn (t.lines who) answer buffer;
+  prompt = t.prompt && not (t.turn.late && hands_out answer);
+  lines = lines_after t.lines who answer buffer;
+  paced = t.paced && fits t.turn.pace (weight_of (t.lines who) (got_bytes answer buffer));
+  single = t.single && (not (tells_end answer) || t.turn.ends);
+}
 
 abbrev pub told_times : Times → Call → Times
 told_times t (NowCall answer) = told_moment t answer
-told_times t other = record t {
-  turn = after_call t.turn other;
-  prompt = t.prompt && not (t.turn.late && hands_out other);
-}
+told_times t (ReadCall who answer buffer) = told_read t who answer buffer
+told_times t other = record t { turn = after_call t.turn other }
 
 abbrev pub clocked : Times → Option ℕ → Times
 clocked t (Some time) = record t { clock = time }
@@ -84,11 +106,17 @@ pub record AreKeptTimes (t : Times) : Type 0 where
   pub patient : t.patient ≡ true
   pub prompt : t.prompt ≡ true
 
+-- every read kept to what might go
+pub record ArePaced (t : Times) : Type 0 where
+  pub light : t.paced ≡ true
+  pub once : t.single ≡ true
+
 -- a turn is what the times say, and its clock is the one that was read last
 pub record Timed (t : Times) (turn : Turn) : Type 0 where
   pub same : t.turn ≡ turn
   pub clock : t.clock ≡ turn.clock
   pub kept : AreKeptTimes t
+  pub paced : ArePaced t
 
 -- so it is after all steps
 abbrev pub IsTimedFrom : (wall start : ℕ) → Option (List Step) → Turn → Type 0

@@ -1,8 +1,12 @@
 -- What a turn is after a call of the door.
-use Rattle.std.specs.Prelude.{ℕ, ◌+◌, ◌-◌, ◌*◌, ◌/◌, ◌==◌, ◌||◌, nat_lt, Bool, true, false, not, cond, List, Option, Some, None, Result, Ok, Err}
+use Rattle.std.specs.Prelude.{ℕ, ◌+◌, ◌-◌, ◌*◌, ◌/◌, ◌==◌, ◌||◌, ◌&&◌, nat_le, nat_lt, Bool, true, false, not, cond, List, [], take, Option, Some, None, Result, Ok, Err}
 use Rattle.std.specs.Option.{option_map}
 use Rattle.srcp_door.specs.Moments.{Moments, next_moment, passed, target}
+use Rattle.srcp_door.specs.Pacing.{pace_of, spent, weight_of}
+use Rattle.srcp_door.specs.declared.pacing.Line.{Line}
+use Rattle.srcp_door.specs.declared.pacing.Pace.TheVariants.{Paced}
 use Rattle.srcp_serve.specs.declared.door.DoorFault.{DoorFault}
+use Rattle.srcp_serve.specs.declared.door.Got.{Got}
 use Rattle.srcp_serve.specs.declared.door.Got.TheVariants as got
 use Rattle.srcp_serve.specs.Calls.{Call, ExpectCall, NowCall, AcceptCall, ReadCall, WriteCall, CloseCall}
 use Rattle.srcp_sockets.specs.declared.turn.Turn.{Turn}
@@ -14,30 +18,59 @@ first_turn wall start = record {
   clock = 0;
   due = None;
   slack = None;
+  before = None;
   busy = true;
   late = false;
+  pace = Paced 0;
+  ends = false;
 }
 
--- a call of the door after which a panel may have something coming: a peer came, was read, was written to or was closed
+-- a call of the door after which a panel may have something coming: a peer came, was written to or was closed
 abbrev pub stirs : Call → Bool
-stirs (ExpectCall due slack) = false
-stirs (NowCall answer) = false
 stirs (AcceptCall (Ok (Some peer))) = true
 stirs (AcceptCall (Ok None)) = false
 stirs (AcceptCall (Err fault)) = false
-stirs (ReadCall peer (Ok (got.Bytes count)) buffer) = true
-stirs (ReadCall peer (Ok got.Nothing) buffer) = false
-stirs (ReadCall peer (Ok got.Ended) buffer) = true
-stirs (ReadCall peer (Err fault) buffer) = true
 stirs (WriteCall peer bytes (Ok count)) = not (count == 0)
 stirs (WriteCall peer bytes (Err fault)) = true
 stirs (CloseCall peer answer) = true
+stirs other = false
 
--- after a call other than that for the moment
+-- after a call other than a read and that for the moment
 abbrev pub after_call : Turn → Call → Turn
-after_call turn (ExpectCall due slack) = record turn { due = due; slack = slack }
+after_call turn (ExpectCall due slack) = record turn { due = due; slack = slack; before = turn.slack }
 after_call turn (NowCall answer) = turn
+after_call turn (ReadCall peer answer buffer) = turn
 after_call turn other = record turn { busy = turn.busy || stirs other }
+
+-- ---- a read
+
+-- the bytes that it handed out
+abbrev pub got_bytes : Result Got DoorFault → List ℕ → List ℕ
+got_bytes (Ok (got.Bytes count)) buffer = take count buffer
+got_bytes (Ok got.Nothing) buffer = []
+got_bytes (Ok got.Ended) buffer = []
+got_bytes (Err fault) buffer = []
+
+-- it told the end of a peer, or that it is lost
+abbrev pub tells_end : Result Got DoorFault → Bool
+tells_end (Ok (got.Bytes count)) = false
+tells_end (Ok got.Nothing) = false
+tells_end (Ok got.Ended) = true
+tells_end (Err fault) = true
+
+-- after that no other is told in the turn
+abbrev pub ended : Turn → Turn
+ended turn = record turn { busy = true; ends = false }
+
+-- after bytes were handed out of a peer whose line was that, so much less may be
+abbrev pub handed_out : Turn → Line → List ℕ → Turn
+handed_out turn line bytes = record turn { busy = true; pace = spent turn.pace (weight_of line bytes) }
+
+abbrev pub after_read : Turn → Line → Result Got DoorFault → List ℕ → Turn
+after_read turn line (Ok (got.Bytes count)) buffer = handed_out turn line (take count buffer)
+after_read turn line (Ok got.Nothing) buffer = turn
+after_read turn line (Ok got.Ended) buffer = ended turn
+after_read turn line (Err fault) buffer = ended turn
 
 -- a wait begins the next turn
 abbrev pub after_wait : Turn → Turn
@@ -52,9 +85,13 @@ moment_at turn time =
     next_moment 10 600000 (passed turn.timekeeper.last (target turn.timekeeper time) turn.due)
     (target turn.timekeeper time)
 
+-- the moment was asked for: from then on so much may be handed out, and the end of one peer be told
+abbrev pub begun : Turn → (tick : Bool) → Turn
+begun turn tick = record turn { pace = pace_of turn.slack tick; ends = true }
+
 -- after a moment was told; the turn is late if the moment is behind the time
 abbrev pub told_at : Turn → (time moment : ℕ) → Turn
-told_at turn time moment = record turn {
+told_at turn time moment = record (begun turn (not (time == turn.clock))) {
   timekeeper = record { wall = turn.timekeeper.wall; start = turn.timekeeper.start; last = moment };
   clock = time;
   late = nat_lt moment (target turn.timekeeper time);
@@ -75,8 +112,19 @@ abbrev pub is_pending : (slack : Option ℕ) → (stirred : Bool) → Bool
 is_pending None stirred = false
 is_pending (Some left) stirred = stirred
 
+-- so many changes may come upon a panel that no line may go until the clock goes on
+abbrev pub is_behind : (slack : Option ℕ) → Bool
+is_behind None = false
+is_behind (Some left) = nat_le left 160
+
+-- how long a turn stands still though there is something to do: as long as the clock takes to go on, where a panel is so
+-- far behind for the second turn
+abbrev pub stop : Turn → ℕ
+stop turn = cond (is_behind turn.before && is_behind turn.slack) 1 0
+
 -- a read that handed out input, or told its end
-abbrev pub hands_out : Call → Bool
-hands_out (ReadCall peer (Ok (got.Bytes count)) buffer) = true
-hands_out (ReadCall peer (Ok got.Ended) buffer) = true
-hands_out other = false
+abbrev pub hands_out : Result Got DoorFault → Bool
+hands_out (Ok (got.Bytes count)) = true
+hands_out (Ok got.Nothing) = false
+hands_out (Ok got.Ended) = true
+hands_out (Err fault) = false

@@ -23,7 +23,7 @@ pub(crate) fn deliver<S: System>(
     ensures { AreKept (S.told system.new) peers.new }
 {
     for _ in 0..LAST_LOOKS {
-        flush(system, peers);
+        flush(system, peers, true);
         part(system, peers);
         if !peers.iter().any(|peer| peer.is_owed()) {
             return;

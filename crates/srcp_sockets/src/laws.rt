@@ -10,7 +10,7 @@ ghost use Rattle.srcp_serve.specs.Calls.{ReadCall};
 ghost use Rattle.srcp_sockets.specs.Accounts.{account, is_at_rest, is_short, may_close, may_shut};
 ghost use Rattle.srcp_sockets.specs.Steps.{Closes, Shuts, Step, Told, Waits};
 ghost use Rattle.srcp_sockets.specs.Doors.{IsThere};
-ghost use Rattle.srcp_sockets.specs.Times.{AreKeptTimes, times};
+ghost use Rattle.srcp_sockets.specs.Times.{AreKeptTimes, ArePaced, times};
 ghost use Rattle.srcp_sockets.specs.Streams.{gave, handed, taken, took};
 
 use crate::door::SocketDoor;
@@ -81,6 +81,17 @@ pub fn closed_rightly<S: System + Drop>(door: &SocketDoor<S>)
 pub fn times_are_kept<S: System + Drop>(door: &SocketDoor<S>)
     ensures { (log : List Step) → S.told door.now.sockets.system ≡ Some log
         → AreKeptTimes (times door.now.sockets.turn.timekeeper.wall door.now.sockets.turn.timekeeper.start log) }
+{
+    let _sockets = &door.sockets;
+}
+
+/// The lines that were handed out from one moment to the next weighed at most what the panels could still take, as the
+/// door was told before, or 256 if there was none, less 160. If that was less than any line can weigh, and the clock had
+/// gone on since the moment before, a read handed out lines of at most that weight, and no other in that time lines that
+/// weigh something. Between two moments the end of one peer was told at most.
+pub fn turns_are_paced<S: System + Drop>(door: &SocketDoor<S>)
+    ensures { (log : List Step) → S.told door.now.sockets.system ≡ Some log
+        → ArePaced (times door.now.sockets.turn.timekeeper.wall door.now.sockets.turn.timekeeper.start log) }
 {
     let _sockets = &door.sockets;
 }

@@ -50,7 +50,7 @@ impl Peer {
         ensures times { KeepsTimes (S.told system.old) (S.told system.new) }
         ensures number { self.new.number ≡ self.old.number }
     {
-        self.flush(system);
+        self.flush(system, true);
         if self.outgoing.is_empty() && !self.output.is_lost() {
             self.shut_down(system, since);
         }

@@ -36,6 +36,8 @@ pub struct MioSystem<C: Clock + Drop> {
     poll: Poll,
     events: Events<Global>,
     clock: C,
+    // What the clock showed last, in milliseconds.
+    shown: u64,
     // By rising numbers.
     sockets: Vec<Socket>,
 }
@@ -63,6 +65,7 @@ impl<C: Clock + Drop> MioSystem<C> {
             poll,
             events: Events::with_capacity(alloc, MOST_READY)?,
             clock,
+            shown: 0,
             sockets: Vec::new(alloc),
         })
     }
@@ -77,6 +80,23 @@ impl<C: Clock + Drop> MioSystem<C> {
         stream.set_nodelay(true)?;
         self.sockets.push(Socket { number, stream })?;
         Ok(())
+    }
+
+    fn read_clock(&self) -> Option<u64> {
+        let time = self.clock.monotonic().ok()?;
+        Some(u64::try_from(time.as_millis()).unwrap_or(u64::MAX))
+    }
+
+    /// Returns whether a wait of so many milliseconds that found no socket ready was ended by something else than its
+    /// time. A signal does that.
+    fn ends_early(&self, most: Option<u64>) -> bool {
+        match most {
+            Some(0) => false,
+            Some(most) => self
+                .read_clock()
+                .is_some_and(|now| now.saturating_sub(self.shown) < most),
+            None => true,
+        }
     }
 
     fn socket(&mut self, number: u32) -> Result<&mut Socket, ErrorKind> {
@@ -125,8 +145,10 @@ impl<C: Clock + Drop> System for MioSystem<C> {
     }
 
     fn wait(&mut self, most: Option<u64>, ready: &mut [Ready]) -> usize {
-        let most = most.map(Duration::from_millis);
-        if self.poll.poll(&mut self.events, most).is_err() {
+        let waited = self
+            .poll
+            .poll(&mut self.events, most.map(Duration::from_millis));
+        if waited.is_err() || self.events.is_empty() && self.ends_early(most) {
             self.clock.sleep(Duration::from_millis(REST));
             return 0;
         }
@@ -149,8 +171,8 @@ impl<C: Clock + Drop> System for MioSystem<C> {
     }
 
     fn clock(&mut self) -> Option<u64> {
-        let time = self.clock.monotonic().ok()?;
-        Some(u64::try_from(time.as_millis()).unwrap_or(u64::MAX))
+        self.shown = self.read_clock()?;
+        Some(self.shown)
     }
 
     fn told_expect(&mut self, _due: Option<u64>, _slack: Option<usize>) {}

@@ -1,16 +1,30 @@
 //! A peer with its socket.
 
-ghost use Rattle.std.specs.Prelude.{◌≡◌, ◌≢◌, ◌<◌, ◌≤◌, ◌++◌, ◌==◌, true, false, ℕ, List, [], Option, Some, Ok, IfOk, IfErr, length, take, drop, min, fold};
+ghost use Rattle.std.specs.Prelude.{◌≡◌, ◌≢◌, ◌<◌, ◌≤◌, ◌++◌, ◌==◌, ◌&&◌, true, false, not, ℕ, List, [], Option, Some, Ok, IfOk, IfErr, length, take, drop, min, fold};
 ghost use Rattle.srcp_sockets.specs.Steps.{SaysNothing, Tells, Told};
 ghost use Rattle.srcp_serve.specs.Calls.{ReadCall, WriteCall};
 ghost use Rattle.srcp_sockets.specs.Times.{KeepsTimes};
-ghost use Rattle.srcp_sockets.specs.Peers.{Asks, IsKept, Offers, Spares, after_wake, queued_more, given, got_bytes, has_rest, is_lost, is_resting, may_have, missed, refused, rests_reading, rests_writing, taken, woken_input, woken_output};
+ghost use Rattle.srcp_sockets.specs.Peers.{Asks, IsKept, Offers, Spares, after_wake, queued_more, given, has_rest, is_due};
+ghost use Rattle.srcp_sockets.specs.Peers.{is_lost, is_over, is_resting, may_have, missed, refused, rests_reading};
+ghost use Rattle.srcp_sockets.specs.Peers.{rests_writing, taken, woken_input, woken_output};
+ghost use Rattle.srcp_sockets.specs.Turns.{after_read, got_bytes, tells_end};
+ghost use Rattle.srcp_door.specs.Ends.{begun, written};
+ghost use Rattle.srcp_door.specs.Pacing.{IsShort, fits, line_after, weight_of};
+ghost use Rattle.srcp_door.specs.declared.ending.Ending.{Ending};
+ghost use Rattle.srcp_door.specs.declared.pacing.Line.{Line};
 
 use crate::queue::{MOST_INCOMING, MOST_OUTGOING, MOST_PIECE, Outgoing, Queue};
 use crate::stay::Stay;
 use crate::system::{Ready, Refusal, System, refusal_of};
+use crate::turn::Turn;
+use srcp_door::{Ending, Line, MOST_WRITES, Share};
+use srcp_info::LONGEST_LINE;
 use srcp_serve::{DoorFault, Got};
 use std::alloc::{AllocError, Global};
+
+/// How many bytes of a peer may wait until the clock goes on. What else may be queued holds the lines that a peer is
+/// written in a visit at most.
+const MOST_WAITING: usize = MOST_OUTGOING - MOST_WRITES as usize * LONGEST_LINE;
 
 /// What a read of a socket may find.
 #[derive(Clone, Copy)]
@@ -96,6 +110,13 @@ impl Reading {
         }
     }
 
+    /// Returns whether the input is over, and none of it held.
+    fn is_over(self, incoming: &Queue<MOST_INCOMING>) -> bool
+        ensures { result ≡ is_over incoming.now self }
+    {
+        matches!(self, Reading::Ended) && incoming.is_empty()
+    }
+
     /// Returns whether nothing is to be told of it but what its socket says.
     fn is_resting(self, outgoing: &Outgoing) -> bool
         ensures { result ≡ rests_reading outgoing.now self }
@@ -176,6 +197,17 @@ impl Writing {
     }
 }
 
+/// What is to be told of a peer of which nothing is held.
+#[derive(Clone, Copy)]
+enum Due {
+    /// Nothing now.
+    Nothing,
+    /// Its end.
+    End,
+    /// That it is lost.
+    Fault,
+}
+
 /// A peer and its socket.
 #[derive(Drop)]
 pub struct Peer {
@@ -193,10 +225,25 @@ pub struct Peer {
     pub cut: bool,
     /// Whether it is there.
     pub stay: Stay,
+    /// Its share of the lines that are handed out.
+    pub share: Share,
+    /// How far it is on the way to its end.
+    pub ending: Ending,
+    /// Whether input of it was handed out since it was flushed: what it is written then is an answer.
+    pub asked: bool,
+}
+
+/// What a read of a peer gave.
+#[derive(Clone, Copy)]
+pub struct Handed {
+    /// What is told of it.
+    pub got: Result<Got, DoorFault>,
+    /// Whether a line was kept back of a peer that got none since the marks were cleared.
+    pub refused: bool,
 }
 
 impl Peer {
-    /// Returns a newcomer.
+    /// Returns a newcomer. It has its mark, so that newcomers don't keep the others from their lines.
     ///
     /// # Errors
     /// Where memory is refused.
@@ -209,6 +256,9 @@ impl Peer {
           output = Writing.Open;
           cut = false;
           stay = Stay.Here;
+          share = record { line = Line.Ended; mark = true };
+          ending = Ending.Open;
+          asked = true;
         }) }
     {
         Ok(Peer {
@@ -219,6 +269,12 @@ impl Peer {
             output: Writing::Open,
             cut: false,
             stay: Stay::Here,
+            share: Share {
+                line: Line::Ended,
+                mark: true,
+            },
+            ending: Ending::Open,
+            asked: true,
         })
     }
 
@@ -243,8 +299,9 @@ impl Peer {
         }
     }
 
-    /// Writes once what is queued, if its socket may take something.
-    pub fn flush<S: System>(&mut self, system: &mut S)
+    /// Writes once what is queued, if its socket may take something, and it is not to wait until the clock goes on;
+    /// `tick` says whether that did, or nothing else is to be done.
+    pub fn flush<S: System>(&mut self, system: &mut S, tick: bool)
         requires { IsKept (S.told system.old) self.old }
         ensures kept { IsKept (S.told system.new) self.new }
         ensures others { (other : ℕ) → other ≢ self.old.number → Spares other (S.told system.old) (S.told system.new) }
@@ -252,12 +309,13 @@ impl Peer {
         ensures times { KeepsTimes (S.told system.old) (S.told system.new) }
         ensures number { self.new.number ≡ self.old.number }
         ensures stay { self.new.stay ≡ self.old.stay }
-        ensures offered { self.old.output ≡ Writing.Open → self.old.outgoing ≢ []
+        ensures offered { self.old.output ≡ Writing.Open → self.old.outgoing ≢ [] → is_due tick self.old ≡ true
             → Offers self.old.number self.old.outgoing (S.told system.old) (S.told system.new) }
     {
-        if !self.output.is_open() || self.outgoing.is_empty() {
+        if !self.output.is_open() || self.outgoing.is_empty() || !self.is_due(tick) {
             return;
         }
+        self.asked = false;
         let all = self.outgoing.len();
         match system.write(self.number, self.outgoing.front()) {
             Ok(count) => {
@@ -268,8 +326,17 @@ impl Peer {
         }
     }
 
-    /// Reads its socket once, if a read may find something and less than a piece is queued.
-    pub fn fill<S: System>(&mut self, system: &mut S)
+    /// Returns whether what is queued is to be written at once: an answer, unless input of the peer is held, since more
+    /// is to come then; all else with `tick` alone, or if much is queued.
+    fn is_due(&self, tick: bool) -> bool
+        ensures { result ≡ is_due tick self.now }
+    {
+        tick || self.outgoing.len() > MOST_WAITING
+            || self.asked && (self.cut || self.incoming.is_empty())
+    }
+
+    /// Begins a visit: reads its socket, and goes on on the way to its end. With `clear` its mark is cleared.
+    pub fn begin_visit<S: System>(&mut self, system: &mut S, clear: bool)
         requires { IsKept (S.told system.old) self.old }
         ensures kept { IsKept (S.told system.new) self.new }
         ensures others { (other : ℕ) → other ≢ self.old.number → Spares other (S.told system.old) (S.told system.new) }
@@ -279,6 +346,31 @@ impl Peer {
         ensures stay { self.new.stay ≡ self.old.stay }
         ensures asked { may_have self.old.input ≡ true → length self.old.incoming < MOST_PIECE
             → Asks self.old.number (S.told system.old) (S.told system.new) }
+        ensures ending { self.new.ending ≡ begun self.old.ending (is_over self.new.incoming self.new.input) }
+        ensures mark { self.new.share ≡ record self.old.share { mark = not clear && self.old.share.mark } }
+        ensures same { self.new ≡ record self.old {
+          incoming = self.new.incoming;
+          input = self.new.input;
+          share = self.new.share;
+          ending = self.new.ending;
+        } }
+    {
+        self.fill(system);
+        self.share.mark = !clear && self.share.mark;
+        self.ending = self.ending.begin_visit(self.input.is_over(&self.incoming));
+    }
+
+    /// Reads its socket once, if a read may find something and less than a piece is queued.
+    pub(crate) fn fill<S: System>(&mut self, system: &mut S)
+        requires { IsKept (S.told system.old) self.old }
+        ensures kept { IsKept (S.told system.new) self.new }
+        ensures others { (other : ℕ) → other ≢ self.old.number → Spares other (S.told system.old) (S.told system.new) }
+        ensures calls { SaysNothing (S.told system.old) (S.told system.new) }
+        ensures times { KeepsTimes (S.told system.old) (S.told system.new) }
+        ensures number { self.new.number ≡ self.old.number }
+        ensures asked { may_have self.old.input ≡ true → length self.old.incoming < MOST_PIECE
+            → Asks self.old.number (S.told system.old) (S.told system.new) }
+        ensures same { self.new ≡ record self.old { incoming = self.new.incoming; input = self.new.input } }
     {
         if !self.input.is_ready() || self.incoming.len() >= MOST_PIECE {
             return;
@@ -290,64 +382,115 @@ impl Peer {
         }
     }
 
-    /// Moves what was read into the front of a buffer, at most so many bytes, or tells the end or the fault behind it.
-    ///
-    /// # Errors
-    /// `Read` where a read or a write failed.
-    pub fn read<S: System>(
-        &mut self,
-        system: &mut S,
-        buffer: &mut [u8],
-        most: usize,
-    ) -> Result<Got, DoorFault>
+    /// Moves what was read into the front of a buffer, as far as the turn's lines go, or tells the end or the fault behind
+    /// it, if the turn told no other.
+    pub fn read<S: System>(&mut self, system: &mut S, turn: &mut Turn, buffer: &mut [u8]) -> Handed
         requires kept { IsKept (S.told system.old) self.old }
         requires here { self.old.stay ≡ Stay.Here }
         ensures kept { IsKept (S.told system.new) self.new }
-        ensures told { Tells (S.told system.old) (Told (ReadCall self.old.number result buffer.new))
+        ensures told { Tells (S.told system.old) (Told (ReadCall self.old.number result.got buffer.new))
             (S.told system.new) }
-        ensures count { (n : ℕ) → result ≡ Ok (Got.Bytes n) → (0 < n) × (n ≤ length buffer.new) }
-        ensures fault { IfErr result (λ fault. fault ≡ DoorFault.Read) }
+        ensures count { (n : ℕ) → result.got ≡ Ok (Got.Bytes n) → (0 < n) × (n ≤ length buffer.new) }
+        ensures fault { IfErr result.got (λ fault. fault ≡ DoorFault.Read) }
         ensures others { (other : ℕ) → other ≢ self.old.number → Spares other (S.told system.old) (S.told system.new) }
         ensures number { self.new.number ≡ self.old.number }
+        ensures turn { turn.new ≡ after_read turn.old self.old.share.line result.got buffer.new }
+        ensures fits { fits turn.old.pace (weight_of self.old.share.line (got_bytes result.got buffer.new)) ≡ true }
+        ensures ends { tells_end result.got ≡ true → turn.old.ends ≡ true }
+        ensures refused { result.refused ≡ true → IsShort turn.new.pace }
     {
-        let got = self.take_out(buffer, most);
-        system.told_read(self.number, got, buffer);
-        got
+        let handed = self.take_out(turn, buffer);
+        system.told_read(self.number, handed.got, buffer);
+        handed
     }
 
-    fn take_out(&mut self, buffer: &mut [u8], most: usize) -> Result<Got, DoorFault>
-        ensures bytes { self.old.incoming ≡ got_bytes result buffer.new ++ self.new.incoming }
-        ensures ended { result ≡ Ok Got.Ended → self.old.input ≡ Reading.Ended }
-        ensures count { (n : ℕ) → result ≡ Ok (Got.Bytes n) → (0 < n) × (n ≤ length buffer.new) }
-        ensures fault { IfErr result (λ fault. fault ≡ DoorFault.Read) }
-        ensures same { self.new ≡ record self.old { incoming = self.new.incoming } }
+    fn take_out(&mut self, turn: &mut Turn, buffer: &mut [u8]) -> Handed
+        ensures bytes { self.old.incoming ≡ got_bytes result.got buffer.new ++ self.new.incoming }
+        ensures ended { result.got ≡ Ok Got.Ended → self.old.input ≡ Reading.Ended }
+        ensures count { (n : ℕ) → result.got ≡ Ok (Got.Bytes n) → (0 < n) × (n ≤ length buffer.new) }
+        ensures fault { IfErr result.got (λ fault. fault ≡ DoorFault.Read) }
+        ensures line { self.new.share.line ≡ line_after self.old.share.line (got_bytes result.got buffer.new) }
+        ensures turn { turn.new ≡ after_read turn.old self.old.share.line result.got buffer.new }
+        ensures fits { fits turn.old.pace (weight_of self.old.share.line (got_bytes result.got buffer.new)) ≡ true }
+        ensures ends { tells_end result.got ≡ true → turn.old.ends ≡ true }
+        ensures refused { result.refused ≡ true → IsShort turn.new.pace }
+        ensures same { self.new ≡ record self.old {
+          incoming = self.new.incoming;
+          share = self.new.share;
+          asked = self.new.asked;
+        } }
     {
         if self.incoming.is_empty() {
-            return self.told_end();
+            return Handed {
+                got: self.told_end(turn),
+                refused: false,
+            };
         }
-        let count = most.min(buffer.len()).min(self.incoming.len());
+        self.hand_out(turn, buffer)
+    }
+
+    /// Moves what is held of it into the front of a buffer, as far as the turn's lines go.
+    fn hand_out(&mut self, turn: &mut Turn, buffer: &mut [u8]) -> Handed
+        ensures bytes { self.old.incoming ≡ got_bytes result.got buffer.new ++ self.new.incoming }
+        ensures ended { tells_end result.got ≡ false }
+        ensures count { (n : ℕ) → result.got ≡ Ok (Got.Bytes n) → (0 < n) × (n ≤ length buffer.new) }
+        ensures line { self.new.share.line ≡ line_after self.old.share.line (got_bytes result.got buffer.new) }
+        ensures turn { turn.new ≡ after_read turn.old self.old.share.line result.got buffer.new }
+        ensures fits { fits turn.old.pace (weight_of self.old.share.line (got_bytes result.got buffer.new)) ≡ true }
+        ensures refused { result.refused ≡ true → IsShort turn.new.pace }
+        ensures same { self.new ≡ record self.old {
+          incoming = self.new.incoming;
+          share = self.new.share;
+          asked = self.new.asked;
+        } }
+    {
+        let within = MOST_PIECE.min(buffer.len()).min(self.incoming.len());
+        let allowed = turn.allow(&mut self.share, &self.incoming.front()[..within]);
+        let count = allowed.count;
         if count == 0 {
-            return Ok(Got::Nothing);
+            return Handed {
+                got: Ok(Got::Nothing),
+                refused: allowed.refused,
+            };
         }
         buffer[..count].copy_from_slice(&self.incoming.front()[..count]);
         self.incoming.drop_front(count);
-        Ok(Got::Bytes(count))
+        self.asked = true;
+        Handed {
+            got: Ok(Got::Bytes(count)),
+            refused: allowed.refused,
+        }
     }
 
-    /// Returns what is told where nothing is held of it.
-    fn told_end(&self) -> Result<Got, DoorFault>
+    /// Returns what is told where nothing is held of it: its end or a fault, if the turn told no other.
+    fn told_end(&self, turn: &mut Turn) -> Result<Got, DoorFault>
         ensures none { (n : ℕ) → result ≢ Ok (Got.Bytes n) }
         ensures bytes { (buffer : List ℕ) → got_bytes result buffer ≡ [] }
-        ensures ended { result ≡ Ok Got.Ended → self.now.input ≡ Reading.Ended }
+        ensures ended { result ≡ Ok Got.Ended → (self.now.input ≡ Reading.Ended) × (self.now.outgoing ≡ [])
+            × (self.now.ending ≡ Ending.Settled) }
         ensures fault { IfErr result (λ fault. fault ≡ DoorFault.Read) }
+        ensures turn { (line : Line) (buffer : List ℕ) → turn.new ≡ after_read turn.old line result buffer }
+        ensures ends { tells_end result ≡ true → turn.old.ends ≡ true }
+    {
+        match self.due_end() {
+            Due::Nothing => Ok(Got::Nothing),
+            Due::End => turn.tell_end(),
+            Due::Fault => turn.tell_fault(),
+        }
+    }
+
+    /// Returns what is to be told where nothing is held of it.
+    fn due_end(&self) -> Due
+        ensures end { result ≡ Due.End → (self.now.input ≡ Reading.Ended) × (self.now.outgoing ≡ [])
+            × (self.now.ending ≡ Ending.Settled) }
     {
         if self.output.is_lost() {
-            return Err(DoorFault::Read);
+            return Due::Fault;
         }
         match self.input {
-            Reading::Failed => Err(DoorFault::Read),
-            Reading::Ended if self.outgoing.is_empty() => Ok(Got::Ended),
-            _ => Ok(Got::Nothing),
+            Reading::Failed => Due::Fault,
+            Reading::Ended if self.ending.is_settled() && self.outgoing.is_empty() => Due::End,
+            _ => Due::Nothing,
         }
     }
 
@@ -364,6 +507,7 @@ impl Peer {
     {
         let count = self.enqueue(bytes);
         self.cut = count < bytes.len();
+        self.ending = self.ending.written(!self.cut);
         system.told_write(self.number, bytes, Ok(count));
         count
     }

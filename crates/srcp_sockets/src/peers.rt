@@ -1,43 +1,19 @@
-//! What a turn does with all peers: flush, wait, fill.
+//! What a turn does with all peers.
 
 ghost use Rattle.std.specs.Prelude.{◌≡◌, ◌<◌, ℕ, length, fold, slice_index_or};
 ghost use Rattle.srcp_sockets.specs.declared.peer.Peer.{Peer};
 ghost use Rattle.srcp_sockets.specs.Steps.{SaysNothing};
-ghost use Rattle.srcp_sockets.specs.Times.{IsTimed, KeepsTimes};
+ghost use Rattle.srcp_sockets.specs.Times.{KeepsTimes};
 ghost use Rattle.srcp_sockets.specs.Peers.{Spares, after_wake};
-ghost use Rattle.srcp_sockets.specs.Doors.{AreApart, AreKept, AreThose, IsAbsent, Stands};
-ghost use Rattle.srcp_sockets.specs.Turns.{after_wait};
+ghost use Rattle.srcp_sockets.specs.Doors.{AreApart, AreKept, AreThose, IsAbsent};
 ghost use Rattle.srcp_sockets.specs.Listeners.{woken_listening};
 
 use crate::peer::Peer;
 use crate::system::{Ready, System};
-use crate::turn::Turn;
-use crate::waiting::{Listening, longest_wait};
+use crate::waiting::Listening;
 
-/// Begins a turn: flushes each peer, waits, and fills each peer. Returns whether somebody may want in.
-pub(crate) fn begin_turn<S: System>(
-    system: &mut S,
-    peers: &mut [Peer],
-    listening: Listening,
-    last: u32,
-    turn: &Turn,
-    at_most: Option<u64>,
-    ready: &mut [Ready],
-) -> Listening
-    requires stands { Stands (S.told system.old) peers.old listening last }
-    requires timed { IsTimed (S.told system.old) turn.now }
-    ensures stands { Stands (S.told system.new) peers.new result last }
-    ensures calls { SaysNothing (S.told system.old) (S.told system.new) }
-    ensures timed { IsTimed (S.told system.new) (after_wait turn.now) }
-{
-    flush(system, peers);
-    let listening = wait(system, peers, listening, last, turn, at_most, ready);
-    fill(system, peers);
-    listening
-}
-
-/// Flushes each peer.
-pub(crate) fn flush<S: System>(system: &mut S, peers: &mut [Peer])
+/// Flushes each peer; with `tick` all that is queued.
+pub(crate) fn flush<S: System>(system: &mut S, peers: &mut [Peer], tick: bool)
     requires kept { AreKept (S.told system.old) peers.old }
     requires apart { AreApart peers.old }
     ensures kept { AreKept (S.told system.new) peers.new }
@@ -47,12 +23,12 @@ pub(crate) fn flush<S: System>(system: &mut S, peers: &mut [Peer])
     ensures times { KeepsTimes (S.told system.old) (S.told system.new) }
 {
     for peer in peers.iter_mut() {
-        peer.flush(system);
+        peer.flush(system, tick);
     }
 }
 
-/// Fills each peer.
-fn fill<S: System>(system: &mut S, peers: &mut [Peer])
+/// Begins the visit of each peer; with `clear` the marks are cleared.
+pub(crate) fn begin_visits<S: System>(system: &mut S, peers: &mut [Peer], clear: bool)
     requires kept { AreKept (S.told system.old) peers.old }
     requires apart { AreApart peers.old }
     ensures kept { AreKept (S.told system.new) peers.new }
@@ -62,30 +38,8 @@ fn fill<S: System>(system: &mut S, peers: &mut [Peer])
     ensures times { KeepsTimes (S.told system.old) (S.told system.new) }
 {
     for peer in peers.iter_mut() {
-        peer.fill(system);
+        peer.begin_visit(system, clear);
     }
-}
-
-/// Waits as long as nothing happens without a word of a socket. Returns whether somebody may want in then.
-fn wait<S: System>(
-    system: &mut S,
-    peers: &mut [Peer],
-    listening: Listening,
-    last: u32,
-    turn: &Turn,
-    at_most: Option<u64>,
-    ready: &mut [Ready],
-) -> Listening
-    requires stands { Stands (S.told system.old) peers.old listening last }
-    requires timed { IsTimed (S.told system.old) turn.now }
-    ensures stands { Stands (S.told system.new) peers.new result last }
-    ensures calls { SaysNothing (S.told system.old) (S.told system.new) }
-    ensures timed { IsTimed (S.told system.new) (after_wait turn.now) }
-{
-    let most = longest_wait(peers, listening, turn, at_most);
-    let count = system.wait(most, ready);
-    wake(peers, &ready[..count]);
-    listen(listening, &ready[..count])
 }
 
 /// Notes which sockets are ready.
@@ -99,7 +53,7 @@ pub(crate) fn wake(peers: &mut [Peer], ready: &[Ready])
 }
 
 /// Notes whether the listener is ready.
-fn listen(listening: Listening, ready: &[Ready]) -> Listening
+pub(crate) fn listen(listening: Listening, ready: &[Ready]) -> Listening
     ensures { result ≡ fold woken_listening listening ready.now }
 {
     let mut heard = listening;

@@ -1,12 +1,15 @@
 //! The system's sockets, with their peers.
 
-ghost use Rattle.std.specs.Prelude.{true, false, ◌≡◌, ◌<◌, ◌≤◌, ◌-◌, max, ℕ, ◌⊎◌, Option, Some, None, Ok, Result, IfErr, IfNone, IfOk, IfSome, List, [], length, slice_index_or, vec_capacity};
+ghost use Rattle.std.specs.Prelude.{All, false, true, ◌≡◌, ◌<◌, ◌≤◌, ◌-◌, max, ℕ, ◌⊎◌, Option, Some, None, Ok, Err, Result, IfErr, IfNone, IfOk, IfSome, List, [], length, slice_index_or, vec_capacity};
 ghost use Rattle.srcp_sockets.specs.declared.peer.Peer.{Peer};
 ghost use Rattle.srcp_sockets.specs.Facts.{Stands-prop};
 ghost use Rattle.std.specs.Option.{option_map};
 ghost use Rattle.srcp_sockets.specs.Names.{IsNamed, IsNamed-prop};
 ghost use Rattle.srcp_sockets.specs.Times.{IsTimed, IsTimed-prop};
-ghost use Rattle.srcp_sockets.specs.Turns.{first_turn};
+ghost use Rattle.srcp_sockets.specs.Accounts.{is_short};
+ghost use Rattle.srcp_sockets.specs.Peers.{is_resting};
+ghost use Rattle.srcp_sockets.specs.Turns.{first_turn, is_pending, time_left};
+ghost use Rattle.srcp_sockets.specs.Waiting.{IsWithin};
 ghost use Rattle.srcp_serve.specs.Calls.{ExpectCall, NowCall, AcceptCall, ReadCall, WriteCall, CloseCall};
 ghost use Rattle.srcp_sockets.specs.Steps.{Accepts, SaysNothing, SaysOne, Step, Tells};
 ghost use Rattle.srcp_sockets.specs.Listeners.{refused_listening};
@@ -16,12 +19,11 @@ ghost use Rattle.srcp_sockets.specs.Doors.{IsMissing, IsPresent, Stands};
 use crate::delivering::deliver;
 use crate::leaving::{first_gone, first_shut, part};
 use crate::peer::Peer;
-use crate::peers::begin_turn;
-use crate::queue::MOST_PIECE;
+use crate::peers::{begin_visits, flush, listen, wake};
 use crate::stay::PATIENCE;
 use crate::system::{Ready, Refusal, System, refusal_of};
 use crate::turn::Turn;
-use crate::waiting::Listening;
+use crate::waiting::{Listening, longest_wait};
 use srcp_serve::{DoorFault, Got};
 use std::alloc::{AllocError, Global};
 use std::vec::Vec;
@@ -39,6 +41,10 @@ pub(crate) struct Sockets<S: System + Drop> {
     turn: Turn,
     // How long a turn waits at most, in milliseconds, where that was said.
     pub most: Option<u64>,
+    // What the clock showed when all that was queued was flushed last, in milliseconds.
+    flushed: u64,
+    // Whether a peer was refused its first line since the turn began: the marks stay then.
+    refused: bool,
     ghost stands: { Stands (S.told system) peers.items listening last } by { Stands-prop (S.told system) peers.items listening last },
     ghost named: { IsNamed (S.told system) last } by { IsNamed-prop (S.told system) last },
     ghost timed: { IsTimed (S.told system) turn } by { IsTimed-prop (S.told system) turn },
@@ -60,22 +66,87 @@ impl<S: System + Drop> Sockets<S> {
         self.most = Some(milliseconds);
     }
 
-    /// Begins a turn: goes on with those that were let go, flushes each peer, waits, and fills each peer.
+    /// Begins a turn: goes on with those that were let go, flushes the peers, waits, and begins their visits. All that is
+    /// queued is flushed once the clock went on, or before a wait. Until then the system is not asked who is ready while
+    /// input is held.
     pub(crate) fn begin_turn(&mut self, ready: &mut [Ready])
         ensures { SaysNothing (S.told self.old.system) (S.told self.new.system) }
     {
         self.part();
         self.close_gone();
-        self.listening = begin_turn(
-            &mut self.system,
-            self.peers.as_mut_slice(),
-            self.listening,
-            self.last,
-            &self.turn,
-            self.most,
-            ready,
-        );
+        let held = self.goes_on();
+        let all = self.flushes_all(held);
+        self.flush(all);
+        self.look(held, ready);
+        self.begin_visits();
+    }
+
+    /// Returns whether the clock went on since the flush before, or the turn stands still until it does.
+    fn has_ticked(&self) -> bool {
+        self.turn.clock != self.flushed || self.turn.stop() > 0
+    }
+
+    /// Returns whether input of a peer is held that the core takes, until the clock goes on.
+    fn goes_on(&self) -> bool {
+        !self.has_ticked() && self.holds_input()
+    }
+
+    /// Returns whether all that is queued is flushed, where `held` says that the turn goes on with the input that is held.
+    fn flushes_all(&self, held: bool) -> bool {
+        self.has_ticked() || !held && !self.turn.is_pending()
+    }
+
+    /// Returns whether input of a peer is held that the core takes.
+    fn holds_input(&self) -> bool {
+        self.peers.iter().any(|peer| peer.stay.is_here() && !peer.cut && !peer.incoming.is_empty())
+    }
+
+    /// Returns how many milliseconds the turn waits at most; `None` if only a socket ends the wait.
+    fn longest_wait(&self) -> Option<u64>
+        ensures rest { is_short result ≡ false → All (λ peer. is_resting peer ≡ true) self.now.peers.items }
+        ensures newcomers { is_short result ≡ false → self.now.listening ≡ Listening.Quiet }
+        ensures panels { is_short result ≡ false → is_pending self.now.turn.slack self.now.turn.busy ≡ false }
+        ensures due { (left : ℕ) → time_left self.now.turn ≡ Some left → IsWithin left result }
+    {
+        longest_wait(self.peers.as_slice(), self.listening, &self.turn, self.most)
+    }
+
+    /// Waits, but not while input is held.
+    fn look(&mut self, held: bool, ready: &mut [Ready])
+        ensures { SaysNothing (S.told self.old.system) (S.told self.new.system) }
+    {
+        if held {
+            return;
+        }
+        self.wait(ready);
+    }
+
+    /// Flushes each peer; with `tick` all that is queued.
+    fn flush(&mut self, tick: bool)
+        ensures { SaysNothing (S.told self.old.system) (S.told self.new.system) }
+    {
+        self.flushed = self.turn.clock;
+        flush(&mut self.system, self.peers.as_mut_slice(), tick);
+    }
+
+    /// Waits as long as nothing happens without a word of a socket, and notes which are ready.
+    fn wait(&mut self, ready: &mut [Ready])
+        ensures { SaysNothing (S.told self.old.system) (S.told self.new.system) }
+    {
+        let most = self.longest_wait();
+        let count = self.system.wait(most, ready);
+        wake(self.peers.as_mut_slice(), &ready[..count]);
+        self.listening = listen(self.listening, &ready[..count]);
         self.turn.wait();
+    }
+
+    /// Begins the visit of each peer. The marks are cleared if no peer was refused its first line in the turn before.
+    fn begin_visits(&mut self)
+        ensures { SaysNothing (S.told self.old.system) (S.told self.new.system) }
+    {
+        let clear = !self.refused;
+        self.refused = false;
+        begin_visits(&mut self.system, self.peers.as_mut_slice(), clear);
     }
 
     /// Delivers what was taken, for 10 seconds at most, and lets the sockets go.
@@ -88,6 +159,8 @@ impl<S: System + Drop> Sockets<S> {
             recent: _,
             turn,
             most: _,
+            flushed: _,
+            refused: _,
         } = self;
         let until = turn.clock.saturating_add(PATIENCE);
         deliver(&mut system, peers.as_mut_slice(), until, ready);
@@ -115,6 +188,8 @@ impl<S: System + Drop> Sockets<S> {
             recent: 0,
             turn,
             most: None,
+            flushed: 0,
+            refused: false,
         })
     }
 
@@ -296,14 +371,13 @@ impl<S: System + Drop> Sockets<S> {
     {
         let answer = Ok(Got::Nothing);
         self.system.told_read(number, answer, buffer);
-        self.turn.note_read(answer);
         answer
     }
 
     /// Reads what has come from a peer.
     ///
     /// # Errors
-    /// `Read` if the peer is lost, or is not there.
+    /// `Read` if the peer is lost, or is not there, and the turn told no other end.
     pub(crate) fn read(&mut self, number: u32, buffer: &mut [u8]) -> Result<Got, DoorFault>
         requires { self.old.turn.late ≡ false }
         ensures told { SaysOne (S.told self.old.system) (ReadCall number result buffer.new) (S.told self.new.system) }
@@ -311,13 +385,24 @@ impl<S: System + Drop> Sockets<S> {
         ensures fault { IfErr result (λ fault. fault ≡ DoorFault.Read) }
     {
         let Some(place) = self.place(number) else {
-            self.system.told_read(number, Err(DoorFault::Read), buffer);
-            self.turn.note_read(Err(DoorFault::Read));
-            return Err(DoorFault::Read);
+            return self.read_nobody(number, buffer);
         };
         self.recent = place;
-        let answer = self.peers[place].read(&mut self.system, buffer, MOST_PIECE);
-        self.turn.note_read(answer);
+        let handed = self.peers[place].read(&mut self.system, &mut self.turn, buffer);
+        self.refused = self.refused || handed.refused;
+        handed.got
+    }
+
+    /// Tells of a peer that is not there that it is lost, if the turn told no other end.
+    ///
+    /// # Errors
+    /// `Read` if it did not.
+    fn read_nobody(&mut self, number: u32, buffer: &[u8]) -> Result<Got, DoorFault>
+        ensures told { SaysOne (S.told self.old.system) (ReadCall number result buffer.now) (S.told self.new.system) }
+        ensures nothing { (result ≡ Ok Got.Nothing) ⊎ (result ≡ Err DoorFault.Read) }
+    {
+        let answer = self.turn.tell_fault();
+        self.system.told_read(number, answer, buffer);
         answer
     }
 

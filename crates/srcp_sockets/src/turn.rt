@@ -1,10 +1,13 @@
 //! What a door knows of the turn that it is in.
 
-ghost use Rattle.std.specs.Prelude.{◌≡◌, ◌-◌, ◌/◌, ◌||◌, ℕ, List, Some, None, Ok, Err, IfErr};
-ghost use Rattle.srcp_serve.specs.Calls.{ExpectCall, AcceptCall, ReadCall, WriteCall, CloseCall};
-ghost use Rattle.srcp_sockets.specs.Turns.{after_call, after_wait, earlier, first_turn, is_pending, moment_at, time_left, told_at};
+ghost use Rattle.std.specs.Prelude.{◌≡◌, ◌<◌, ◌≤◌, ◌-◌, ◌/◌, ◌||◌, ◌⊎◌, true, false, ℕ, List, Some, None, Ok, Err, IfErr, cond, length, take};
+ghost use Rattle.srcp_serve.specs.Calls.{ExpectCall, AcceptCall, WriteCall, CloseCall};
+ghost use Rattle.srcp_door.specs.Pacing.{Allows, IsShort, fits, line_after, weight_of};
+ghost use Rattle.srcp_door.specs.declared.pacing.Line.{Line};
+ghost use Rattle.srcp_sockets.specs.Turns.{after_call, after_read, after_wait, begun, earlier, ended, first_turn, handed_out};
+ghost use Rattle.srcp_sockets.specs.Turns.{is_behind, is_pending, moment_at, stop, tells_end, time_left, told_at};
 
-use srcp_door::Timekeeper;
+use srcp_door::{Allowed, Pace, RESERVE, Share, Timekeeper};
 use srcp_serve::{DoorFault, Got};
 
 /// A wait for what falls due ends so much earlier than it, as a part of the wait: the system may end a wait late by a
@@ -22,10 +25,16 @@ pub struct Turn {
     pub due: Option<u64>,
     /// How many more changes may come upon each panel, if there is one.
     pub slack: Option<usize>,
+    /// The same, as it was said in the turn before.
+    pub before: Option<usize>,
     /// Whether something happened since the last wait.
     pub busy: bool,
     /// Whether the moment that was told last is behind the time.
     pub late: bool,
+    /// How much the lines may still weigh that are handed out.
+    pub pace: Pace,
+    /// Whether the end of a peer may still be told.
+    pub ends: bool,
 }
 
 impl Turn {
@@ -38,8 +47,11 @@ impl Turn {
             clock: 0,
             due: None,
             slack: None,
+            before: None,
             busy: true,
             late: false,
+            pace: Pace::Paced { left: 0 },
+            ends: false,
         }
     }
 
@@ -66,11 +78,20 @@ impl Turn {
         }
     }
 
+    /// Returns how many milliseconds a turn stands still though there is something to do: 1 if a panel is so far behind
+    /// for the second turn that no line may go until the clock goes on.
+    pub(crate) fn stop(&self) -> u64
+        ensures { result ≡ stop self.now }
+    {
+        u64::from(is_behind(self.before) && is_behind(self.slack))
+    }
+
     /// Notes what falls due next, and how much the panels can still take.
     pub(crate) fn expect(&mut self, due: Option<u64>, slack: Option<usize>)
         ensures { self.new ≡ after_call self.old (ExpectCall due slack) }
     {
         self.due = due;
+        self.before = self.slack;
         self.slack = slack;
     }
 
@@ -82,24 +103,90 @@ impl Turn {
     }
 
     /// Returns the moment that is to be told, if the clock that is never set shows a time. Moments never go back. After
-    /// a stall they catch up in steps of 10 milliseconds, from the moment on at which something falls due.
+    /// a stall they catch up in steps of 10 milliseconds, from the moment on at which something falls due. From now on
+    /// lines may be handed out again, as many as the panels can take, and the end of one peer may be told.
     ///
     /// # Errors
     /// `Now` if the clock cannot be read.
     pub(crate) fn tell(&mut self, shown: Option<u64>) -> Result<u64, DoorFault>
-        ensures none { shown ≡ None → (result ≡ Err DoorFault.Now) × (self.new ≡ self.old) }
+        ensures none { shown ≡ None → (result ≡ Err DoorFault.Now) × (self.new ≡ begun self.old false) }
         ensures some { (time : ℕ) → shown ≡ Some time
             → (result ≡ Ok (moment_at self.old time)) × (self.new ≡ told_at self.old time (moment_at self.old time)) }
         ensures fault { IfErr result (λ fault. fault ≡ DoorFault.Now) }
     {
         let Some(time) = shown else {
+            self.begin(false);
             return Err(DoorFault::Now);
         };
         self.timekeeper.pass(time, self.due);
         let moment = self.timekeeper.tell(time);
         self.late = self.timekeeper.is_late(time);
+        self.begin(time != self.clock);
         self.clock = time;
         Ok(moment)
+    }
+
+    /// Lets through what may go in a turn; `tick` says whether the clock went on.
+    fn begin(&mut self, tick: bool)
+        ensures { self.new ≡ begun self.old tick }
+    {
+        self.pace = Pace::of_turn(self.slack, tick);
+        self.ends = true;
+    }
+
+    /// Returns whether the end of a peer may be told now. If so, it is the one of this turn.
+    pub(crate) fn allow_end(&mut self) -> bool
+        ensures allowed { result ≡ self.old.ends }
+        ensures new { self.new ≡ cond result (ended self.old) self.old }
+    {
+        let allowed = self.ends;
+        self.busy = self.busy || allowed;
+        self.ends = false;
+        allowed
+    }
+
+    /// Returns what is told of a peer whose end is due: that, if the turn told no other.
+    pub(crate) fn tell_end(&mut self) -> Result<Got, DoorFault>
+        ensures told { (result ≡ Ok Got.Nothing) ⊎ (result ≡ Ok Got.Ended) }
+        ensures new { (line : Line) (buffer : List ℕ) → self.new ≡ after_read self.old line result buffer }
+        ensures ends { tells_end result ≡ true → self.old.ends ≡ true }
+    {
+        if self.allow_end() {
+            Ok(Got::Ended)
+        } else {
+            Ok(Got::Nothing)
+        }
+    }
+
+    /// Returns what is told of a peer that is lost or is not there: that, if the turn told no other end.
+    ///
+    /// # Errors
+    /// `Read` if it did not.
+    pub(crate) fn tell_fault(&mut self) -> Result<Got, DoorFault>
+        ensures told { (result ≡ Ok Got.Nothing) ⊎ (result ≡ Err DoorFault.Read) }
+        ensures new { (line : Line) (buffer : List ℕ) → self.new ≡ after_read self.old line result buffer }
+        ensures ends { tells_end result ≡ true → self.old.ends ≡ true }
+    {
+        if self.allow_end() {
+            Err(DoorFault::Read)
+        } else {
+            Ok(Got::Nothing)
+        }
+    }
+
+    /// Returns how many bytes of a peer's piece may be handed out now, by its share of the lines, and notes that they are.
+    pub(crate) fn allow(&mut self, share: &mut Share, piece: &[u8]) -> Allowed
+        ensures within { result.count ≤ length piece.now }
+        ensures nothing { result.count ≡ 0 → self.new ≡ self.old }
+        ensures some { 0 < result.count → self.new ≡ handed_out self.old share.old.line (take result.count piece.now) }
+        ensures line { share.new.line ≡ line_after share.old.line (take result.count piece.now) }
+        ensures fits { fits self.old.pace (weight_of share.old.line (take result.count piece.now)) ≡ true }
+        ensures allows { Allows self.old.pace share.old piece.now result.count }
+        ensures fair { result.refused ≡ true → IsShort self.new.pace }
+    {
+        let allowed = self.pace.allow(share, piece);
+        self.busy = self.busy || allowed.count > 0;
+        allowed
     }
 
     /// Notes who came in.
@@ -107,13 +194,6 @@ impl Turn {
         ensures { self.new ≡ after_call self.old (AcceptCall answer) }
     {
         self.note(matches!(answer, Ok(Some(_))));
-    }
-
-    /// Notes what was read of a peer.
-    pub(crate) fn note_read(&mut self, answer: Result<Got, DoorFault>)
-        ensures { (peer : ℕ) (buffer : List ℕ) → self.new ≡ after_call self.old (ReadCall peer answer buffer) }
-    {
-        self.note(!matches!(answer, Ok(Got::Nothing)));
     }
 
     /// Notes what was taken for a peer.
@@ -137,6 +217,13 @@ impl Turn {
     {
         self.busy = self.busy || stirs;
     }
+}
+
+/// Returns whether a panel that can take so many more changes is so far behind that no line may go.
+fn is_behind(slack: Option<usize>) -> bool
+    ensures { result ≡ is_behind slack }
+{
+    slack.is_some_and(|slack| slack <= RESERVE)
 }
 
 /// Returns how long to wait for what falls due after so many milliseconds.

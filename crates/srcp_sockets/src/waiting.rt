@@ -4,7 +4,7 @@ ghost use Rattle.std.specs.Prelude.{◌≡◌, ◌≤◌, ℕ, Some, None, true,
 ghost use Rattle.srcp_sockets.specs.Accounts.{is_short};
 ghost use Rattle.srcp_sockets.specs.Peers.{is_resting};
 ghost use Rattle.srcp_sockets.specs.Listeners.{refused_listening};
-ghost use Rattle.srcp_sockets.specs.Turns.{is_pending, time_left};
+ghost use Rattle.srcp_sockets.specs.Turns.{is_pending, stop, time_left};
 ghost use Rattle.srcp_sockets.specs.Waiting.{IsWithin};
 
 use crate::peer::Peer;
@@ -47,10 +47,10 @@ impl Listening {
     }
 }
 
-/// Returns how many milliseconds a turn waits at most; `None` if only a socket ends the wait. It does not wait while a
-/// peer that is there or the listener may have something, or a panel may have something coming. It waits neither past
-/// what falls due, nor longer than `most` if that is said, nor longer than the pause while a peer is kept that was let
-/// go.
+/// Returns how many milliseconds a turn waits at most; `None` if only a socket ends the wait. While a peer that is there
+/// or the listener may have something, or a panel may have something coming, it does not wait; but if a panel is so far
+/// behind for the second turn that no line may go, it waits until the clock goes on. It waits neither past what falls
+/// due, nor longer than `most` if that is said, nor longer than the pause while a peer is kept that was let go.
 pub fn longest_wait(
     peers: &[Peer],
     listening: Listening,
@@ -60,17 +60,18 @@ pub fn longest_wait(
     ensures rest { is_short result ≡ false → All (λ peer. is_resting peer ≡ true) peers.now }
     ensures newcomers { is_short result ≡ false → listening ≡ Listening.Quiet }
     ensures panels { is_short result ≡ false → is_pending turn.now.slack turn.now.busy ≡ false }
+    ensures stirred { is_pending turn.now.slack turn.now.busy ≡ true → IsWithin (stop turn.now) result }
     ensures most { (n : ℕ) → most ≡ Some n → IsWithin n result }
     ensures due { (left : ℕ) → time_left turn.now ≡ Some left → IsWithin left result }
 {
+    let left = sooner(turn.left(), most);
     if turn.is_pending() || peers.iter().any(|peer| peer.is_busy()) {
-        return Some(0);
+        return sooner(left, Some(turn.stop()));
     }
-    let left = sooner(turn.left(), most).map(|left| left.min(LONGEST_WAIT));
     match listening {
         Listening::Ready => Some(0),
-        Listening::Quiet if are_resting(peers) => left,
-        Listening::Quiet | Listening::Refused => Some(left.map_or(PAUSE, |left| left.min(PAUSE))),
+        Listening::Quiet if are_resting(peers) => left.map(|left| left.min(LONGEST_WAIT)),
+        Listening::Quiet | Listening::Refused => sooner(left, Some(PAUSE)),
     }
 }
 

@@ -1,4 +1,4 @@
-use Rattle.std.proofs.Common.{List, ℕ, rules, refl, subst, Ok, Err}
+use Rattle.std.proofs.Common.{List, ℕ, false, rules, refl, subst, Ok, Err}
 use Rattle.srcp_sockets.specs.Steps.{Tells, Writes}
 use Rattle.srcp_sockets.proofs.Keeping.{says_step, wrote_peer}
 use Rattle.srcp_sockets.proofs.Timing.{keeps_step}
@@ -6,7 +6,7 @@ use Rattle.srcp_sockets.proofs.peer.Peer.flush.Goals as goal
 
 pub returns-in-Ok-clause-kept : goal.returns-in-Ok-clause-kept
 returns-in-Ok-clause-kept g c = wrote_peer (g.S.System.told c.args.system.now) (g.S.System.told c.write.new.self) c.args.self.now
-    c.in-Ok.count c.len-all.result c.front.result.now c.drop_front.new.self c.taken-self.result (c.is_open.ensures.yes (search rules))
+    c.in-Ok.count c.len-all.result c.front.result.now c.drop_front.new.self c.taken-self.result false (c.is_open.ensures.yes (search rules))
     c.front.ensures c.drop_front.ensures c.len-all.ensures.count c.taken-self.ensures c.in-Ok.ensures.told c.requires
 
 pub returns-in-Ok-clause-calls : goal.returns-in-Ok-clause-calls
@@ -26,14 +26,14 @@ returns-in-Err-clause-times g c = keeps_step (g.S.System.told c.args.system.now)
     (Writes c.args.self.now.number c.front.result.now (Err c.in-Err.fault)) c.in-Err.ensures.told (λ t. refl)
 
 pub returns-in-Ok-clause-offered : goal.returns-in-Ok-clause-offered
-returns-in-Ok-clause-offered g c is_open some = (
+returns-in-Ok-clause-offered g c is_open some due = (
   Ok c.in-Ok.count,
   subst (λ (f : List ℕ). Tells (g.S.System.told c.args.system.now) (Writes c.args.self.now.number f (Ok c.in-Ok.count))
       (g.S.System.told c.write.new.self)) c.front.ensures c.in-Ok.ensures.told,
 )
 
 pub returns-in-Err-clause-offered : goal.returns-in-Err-clause-offered
-returns-in-Err-clause-offered g c is_open some = (
+returns-in-Err-clause-offered g c is_open some due = (
   Err c.in-Err.fault,
   subst (λ (f : List ℕ). Tells (g.S.System.told c.args.system.now) (Writes c.args.self.now.number f (Err c.in-Err.fault))
       (g.S.System.told c.write.new.self)) c.front.ensures c.in-Err.ensures.told,

@@ -1,11 +1,12 @@
 use Rattle.std.proofs.Common.{refl, Ok}
+use Rattle.srcp_door.specs.declared.pacing.Line.TheVariants.{Ended}
 use Rattle.srcp_serve.specs.declared.door.Got.TheVariants.{Nothing}
 use Rattle.srcp_serve.specs.Calls.{ReadCall}
 use Rattle.srcp_sockets.specs.Steps.{Told}
 use Rattle.srcp_sockets.proofs.Keeping.{says_call}
 use Rattle.srcp_sockets.proofs.Naming.{named_call}
 use Rattle.srcp_sockets.proofs.Standing.{stands_step}
-use Rattle.srcp_sockets.proofs.Timing.{timed_read}
+use Rattle.srcp_sockets.proofs.Timing.{timed_nothing}
 use Rattle.srcp_sockets.proofs.sockets.Sockets.hold_back.Goals as goal
 
 pub invariant_of-self : goal.invariant_of-self
@@ -15,12 +16,9 @@ invariant_of-self g c =
     let call = ReadCall c.args.number (Ok Nothing) c.args.buffer.now in
     record {
       stands = stands_step old new c.args.self.now.peers.items c.args.self.now.listening c.args.self.now.last (Told call)
-          (λ s a. refl) c.told_read.ensures
-          c.args.self.now.stands;
+          (λ s a. refl) c.told_read.ensures c.args.self.now.stands;
       named = named_call old new c.args.self.now.last call (says_call old new call c.told_read.ensures) refl c.args.self.now.named;
-      timed = timed_read old new c.args.self.now.turn c.note_read.new.self c.args.number (Ok Nothing) c.args.buffer.now c.note_read.ensures
-          (λ e. refl)
-          c.told_read.ensures c.args.self.now.timed;
+      timed = timed_nothing old new c.args.self.now.turn c.args.number c.args.buffer.now c.told_read.ensures c.args.self.now.timed;
     }
 
 pub returns-clause-told : goal.returns-clause-told

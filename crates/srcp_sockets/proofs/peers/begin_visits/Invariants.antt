@@ -3,7 +3,7 @@ use Rattle.srcp_sockets.specs.Steps.{SaysNothing}
 use Rattle.srcp_sockets.specs.Times.{KeepsTimes}
 use Rattle.srcp_sockets.specs.Peers.{Spares}
 use Rattle.srcp_sockets.specs.Doors.{AreApart, AreKept, AreThose, IsAbsent}
-use Rattle.srcp_sockets.proofs.peers.fill.Given as goal
+use Rattle.srcp_sockets.proofs.peers.begin_visits.Given as goal
 
 abbrev pub invariant-loop-peer : goal.invariant-loop-peer
 invariant-loop-peer g l = record {

@@ -1,0 +1,5 @@
+use Rattle.srcp_sockets.proofs.Keeping.{says_none}
+use Rattle.srcp_sockets.proofs.sockets.Sockets.look.Goals as goal
+
+pub returns-then-held : goal.returns-then-held
+returns-then-held g c = says_none (g.S.System.told c.args.self.now.system)

@@ -1,0 +1,45 @@
+use Rattle.std.proofs.Common.{◌≡◌, ◌∙◌, List, rules, refl, sym, subst, false, true}
+use Rattle.std.specs.Prelude.{All}
+use Rattle.std.proofs.lemmas.List.{with_items_is}
+use Rattle.srcp_sockets.specs.declared.peer.Peer.{Peer}
+use Rattle.srcp_sockets.specs.declared.turn.Turn.{Turn}
+use Rattle.srcp_sockets.specs.declared.waiting.Listening.{Listening}
+use Rattle.srcp_sockets.specs.Accounts.{is_short}
+use Rattle.srcp_sockets.specs.Doors.{Stands}
+use Rattle.srcp_sockets.specs.Peers.{is_resting}
+use Rattle.srcp_sockets.specs.Steps.{Waits}
+use Rattle.srcp_sockets.specs.Times.{IsTimed}
+use Rattle.srcp_sockets.proofs.Keeping.{says_step}
+use Rattle.srcp_sockets.proofs.Naming.{named_silent}
+use Rattle.srcp_sockets.proofs.Standing.{stands_waited}
+use Rattle.srcp_sockets.proofs.Timing.{timed_wait}
+use Rattle.srcp_sockets.proofs.sockets.Sockets.wait.Goals as goal
+
+pub invariant_of-self : goal.invariant_of-self
+invariant_of-self g c =
+    let old = g.S.System.told c.args.self.now.system in
+    let new = g.S.System.told c.wait-count.new.self in
+    let most = c.longest_wait-most.result in
+    let count = c.wait-count.result in
+    let ready = c.wait-count.new.ready in
+    let before = c.as_mut_slice.result.now in
+    let listening = c.args.self.now.listening in
+    let last = c.args.self.now.last in
+    let same = sym c.as_mut_slice.ensures.value in
+    record {
+      stands = subst (λ (ps : List Peer). Stands new ps c.listen-self.result last)
+          (sym (with_items_is c.args.self.now.peers c.wake.new.peers (c.wake.auto.peers ∙ search rules)))
+          (subst (λ (l : Listening). Stands new c.wake.new.peers l last) (sym c.listen-self.ensures)
+          (stands_waited old new before c.wake.new.peers most count ready listening last
+          (subst (λ (ps : List Peer). is_short most ≡ false → All (λ peer. is_resting peer ≡ true) ps) same c.longest_wait-most.ensures.rest)
+          c.longest_wait-most.ensures.newcomers c.wait-count.ensures.told c.wake.auto.peers c.wake.ensures
+          (subst (λ (ps : List Peer). Stands old ps listening last) same c.args.self.now.stands)));
+      named = named_silent old new last (says_step old new (Waits most count ready) c.wait-count.ensures.told refl) c.args.self.now.named;
+      timed = subst (λ (t : Turn). IsTimed new t) (sym c.wait.ensures)
+          (timed_wait old new c.args.self.now.turn most count ready c.longest_wait-most.ensures.due c.longest_wait-most.ensures.panels
+          c.wait-count.ensures.told c.args.self.now.timed);
+    }
+
+pub returns : goal.returns
+returns g c = says_step (g.S.System.told c.args.self.now.system) (g.S.System.told c.wait-count.new.self)
+    (Waits c.longest_wait-most.result c.wait-count.result c.wait-count.new.ready) c.wait-count.ensures.told refl
