@@ -20,17 +20,17 @@ use Rattle.srcp_serve.specs.Calls.{Call, ReadCall, WriteCall, CloseCall}
 use Rattle.srcp_serve.specs.declared.door.DoorFault.{DoorFault}
 use Rattle.srcp_serve.specs.declared.door.Got.{Got}
 use Rattle.srcp_serve.specs.declared.door.Got.TheVariants as got
-use Rattle.srcp_sockets.specs.Accounts.{Account, Sent, Received, account, account_step, told_step, is_at_rest, is_short, refused_read, refused_write, shut_down, untouched, waited, read_in, wrote, woken, woken_sent, woken_came}
+use Rattle.srcp_sockets.specs.Accounts.{Account, Sent, Received, account, account_step, told_step, is_at_rest, is_short, may_end, refused_read, refused_write, shut_down, untouched, waited, read_in, wrote, woken, woken_sent, woken_came}
 use Rattle.srcp_door.specs.Pacing.{line_after}
 use Rattle.srcp_door.specs.declared.ending.Ending.{Ending}
 use Rattle.srcp_door.specs.declared.pacing.Line.{Line}
 use Rattle.srcp_door.specs.declared.pacing.Line.TheVariants as line
 use Rattle.srcp_door.specs.declared.pacing.Share.{Share}
-use Rattle.srcp_sockets.specs.Peers.{Agrees, ComesAs, IsKept, ReadsAs, Spares, WritesAs, after_wake, queued_more, given, is_lost, is_resting, may_have, missed, refused, taken, woken_input, woken_output}
+use Rattle.srcp_sockets.specs.Peers.{Agrees, ComesAs, IsKept, MayEnd, ReadsAs, Spares, WritesAs, after_wake, queued_more, given, is_lost, is_resting, may_have, missed, refused, taken, woken_input, woken_output}
 use Rattle.srcp_sockets.specs.Turns.{got_bytes}
 use Rattle.srcp_sockets.proofs.States.{comes_here, handed_as, read_comes, reads_here, unread_comes, unwritten_as, woken_comes, woken_writes, written_as, wrote_as}
 use Rattle.srcp_sockets.proofs.Lined.{line_after-append}
-use Rattle.srcp_sockets.proofs.Staying.{shut_agrees, stays_drop, stays_here}
+use Rattle.srcp_sockets.proofs.Staying.{may_end_then, shut_agrees, stays_drop, stays_here}
 use Rattle.srcp_sockets.proofs.Resting.{resting}
 
 -- an account after one more step
@@ -218,7 +218,7 @@ kept_taken old new p bytes count ending here tells kept =
 got_agrees : (a : Account) (p : Peer) (answer : Result Got DoorFault) (buffer rest : List ℕ) (share : Share) (asked : Bool)
     → p.stay ≡ stay.Here → p.incoming ≡ got_bytes answer buffer ++ rest
     → share.line ≡ line_after p.share.line (got_bytes answer buffer)
-    → (answer ≡ Ok got.Ended → p.input ≡ input.Ended) → Agrees a p
+    → (answer ≡ Ok got.Ended → MayEnd p) → Agrees a p
     → Agrees (told_step p.number a (ReadCall p.number answer buffer)) (record p { incoming = rest; share = share; asked = asked })
 got_agrees a p (Ok (got.Bytes count)) buffer rest share asked here is lined ended h =
     let q : Peer = record p { incoming = rest; share = share; asked = asked } in
@@ -247,7 +247,8 @@ got_agrees a p (Ok got.Nothing) buffer rest share asked here is lined ended h = 
 }
 got_agrees a p (Ok got.Ended) buffer rest share asked here is lined ended h =
     let q : Peer = record p { incoming = rest; share = share; asked = asked } in
-    let r : ReadsAs a.received p.incoming input.Ended = subst (ReadsAs a.received p.incoming) (ended refl)
+    let e = ended refl in
+    let r : ReadsAs a.received p.incoming input.Ended = subst (ReadsAs a.received p.incoming) e.0
     (reads_here a.received p.incoming p.input p.stay here h.reads) in
     agrees_own (p.number == p.number) _ a q (own p.number) (record {
       cut = h.cut;
@@ -256,7 +257,8 @@ got_agrees a p (Ok got.Ended) buffer rest share asked here is lined ended h =
       stays = h.stays;
       rightly = h.rightly;
       line = lined ∙ h.line;
-      honest = ap (λ b. b && a.received.ended) h.honest ∙ r.2;
+      honest = ap (λ b. b && may_end a) h.honest
+          ∙ may_end_then a p.incoming p.outgoing p.output r.0 r.2 e.1 e.3 e.4 h.writes;
       rested = h.rested;
     })
 got_agrees a p (Err fault) buffer rest share asked here is lined ended h = record {
@@ -274,7 +276,7 @@ pub kept_got : (old new : Option (List Step)) (p q : Peer) (answer : Result Got 
     → p.stay ≡ stay.Here → q ≡ record p { incoming = q.incoming; share = q.share; asked = q.asked }
     → p.incoming ≡ got_bytes answer buffer ++ q.incoming
     → q.share.line ≡ line_after p.share.line (got_bytes answer buffer)
-    → (answer ≡ Ok got.Ended → p.input ≡ input.Ended)
+    → (answer ≡ Ok got.Ended → MayEnd p)
     → Tells old (Told (ReadCall p.number answer buffer)) new → IsKept old p → IsKept new q
 kept_got old new p q answer buffer here same is lined ended tells kept =
     subst (IsKept new) (sym same)

@@ -1,15 +1,16 @@
 -- All peers of a door, when a step changes one of them.
-use Rattle.std.proofs.Common.{◌≡◌, ◌∙◌, ℕ, ◌<◌, ◌≤◌, ◌+◌, List, length, refl, ap, sym, subst, arith, ⊎_elim, get_or, set, get_or-set_other, get_or-set_same, Option, Some}
+use Rattle.std.proofs.Common.{◌≡◌, ◌∙◌, ℕ, ◌<◌, ◌≤◌, ◌+◌, List, length, refl, ap, sym, subst, arith, ⊎_elim, get_or, set, get_or-set_other, get_or-set_same, ◌==◌, Option, Some}
 use Rattle.std.specs.Prelude.{◌≢◌, All, Bool, false, true, fold, slice_index_or, take}
 use Rattle.std.proofs.lemmas.Bool.{cases_eq}
 use Rattle.std.proofs.lemmas.List.{get_or_default, length-set}
+use Rattle.std.proofs.lemmas.List.Sums.{fold_more}
 use Rattle.srcp_sockets.specs.declared.peer.Peer.{Peer}
 use Rattle.srcp_sockets.specs.declared.system.Ready.{Ready}
 use Rattle.srcp_sockets.specs.Steps.{Clocks, Step, Tells, Waits}
 use Rattle.srcp_sockets.specs.Accounts.{Account, account, is_short}
 use Rattle.srcp_sockets.specs.Peers.{Agrees, IsKept, Spares, after_wake, is_resting}
 use Rattle.srcp_sockets.specs.Doors.{AreApart, AreKept, AreThose, AreWithin, IsAbsent}
-use Rattle.srcp_sockets.proofs.Keeping.{all_number, kept_after, kept_waited}
+use Rattle.srcp_sockets.proofs.Keeping.{alien, all_number, kept_after, kept_waited, skips}
 use Rattle.srcp_sockets.proofs.Staying.{clocked_agrees}
 
 -- a peer of which nothing is told stays what its account says
@@ -98,6 +99,36 @@ pub clocked_all : (old new : Option (List Step)) (peers : List Peer) (answer : O
 clocked_all old new peers answer tells kept k d lt =
     let p : Peer = slice_index_or peers k d in
     kept_after old new (Clocks answer) p p tells refl (λ a h. clocked_agrees a p answer h) (kept k d lt)
+
+-- a socket that was found ready says nothing of the others
+woken_other : (p : Peer) (ready : Ready) → p.number ≢ ready.socket → after_wake p ready ≡ p
+woken_other p ready differ = skips (ready.socket == p.number) _ p (alien ready.socket p.number differ)
+
+pub woken_none : (peers : List Peer) (ready : Ready) → IsAbsent ready.socket peers → (k : ℕ) (d : Peer) → k < length peers
+    → slice_index_or peers k d ≡ after_wake (slice_index_or peers k d) ready
+woken_none peers ready absent k d lt = sym (woken_other (slice_index_or peers k d) ready (absent k d lt))
+
+pub woken_set : (peers : List Peer) (i : ℕ) (p q : Peer) (ready : Ready) → i < length peers
+    → (get_or peers i p).number ≡ ready.socket → q ≡ after_wake (get_or peers i p) ready → AreApart peers
+    → (k : ℕ) (d : Peer) → k < length peers → slice_index_or (set peers i q) k d ≡ after_wake (slice_index_or peers k d) ready
+woken_set peers i p q ready within there woken apart k d lt = ⊎_elim
+    (λ (e : k ≡ i). ap (λ n. get_or (set peers i q) n d) e ∙ get_or-set_same peers i q d within ∙ woken
+    ∙ ap (λ (x : Peer). after_wake x ready) (get_or_default peers i p d within ∙ ap (λ n. get_or peers n d) (sym e)))
+    (λ (ne : k ≡ i → ⊥). get_or-set_other peers i k q d ne ∙ sym (woken_other (get_or peers k d) ready
+    (λ same. apart k i d lt within ne (same ∙ sym there ∙ ap (λ (x : Peer). x.number) (get_or_default peers i p d within)))))
+    (cases_eq k i)
+
+-- one more socket was found ready
+pub woken_more : (peers before later : List Peer) (ready : List Ready) (n : ℕ) (one : Ready) → n < length ready
+    → one ≡ get_or ready n one → length before ≡ length peers
+    → ((k : ℕ) (d : Peer) → k < length peers → slice_index_or before k d ≡ fold after_wake (slice_index_or peers k d) (take n ready))
+    → ((k : ℕ) (d : Peer) → k < length before → slice_index_or later k d ≡ after_wake (slice_index_or before k d) one)
+    → (k : ℕ) (d : Peer) → k < length peers
+    → slice_index_or later k d ≡ fold after_wake (slice_index_or peers k d) (take (n + 1) ready)
+woken_more peers before later ready n one within here long woken wakes k d lt =
+    wakes k d (omega (arith, lt, long)) ∙ ap (λ (x : Peer). after_wake x one) (woken k d lt)
+    ∙ sym (fold_more after_wake (slice_index_or peers k d) ready n one within
+    ∙ ap (after_wake (fold after_wake (slice_index_or peers k d) (take n ready))) (sym here))
 
 -- all peers after a wait, which is long only where all rest
 pub waited_all : (old new : Option (List Step)) (peers later : List Peer) (most : Option ℕ) (count : ℕ) (ready : List Ready)

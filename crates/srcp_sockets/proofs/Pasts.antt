@@ -10,7 +10,7 @@ use Rattle.srcp_serve.specs.declared.door.Got.TheVariants as got
 use Rattle.srcp_sockets.specs.declared.system.Ready.{Ready}
 use Rattle.srcp_serve.specs.Calls.{Call, ExpectCall, NowCall, AcceptCall, ReadCall, WriteCall, CloseCall}
 use Rattle.srcp_sockets.specs.Steps.{Accepts, Clocks, Closes, Reads, Shuts, Step, Told, Waits, Writes}
-use Rattle.srcp_sockets.specs.Accounts.{Account, accepted, account, account_step, closed, heard, is_at_rest, is_short, may_close, may_shut, read_in, shut_down, untouched, waited, woken, woken_came, woken_sent, wrote}
+use Rattle.srcp_sockets.specs.Accounts.{Account, accepted, account, account_step, closed, heard, is_at_rest, is_short, may_close, may_end, may_shut, read_in, shut_down, untouched, waited, woken, woken_came, woken_sent, wrote}
 use Rattle.srcp_sockets.proofs.Keeping.{own}
 use Rattle.srcp_sockets.proofs.Resting.{and_left, and_right}
 use Rattle.srcp_sockets.proofs.Tellings.{if_same}
@@ -60,8 +60,8 @@ honest_before socket a (Told (ReadCall who (Ok (got.Bytes count)) buffer)) h = s
     (if_same (λ (x : Account). x.honest) (who == socket) _ a refl) ∙ h
 honest_before socket a (Told (ReadCall who (Ok got.Ended) buffer)) h = by (who == socket) h
   where
-    by : (b : Bool) → (if b then record a { honest = a.honest && a.received.ended } else a).honest ≡ true → a.honest ≡ true
-    by true e = and_left a.honest a.received.ended e
+    by : (b : Bool) → (if b then record a { honest = a.honest && may_end a } else a).honest ≡ true → a.honest ≡ true
+    by true e = and_left a.honest (may_end a) e
     by false e = e
 honest_before socket a (Told (ReadCall who (Ok got.Nothing) buffer)) h = h
 honest_before socket a (Told (ReadCall who (Err fault) buffer)) h = h
@@ -140,16 +140,16 @@ at_step pr socket back before after step h = at_first pr socket back (account_st
 -- an end that was told had been found
 pub ended_before : (socket : ℕ) (before after : List Step) (buffer : List ℕ)
     → (account socket (before ++ Told (ReadCall socket (Ok got.Ended) buffer) ∷ after)).honest ≡ true
-    → (account socket before).received.ended ≡ true
+    → may_end (account socket before) ≡ true
 ended_before socket before after buffer h =
     by (socket == socket) (own socket) (at_step (λ (a : Account). a.honest) socket (honest_before socket) before after
     (Told (ReadCall socket (Ok got.Ended) buffer)) h)
   where
     by : (b : Bool) → b ≡ true
-        → (if b then record (account socket before) { honest = (account socket before).honest && (account socket before).received.ended }
+        → (if b then record (account socket before) { honest = (account socket before).honest && may_end (account socket before) }
         else account socket before).honest ≡ true
-        → (account socket before).received.ended ≡ true
-    by true e t = and_right (account socket before).honest (account socket before).received.ended t
+        → may_end (account socket before) ≡ true
+    by true e t = and_right (account socket before).honest (may_end (account socket before)) t
     by false e t = absurd (true≢false (sym e))
 
 -- a long wait found at rest whom it was to find so

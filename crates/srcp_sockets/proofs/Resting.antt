@@ -27,7 +27,7 @@ brimful_is : (sent : Sent) (outgoing : List ℕ) → sent.written ≡ sent.took 
 brimful_is sent outgoing is = as_long (length sent.took) (length sent.written) (length outgoing) 40960
     (ap length is ∙ length-append sent.took outgoing)
 
-held_is : (received : Received) (incoming : List ℕ) → received.gave ≡ received.handed ++ incoming → is_held received ≡ not
+pub held_is : (received : Received) (incoming : List ℕ) → received.gave ≡ received.handed ++ incoming → is_held received ≡ not
     (length incoming == 0)
 held_is received incoming is = longer (length received.handed) (length received.gave) (length incoming)
     (ap length is ∙ length-append received.handed incoming)

@@ -1,5 +1,5 @@
 -- How far a peer is let go, by its account.
-use Rattle.std.proofs.Common.{◌≡◌, ◌∙◌, ℕ, Bool, true, false, not, List, [], drop, length, refl, ap, sym, subst, arith, ◌==◌, true≢false, Option}
+use Rattle.std.proofs.Common.{◌≡◌, ◌∙◌, ℕ, Bool, true, false, not, List, [], ◌++◌, drop, length, refl, ap, sym, subst, arith, ◌==◌, true≢false, Option}
 use Rattle.std.specs.Prelude.{◌&&◌, ◌||◌, cond}
 use Rattle.std.proofs.lemmas.List.{drop_all}
 use Rattle.srcp_sockets.specs.Steps.{Step}
@@ -9,9 +9,9 @@ use Rattle.srcp_sockets.specs.declared.peer.Writing.{Writing}
 use Rattle.srcp_sockets.specs.declared.peer.Writing.TheVariants as output
 use Rattle.srcp_sockets.specs.declared.stay.Stay.{Stay}
 use Rattle.srcp_sockets.specs.declared.stay.Stay.TheVariants as stay
-use Rattle.srcp_sockets.specs.Accounts.{Account, Leave, Received, Sent, account, clocked, clock_after, is_overdue, is_owed, let_go, may_close, shut_down}
+use Rattle.srcp_sockets.specs.Accounts.{Account, Leave, Received, Sent, account, clocked, clock_after, is_held, is_overdue, is_owed, let_go, may_close, may_end, shut_down}
 use Rattle.srcp_sockets.specs.Peers.{Agrees, ComesAs, IsKept, StaysAs, WritesAs, closable_as, is_closable, is_here, is_lost}
-use Rattle.srcp_sockets.proofs.Resting.{owed_is}
+use Rattle.srcp_sockets.proofs.Resting.{held_is, owed_is}
 use Rattle.srcp_sockets.proofs.States.{comes_starts}
 
 -- one that is there stays so, whatever is queued for it
@@ -114,6 +114,17 @@ owed_none : (sent : Sent) (outgoing : List ℕ) (state : Writing) → is_lost st
 owed_none sent outgoing output.Open e none h = owed_is sent outgoing h.0 ∙ ap (λ (o : List ℕ). not (length o == 0)) none
 owed_none sent outgoing output.Full e none h = owed_is sent outgoing h.0 ∙ ap (λ (o : List ℕ). not (length o == 0)) none
 owed_none sent outgoing output.Lost e none h = absurd (true≢false e)
+
+ends : (ended held owed : Bool) → ended ≡ true → held ≡ false → owed ≡ false → (ended && (not held && not owed)) ≡ true
+ends ended held owed e h o = rw (e, h, o) refl
+
+-- its end may be told
+pub may_end_then : (a : Account) (incoming outgoing : List ℕ) (state : Writing) → a.received.gave ≡ a.received.handed ++ incoming
+    → a.received.ended ≡ true → incoming ≡ [] → outgoing ≡ [] → is_lost state ≡ false → WritesAs a.sent outgoing state
+    → may_end a ≡ true
+may_end_then a incoming outgoing state came over none taken sound w =
+    ends a.received.ended (is_held a.received) (is_owed a.sent) over
+    (held_is a.received incoming came ∙ ap (λ (i : List ℕ). not (length i == 0)) none) (owed_none a.sent outgoing state sound taken w)
 
 shuts : (rightly watched kept shut owed : Bool) → rightly ≡ true → watched ≡ false → kept ≡ true → shut ≡ false → owed ≡ false
     → (rightly && ((not watched && kept) && (not shut && not owed))) ≡ true

@@ -38,7 +38,7 @@ pub record Account : Type 0 where
   pub received : Received
   pub leave : Leave
   pub watched : Bool  -- it was accepted, and was not let go
-  pub honest : Bool  -- its end was told only after a read had found it
+  pub honest : Bool  -- its end was told only when it might be
   pub rested : Bool  -- each long wait found it at rest
 
 -- nothing happened to it
@@ -77,6 +77,10 @@ is_silent received owed = not (is_held received) && ((received.quiet && (not rec
 abbrev pub is_at_rest : Sent → Received → Bool
 is_at_rest sent received = not sent.lost && ((not (is_owed sent) || sent.full) && cond sent.cut (is_full sent)
     (is_silent received (is_owed sent)))
+
+-- its end may be told: a read found it, all that came was handed out, and its socket took all that was taken for it
+abbrev pub may_end : Account → Bool
+may_end a = a.received.ended && (not (is_held a.received) && not (is_owed a.sent))
 
 -- a wait that ends by itself, and soon: in 8 milliseconds
 abbrev pub is_short : Option ℕ → Bool
@@ -201,7 +205,7 @@ told_step socket a (ReadCall who (Ok (got.Bytes count)) buffer) =
       received = record a.received { handed = a.received.handed ++ take count buffer };
     } else a
 told_step socket a (ReadCall who (Ok got.Ended) buffer) = if who == socket
-    then record a { honest = a.honest && a.received.ended } else a
+    then record a { honest = a.honest && may_end a } else a
 told_step socket a (ReadCall who (Ok got.Nothing) buffer) = a
 told_step socket a (ReadCall who (Err fault) buffer) = a
 told_step socket a (WriteCall who bytes (Ok count)) =

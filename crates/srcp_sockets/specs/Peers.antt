@@ -13,6 +13,7 @@ use Rattle.srcp_sockets.specs.declared.peer.Peer.{Peer}
 use Rattle.srcp_sockets.specs.declared.stay.Stay.{Stay}
 use Rattle.srcp_sockets.specs.declared.stay.Stay.TheVariants as stay
 use Rattle.srcp_door.specs.Pacing.{line_after}
+use Rattle.srcp_door.specs.declared.ending.Ending.TheVariants as ending
 use Rattle.srcp_door.specs.declared.pacing.Line.TheVariants as line
 use Rattle.srcp_sockets.specs.Steps.{Step, Reads, Tells, Writes, refusal_told}
 use Rattle.srcp_sockets.specs.Accounts.{Account, Leave, Sent, Received, account, is_overdue}
@@ -149,6 +150,12 @@ after_wake p ready = if ready.socket == p.number then record p {
   output = woken_output p.output ready.writable;
 } else p
 
+-- its socket takes no more
+abbrev pub is_lost : Writing → Bool
+is_lost output.Open = false
+is_lost output.Full = false
+is_lost output.Lost = true
+
 -- ---- what a turn does with a peer
 
 -- what is queued is to be written at once: an answer, unless input of the peer is held that the core takes; all else
@@ -163,6 +170,11 @@ is_over incoming input.Draining = false
 is_over incoming input.Quiet = false
 is_over incoming input.Ended = length incoming == 0
 is_over incoming input.Failed = false
+
+-- its end may be told: its input is over and was handed out, a visit had no more for it, and its socket took all
+abbrev pub MayEnd : Peer → Type 0
+MayEnd p = (p.input ≡ input.Ended) × (p.incoming ≡ []) × (p.ending ≡ ending.Settled) × (p.outgoing ≡ [])
+    × (is_lost p.output ≡ false)
 
 -- ---- what a peer may wait for
 
@@ -196,11 +208,6 @@ abbrev pub is_resting : Peer → Bool
 is_resting p = is_here p.stay && has_rest p
 
 -- ---- when a peer may be closed
-
-abbrev pub is_lost : Writing → Bool
-is_lost output.Open = false
-is_lost output.Full = false
-is_lost output.Lost = true
 
 abbrev pub closable_as : (clock : ℕ) → Writing → Stay → Bool
 closable_as clock state stay.Here = false

@@ -7,7 +7,7 @@ ghost use Rattle.srcp_sockets.specs.declared.peer.Peer.{Peer};
 ghost use Rattle.srcp_serve.specs.declared.door.Got.{Got};
 ghost use Rattle.srcp_sockets.specs.declared.system.Ready.{Ready};
 ghost use Rattle.srcp_serve.specs.Calls.{ReadCall};
-ghost use Rattle.srcp_sockets.specs.Accounts.{account, is_at_rest, is_short, may_close, may_shut};
+ghost use Rattle.srcp_sockets.specs.Accounts.{account, is_at_rest, is_short, may_close, may_end, may_shut};
 ghost use Rattle.srcp_sockets.specs.Steps.{Closes, Shuts, Step, Told, Waits};
 ghost use Rattle.srcp_sockets.specs.Doors.{IsThere};
 ghost use Rattle.srcp_sockets.specs.Times.{AreKeptTimes, ArePaced, times};
@@ -39,11 +39,12 @@ pub fn untaken_is_held<S: System + Drop>(door: &SocketDoor<S>)
     let _sockets = &door.sockets;
 }
 
-/// An end was told of a peer only after a read of its socket had found it.
+/// An end was told of a peer only after a read of its socket had found it, once all that came before it was handed out and
+/// the socket had taken all that was taken for it.
 pub fn ends_are_true<S: System + Drop>(door: &SocketDoor<S>)
     ensures { (before after : List Step) (socket : ℕ) (buffer : List ℕ)
         → S.told door.now.sockets.system ≡ Some (before ++ Told (ReadCall socket (Ok Got.Ended) buffer) ∷ after)
-        → (account socket before).received.ended ≡ true }
+        → may_end (account socket before) ≡ true }
 {
     let _sockets = &door.sockets;
 }

@@ -4,7 +4,7 @@ ghost use Rattle.std.specs.Prelude.{◌≡◌, ◌≢◌, ◌<◌, ◌≤◌, �
 ghost use Rattle.srcp_sockets.specs.Steps.{SaysNothing, Tells, Told};
 ghost use Rattle.srcp_serve.specs.Calls.{ReadCall, WriteCall};
 ghost use Rattle.srcp_sockets.specs.Times.{KeepsTimes};
-ghost use Rattle.srcp_sockets.specs.Peers.{Asks, IsKept, Offers, Spares, after_wake, queued_more, given, has_rest, is_due};
+ghost use Rattle.srcp_sockets.specs.Peers.{Asks, IsKept, MayEnd, Offers, Spares, after_wake, queued_more, given, has_rest, is_due};
 ghost use Rattle.srcp_sockets.specs.Peers.{is_lost, is_over, is_resting, may_have, missed, refused, rests_reading};
 ghost use Rattle.srcp_sockets.specs.Peers.{rests_writing, taken, woken_input, woken_output};
 ghost use Rattle.srcp_sockets.specs.Turns.{after_read, got_bytes, tells_end};
@@ -290,15 +290,6 @@ impl Peer {
         }
     }
 
-    /// Notes what the sockets were found ready for.
-    pub fn wake_all(&mut self, ready: &[Ready])
-        ensures { self.new ≡ fold after_wake self.old ready.now }
-    {
-        for one in ready {
-            self.wake(*one);
-        }
-    }
-
     /// Writes once what is queued, if its socket may take something, and it is not to wait until the clock goes on;
     /// `tick` says whether that did, or nothing else is to be done.
     pub fn flush<S: System>(&mut self, system: &mut S, tick: bool)
@@ -406,7 +397,7 @@ impl Peer {
 
     fn take_out(&mut self, turn: &mut Turn, buffer: &mut [u8]) -> Handed
         ensures bytes { self.old.incoming ≡ got_bytes result.got buffer.new ++ self.new.incoming }
-        ensures ended { result.got ≡ Ok Got.Ended → self.old.input ≡ Reading.Ended }
+        ensures ended { result.got ≡ Ok Got.Ended → MayEnd self.old }
         ensures count { (n : ℕ) → result.got ≡ Ok (Got.Bytes n) → (0 < n) × (n ≤ length buffer.new) }
         ensures fault { IfErr result.got (λ fault. fault ≡ DoorFault.Read) }
         ensures line { self.new.share.line ≡ line_after self.old.share.line (got_bytes result.got buffer.new) }
@@ -466,8 +457,7 @@ impl Peer {
     fn told_end(&self, turn: &mut Turn) -> Result<Got, DoorFault>
         ensures none { (n : ℕ) → result ≢ Ok (Got.Bytes n) }
         ensures bytes { (buffer : List ℕ) → got_bytes result buffer ≡ [] }
-        ensures ended { result ≡ Ok Got.Ended → (self.now.input ≡ Reading.Ended) × (self.now.outgoing ≡ [])
-            × (self.now.ending ≡ Ending.Settled) }
+        ensures ended { result ≡ Ok Got.Ended → self.now.incoming ≡ [] → MayEnd self.now }
         ensures fault { IfErr result (λ fault. fault ≡ DoorFault.Read) }
         ensures turn { (line : Line) (buffer : List ℕ) → turn.new ≡ after_read turn.old line result buffer }
         ensures ends { tells_end result ≡ true → turn.old.ends ≡ true }
@@ -481,8 +471,7 @@ impl Peer {
 
     /// Returns what is to be told where nothing is held of it.
     fn due_end(&self) -> Due
-        ensures end { result ≡ Due.End → (self.now.input ≡ Reading.Ended) × (self.now.outgoing ≡ [])
-            × (self.now.ending ≡ Ending.Settled) }
+        ensures end { result ≡ Due.End → self.now.incoming ≡ [] → MayEnd self.now }
     {
         if self.output.is_lost() {
             return Due::Fault;
@@ -531,7 +520,9 @@ impl Peer {
     }
 
     /// Returns whether it is there, and something happens to it though no socket is found ready.
-    pub(crate) fn is_busy(&self) -> bool {
+    pub(crate) fn is_busy(&self) -> bool
+        ensures { is_resting self.now ≡ true → result ≡ false }
+    {
         self.stay.is_here() && !self.is_resting()
     }
 

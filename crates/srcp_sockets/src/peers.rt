@@ -1,6 +1,6 @@
 //! What a turn does with all peers.
 
-ghost use Rattle.std.specs.Prelude.{◌≡◌, ◌<◌, ℕ, length, fold, slice_index_or};
+ghost use Rattle.std.specs.Prelude.{◌≡◌, ◌<◌, ℕ, IfNone, IfSome, length, fold, slice_index_or};
 ghost use Rattle.srcp_sockets.specs.declared.peer.Peer.{Peer};
 ghost use Rattle.srcp_sockets.specs.Steps.{SaysNothing};
 ghost use Rattle.srcp_sockets.specs.Times.{KeepsTimes};
@@ -44,12 +44,39 @@ pub(crate) fn begin_visits<S: System>(system: &mut S, peers: &mut [Peer], clear:
 
 /// Notes which sockets are ready.
 pub(crate) fn wake(peers: &mut [Peer], ready: &[Ready])
+    requires { AreApart peers.old }
     ensures { (k : ℕ) (d : Peer) → k < length peers.old
         → slice_index_or peers.new k d ≡ fold after_wake (slice_index_or peers.old k d) ready.now }
 {
-    for peer in peers.iter_mut() {
-        peer.wake_all(ready);
+    for one in ready {
+        wake_one(peers, *one);
     }
+}
+
+/// Notes that a socket is ready.
+fn wake_one(peers: &mut [Peer], ready: Ready)
+    requires { AreApart peers.old }
+    ensures { (k : ℕ) (d : Peer) → k < length peers.old
+        → slice_index_or peers.new k d ≡ after_wake (slice_index_or peers.old k d) ready }
+{
+    let Some(place) = place_of(peers, ready.socket) else {
+        return;
+    };
+    peers[place].wake(ready);
+}
+
+/// Returns the place of the peer with that socket, if one has it.
+fn place_of(peers: &[Peer], socket: u32) -> Option<usize>
+    ensures found { IfSome result (λ place. (place < length peers.now)
+        × ((d : Peer) → (slice_index_or peers.now place d).number ≡ socket)) }
+    ensures absent { IfNone result (IsAbsent socket peers.now) }
+{
+    for place in 0..peers.len() {
+        if peers[place].number == socket {
+            return Some(place);
+        }
+    }
+    None
 }
 
 /// Notes whether the listener is ready.

@@ -1,6 +1,7 @@
 //! How long a turn may wait.
 
-ghost use Rattle.std.specs.Prelude.{◌≡◌, ◌≤◌, ℕ, Some, None, true, false, All};
+ghost use Rattle.std.specs.Prelude.{◌≡◌, ◌≤◌, ℕ, Some, None, true, false, All, min};
+ghost use Rattle.std.specs.Option.{option_map};
 ghost use Rattle.srcp_sockets.specs.Accounts.{is_short};
 ghost use Rattle.srcp_sockets.specs.Peers.{is_resting};
 ghost use Rattle.srcp_sockets.specs.Listeners.{refused_listening};
@@ -61,11 +62,14 @@ pub fn longest_wait(
     ensures newcomers { is_short result ≡ false → listening ≡ Listening.Quiet }
     ensures panels { is_short result ≡ false → is_pending turn.now.slack turn.now.busy ≡ false }
     ensures stirred { is_pending turn.now.slack turn.now.busy ≡ true → IsWithin (stop turn.now) result }
+    ensures sleeps { All (λ peer. is_resting peer ≡ true) peers.now → listening ≡ Listening.Quiet
+        → is_pending turn.now.slack turn.now.busy ≡ false → most ≡ None
+        → result ≡ option_map (λ left. min left LONGEST_WAIT) (time_left turn.now) }
     ensures most { (n : ℕ) → most ≡ Some n → IsWithin n result }
     ensures due { (left : ℕ) → time_left turn.now ≡ Some left → IsWithin left result }
 {
     let left = sooner(turn.left(), most);
-    if turn.is_pending() || peers.iter().any(|peer| peer.is_busy()) {
+    if turn.is_pending() || are_busy(peers) {
         return sooner(left, Some(turn.stop()));
     }
     match listening {
@@ -79,6 +83,7 @@ pub fn longest_wait(
 fn sooner(one: Option<u64>, other: Option<u64>) -> Option<u64>
     ensures one { (n : ℕ) → one ≡ Some n → IsWithin n result }
     ensures other { (n : ℕ) → other ≡ Some n → IsWithin n result }
+    ensures alone { other ≡ None → result ≡ one }
 {
     match (one, other) {
         (Some(one), Some(other)) => Some(one.min(other)),
@@ -87,9 +92,17 @@ fn sooner(one: Option<u64>, other: Option<u64>) -> Option<u64>
     }
 }
 
+/// Returns whether something happens to a peer that is there though no socket is found ready.
+fn are_busy(peers: &[Peer]) -> bool
+    ensures { All (λ peer. is_resting peer ≡ true) peers.now → result ≡ false }
+{
+    peers.iter().any(|peer| peer.is_busy())
+}
+
 /// Returns whether all are there, and nothing happens to them unless a socket is found ready.
 fn are_resting(peers: &[Peer]) -> bool
-    ensures { result ≡ true → All (λ peer. is_resting peer ≡ true) peers.now }
+    ensures yes { result ≡ true → All (λ peer. is_resting peer ≡ true) peers.now }
+    ensures no { All (λ peer. is_resting peer ≡ true) peers.now → result ≡ true }
 {
     peers.iter().all(|peer| peer.is_resting())
 }
