@@ -8,10 +8,10 @@ use Rattle.std.specs.declared.io.ErrorKind.{ErrorKind}
 use Rattle.srcp_sockets.specs.declared.system.Ready.{Ready}
 use Rattle.srcp_sockets.specs.declared.system.Refusal.{Refusal}
 use Rattle.srcp_sockets.specs.declared.system.Refusal.TheVariants.{Later, Again, Fault}
-use Rattle.srcp_sockets.specs.declared.peer.Reading.{Reading}
-use Rattle.srcp_sockets.specs.declared.peer.Reading.TheVariants as input
-use Rattle.srcp_sockets.specs.declared.peer.Writing.{Writing}
-use Rattle.srcp_sockets.specs.declared.peer.Writing.TheVariants as output
+use Rattle.srcp_sockets.specs.declared.readiness.Reading.{Reading}
+use Rattle.srcp_sockets.specs.declared.readiness.Reading.TheVariants as input
+use Rattle.srcp_sockets.specs.declared.readiness.Writing.{Writing}
+use Rattle.srcp_sockets.specs.declared.readiness.Writing.TheVariants as output
 use Rattle.srcp_sockets.specs.declared.peer.Peer.{Peer}
 use Rattle.srcp_sockets.specs.declared.stay.Stay.{Stay}
 use Rattle.srcp_sockets.specs.declared.stay.Stay.TheVariants as stay
@@ -28,7 +28,7 @@ use Rattle.srcp_door.specs.declared.pacing.Line.TheVariants as line
 use Rattle.srcp_door.specs.declared.pacing.Share.{Share}
 use Rattle.srcp_sockets.specs.Peers.{Agrees, ComesAs, IsKept, MayEnd, ReadsAs, Spares, WritesAs, after_wake, queued_more, given, is_lost, is_resting, may_have, missed, refused, taken, woken_input, woken_output}
 use Rattle.srcp_sockets.specs.Turns.{got_bytes}
-use Rattle.srcp_sockets.proofs.States.{comes_here, handed_as, read_comes, reads_here, unread_comes, unwritten_as, woken_comes, woken_writes, written_as, wrote_as}
+use Rattle.srcp_sockets.proofs.States.{again_writes, comes_here, handed_as, read_comes, reads_here, unread_comes, unwritten_as, woken_comes, woken_writes, written_as, wrote_as}
 use Rattle.srcp_sockets.proofs.Lined.{line_after-append}
 use Rattle.srcp_sockets.proofs.Staying.{may_end_then, shut_agrees, stays_drop, stays_here}
 use Rattle.srcp_sockets.proofs.Resting.{resting}
@@ -283,6 +283,22 @@ kept_got old new p q answer buffer here same is lined ended tells kept =
     (kept_after old new (Told (ReadCall p.number answer buffer)) p
     (record p { incoming = q.incoming; share = q.share; asked = q.asked }) tells refl
     (λ (a : Account) (h : Agrees a p). got_agrees a p answer buffer q.incoming q.share q.asked here is lined ended h) kept)
+
+-- its socket is tried again
+pub kept_again : (told : Option (List Step)) (p : Peer) (again : Bool) → IsKept told p
+    → IsKept told (record p { output = woken_output p.output again })
+kept_again told p again kept log is =
+    let h = kept log is in
+    record {
+      cut = h.cut;
+      reads = h.reads;
+      writes = again_writes (account p.number log).sent p.outgoing p.output again h.writes;
+      stays = h.stays;
+      rightly = h.rightly;
+      line = h.line;
+      honest = h.honest;
+      rested = h.rested;
+    }
 
 -- its mark was cleared, or it went on on the way to its end
 pub kept_visit : (told : Option (List Step)) (p : Peer) (share : Share) (ending : Ending) → share.line ≡ p.share.line → IsKept told p

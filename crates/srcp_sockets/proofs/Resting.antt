@@ -2,10 +2,10 @@
 use Rattle.std.proofs.Common.{◌≡◌, ◌∙◌, ℕ, ◌+◌, ◌≤◌, Bool, true, false, not, List, [], ◌++◌, take, drop, length, refl, ap, sym, subst, arith, length-append, ◌==◌, true≢false}
 use Rattle.std.specs.Prelude.{cond, ◌&&◌, ◌||◌, nat_lt}
 use Rattle.std.proofs.lemmas.Bool.Decides.{nat_tests}
-use Rattle.srcp_sockets.specs.declared.peer.Reading.{Reading}
-use Rattle.srcp_sockets.specs.declared.peer.Reading.TheVariants as input
-use Rattle.srcp_sockets.specs.declared.peer.Writing.{Writing}
-use Rattle.srcp_sockets.specs.declared.peer.Writing.TheVariants as output
+use Rattle.srcp_sockets.specs.declared.readiness.Reading.{Reading}
+use Rattle.srcp_sockets.specs.declared.readiness.Reading.TheVariants as input
+use Rattle.srcp_sockets.specs.declared.readiness.Writing.{Writing}
+use Rattle.srcp_sockets.specs.declared.readiness.Writing.TheVariants as output
 use Rattle.srcp_sockets.specs.declared.peer.Peer.{Peer}
 use Rattle.srcp_sockets.specs.Accounts.{Account, Sent, Received, is_at_rest, is_full, is_held, is_owed, is_silent}
 use Rattle.srcp_sockets.specs.declared.stay.Stay.{Stay}

@@ -10,9 +10,9 @@ use Rattle.srcp_sockets.specs.declared.system.Refusal.{Refusal}
 use Rattle.srcp_sockets.specs.declared.system.Refusal.TheVariants.{Later, Again, Fault}
 use Rattle.std.proofs.lemmas.Bool.Decides.{nat_tests}
 use Rattle.srcp_sockets.specs.declared.peer.Peer.{Peer}
-use Rattle.srcp_sockets.specs.declared.peer.Reading.TheVariants as input
-use Rattle.srcp_sockets.specs.declared.peer.Writing.{Writing}
-use Rattle.srcp_sockets.specs.declared.peer.Writing.TheVariants as output
+use Rattle.srcp_sockets.specs.declared.readiness.Reading.TheVariants as input
+use Rattle.srcp_sockets.specs.declared.readiness.Writing.{Writing}
+use Rattle.srcp_sockets.specs.declared.readiness.Writing.TheVariants as output
 use Rattle.srcp_sockets.specs.declared.stay.Stay.TheVariants as stay
 use Rattle.srcp_sockets.specs.declared.waiting.Listening.{Listening}
 use Rattle.srcp_sockets.specs.declared.waiting.Listening.TheVariants as listening

@@ -7,10 +7,10 @@ use Rattle.std.proofs.Math.Seq.{take-append_seam}
 use Rattle.std.specs.declared.io.ErrorKind.{ErrorKind}
 use Rattle.srcp_sockets.specs.declared.system.Refusal.{Refusal}
 use Rattle.srcp_sockets.specs.declared.system.Refusal.TheVariants.{Later, Again, Fault}
-use Rattle.srcp_sockets.specs.declared.peer.Reading.{Reading}
-use Rattle.srcp_sockets.specs.declared.peer.Reading.TheVariants as input
-use Rattle.srcp_sockets.specs.declared.peer.Writing.{Writing}
-use Rattle.srcp_sockets.specs.declared.peer.Writing.TheVariants as output
+use Rattle.srcp_sockets.specs.declared.readiness.Reading.{Reading}
+use Rattle.srcp_sockets.specs.declared.readiness.Reading.TheVariants as input
+use Rattle.srcp_sockets.specs.declared.readiness.Writing.{Writing}
+use Rattle.srcp_sockets.specs.declared.readiness.Writing.TheVariants as output
 use Rattle.srcp_sockets.specs.Steps.{refusal_told}
 use Rattle.srcp_sockets.specs.declared.stay.Stay.{Stay}
 use Rattle.srcp_sockets.specs.declared.stay.Stay.TheVariants as stay
@@ -73,6 +73,14 @@ woken_writes sent outgoing output.Open writable h = h
 woken_writes sent outgoing output.Full true h = (h.0, h.1)
 woken_writes sent outgoing output.Full false h = (h.0, h.1, ap (λ b. b && true) h.2)
 woken_writes sent outgoing output.Lost writable h = h
+
+-- it is tried though it was not found ready
+pub again_writes : (sent : Sent) (outgoing : List ℕ) (state : Writing) (again : Bool) → WritesAs sent outgoing state
+    → WritesAs sent outgoing (woken_output state again)
+again_writes sent outgoing output.Open again h = h
+again_writes sent outgoing output.Full true h = (h.0, h.1)
+again_writes sent outgoing output.Full false h = h
+again_writes sent outgoing output.Lost again h = h
 
 -- ---- the input
 

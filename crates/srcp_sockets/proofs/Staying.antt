@@ -4,9 +4,9 @@ use Rattle.std.specs.Prelude.{◌&&◌, ◌||◌, cond}
 use Rattle.std.proofs.lemmas.List.{drop_all}
 use Rattle.srcp_sockets.specs.Steps.{Step}
 use Rattle.srcp_sockets.specs.declared.peer.Peer.{Peer}
-use Rattle.srcp_sockets.specs.declared.peer.Reading.{Reading}
-use Rattle.srcp_sockets.specs.declared.peer.Writing.{Writing}
-use Rattle.srcp_sockets.specs.declared.peer.Writing.TheVariants as output
+use Rattle.srcp_sockets.specs.declared.readiness.Reading.{Reading}
+use Rattle.srcp_sockets.specs.declared.readiness.Writing.{Writing}
+use Rattle.srcp_sockets.specs.declared.readiness.Writing.TheVariants as output
 use Rattle.srcp_sockets.specs.declared.stay.Stay.{Stay}
 use Rattle.srcp_sockets.specs.declared.stay.Stay.TheVariants as stay
 use Rattle.srcp_sockets.specs.Accounts.{Account, Leave, Received, Sent, account, clocked, clock_after, is_held, is_overdue, is_owed, let_go, may_close, may_end, shut_down}

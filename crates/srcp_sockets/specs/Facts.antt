@@ -2,10 +2,10 @@
 use Rattle.std.specs.Prelude.{ℕ, Bool, List, Option}
 use Rattle.std.proofs.Props.{props}
 use Rattle.srcp_sockets.specs.declared.peer.Peer.{Peer}
-use Rattle.srcp_sockets.specs.declared.peer.Reading.{Reading}
-use Rattle.srcp_sockets.specs.declared.peer.Reading.TheVariants as input
-use Rattle.srcp_sockets.specs.declared.peer.Writing.{Writing}
-use Rattle.srcp_sockets.specs.declared.peer.Writing.TheVariants as output
+use Rattle.srcp_sockets.specs.declared.readiness.Reading.{Reading}
+use Rattle.srcp_sockets.specs.declared.readiness.Reading.TheVariants as input
+use Rattle.srcp_sockets.specs.declared.readiness.Writing.{Writing}
+use Rattle.srcp_sockets.specs.declared.readiness.Writing.TheVariants as output
 use Rattle.srcp_sockets.specs.declared.stay.Stay.{Stay}
 use Rattle.srcp_sockets.specs.declared.stay.Stay.TheVariants as stay
 use Rattle.srcp_sockets.specs.declared.waiting.Listening.{Listening}

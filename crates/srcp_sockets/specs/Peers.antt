@@ -5,10 +5,12 @@ use Rattle.std.specs.declared.io.ErrorKind.{ErrorKind}
 use Rattle.srcp_sockets.specs.declared.system.Ready.{Ready}
 use Rattle.srcp_sockets.specs.declared.system.Refusal.{Refusal}
 use Rattle.srcp_sockets.specs.declared.system.Refusal.TheVariants.{Later, Again, Fault}
-use Rattle.srcp_sockets.specs.declared.peer.Reading.{Reading}
-use Rattle.srcp_sockets.specs.declared.peer.Reading.TheVariants as input
-use Rattle.srcp_sockets.specs.declared.peer.Writing.{Writing}
-use Rattle.srcp_sockets.specs.declared.peer.Writing.TheVariants as output
+use Rattle.srcp_sockets.specs.declared.readiness.Reading.{Reading}
+use Rattle.srcp_sockets.specs.declared.readiness.Reading.TheVariants as input
+use Rattle.srcp_sockets.specs.declared.readiness.Writing.{Writing}
+use Rattle.srcp_sockets.specs.declared.readiness.Writing.TheVariants as output
+use Rattle.srcp_sockets.specs.declared.readiness.Flush.{Flush}
+use Rattle.srcp_sockets.specs.declared.readiness.Flush.TheVariants as flush
 use Rattle.srcp_sockets.specs.declared.peer.Peer.{Peer}
 use Rattle.srcp_sockets.specs.declared.stay.Stay.{Stay}
 use Rattle.srcp_sockets.specs.declared.stay.Stay.TheVariants as stay
@@ -158,10 +160,21 @@ is_lost output.Lost = true
 
 -- ---- what a turn does with a peer
 
--- what is queued is to be written at once: an answer, unless input of the peer is held that the core takes; all else
--- with `tick` alone, or if much is queued
-abbrev pub is_due : (tick : Bool) → Peer → Bool
-is_due tick p = tick || (nat_lt 3160 (length p.outgoing) || (p.asked && (p.cut || (length p.incoming == 0))))
+abbrev pub flushes_all : Flush → Bool
+flushes_all flush.Answers = false
+flushes_all flush.All = true
+flushes_all flush.Again = true
+
+-- sockets that refused more are tried, though they were not found ready
+abbrev pub tries_again : Flush → Bool
+tries_again flush.Answers = false
+tries_again flush.All = false
+tries_again flush.Again = true
+
+-- what is queued is flushed: an answer, unless input of the peer is held that the core takes; and much
+abbrev pub is_due : Flush → Peer → Bool
+is_due what p = flushes_all what
+    || (nat_lt 3160 (length p.outgoing) || (p.asked && (p.cut || (length p.incoming == 0))))
 
 -- its input is over, and none of it held
 abbrev pub is_over : List ℕ → Reading → Bool

@@ -117,6 +117,11 @@ abbrev pub is_behind : (slack : Option ℕ) → Bool
 is_behind None = false
 is_behind (Some left) = nat_le left 160
 
+-- so many that not every line may go
+abbrev pub is_short : (slack : Option ℕ) → Bool
+is_short None = false
+is_short (Some left) = nat_lt left 171
+
 -- how long a turn stands still though there is something to do: as long as the clock takes to go on, where a panel is so
 -- far behind for the second turn
 abbrev pub stop : Turn → ℕ

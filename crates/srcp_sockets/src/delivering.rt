@@ -5,6 +5,7 @@ ghost use Rattle.srcp_sockets.specs.Doors.{AreApart, AreKept};
 use crate::leaving::part;
 use crate::peer::Peer;
 use crate::peers::{flush, wake};
+use crate::readiness::Flush;
 use crate::system::{Ready, System};
 use crate::waiting::PAUSE;
 
@@ -23,7 +24,7 @@ pub(crate) fn deliver<S: System>(
     ensures { AreKept (S.told system.new) peers.new }
 {
     for _ in 0..LAST_LOOKS {
-        flush(system, peers, true);
+        flush(system, peers, Flush::All);
         part(system, peers);
         if !peers.iter().any(|peer| peer.is_owed()) {
             return;

@@ -10,6 +10,7 @@ ghost use Rattle.srcp_sockets.specs.Peers.{IsKept, Spares, is_closable, is_here,
 ghost use Rattle.srcp_sockets.specs.Doors.{AreApart, AreKept, AreThose, IsAbsent};
 
 use crate::peer::Peer;
+use crate::readiness::Flush;
 use crate::stay::{Stay, is_overdue};
 use crate::system::System;
 
@@ -50,7 +51,7 @@ impl Peer {
         ensures times { KeepsTimes (S.told system.old) (S.told system.new) }
         ensures number { self.new.number ≡ self.old.number }
     {
-        self.flush(system, true);
+        self.flush(system, Flush::All);
         if self.outgoing.is_empty() && !self.output.is_lost() {
             self.shut_down(system, since);
         }

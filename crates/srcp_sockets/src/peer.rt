@@ -4,9 +4,10 @@ ghost use Rattle.std.specs.Prelude.{◌≡◌, ◌≢◌, ◌<◌, ◌≤◌, �
 ghost use Rattle.srcp_sockets.specs.Steps.{SaysNothing, Tells, Told};
 ghost use Rattle.srcp_serve.specs.Calls.{ReadCall, WriteCall};
 ghost use Rattle.srcp_sockets.specs.Times.{KeepsTimes};
-ghost use Rattle.srcp_sockets.specs.Peers.{Asks, IsKept, MayEnd, Offers, Spares, after_wake, queued_more, given, has_rest, is_due};
-ghost use Rattle.srcp_sockets.specs.Peers.{is_lost, is_over, is_resting, may_have, missed, refused, rests_reading};
-ghost use Rattle.srcp_sockets.specs.Peers.{rests_writing, taken, woken_input, woken_output};
+ghost use Rattle.srcp_sockets.specs.Peers.{Asks, IsKept, MayEnd, Offers, Spares, after_wake, has_rest, is_due, is_over};
+ghost use Rattle.srcp_sockets.specs.Peers.{is_resting, may_have, queued_more, tries_again, woken_output};
+ghost use Rattle.srcp_sockets.specs.declared.readiness.Reading.{Reading};
+ghost use Rattle.srcp_sockets.specs.declared.readiness.Writing.{Writing};
 ghost use Rattle.srcp_sockets.specs.Turns.{after_read, got_bytes, tells_end};
 ghost use Rattle.srcp_door.specs.Ends.{begun, written};
 ghost use Rattle.srcp_door.specs.Pacing.{IsShort, fits, line_after, weight_of};
@@ -14,8 +15,9 @@ ghost use Rattle.srcp_door.specs.declared.ending.Ending.{Ending};
 ghost use Rattle.srcp_door.specs.declared.pacing.Line.{Line};
 
 use crate::queue::{MOST_INCOMING, MOST_OUTGOING, MOST_PIECE, Outgoing, Queue};
+use crate::readiness::{Flush, Reading, Writing};
 use crate::stay::Stay;
-use crate::system::{Ready, Refusal, System, refusal_of};
+use crate::system::{Ready, System, refusal_of};
 use crate::turn::Turn;
 use srcp_door::{Ending, Line, MOST_WRITES, Share};
 use srcp_info::LONGEST_LINE;
@@ -25,177 +27,6 @@ use std::alloc::{AllocError, Global};
 /// How many bytes of a peer may wait until the clock goes on. What else may be queued holds the lines that a peer is
 /// written in a visit at most.
 const MOST_WAITING: usize = MOST_OUTGOING - MOST_WRITES as usize * LONGEST_LINE;
-
-/// What a read of a socket may find.
-#[derive(Clone, Copy)]
-pub enum Reading {
-    /// Something, for all that is known.
-    Ready,
-    /// Something behind urgent data, or the end, which no event tells again: it is read until nothing comes.
-    Draining,
-    /// Nothing, until the socket is found ready.
-    Quiet,
-    /// A read found the end.
-    Ended,
-    /// A read failed.
-    Failed,
-}
-
-/// What a write to a socket may find.
-#[derive(Clone, Copy)]
-pub enum Writing {
-    /// Room, for all that is known.
-    Open,
-    /// None, until the socket is found ready.
-    Full,
-    /// The socket takes no more.
-    Lost,
-}
-
-impl Reading {
-    /// Returns whether a read may find something.
-    pub(crate) fn is_ready(self) -> bool
-        ensures { result ≡ may_have self }
-    {
-        match self {
-            Reading::Ready | Reading::Draining => true,
-            Reading::Quiet | Reading::Ended | Reading::Failed => false,
-        }
-    }
-
-    /// Returns whether no read finds anything any more.
-    pub(crate) fn has_ended(self) -> bool {
-        match self {
-            Reading::Ready | Reading::Draining | Reading::Quiet => false,
-            Reading::Ended | Reading::Failed => true,
-        }
-    }
-
-    /// Returns what follows a read that gave so many bytes, where there was room for so many.
-    fn given(self, count: usize, room: usize) -> Reading
-        ensures { result ≡ given self count room }
-    {
-        if count == 0 {
-            return Reading::Ended;
-        }
-        match self {
-            Reading::Ready if count < room => Reading::Quiet,
-            Reading::Ready => Reading::Ready,
-            Reading::Draining => Reading::Draining,
-            Reading::Quiet => Reading::Quiet,
-            Reading::Ended => Reading::Ended,
-            Reading::Failed => Reading::Failed,
-        }
-    }
-
-    /// Returns what follows a read that failed.
-    fn missed(self, said: Refusal) -> Reading
-        ensures { result ≡ missed self said }
-    {
-        match said {
-            Refusal::Later => Reading::Quiet,
-            Refusal::Again => self,
-            Refusal::Fault => Reading::Failed,
-        }
-    }
-
-    /// Returns what follows a socket that was found ready.
-    fn woken(self, readable: bool, drains: bool) -> Reading
-        ensures { result ≡ woken_input self readable drains }
-    {
-        match self {
-            Reading::Ready | Reading::Quiet if drains => Reading::Draining,
-            Reading::Quiet if readable => Reading::Ready,
-            state => state,
-        }
-    }
-
-    /// Returns whether the input is over, and none of it held.
-    fn is_over(self, incoming: &Queue<MOST_INCOMING>) -> bool
-        ensures { result ≡ is_over incoming.now self }
-    {
-        matches!(self, Reading::Ended) && incoming.is_empty()
-    }
-
-    /// Returns whether nothing is to be told of it but what its socket says.
-    fn is_resting(self, outgoing: &Outgoing) -> bool
-        ensures { result ≡ rests_reading outgoing.now self }
-    {
-        match self {
-            Reading::Ready | Reading::Draining | Reading::Failed => false,
-            Reading::Quiet => true,
-            Reading::Ended => !outgoing.is_empty(),
-        }
-    }
-}
-
-impl Writing {
-    /// Returns whether a write may be taken.
-    fn is_open(self) -> bool
-        ensures yes { result ≡ true → self ≡ Writing.Open }
-        ensures no { result ≡ false → self ≢ Writing.Open }
-    {
-        match self {
-            Writing::Open => true,
-            Writing::Full | Writing::Lost => false,
-        }
-    }
-
-    /// Returns whether the socket takes no more.
-    pub(crate) fn is_lost(self) -> bool
-        ensures { result ≡ is_lost self }
-    {
-        match self {
-            Writing::Lost => true,
-            Writing::Open | Writing::Full => false,
-        }
-    }
-
-    /// Returns what follows a write of which so many of so many bytes were taken.
-    fn taken(count: usize, all: usize) -> Writing
-        ensures { result ≡ taken count all }
-    {
-        if count == 0 {
-            Writing::Lost
-        } else if count < all {
-            Writing::Full
-        } else {
-            Writing::Open
-        }
-    }
-
-    /// Returns what follows a write that failed.
-    fn refused(self, said: Refusal) -> Writing
-        ensures { result ≡ refused self said }
-    {
-        match said {
-            Refusal::Later => Writing::Full,
-            Refusal::Again => self,
-            Refusal::Fault => Writing::Lost,
-        }
-    }
-
-    /// Returns what follows a socket that was found ready.
-    fn woken(self, writable: bool) -> Writing
-        ensures { result ≡ woken_output self writable }
-    {
-        match self {
-            Writing::Full if writable => Writing::Open,
-            state => state,
-        }
-    }
-
-    /// Returns whether nothing is queued that the socket may take.
-    fn is_resting(self, outgoing: &Outgoing) -> bool
-        ensures { result ≡ rests_writing outgoing.now self }
-    {
-        match self {
-            Writing::Open => outgoing.is_empty(),
-            Writing::Full => true,
-            Writing::Lost => false,
-        }
-    }
-}
 
 /// What is to be told of a peer of which nothing is held.
 #[derive(Clone, Copy)]
@@ -290,9 +121,8 @@ impl Peer {
         }
     }
 
-    /// Writes once what is queued, if its socket may take something, and it is not to wait until the clock goes on;
-    /// `tick` says whether that did, or nothing else is to be done.
-    pub fn flush<S: System>(&mut self, system: &mut S, tick: bool)
+    /// Writes once what is queued, if its socket may take something, and what is flushed says that it is to.
+    pub fn flush<S: System>(&mut self, system: &mut S, what: Flush)
         requires { IsKept (S.told system.old) self.old }
         ensures kept { IsKept (S.told system.new) self.new }
         ensures others { (other : ℕ) → other ≢ self.old.number → Spares other (S.told system.old) (S.told system.new) }
@@ -300,10 +130,26 @@ impl Peer {
         ensures times { KeepsTimes (S.told system.old) (S.told system.new) }
         ensures number { self.new.number ≡ self.old.number }
         ensures stay { self.new.stay ≡ self.old.stay }
-        ensures offered { self.old.output ≡ Writing.Open → self.old.outgoing ≢ [] → is_due tick self.old ≡ true
+        ensures offered { woken_output self.old.output (tries_again what) ≡ Writing.Open → self.old.outgoing ≢ []
+            → is_due what self.old ≡ true
             → Offers self.old.number self.old.outgoing (S.told system.old) (S.told system.new) }
     {
-        if !self.output.is_open() || self.outgoing.is_empty() || !self.is_due(tick) {
+        self.output = self.output.woken(what.tries_again());
+        self.write_out(system, what);
+    }
+
+    fn write_out<S: System>(&mut self, system: &mut S, what: Flush)
+        requires { IsKept (S.told system.old) self.old }
+        ensures kept { IsKept (S.told system.new) self.new }
+        ensures others { (other : ℕ) → other ≢ self.old.number → Spares other (S.told system.old) (S.told system.new) }
+        ensures calls { SaysNothing (S.told system.old) (S.told system.new) }
+        ensures times { KeepsTimes (S.told system.old) (S.told system.new) }
+        ensures number { self.new.number ≡ self.old.number }
+        ensures stay { self.new.stay ≡ self.old.stay }
+        ensures offered { self.old.output ≡ Writing.Open → self.old.outgoing ≢ [] → is_due what self.old ≡ true
+            → Offers self.old.number self.old.outgoing (S.told system.old) (S.told system.new) }
+    {
+        if !self.output.is_open() || self.outgoing.is_empty() || !self.is_due(what) {
             return;
         }
         self.asked = false;
@@ -317,12 +163,13 @@ impl Peer {
         }
     }
 
-    /// Returns whether what is queued is to be written at once: an answer, unless input of the peer is held, since more
-    /// is to come then; all else with `tick` alone, or if much is queued.
-    fn is_due(&self, tick: bool) -> bool
-        ensures { result ≡ is_due tick self.now }
+    /// Returns whether what is queued is flushed. An answer is, unless input of the peer is held, since more is to come
+    /// then; and so is much.
+    fn is_due(&self, what: Flush) -> bool
+        ensures { result ≡ is_due what self.now }
     {
-        tick || self.outgoing.len() > MOST_WAITING
+        what.is_all()
+            || self.outgoing.len() > MOST_WAITING
             || self.asked && (self.cut || self.incoming.is_empty())
     }
 

@@ -9,11 +9,12 @@ ghost use Rattle.srcp_sockets.specs.Doors.{AreApart, AreKept, AreThose, IsAbsent
 ghost use Rattle.srcp_sockets.specs.Listeners.{woken_listening};
 
 use crate::peer::Peer;
+use crate::readiness::Flush;
 use crate::system::{Ready, System};
 use crate::waiting::Listening;
 
-/// Flushes each peer; with `tick` all that is queued.
-pub(crate) fn flush<S: System>(system: &mut S, peers: &mut [Peer], tick: bool)
+/// Flushes each peer.
+pub(crate) fn flush<S: System>(system: &mut S, peers: &mut [Peer], what: Flush)
     requires kept { AreKept (S.told system.old) peers.old }
     requires apart { AreApart peers.old }
     ensures kept { AreKept (S.told system.new) peers.new }
@@ -23,7 +24,7 @@ pub(crate) fn flush<S: System>(system: &mut S, peers: &mut [Peer], tick: bool)
     ensures times { KeepsTimes (S.told system.old) (S.told system.new) }
 {
     for peer in peers.iter_mut() {
-        peer.flush(system, tick);
+        peer.flush(system, what);
     }
 }
 

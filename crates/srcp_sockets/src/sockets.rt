@@ -20,6 +20,7 @@ use crate::delivering::deliver;
 use crate::leaving::{first_gone, first_shut, part};
 use crate::peer::Peer;
 use crate::peers::{begin_visits, flush, listen, wake};
+use crate::readiness::Flush;
 use crate::stay::PATIENCE;
 use crate::system::{Ready, Refusal, System, refusal_of};
 use crate::turn::Turn;
@@ -75,8 +76,8 @@ impl<S: System + Drop> Sockets<S> {
         self.part();
         self.close_gone();
         let held = self.goes_on();
-        let all = self.flushes_all(held);
-        self.flush(all);
+        let what = self.flushing(held);
+        self.flush(what);
         self.look(held, ready);
         self.begin_visits();
     }
@@ -91,9 +92,16 @@ impl<S: System + Drop> Sockets<S> {
         !self.has_ticked() && self.holds_input()
     }
 
-    /// Returns whether all that is queued is flushed, where `held` says that the turn goes on with the input that is held.
-    fn flushes_all(&self, held: bool) -> bool {
-        self.has_ticked() || !held && !self.turn.is_pending()
+    /// Returns what is flushed, where `held` says that the turn goes on with the input that is held: all before a wait, or
+    /// once the clock went on. If the panels can take less than a line may bring, their sockets are tried again then.
+    fn flushing(&self, held: bool) -> Flush {
+        if self.has_ticked() && self.turn.is_short() {
+            Flush::Again
+        } else if self.has_ticked() || !held && !self.turn.is_pending() {
+            Flush::All
+        } else {
+            Flush::Answers
+        }
     }
 
     /// Returns whether input of a peer is held that the core takes.
@@ -121,12 +129,12 @@ impl<S: System + Drop> Sockets<S> {
         self.wait(ready);
     }
 
-    /// Flushes each peer; with `tick` all that is queued.
-    fn flush(&mut self, tick: bool)
+    /// Flushes each peer.
+    fn flush(&mut self, what: Flush)
         ensures { SaysNothing (S.told self.old.system) (S.told self.new.system) }
     {
         self.flushed = self.turn.clock;
-        flush(&mut self.system, self.peers.as_mut_slice(), tick);
+        flush(&mut self.system, self.peers.as_mut_slice(), what);
     }
 
     /// Waits as long as nothing happens without a word of a socket, and notes which are ready.

@@ -5,9 +5,10 @@ ghost use Rattle.srcp_serve.specs.Calls.{ExpectCall, AcceptCall, WriteCall, Clos
 ghost use Rattle.srcp_door.specs.Pacing.{Allows, IsShort, fits, line_after, weight_of};
 ghost use Rattle.srcp_door.specs.declared.pacing.Line.{Line};
 ghost use Rattle.srcp_sockets.specs.Turns.{after_call, after_read, after_wait, begun, earlier, ended, first_turn, handed_out};
-ghost use Rattle.srcp_sockets.specs.Turns.{is_behind, is_pending, moment_at, stop, tells_end, time_left, told_at};
+ghost use Rattle.srcp_sockets.specs.Turns.{is_behind, is_pending, is_short, moment_at, stop, tells_end, time_left, told_at};
 
 use srcp_door::{Allowed, Pace, RESERVE, Share, Timekeeper};
+use srcp_rules::MOST_CHANGES;
 use srcp_serve::{DoorFault, Got};
 
 /// A wait for what falls due ends so much earlier than it, as a part of the wait: the system may end a wait late by a
@@ -84,6 +85,14 @@ impl Turn {
         ensures { result ≡ stop self.now }
     {
         u64::from(is_behind(self.before) && is_behind(self.slack))
+    }
+
+    /// Returns whether the panels can take less than a line may bring.
+    pub(crate) fn is_short(&self) -> bool
+        ensures { result ≡ is_short self.now.slack }
+    {
+        self.slack
+            .is_some_and(|slack| slack < RESERVE + MOST_CHANGES)
     }
 
     /// Notes what falls due next, and how much the panels can still take.

@@ -2,7 +2,7 @@ use Rattle.std.proofs.Common.{List, ℕ, false, rules, refl, subst, Ok, Err}
 use Rattle.srcp_sockets.specs.Steps.{Tells, Writes}
 use Rattle.srcp_sockets.proofs.Keeping.{says_step, wrote_peer}
 use Rattle.srcp_sockets.proofs.Timing.{keeps_step}
-use Rattle.srcp_sockets.proofs.peer.Peer.flush.Goals as goal
+use Rattle.srcp_sockets.proofs.peer.Peer.write_out.Goals as goal
 
 pub returns-in-Ok-clause-kept : goal.returns-in-Ok-clause-kept
 returns-in-Ok-clause-kept g c = wrote_peer (g.S.System.told c.args.system.now) (g.S.System.told c.write.new.self) c.args.self.now
