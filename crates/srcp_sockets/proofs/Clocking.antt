@@ -7,7 +7,7 @@ use Rattle.srcp_sockets.specs.declared.system.Ready.{Ready}
 use Rattle.srcp_sockets.specs.declared.turn.Turn.{Turn}
 use Rattle.srcp_serve.specs.Calls.{ExpectCall, NowCall, AcceptCall, ReadCall, WriteCall, CloseCall}
 use Rattle.srcp_sockets.specs.Steps.{Accepts, Clocks, Closes, Reads, Shuts, Step, Told, Waits, Writes}
-use Rattle.srcp_sockets.specs.Accounts.{Account, accepted, account, account_step, clock_after, closed, heard, let_go, read_in, shut_down, untouched, waited, woken, woken_came, woken_sent, wrote}
+use Rattle.srcp_sockets.specs.Accounts.{Account, accepted, account, account_step, clock_after, closed, heard, let_go, shut_down, untouched, waited, woken, woken_came, woken_sent, wrote, read_of}
 use Rattle.srcp_sockets.specs.Times.{IsTimed, Times, first_times, times_step}
 use Rattle.srcp_sockets.proofs.Tellings.{if_same}
 
@@ -39,7 +39,7 @@ account_clock socket a (Accepts number answer) = by (socket == 0)
     by true = refl
     by false = if_same shown (number == socket) (accepted a answer) a (accepted_clock a answer)
 account_clock socket a (Reads who buffer answer) =
-    if_same shown (who == socket) (record a { received = read_in a.received buffer answer }) a refl
+    if_same shown (who == socket) (read_of a buffer answer) a refl
 account_clock socket a (Writes who bytes answer) = if_same shown (who == socket) (record a { sent = wrote a.sent bytes answer }) a refl
 account_clock socket a (Shuts who) = if_same shown (who == socket) (shut_down a) a refl
 account_clock socket a (Closes who) = if_same shown (who == socket) (closed a) a refl

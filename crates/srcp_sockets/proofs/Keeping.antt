@@ -31,6 +31,7 @@ use Rattle.srcp_sockets.specs.Turns.{got_bytes}
 use Rattle.srcp_sockets.proofs.States.{again_writes, comes_here, handed_as, read_comes, reads_here, unread_comes, unwritten_as, woken_comes, woken_writes, written_as, wrote_as}
 use Rattle.srcp_sockets.proofs.Lined.{line_after-append}
 use Rattle.srcp_sockets.proofs.Staying.{may_end_then, shut_agrees, stays_drop, stays_here}
+use Rattle.srcp_sockets.proofs.Wanting.{noted_agrees, wants_less, wants_woken, was_read}
 use Rattle.srcp_sockets.proofs.Resting.{resting}
 
 -- an account after one more step
@@ -105,6 +106,8 @@ kept_write old new p count asked is_open tells kept =
       reads = h.reads;
       stays = stays_drop a.watched a.leave p.outgoing p.stay count h.stays;
       rightly = h.rightly;
+      unread = h.unread;
+      served = h.served;
       writes = wrote_as a.sent p.outgoing count (subst (WritesAs a.sent p.outgoing) is_open h.writes);
       line = h.line;
       honest = h.honest;
@@ -129,6 +132,8 @@ kept_refused old new p fault asked is_open tells kept =
       reads = h.reads;
       stays = h.stays;
       rightly = h.rightly;
+      unread = h.unread;
+      served = h.served;
       writes = subst (λ (s : Writing). WritesAs (wrote a.sent p.outgoing (Err fault)) p.outgoing (refused s (refusal_told fault)))
           (sym is_open)
           (unwritten_as a.sent p.outgoing fault (subst (WritesAs a.sent p.outgoing) is_open h.writes));
@@ -149,6 +154,8 @@ kept_read old new p buffer count ready tells kept =
       writes = h.writes;
       stays = h.stays;
       rightly = h.rightly;
+      unread = was_read a.watched;
+      served = h.served;
       line = h.line;
       honest = h.honest;
       rested = h.rested;
@@ -172,6 +179,8 @@ kept_missed old new p buffer fault ready tells kept =
       writes = h.writes;
       stays = h.stays;
       rightly = h.rightly;
+      unread = was_read a.watched;
+      served = h.served;
       line = h.line ∙ ap (line_after line.Ended) (sym (refused_handed a.received (refusal_told fault)));
       honest = h.honest;
       rested = h.rested;
@@ -209,6 +218,8 @@ kept_taken old new p bytes count ending here tells kept =
       writes = written_as a.sent p.outgoing (take count bytes) p.output h.writes;
       stays = stays_here a.watched a.leave p.outgoing (queued_more p.output p.outgoing (take count bytes)) p.stay here h.stays;
       rightly = h.rightly;
+      unread = h.unread;
+      served = h.served;
       line = h.line;
       honest = h.honest;
       rested = h.rested;
@@ -230,6 +241,8 @@ got_agrees a p (Ok (got.Bytes count)) buffer rest share asked here is lined ende
       writes = h.writes;
       stays = h.stays;
       rightly = h.rightly;
+      unread = λ e. wants_less p.input p.incoming (got_bytes (Ok (got.Bytes count)) buffer) rest is (h.unread e);
+      served = h.served;
       line = lined ∙ ap (λ (l : Line). line_after l (take count buffer)) h.line
           ∙ sym (line_after-append line.Ended a.received.handed (take count buffer));
       honest = h.honest;
@@ -241,6 +254,8 @@ got_agrees a p (Ok got.Nothing) buffer rest share asked here is lined ended h = 
   writes = h.writes;
   stays = h.stays;
   rightly = h.rightly;
+  unread = λ e. wants_less p.input p.incoming (got_bytes (Ok got.Nothing) buffer) rest is (h.unread e);
+  served = h.served;
   line = lined ∙ h.line;
   honest = h.honest;
   rested = h.rested;
@@ -256,6 +271,8 @@ got_agrees a p (Ok got.Ended) buffer rest share asked here is lined ended h =
       writes = h.writes;
       stays = h.stays;
       rightly = h.rightly;
+      unread = λ e. wants_less p.input p.incoming (got_bytes (Ok got.Ended) buffer) rest is (h.unread e);
+      served = h.served;
       line = lined ∙ h.line;
       honest = ap (λ b. b && may_end a) h.honest
           ∙ may_end_then a p.incoming p.outgoing p.output r.0 r.2 e.1 e.3 e.4 h.writes;
@@ -267,6 +284,8 @@ got_agrees a p (Err fault) buffer rest share asked here is lined ended h = recor
   writes = h.writes;
   stays = h.stays;
   rightly = h.rightly;
+  unread = λ e. wants_less p.input p.incoming (got_bytes (Err fault) buffer) rest is (h.unread e);
+  served = h.served;
   line = lined ∙ h.line;
   honest = h.honest;
   rested = h.rested;
@@ -311,6 +330,8 @@ kept_visit told p share ending same kept log is =
       writes = h.writes;
       stays = h.stays;
       rightly = h.rightly;
+      unread = h.unread;
+      served = h.served;
       line = same ∙ h.line;
       honest = h.honest;
       rested = h.rested;
@@ -333,6 +354,8 @@ woken_agrees a p ready h = by (ready.socket == p.number)
       reads = woken_comes a.received p.incoming p.input p.stay ready.readable (ready.closed || ready.urgent) h.reads;
       stays = h.stays;
       rightly = h.rightly;
+      unread = λ e. wants_woken p.input p.incoming ready.readable (ready.closed || ready.urgent) (h.unread e);
+      served = h.served;
       writes = woken_writes a.sent p.outgoing p.output ready.writable h.writes;
       line = h.line;
       honest = h.honest;
@@ -376,18 +399,21 @@ pub kept_waited : (old new : Option (List Step)) (p : Peer) (most : Option ℕ) 
     → Tells old (Waits most count ready) new → IsKept old p → IsKept new (fold after_wake p (take count ready))
 kept_waited old new p most count ready rest tells kept =
     kept_after old new (Waits most count ready) p (fold after_wake p (take count ready)) tells (all_number p (take count ready))
-    (λ (a : Account) (h : Agrees a p). all_woken p.number (waited p.number a most) p (take count ready) refl (record {
+    (λ (a : Account) (h : Agrees a p). noted_agrees (fold (woken p.number) (waited p.number a most) (take count ready))
+    (fold after_wake p (take count ready)) (all_woken p.number (waited p.number a most) p (take count ready) refl (record {
       cut = h.cut;
       reads = h.reads;
       writes = h.writes;
       stays = h.stays;
       rightly = h.rightly;
+      unread = h.unread;
+      served = h.served;
       line = h.line;
       honest = h.honest;
       rested = ap (λ b. b && (not (a.watched || (p.number == 0)) || (is_short most || is_at_rest a.sent a.received))) h.rested
           ∙ or_so (not (a.watched || (p.number == 0))) (is_short most || is_at_rest a.sent a.received)
           (unless_long (is_short most) (is_at_rest a.sent a.received) (λ long. resting a p h (rest long)));
-    })) kept
+    }))) kept
 
 -- ---- the same, by the names that a function gives to the parts
 

@@ -1,12 +1,14 @@
 pub mod QueueLaws
 pub mod States
 pub mod Resting
+pub mod Wanting
 pub mod Staying
 pub mod Keeping
 pub mod Naming
 pub mod Lists
 pub mod Standing
 pub mod Parting
+pub mod Serving
 pub mod Tellings
 pub mod Lined
 pub mod Pasts

@@ -1,6 +1,6 @@
 -- A peer is let go, and its socket is closed.
 use Rattle.std.proofs.Common.{◌≡◌, ◌∙◌, ℕ, ◌<◌, ◌≤◌, ◌+◌, ◌-◌, Bool, true, false, List, length, refl, ap, sym, subst, arith, ⊎_elim, get_or, set, ◌==◌, if◌then◌else◌, Option, Some, true≢false}
-use Rattle.std.specs.Prelude.{◌≢◌, ◌&&◌, nat_lt, slice_index_or, Result}
+use Rattle.std.specs.Prelude.{⊤, ◌≢◌, ◌&&◌, nat_lt, slice_index_or, Result}
 use Rattle.std.proofs.lemmas.Bool.{cases_eq, cases_lt}
 use Rattle.std.proofs.lemmas.List.{get_or_default}
 use Rattle.std.proofs.lemmas.List.Edits.{length-remove, get_or-remove_below, get_or-remove_above}
@@ -23,21 +23,23 @@ use Rattle.srcp_sockets.proofs.Standing.{stands_one}
 -- ---- a step that every account goes on with
 
 -- what a step makes of each account
-pub record Goes (step : Step) (l : Listening) : Type 0 where
-  pub sound : (socket : ℕ) (a : Account) → Sound a → Sound (account_step socket a step)
+pub record Goes (Holds : Account → Type 0) (step : Step) (l : Listening) : Type 0 where
+  pub sound : (socket : ℕ) (a : Account) → Holds a → Sound a → Sound (account_step socket a step)
   pub fresh : (socket : ℕ) (a : Account) → Fresh a → Fresh (account_step socket a step)
   pub closed : (socket : ℕ) (a : Account) → Closed a → Closed (account_step socket a step)
   pub heard : (a : Account) → Hears a l → Hears (account_step 0 a step) l
 
-stands_goes : (old new : Option (List Step)) (peers : List Peer) (l : Listening) (last : ℕ) (step : Step) → Goes step l
+pub stands_goes : (Holds : Account → Type 0) (old new : Option (List Step)) (peers : List Peer) (l : Listening) (last : ℕ) (step : Step)
+    → Goes Holds step l → ((log : List Step) → old ≡ Some log → (socket : ℕ) → Holds (account socket log))
     → ((k : ℕ) (d : Peer) → k < length peers → IsKept new (slice_index_or peers k d)) → Tells old step new
     → Stands old peers l last → Stands new peers l last
-stands_goes old new peers l last step goes kept tells stands = record {
+stands_goes Holds old new peers l last step goes holds kept tells stands = record {
   kept = kept;
   apart = stands.apart;
   within = stands.within;
   sound = λ log is socket. subst Sound (sym (more socket log is))
-      (goes.sound socket (account socket (tells log is).0) (stands.sound (tells log is).0 (tells log is).1 socket));
+      (goes.sound socket (account socket (tells log is).0) (holds (tells log is).0 (tells log is).1 socket)
+      (stands.sound (tells log is).0 (tells log is).1 socket));
   fresh = λ log is socket above. subst Fresh (sym (more socket log is))
       (goes.fresh socket (account socket (tells log is).0) (stands.fresh (tells log is).0 (tells log is).1 socket above));
   closed = λ log is socket absent. subst Closed (sym (more socket log is))
@@ -51,9 +53,16 @@ stands_goes old new peers l last step goes kept tells stands = record {
     more socket log is = ap (account socket) (tells log is).2 ∙ account_more socket (tells log is).0 step
 
 -- a clock was read
-clock_goes : (answer : Option ℕ) (l : Listening) → Goes (Clocks answer) l
+clock_goes : (answer : Option ℕ) (l : Listening) → Goes (λ a. ⊤) (Clocks answer) l
 clock_goes answer l = record {
-  sound = λ socket a h. record { took = h.took; handed = h.handed; honest = h.honest; rested = h.rested; rightly = h.rightly };
+  sound = λ socket a holds h. record {
+    took = h.took;
+    handed = h.handed;
+    honest = h.honest;
+    rested = h.rested;
+    rightly = h.rightly;
+    served = h.served;
+  };
   fresh = λ socket a h. record { written = h.written; took = h.took; gave = h.gave; handed = h.handed };
   closed = λ socket a h. record { watched = h.watched; kept = h.kept };
   heard = λ a h. record {
@@ -68,21 +77,21 @@ clock_goes answer l = record {
 
 pub stands_clocked : (old new : Option (List Step)) (peers : List Peer) (l : Listening) (last : ℕ) (answer : Option ℕ)
     → Tells old (Clocks answer) new → Stands old peers l last → Stands new peers l last
-stands_clocked old new peers l last answer tells stands = stands_goes old new peers l last (Clocks answer) (clock_goes answer l)
-    (clocked_all old new peers answer tells stands.kept) tells stands
+stands_clocked old new peers l last answer tells stands = stands_goes (λ a. ⊤) old new peers l last (Clocks answer) (clock_goes answer l)
+    (λ log is socket. tt) (clocked_all old new peers answer tells stands.kept) tells stands
 
 -- ---- one that is let go
 
-let_go_goes : (number : ℕ) (answer : Result Unit DoorFault) (l : Listening) → Goes (Told (CloseCall number answer)) l
+let_go_goes : (number : ℕ) (answer : Result Unit DoorFault) (l : Listening) → Goes (λ a. ⊤) (Told (CloseCall number answer)) l
 let_go_goes number answer l = record {
-  sound = λ socket a h. sound (number == socket) a h;
+  sound = λ socket a holds h. sound (number == socket) a h;
   fresh = λ socket a h. fresh (number == socket) a h;
   closed = λ socket a h. shut (number == socket) a h;
   heard = λ a h. heard (number == 0) a h;
 }
   where
     sound : (b : Bool) (a : Account) → Sound a → Sound (if b then let_go a else a)
-    sound true a h = record { took = h.took; handed = h.handed; honest = h.honest; rested = h.rested; rightly = h.rightly }
+    sound true a h = record { took = h.took; handed = h.handed; honest = h.honest; rested = h.rested; rightly = h.rightly; served = h.served }
     sound false a h = h
 
     fresh : (b : Bool) (a : Account) → Fresh a → Fresh (if b then let_go a else a)
@@ -108,7 +117,7 @@ let_go_goes number answer l = record {
 pub stands_missing : (old new : Option (List Step)) (peers : List Peer) (l : Listening) (last number : ℕ) (answer : Result Unit DoorFault)
     → IsMissing number peers → Tells old (Told (CloseCall number answer)) new → Stands old peers l last → Stands new peers l last
 stands_missing old new peers l last number answer missing tells stands =
-    stands_goes old new peers l last (Told (CloseCall number answer)) (let_go_goes number answer l)
+    stands_goes (λ a. ⊤) old new peers l last (Told (CloseCall number answer)) (let_go_goes number answer l) (λ log is socket. tt)
     (λ k d lt. kept_after old new (Told (CloseCall number answer)) (slice_index_or peers k d) (slice_index_or peers k d) tells refl
     (λ a h. by k d lt a (number == (slice_index_or peers k d).number) (λ e. grind (arith, nat_tests)) h) (stands.kept k d lt)) tells stands
   where
@@ -154,6 +163,7 @@ close_sound true a may h = record {
   honest = h.honest;
   rested = h.rested;
   rightly = ap (λ r. r && may_close a) h.rightly ∙ may refl;
+  served = h.served;
 }
 close_sound false a may h = h
 

@@ -10,14 +10,14 @@ use Rattle.srcp_serve.specs.declared.door.Got.TheVariants as got
 use Rattle.srcp_sockets.specs.declared.system.Ready.{Ready}
 use Rattle.srcp_serve.specs.Calls.{Call, ExpectCall, NowCall, AcceptCall, ReadCall, WriteCall, CloseCall}
 use Rattle.srcp_sockets.specs.Steps.{Accepts, Clocks, Closes, Reads, Shuts, Step, Told, Waits, Writes}
-use Rattle.srcp_sockets.specs.Accounts.{Account, accepted, account, account_step, closed, heard, is_at_rest, is_short, may_close, may_end, may_shut, read_in, shut_down, untouched, waited, woken, woken_came, woken_sent, wrote}
+use Rattle.srcp_sockets.specs.Accounts.{Account, accepted, account, account_step, closed, heard, is_at_rest, is_short, may_close, may_end, may_shut, shut_down, untouched, waited, woken, woken_came, woken_sent, wrote, read_of}
 use Rattle.srcp_sockets.proofs.Keeping.{own}
 use Rattle.srcp_sockets.proofs.Resting.{and_left, and_right}
 use Rattle.srcp_sockets.proofs.Tellings.{if_same}
 
 -- what is judged
-abbrev marks : Account → Bool × Bool × Bool
-marks a = (a.honest, a.rested, a.leave.rightly)
+abbrev marks : Account → Bool × Bool × Bool × Bool
+marks a = (a.honest, a.rested, a.leave.rightly, a.served)
 
 woken_marks : (socket : ℕ) (a : Account) (ready : List Ready) → marks (fold (woken socket) a ready) ≡ marks a
 woken_marks socket a [] = refl
@@ -46,7 +46,7 @@ accept_marks socket number a (Err fault) = by (socket == 0)
 honest_before : (socket : ℕ) (a : Account) (step : Step) → (account_step socket a step).honest ≡ true → a.honest ≡ true
 honest_before socket a (Accepts number answer) h = sym (ap (λ m. m.0) (accept_marks socket number a answer)) ∙ h
 honest_before socket a (Reads who buffer answer) h = sym (if_same (λ (x : Account). x.honest) (who == socket)
-    (record a { received = read_in a.received buffer answer }) a refl) ∙ h
+    (read_of a buffer answer) a refl) ∙ h
 honest_before socket a (Writes who bytes answer) h = sym (if_same (λ (x : Account). x.honest) (who == socket)
     (record a { sent = wrote a.sent bytes answer }) a refl) ∙ h
 honest_before socket a (Waits most count ready) h = sym (ap (λ m. m.0) (woken_marks socket (waited socket a most) (take count ready))) ∙ h
@@ -72,7 +72,7 @@ honest_before socket a (Told (CloseCall who answer)) h = sym (if_same (λ (x : A
 rested_before : (socket : ℕ) (a : Account) (step : Step) → (account_step socket a step).rested ≡ true → a.rested ≡ true
 rested_before socket a (Accepts number answer) h = sym (ap (λ m. m.1) (accept_marks socket number a answer)) ∙ h
 rested_before socket a (Reads who buffer answer) h = sym (if_same (λ (x : Account). x.rested) (who == socket)
-    (record a { received = read_in a.received buffer answer }) a refl) ∙ h
+    (read_of a buffer answer) a refl) ∙ h
 rested_before socket a (Writes who bytes answer) h = sym (if_same (λ (x : Account). x.rested) (who == socket)
     (record a { sent = wrote a.sent bytes answer }) a refl) ∙ h
 rested_before socket a (Waits most count ready) h = and_left a.rested
@@ -97,7 +97,7 @@ rested_before socket a (Told (CloseCall who answer)) h = sym (if_same (λ (x : A
 rightly_before : (socket : ℕ) (a : Account) (step : Step) → (account_step socket a step).leave.rightly ≡ true → a.leave.rightly ≡ true
 rightly_before socket a (Accepts number answer) h = sym (ap (λ m. m.2) (accept_marks socket number a answer)) ∙ h
 rightly_before socket a (Reads who buffer answer) h = sym (if_same (λ (x : Account). x.leave.rightly) (who == socket)
-    (record a { received = read_in a.received buffer answer }) a refl) ∙ h
+    (read_of a buffer answer) a refl) ∙ h
 rightly_before socket a (Writes who bytes answer) h = sym (if_same (λ (x : Account). x.leave.rightly) (who == socket)
     (record a { sent = wrote a.sent bytes answer }) a refl) ∙ h
 rightly_before socket a (Waits most count ready) h = sym
@@ -125,6 +125,30 @@ rightly_before socket a (Told (ReadCall who (Err fault) buffer)) h = h
 rightly_before socket a (Told (WriteCall who bytes (Ok count))) h = sym (if_same (λ (x : Account). x.leave.rightly) (who == socket) _ a refl) ∙ h
 rightly_before socket a (Told (WriteCall who bytes (Err fault))) h = h
 rightly_before socket a (Told (CloseCall who answer)) h = sym (if_same (λ (x : Account). x.leave.rightly) (who == socket) _ a refl) ∙ h
+
+served_before : (socket : ℕ) (a : Account) (step : Step) → (account_step socket a step).served ≡ true → a.served ≡ true
+served_before socket a (Accepts number answer) h = sym (ap (λ m. m.3) (accept_marks socket number a answer)) ∙ h
+served_before socket a (Reads who buffer answer) h = sym (if_same (λ (x : Account). x.served) (who == socket)
+    (read_of a buffer answer) a refl) ∙ h
+served_before socket a (Writes who bytes answer) h = sym (if_same (λ (x : Account). x.served) (who == socket)
+    (record a { sent = wrote a.sent bytes answer }) a refl) ∙ h
+served_before socket a (Waits most count ready) h = sym
+    (ap (λ m. m.3) (woken_marks socket (waited socket a most) (take count ready))) ∙ h
+served_before socket a (Shuts who) h = sym (if_same (λ (x : Account). x.served) (who == socket) (shut_down a) a refl) ∙ h
+served_before socket a (Closes who) h = sym (if_same (λ (x : Account). x.served) (who == socket) (closed a) a refl) ∙ h
+served_before socket a (Clocks answer) h = h
+served_before socket a (Told (ExpectCall due slack)) h = h
+served_before socket a (Told (NowCall answer)) h = and_left a.served (not (a.watched && a.unread)) h
+served_before socket a (Told (AcceptCall answer)) h = h
+served_before socket a (Told (ReadCall who (Ok (got.Bytes count)) buffer)) h = sym
+    (if_same (λ (x : Account). x.served) (who == socket) _ a refl) ∙ h
+served_before socket a (Told (ReadCall who (Ok got.Ended) buffer)) h = sym (if_same (λ (x : Account). x.served) (who == socket) _ a refl)
+    ∙ h
+served_before socket a (Told (ReadCall who (Ok got.Nothing) buffer)) h = h
+served_before socket a (Told (ReadCall who (Err fault) buffer)) h = h
+served_before socket a (Told (WriteCall who bytes (Ok count))) h = sym (if_same (λ (x : Account). x.served) (who == socket) _ a refl) ∙ h
+served_before socket a (Told (WriteCall who bytes (Err fault))) h = h
+served_before socket a (Told (CloseCall who answer)) h = sym (if_same (λ (x : Account). x.served) (who == socket) _ a refl) ∙ h
 
 at_first : (pr : Account → Bool) (socket : ℕ) → ((a : Account) (step : Step) → pr (account_step socket a step) ≡ true → pr a ≡ true)
     → (a : Account) (log : List Step) → pr (fold (account_step socket) a log) ≡ true → pr a ≡ true
@@ -198,3 +222,17 @@ might_close socket before after h =
     judged (socket == socket) a.leave.rightly (may_close a) a.leave.rightly (own socket)
     (sym (rightly_if (socket == socket) (closed a) a)
     ∙ at_step (λ (x : Account). x.leave.rightly) socket (rightly_before socket) before after (Closes socket) h)
+
+-- ---- no moment was told while one was unread
+
+not_so : (b : Bool) → not b ≡ true → b ≡ false
+not_so true e = absurd (true≢false (sym e))
+not_so false e = refl
+
+pub read_then : (socket : ℕ) (before after : List Step) (answer : Result ℕ DoorFault)
+    → (account socket (before ++ Told (NowCall answer) ∷ after)).served ≡ true
+    → ((account socket before).watched && (account socket before).unread) ≡ false
+read_then socket before after answer h =
+    let a = account socket before in
+    not_so (a.watched && a.unread) (and_right a.served (not (a.watched && a.unread))
+    (at_step (λ (x : Account). x.served) socket (served_before socket) before after (Told (NowCall answer)) h))

@@ -1,5 +1,5 @@
 -- What holds of all sockets goes on from step to step.
-use Rattle.std.proofs.Common.{◌≡◌, ◌∙◌, ℕ, zero, suc, ◌<◌, ◌≤◌, ◌+◌, Bool, true, false, not, List, [], ◌∷◌, ◌++◌, length, refl, ap, sym, subst, arith, ⊎_elim, inl, inr, ◌⊎◌, get_or, set, ◌==◌, if◌then◌else◌, Option, Some, Ok, Err}
+use Rattle.std.proofs.Common.{◌≡◌, ◌∙◌, ℕ, zero, suc, ◌<◌, ◌≤◌, ◌+◌, Bool, true, false, not, List, [], ◌∷◌, ◌++◌, length, refl, ap, sym, subst, arith, ⊎_elim, inl, inr, ◌⊎◌, get_or, set, ◌==◌, if◌then◌else◌, Option, Some, Ok, Err, true≢false}
 use Rattle.std.specs.Prelude.{◌≢◌, All, ◌&&◌, ◌||◌, fold, slice_index_or, take, Result}
 use Rattle.std.specs.Io.{StartsWith}
 use Rattle.std.proofs.lemmas.Bool.{cases_eq, cases_lt}
@@ -22,7 +22,7 @@ use Rattle.srcp_serve.specs.Calls.{Call, ReadCall}
 use Rattle.srcp_serve.specs.declared.door.DoorFault.{DoorFault}
 use Rattle.srcp_serve.specs.declared.door.Got.{Got}
 use Rattle.srcp_serve.specs.declared.door.Got.TheVariants as got
-use Rattle.srcp_sockets.specs.Accounts.{Account, accepted, account, account_step, heard, heard_refusal, is_at_rest, is_short, told_step, waited, woken, woken_came, woken_sent}
+use Rattle.srcp_sockets.specs.Accounts.{Account, accepted, account, account_step, heard, heard_refusal, is_at_rest, is_short, told_step, waited, woken, woken_came, woken_sent, noted}
 use Rattle.srcp_sockets.specs.Peers.{Agrees, IsKept, Spares, WritesAs, after_wake, is_resting}
 use Rattle.srcp_door.specs.Pacing.{line_after}
 use Rattle.srcp_door.specs.declared.ending.Ending.TheVariants as ending
@@ -35,7 +35,7 @@ use Rattle.srcp_sockets.proofs.Lists.{absent_before, apart_later, kept_spared, s
 
 -- ---- who is there
 
-nobody : Peer
+pub nobody : Peer
 nobody = record {
   number = 0;
   outgoing = [];
@@ -77,6 +77,7 @@ sound_of a p h = record {
   honest = h.honest;
   rested = h.rested;
   rightly = h.rightly;
+  served = h.served;
 }
   where
     took : (o : Writing) → WritesAs a.sent p.outgoing o → StartsWith a.sent.written a.sent.took
@@ -149,7 +150,7 @@ woken_sound socket a (one ∷ more) h = woken_sound socket (woken socket a one) 
       sent = woken_sent a.sent one.writable;
       received = woken_came a.received one.readable (one.closed || one.urgent);
     } else a)
-    by true = record { took = h.took; handed = h.handed; honest = h.honest; rested = h.rested; rightly = h.rightly }
+    by true = record { took = h.took; handed = h.handed; honest = h.honest; rested = h.rested; rightly = h.rightly; served = h.served }
     by false = h
 
 woken_fresh : (socket : ℕ) (a : Account) (ready : List Ready) → Fresh a → Fresh (fold (woken socket) a ready)
@@ -222,6 +223,33 @@ listener_rests a h = rest_of_none a.sent.cut a.sent.lost a.sent.full a.received.
     a.sent.took a.received.gave a.received.handed
     h.fresh.written h.fresh.took h.fresh.gave h.fresh.handed h.cut h.lost h.heard h.ended h.failed a.received.draining
 
+-- an account as a wait is over
+noted_sound : (a : Account) → Sound a → Sound (noted a)
+noted_sound a h = record {
+  took = h.took;
+  handed = h.handed;
+  honest = h.honest;
+  rested = h.rested;
+  rightly = h.rightly;
+  served = h.served;
+}
+
+noted_fresh : (a : Account) → Fresh a → Fresh (noted a)
+noted_fresh a h = record { written = h.written; took = h.took; gave = h.gave; handed = h.handed }
+
+noted_closed : (a : Account) → Closed a → Closed (noted a)
+noted_closed a h = record { watched = h.watched; kept = h.kept }
+
+noted_hears : (a : Account) (l : Listening) → Hears a l → Hears (noted a) l
+noted_hears a l h = record {
+  fresh = record { written = h.fresh.written; took = h.fresh.took; gave = h.fresh.gave; handed = h.fresh.handed };
+  lost = h.lost;
+  cut = h.cut;
+  ended = h.ended;
+  failed = h.failed;
+  heard = h.heard;
+}
+
 -- an account as a wait begins
 waited_sound : (socket : ℕ) (a : Account) (most : Option ℕ) → Sound a
     → (not (a.watched || (socket == 0)) || (is_short most || is_at_rest a.sent a.received)) ≡ true → Sound (waited socket a most)
@@ -231,6 +259,7 @@ waited_sound socket a most h rests = record {
   honest = h.honest;
   rested = ap (λ b. b && (not (a.watched || (socket == 0)) || (is_short most || is_at_rest a.sent a.received))) h.rested ∙ rests;
   rightly = h.rightly;
+  served = h.served;
 }
 
 unwatched : (watched listener rests : Bool) → watched ≡ false → listener ≡ false → (not (watched || listener) || rests) ≡ true
@@ -250,19 +279,23 @@ stands_waited old new before after most count ready l last rest quiet tells long
   apart = apart_later before after long those stands.apart;
   within = within_later last before after long those stands.within;
   sound = λ log is. all_sound new after log is kept (λ socket absent. subst Sound (sym (more socket log is))
+      (noted_sound (fold (woken socket) (waited socket (account socket (tells log is).0) most) (take count ready))
       (woken_sound socket (waited socket (account socket (tells log is).0) most) (take count ready)
       (waited_sound socket (account socket (tells log is).0) most (stands.sound (tells log is).0 (tells log is).1 socket)
-      (rests socket log is (absent_before socket before after long those absent)))));
+      (rests socket log is (absent_before socket before after long those absent))))));
   fresh = λ log is socket above. subst Fresh (sym (more socket log is))
+      (noted_fresh (fold (woken socket) (waited socket (account socket (tells log is).0) most) (take count ready))
       (woken_fresh socket (waited socket (account socket (tells log is).0) most) (take count ready)
       (let h : Fresh (account socket (tells log is).0) = stands.fresh (tells log is).0 (tells log is).1 socket above in
-      record { written = h.written; took = h.took; gave = h.gave; handed = h.handed }));
+      record { written = h.written; took = h.took; gave = h.gave; handed = h.handed })));
   closed = λ log is socket absent. subst Closed (sym (more socket log is))
+      (noted_closed (fold (woken socket) (waited socket (account socket (tells log is).0) most) (take count ready))
       (woken_closed socket (waited socket (account socket (tells log is).0) most) (take count ready)
       (let h : Closed (account socket (tells log is).0) =
       stands.closed (tells log is).0 (tells log is).1 socket (absent_before socket before after long those absent) in
-      record { watched = h.watched; kept = h.kept }));
+      record { watched = h.watched; kept = h.kept })));
   heard = λ log is. subst (λ (a : Account). Hears a (fold woken_listening l (take count ready))) (sym (more 0 log is))
+      (noted_hears (fold (woken 0) (waited 0 (account 0 (tells log is).0) most) (take count ready)) (fold woken_listening l (take count ready))
       (all_heard (waited 0 (account 0 (tells log is).0) most) l (take count ready)
       (let h : Hears (account 0 (tells log is).0) l = stands.heard (tells log is).0 (tells log is).1 in
       record {
@@ -272,7 +305,7 @@ stands_waited old new before after most count ready l last rest quiet tells long
         ended = h.ended;
         failed = h.failed;
         heard = h.heard;
-      }));
+      })));
 }
   where
     kept : AreKept new after
@@ -282,7 +315,7 @@ stands_waited old new before after most count ready l last rest quiet tells long
     those k d lt = ap (λ (x : Peer). x.number) (woke k d lt) ∙ all_number (slice_index_or before k d) (take count ready)
 
     more : (socket : ℕ) (log : List Step) (is : new ≡ Some log)
-        → account socket log ≡ fold (woken socket) (waited socket (account socket (tells log is).0) most) (take count ready)
+        → account socket log ≡ noted (fold (woken socket) (waited socket (account socket (tells log is).0) most) (take count ready))
     more socket log is = ap (account socket) (tells log is).2 ∙ account_more socket (tells log is).0 (Waits most count ready)
 
     rests : (socket : ℕ) (log : List Step) (is : new ≡ Some log) → IsAbsent socket before
@@ -381,6 +414,8 @@ fresh_agrees number a done f s = record {
   honest = s.honest;
   rested = s.rested;
   rightly = s.rightly;
+  unread = λ e. absurd (true≢false (sym e));
+  served = s.served;
 }
 
 -- a place of a list with one more
@@ -472,7 +507,7 @@ refused_hears a l Again h = record { fresh = h.fresh; lost = h.lost; cut = h.cut
 refused_hears a l Fault h = record { fresh = h.fresh; lost = h.lost; cut = h.cut; ended = h.ended; failed = h.failed; heard = tt }
 
 refused_sound : (a : Account) (said : Refusal) → Sound a → Sound (record a { received = heard_refusal a.received said })
-refused_sound a Later h = record { took = h.took; handed = h.handed; honest = h.honest; rested = h.rested; rightly = h.rightly }
+refused_sound a Later h = record { took = h.took; handed = h.handed; honest = h.honest; rested = h.rested; rightly = h.rightly; served = h.served }
 refused_sound a Again h = h
 refused_sound a Fault h = h
 

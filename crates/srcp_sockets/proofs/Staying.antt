@@ -1,5 +1,5 @@
 -- How far a peer is let go, by its account.
-use Rattle.std.proofs.Common.{◌≡◌, ◌∙◌, ℕ, Bool, true, false, not, List, [], ◌++◌, drop, length, refl, ap, sym, subst, arith, ◌==◌, true≢false, Option}
+use Rattle.std.proofs.Common.{◌≡◌, ◌∙◌, ℕ, Bool, true, false, not, List, [], ◌++◌, drop, length, refl, ap, sym, subst, arith, ◌==◌, true≢false, Option, append-nil}
 use Rattle.std.specs.Prelude.{◌&&◌, ◌||◌, cond}
 use Rattle.std.proofs.lemmas.List.{drop_all}
 use Rattle.srcp_sockets.specs.Steps.{Step}
@@ -13,6 +13,7 @@ use Rattle.srcp_sockets.specs.Accounts.{Account, Leave, Received, Sent, account,
 use Rattle.srcp_sockets.specs.Peers.{Agrees, ComesAs, IsKept, StaysAs, WritesAs, closable_as, is_closable, is_here, is_lost}
 use Rattle.srcp_sockets.proofs.Resting.{held_is, owed_is}
 use Rattle.srcp_sockets.proofs.States.{comes_starts}
+use Rattle.srcp_sockets.proofs.Wanting.{wants_less}
 
 -- one that is there stays so, whatever is queued for it
 pub stays_here : (watched : Bool) (leave : Leave) (before after : List ℕ) (here : Stay) → here ≡ stay.Here
@@ -42,6 +43,8 @@ clocked_agrees a p answer h = record {
   writes = h.writes;
   stays = stays_clocked a.watched a.leave (clock_after a.leave.clock answer) p.outgoing p.stay h.stays;
   rightly = h.rightly;
+  unread = h.unread;
+  served = h.served;
   cut = h.cut;
   line = h.line;
   honest = h.honest;
@@ -59,6 +62,8 @@ let_go_agrees a p since here clock h =
       writes = h.writes;
       stays = (refl, s.1, ap (λ w. cond w a.leave.clock a.leave.since) s.0 ∙ clock, s.2);
       rightly = h.rightly;
+      unread = λ e. absurd (true≢false (sym e));
+      served = h.served;
       cut = h.cut;
       line = h.line;
       honest = h.honest;
@@ -78,6 +83,8 @@ gone_agrees a p gone h = record {
   writes = h.writes;
   stays = stays_gone a p.outgoing p.stay gone h.stays;
   rightly = h.rightly;
+  unread = λ e. absurd (true≢false (sym e));
+  served = h.served;
   cut = h.cut;
   line = h.line;
   honest = h.honest;
@@ -100,6 +107,8 @@ kept_dropped told p gone kept log is =
       writes = h.writes;
       stays = h.stays;
       rightly = h.rightly;
+      unread = λ e. wants_less p.input p.incoming p.incoming [] (sym (append-nil p.incoming)) (h.unread e);
+      served = h.served;
       cut = h.cut;
       line = h.line;
       honest = h.honest;
@@ -140,6 +149,8 @@ shut_agrees a p since leaving none kept h =
       stays = (s.0, s.1, s.2, refl, none);
       rightly = shuts a.leave.rightly a.watched a.leave.kept a.leave.shut (is_owed a.sent) h.rightly s.0 s.1 s.3
           (owed_none a.sent p.outgoing p.output kept none h.writes);
+      unread = h.unread;
+      served = h.served;
       cut = h.cut;
       line = h.line;
       honest = h.honest;

@@ -10,7 +10,7 @@ use Rattle.srcp_sockets.specs.declared.system.Refusal.{Refusal}
 use Rattle.srcp_sockets.specs.declared.system.Refusal.TheVariants.{Later, Again, Fault}
 use Rattle.srcp_serve.specs.Calls.{Call, ExpectCall, NowCall, AcceptCall, ReadCall, WriteCall, CloseCall}
 use Rattle.srcp_sockets.specs.Steps.{Accepts, Clocks, Closes, Reads, Shuts, Step, Told, Waits, Writes, call_of, calls, refusal_told}
-use Rattle.srcp_sockets.specs.Accounts.{Account, Received, Sent, accepted, account, account_step, closed, heard, heard_refusal, read_in, refused_read, refused_write, shut_down, untouched, waited, woken, woken_came, woken_sent, wrote}
+use Rattle.srcp_sockets.specs.Accounts.{Account, Received, Sent, accepted, account, account_step, closed, heard, heard_refusal, refused_read, refused_write, shut_down, untouched, waited, woken, woken_came, woken_sent, wrote, read_of}
 use Rattle.srcp_sockets.specs.Streams.{gave, gave_in, handed, handed_in, taken, taken_in, took, took_in}
 
 -- the four lists
@@ -100,7 +100,7 @@ refused_read_lists a Fault = refl
 took_step : (socket : ℕ) (a : Account) (step : Step) → (account_step socket a step).sent.took ≡ a.sent.took ++ took_in socket step
 took_step socket a (Accepts number answer) = same_more _ a.sent.took (ap (λ l. l.0.1) (accept_lists socket number a answer))
 took_step socket a (Reads who buffer answer) = same_more _ a.sent.took
-    (if_same (λ (x : Account). x.sent.took) (who == socket) (record a { received = read_in a.received buffer answer }) a refl)
+    (if_same (λ (x : Account). x.sent.took) (who == socket) (read_of a buffer answer) a refl)
 took_step socket a (Writes who bytes (Ok count)) = if_more (λ (x : Account). x.sent.took) (who == socket)
     (record a { sent = wrote a.sent bytes (Ok count) }) a (take count bytes) refl
 took_step socket a (Writes who bytes (Err fault)) = same_more _ a.sent.took
@@ -130,9 +130,9 @@ gave_step socket a (Accepts number answer) = same_more _ a.received.gave (ap (λ
 gave_step socket a (Writes who bytes answer) = same_more _ a.received.gave
     (if_same (λ (x : Account). x.received.gave) (who == socket) (record a { sent = wrote a.sent bytes answer }) a refl)
 gave_step socket a (Reads who buffer (Ok count)) = if_more (λ (x : Account). x.received.gave) (who == socket)
-    (record a { received = read_in a.received buffer (Ok count) }) a (take count buffer) refl
+    (read_of a buffer (Ok count)) a (take count buffer) refl
 gave_step socket a (Reads who buffer (Err fault)) = same_more _ a.received.gave
-    (if_same (λ (x : Account). x.received.gave) (who == socket) (record a { received = read_in a.received buffer (Err fault) }) a
+    (if_same (λ (x : Account). x.received.gave) (who == socket) (read_of a buffer (Err fault)) a
     (ap (λ l. l.1.0) (refused_read_lists a (refusal_told fault))))
 gave_step socket a (Waits most count ready) = same_more _ a.received.gave
     (ap (λ l. l.1.0) (woken_lists socket (waited socket a most) (take count ready)))
@@ -159,7 +159,7 @@ written_step : (socket : ℕ) (a : Account) (step : Step) → (account_step sock
     (taken_in socket) step
 written_step socket a (Accepts number answer) = same_more _ a.sent.written (ap (λ l. l.0.0) (accept_lists socket number a answer))
 written_step socket a (Reads who buffer answer) = same_more _ a.sent.written
-    (if_same (λ (x : Account). x.sent.written) (who == socket) (record a { received = read_in a.received buffer answer }) a refl)
+    (if_same (λ (x : Account). x.sent.written) (who == socket) (read_of a buffer answer) a refl)
 written_step socket a (Writes who bytes (Ok count)) = same_more _ a.sent.written
     (if_same (λ (x : Account). x.sent.written) (who == socket) (record a { sent = wrote a.sent bytes (Ok count) }) a refl)
 written_step socket a (Writes who bytes (Err fault)) = same_more _ a.sent.written
@@ -194,9 +194,9 @@ handed_step socket a (Accepts number answer) = same_more _ a.received.handed (ap
 handed_step socket a (Writes who bytes answer) = same_more _ a.received.handed
     (if_same (λ (x : Account). x.received.handed) (who == socket) (record a { sent = wrote a.sent bytes answer }) a refl)
 handed_step socket a (Reads who buffer (Ok count)) = same_more _ a.received.handed
-    (if_same (λ (x : Account). x.received.handed) (who == socket) (record a { received = read_in a.received buffer (Ok count) }) a refl)
+    (if_same (λ (x : Account). x.received.handed) (who == socket) (read_of a buffer (Ok count)) a refl)
 handed_step socket a (Reads who buffer (Err fault)) = same_more _ a.received.handed
-    (if_same (λ (x : Account). x.received.handed) (who == socket) (record a { received = read_in a.received buffer (Err fault) }) a
+    (if_same (λ (x : Account). x.received.handed) (who == socket) (read_of a buffer (Err fault)) a
     (ap (λ l. l.1.1) (refused_read_lists a (refusal_told fault))))
 handed_step socket a (Waits most count ready) = same_more _ a.received.handed
     (ap (λ l. l.1.1) (woken_lists socket (waited socket a most) (take count ready)))

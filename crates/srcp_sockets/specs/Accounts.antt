@@ -39,6 +39,8 @@ pub record Account : Type 0 where
   pub leave : Leave
   pub watched : Bool  -- it was accepted, and was not let go
   pub honest : Bool  -- its end was told only when it might be
+  pub unread : Bool  -- after a wait a read might find something and less than a piece was held, and since then none was made
+  pub served : Bool  -- no moment was told while it was there and unread
   pub rested : Bool  -- each long wait found it at rest
 
 -- nothing happened to it
@@ -48,6 +50,8 @@ untouched = record {
   received = record { gave = []; handed = []; quiet = false; draining = false; ended = false; failed = false };
   leave = record { clock = 0; since = 0; kept = false; shut = false; rightly = true };
   watched = false;
+  unread = false;
+  served = true;
   honest = true;
   rested = true;
 }
@@ -134,6 +138,9 @@ read_in received buffer (Ok count) = record received {
 }
 read_in received buffer (Err fault) = refused_read received (refusal_told fault)
 
+abbrev pub read_of : Account → List ℕ → Result ℕ ErrorKind → Account
+read_of a buffer answer = record a { received = read_in a.received buffer answer; unread = false }
+
 abbrev pub woken_sent : Sent → Bool → Sent
 woken_sent sent writable = record sent { full = sent.full && not writable }
 
@@ -155,6 +162,15 @@ waited socket a most = record a {
   rested = a.rested && (not (a.watched || (socket == 0)) || (is_short most || is_at_rest a.sent a.received));
 }
 
+-- a read may find something, and less than a piece is held
+abbrev pub is_wanted : Received → Bool
+is_wanted received = (not received.quiet && (not received.ended && not received.failed))
+    && nat_lt (length received.gave) (length received.handed + 256)
+
+-- a wait is over
+abbrev pub noted : Account → Account
+noted a = record a { unread = is_wanted a.received }
+
 -- a newcomer is accepted: its socket may have something and take something
 abbrev pub accepted : Account → Result Unit ErrorKind → Account
 accepted a (Ok done) = record a {
@@ -162,6 +178,7 @@ accepted a (Ok done) = record a {
   received = record a.received { quiet = false; draining = false; ended = false; failed = false };
   leave = record a.leave { kept = true; shut = false };
   watched = true;
+  unread = false;
 }
 accepted a (Err fault) = a
 
@@ -215,7 +232,7 @@ told_step socket a (WriteCall who bytes (Ok count)) =
 told_step socket a (WriteCall who bytes (Err fault)) = a
 told_step socket a (CloseCall who answer) = if who == socket then let_go a else a
 told_step socket a (ExpectCall due slack) = a
-told_step socket a (NowCall answer) = a
+told_step socket a (NowCall answer) = record a { served = a.served && not (a.watched && a.unread) }
 told_step socket a (AcceptCall answer) = a
 
 abbrev pub account_step : ℕ → Account → Step → Account
@@ -223,10 +240,10 @@ account_step socket a (Accepts number answer) =
     if socket == 0 then record a { received = heard a.received answer } else if number == socket then accepted a answer
     else a
 account_step socket a (Reads who buffer answer) = if who == socket
-    then record a { received = read_in a.received buffer answer } else a
+    then read_of a buffer answer else a
 account_step socket a (Writes who bytes answer) = if who == socket then record a { sent = wrote a.sent bytes answer }
     else a
-account_step socket a (Waits most count ready) = fold (woken socket) (waited socket a most) (take count ready)
+account_step socket a (Waits most count ready) = noted (fold (woken socket) (waited socket a most) (take count ready))
 account_step socket a (Shuts who) = if who == socket then shut_down a else a
 account_step socket a (Closes who) = if who == socket then closed a else a
 account_step socket a (Clocks answer) = clocked a answer

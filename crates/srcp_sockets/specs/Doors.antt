@@ -1,5 +1,5 @@
 -- What holds of all sockets of a door.
-use Rattle.std.specs.Prelude.{⊤, ◌≡◌, ◌≢◌, ℕ, ◌<◌, ◌≤◌, Bool, true, false, List, [], length, slice_index_or, Option, Some}
+use Rattle.std.specs.Prelude.{⊤, ◌&&◌, ◌≡◌, ◌≢◌, ℕ, ◌<◌, ◌≤◌, Bool, true, false, List, [], length, slice_index_or, Option, Some}
 use Rattle.std.specs.Io.{StartsWith}
 use Rattle.srcp_sockets.specs.declared.peer.Peer.{Peer}
 use Rattle.srcp_sockets.specs.declared.stay.Stay.TheVariants as stay
@@ -60,6 +60,7 @@ pub record Sound (a : Account) : Type 0 where
   pub honest : a.honest ≡ true
   pub rested : a.rested ≡ true
   pub rightly : a.leave.rightly ≡ true
+  pub served : a.served ≡ true
 
 abbrev pub AreSound : Option (List Step) → Type 0
 AreSound told = (log : List Step) → told ≡ Some log → (socket : ℕ) → Sound (account socket log)
@@ -84,6 +85,16 @@ pub record Closed (a : Account) : Type 0 where
 abbrev pub AreClosed : Option (List Step) → List Peer → Type 0
 AreClosed told peers = (log : List Step) → told ≡ Some log → (socket : ℕ) → IsAbsent socket peers
     → Closed (account socket log)
+
+-- ---- who is read
+
+-- while it is there it is not unread
+abbrev pub IsRead : Option (List Step) → ℕ → Type 0
+IsRead told socket = (log : List Step) → told ≡ Some log
+    → ((account socket log).watched && (account socket log).unread) ≡ false
+
+abbrev pub AreRead : Option (List Step) → Type 0
+AreRead told = (socket : ℕ) → IsRead told socket
 
 -- ---- the listener
 

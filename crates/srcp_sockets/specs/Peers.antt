@@ -52,12 +52,26 @@ StaysAs watched leave outgoing (stay.Leaving since) = (watched ≡ false) × (le
 StaysAs watched leave outgoing (stay.Shut since) = (watched ≡ false) × (leave.kept ≡ true) × (leave.since ≡ since)
     × (leave.shut ≡ true) × (outgoing ≡ [])
 
+-- a read may find something
+abbrev pub may_have : Reading → Bool
+may_have input.Ready = true
+may_have input.Draining = true
+may_have input.Quiet = false
+may_have input.Ended = false
+may_have input.Failed = false
+
+-- it is read in the next visit: less than a piece is held
+abbrev pub is_wanting : Reading → List ℕ → Bool
+is_wanting state incoming = may_have state && nat_lt (length incoming) 256
+
 -- a peer is what its account says
 pub record Agrees (a : Account) (p : Peer) : Type 0 where
   pub reads : ComesAs a.received p.incoming p.input p.stay
   pub writes : WritesAs a.sent p.outgoing p.output
   pub stays : StaysAs a.watched a.leave p.outgoing p.stay
   pub rightly : a.leave.rightly ≡ true
+  pub unread : (a.watched && a.unread) ≡ true → is_wanting p.input p.incoming ≡ true
+  pub served : a.served ≡ true
   pub cut : a.sent.cut ≡ p.cut
   pub line : p.share.line ≡ line_after line.Ended a.received.handed
   pub honest : a.honest ≡ true
@@ -100,14 +114,6 @@ abbrev pub queued_more : Writing → List ℕ → List ℕ → List ℕ
 queued_more output.Open outgoing bytes = outgoing ++ bytes
 queued_more output.Full outgoing bytes = outgoing ++ bytes
 queued_more output.Lost outgoing bytes = outgoing
-
--- a read may find something
-abbrev pub may_have : Reading → Bool
-may_have input.Ready = true
-may_have input.Draining = true
-may_have input.Quiet = false
-may_have input.Ended = false
-may_have input.Failed = false
 
 -- a read that gave so many bytes, where there was room for so many
 abbrev pub given_some : Reading → Bool → Reading

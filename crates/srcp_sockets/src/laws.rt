@@ -1,12 +1,13 @@
 //! What holds of every door over a system, whatever the system answered. Each function does nothing: what it ensures is
 //! a law.
 
-ghost use Rattle.std.specs.Prelude.{◌≡◌, ◌++◌, ◌∷◌, ◌==◌, ◌||◌, ◌<◌, ◌⊎◌, ℕ, List, length, slice_index_or, Option, Some, Ok, true, false};
+ghost use Rattle.std.specs.Prelude.{◌≡◌, ◌++◌, ◌∷◌, ◌==◌, ◌&&◌, ◌||◌, ◌<◌, ◌⊎◌, ℕ, List, length, slice_index_or, Option, Some, Ok, Result, true, false};
 ghost use Rattle.std.specs.Io.{StartsWith};
 ghost use Rattle.srcp_sockets.specs.declared.peer.Peer.{Peer};
+ghost use Rattle.srcp_serve.specs.declared.door.DoorFault.{DoorFault};
 ghost use Rattle.srcp_serve.specs.declared.door.Got.{Got};
 ghost use Rattle.srcp_sockets.specs.declared.system.Ready.{Ready};
-ghost use Rattle.srcp_serve.specs.Calls.{ReadCall};
+ghost use Rattle.srcp_serve.specs.Calls.{ReadCall, NowCall};
 ghost use Rattle.srcp_sockets.specs.Accounts.{account, is_at_rest, is_short, may_close, may_end, may_shut};
 ghost use Rattle.srcp_sockets.specs.Steps.{Closes, Shuts, Step, Told, Waits};
 ghost use Rattle.srcp_sockets.specs.Doors.{IsThere};
@@ -45,6 +46,16 @@ pub fn ends_are_true<S: System + Drop>(door: &SocketDoor<S>)
     ensures { (before after : List Step) (socket : ℕ) (buffer : List ℕ)
         → S.told door.now.sockets.system ≡ Some (before ++ Told (ReadCall socket (Ok Got.Ended) buffer) ∷ after)
         → may_end (account socket before) ≡ true }
+{
+    let _sockets = &door.sockets;
+}
+
+/// No peer goes unread. After a wait, a peer that is there, of which a read might find something and less than a piece
+/// was held, was read before the next moment was told.
+pub fn peers_are_read<S: System + Drop>(door: &SocketDoor<S>)
+    ensures { (before after : List Step) (socket : ℕ) (answer : Result ℕ DoorFault)
+        → S.told door.now.sockets.system ≡ Some (before ++ Told (NowCall answer) ∷ after)
+        → ((account socket before).watched && (account socket before).unread) ≡ false }
 {
     let _sockets = &door.sockets;
 }

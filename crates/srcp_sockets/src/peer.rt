@@ -4,10 +4,12 @@ ghost use Rattle.std.specs.Prelude.{◌≡◌, ◌≢◌, ◌<◌, ◌≤◌, �
 ghost use Rattle.srcp_sockets.specs.Steps.{SaysNothing, Tells, Told};
 ghost use Rattle.srcp_serve.specs.Calls.{ReadCall, WriteCall};
 ghost use Rattle.srcp_sockets.specs.Times.{KeepsTimes};
-ghost use Rattle.srcp_sockets.specs.Peers.{Asks, IsKept, MayEnd, Offers, Spares, after_wake, has_rest, is_due, is_over};
-ghost use Rattle.srcp_sockets.specs.Peers.{is_resting, may_have, queued_more, tries_again, woken_output};
+ghost use Rattle.srcp_sockets.specs.Peers.{Asks, IsKept, MayEnd, Offers, Spares, after_wake, has_rest, is_due, is_over, queued_more, given};
+ghost use Rattle.srcp_sockets.specs.Peers.{is_resting, may_have, queued_more, tries_again, woken_output, is_lost, is_over, missed, refused, rests_reading, is_wanting};
 ghost use Rattle.srcp_sockets.specs.declared.readiness.Reading.{Reading};
 ghost use Rattle.srcp_sockets.specs.declared.readiness.Writing.{Writing};
+ghost use Rattle.srcp_sockets.specs.Doors.{IsRead};
+ghost use Rattle.srcp_sockets.specs.Peers.{rests_writing, taken, woken_input, woken_output};
 ghost use Rattle.srcp_sockets.specs.Turns.{after_read, got_bytes, tells_end};
 ghost use Rattle.srcp_door.specs.Ends.{begun, written};
 ghost use Rattle.srcp_door.specs.Pacing.{IsShort, fits, line_after, weight_of};
@@ -184,6 +186,7 @@ impl Peer {
         ensures stay { self.new.stay ≡ self.old.stay }
         ensures asked { may_have self.old.input ≡ true → length self.old.incoming < MOST_PIECE
             → Asks self.old.number (S.told system.old) (S.told system.new) }
+        ensures read { IsRead (S.told system.new) self.old.number }
         ensures ending { self.new.ending ≡ begun self.old.ending (is_over self.new.incoming self.new.input) }
         ensures mark { self.new.share ≡ record self.old.share { mark = not clear && self.old.share.mark } }
         ensures same { self.new ≡ record self.old {
@@ -198,7 +201,16 @@ impl Peer {
         self.ending = self.ending.begin_visit(self.input.is_over(&self.incoming));
     }
 
-    /// Reads its socket once, if a read may find something and less than a piece is queued.
+    /// Returns whether a read may find something and less than a piece is held.
+    fn is_wanting(&self) -> bool
+        ensures is { result ≡ is_wanting self.now.input self.now.incoming }
+        ensures yes { result ≡ true → (may_have self.now.input ≡ true) × (length self.now.incoming < MOST_PIECE) }
+        ensures no { result ≡ false → may_have self.now.input ≡ true → MOST_PIECE ≤ length self.now.incoming }
+    {
+        self.input.is_ready() && self.incoming.len() < MOST_PIECE
+    }
+
+    /// Reads its socket once, if a read may find something and less than a piece is held.
     pub(crate) fn fill<S: System>(&mut self, system: &mut S)
         requires { IsKept (S.told system.old) self.old }
         ensures kept { IsKept (S.told system.new) self.new }
@@ -208,9 +220,10 @@ impl Peer {
         ensures number { self.new.number ≡ self.old.number }
         ensures asked { may_have self.old.input ≡ true → length self.old.incoming < MOST_PIECE
             → Asks self.old.number (S.told system.old) (S.told system.new) }
+        ensures read { IsRead (S.told system.new) self.old.number }
         ensures same { self.new ≡ record self.old { incoming = self.new.incoming; input = self.new.input } }
     {
-        if !self.input.is_ready() || self.incoming.len() >= MOST_PIECE {
+        if !self.is_wanting() {
             return;
         }
         let room = MOST_INCOMING - self.incoming.len();

@@ -5,7 +5,7 @@ ghost use Rattle.srcp_sockets.specs.declared.peer.Peer.{Peer};
 ghost use Rattle.srcp_sockets.specs.Steps.{SaysNothing};
 ghost use Rattle.srcp_sockets.specs.Times.{KeepsTimes};
 ghost use Rattle.srcp_sockets.specs.Peers.{Spares, after_wake};
-ghost use Rattle.srcp_sockets.specs.Doors.{AreApart, AreKept, AreThose, IsAbsent};
+ghost use Rattle.srcp_sockets.specs.Doors.{AreApart, AreKept, AreThose, IsAbsent, IsRead};
 ghost use Rattle.srcp_sockets.specs.Listeners.{woken_listening};
 
 use crate::peer::Peer;
@@ -37,6 +37,8 @@ pub(crate) fn begin_visits<S: System>(system: &mut S, peers: &mut [Peer], clear:
     ensures others { (other : ℕ) → IsAbsent other peers.old → Spares other (S.told system.old) (S.told system.new) }
     ensures calls { SaysNothing (S.told system.old) (S.told system.new) }
     ensures times { KeepsTimes (S.told system.old) (S.told system.new) }
+    ensures read { (k : ℕ) (d : Peer) → k < length peers.new
+        → IsRead (S.told system.new) (slice_index_or peers.new k d).number }
 {
     for peer in peers.iter_mut() {
         peer.begin_visit(system, clear);

@@ -14,7 +14,7 @@ ghost use Rattle.srcp_serve.specs.Calls.{ExpectCall, NowCall, AcceptCall, ReadCa
 ghost use Rattle.srcp_sockets.specs.Steps.{Accepts, SaysNothing, SaysOne, Step, Tells};
 ghost use Rattle.srcp_sockets.specs.Listeners.{refused_listening};
 ghost use Rattle.srcp_sockets.specs.Peers.{is_closable, is_here};
-ghost use Rattle.srcp_sockets.specs.Doors.{IsMissing, IsPresent, Stands};
+ghost use Rattle.srcp_sockets.specs.Doors.{AreRead, IsMissing, IsPresent, Stands};
 
 use crate::delivering::deliver;
 use crate::leaving::{first_gone, first_shut, part};
@@ -71,7 +71,8 @@ impl<S: System + Drop> Sockets<S> {
     /// queued is flushed once the clock went on, or before a wait. Until then the system is not asked who is ready while
     /// input is held.
     pub(crate) fn begin_turn(&mut self, ready: &mut [Ready])
-        ensures { SaysNothing (S.told self.old.system) (S.told self.new.system) }
+        ensures calls { SaysNothing (S.told self.old.system) (S.told self.new.system) }
+        ensures read { AreRead (S.told self.new.system) }
     {
         self.part();
         self.close_gone();
@@ -150,7 +151,8 @@ impl<S: System + Drop> Sockets<S> {
 
     /// Begins the visit of each peer. The marks are cleared if no peer was refused its first line in the turn before.
     fn begin_visits(&mut self)
-        ensures { SaysNothing (S.told self.old.system) (S.told self.new.system) }
+        ensures calls { SaysNothing (S.told self.old.system) (S.told self.new.system) }
+        ensures read { AreRead (S.told self.new.system) }
     {
         let clear = !self.refused;
         self.refused = false;
@@ -311,6 +313,7 @@ impl<S: System + Drop> Sockets<S> {
     /// # Errors
     /// `Now` if the clock cannot be read.
     pub(crate) fn now(&mut self) -> Result<u64, DoorFault>
+        requires { AreRead (S.told self.old.system) }
         ensures told { SaysOne (S.told self.old.system) (NowCall result) (S.told self.new.system) }
         ensures fault { IfErr result (λ fault. fault ≡ DoorFault.Now) }
     {

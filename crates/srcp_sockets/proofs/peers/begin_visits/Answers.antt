@@ -1,5 +1,6 @@
 use Rattle.std.proofs.Common.{arith, refl}
 use Rattle.srcp_sockets.proofs.Keeping.{says_none, says_then, spares_none, spares_then}
+use Rattle.srcp_sockets.proofs.Serving.{set_read}
 use Rattle.srcp_sockets.proofs.Timing.{keeps_none, keeps_then}
 use Rattle.srcp_sockets.proofs.Lists.{absent_there, set_apart, set_kept, set_those}
 use Rattle.srcp_sockets.proofs.peers.begin_visits.Goals as goal
@@ -12,6 +13,7 @@ loop-peer-init g c = record {
   others = λ other absent. spares_none other (g.S.System.told c.args.system.now);
   calls = says_none (g.S.System.told c.args.system.now);
   times = keeps_none (g.S.System.told c.args.system.now);
+  read = λ k d lt. absurd (omega (arith, lt));
 }
 
 pub loop-peer-preserved : goal.loop-peer-preserved
@@ -33,4 +35,7 @@ loop-peer-preserved g c = record {
       c.loop-peer.invariant.calls c.begin_visit.ensures.calls;
   times = keeps_then (g.S.System.told c.args.system.now) (g.S.System.told c.loop-peer.system) (g.S.System.told c.begin_visit.new.system)
       c.loop-peer.invariant.times c.begin_visit.ensures.times;
+  read = set_read (g.S.System.told c.loop-peer.system) (g.S.System.told c.begin_visit.new.system) c.loop-peer.peers
+      c.loop-peer.peer-index c.peer-item.result c.begin_visit.new.self (omega arith) c.loop-peer.invariant.apart
+      c.begin_visit.ensures.number c.begin_visit.ensures.others c.begin_visit.ensures.read c.loop-peer.invariant.read;
 }

@@ -1,8 +1,9 @@
-use Rattle.std.specs.Prelude.{ℕ}
+use Rattle.std.specs.Prelude.{ℕ, ◌<◌, slice_index_or}
+use Rattle.srcp_sockets.specs.declared.peer.Peer.{Peer}
 use Rattle.srcp_sockets.specs.Steps.{SaysNothing}
 use Rattle.srcp_sockets.specs.Times.{KeepsTimes}
 use Rattle.srcp_sockets.specs.Peers.{Spares}
-use Rattle.srcp_sockets.specs.Doors.{AreApart, AreKept, AreThose, IsAbsent}
+use Rattle.srcp_sockets.specs.Doors.{AreApart, AreKept, AreThose, IsAbsent, IsRead}
 use Rattle.srcp_sockets.proofs.peers.begin_visits.Given as goal
 
 abbrev pub invariant-loop-peer : goal.invariant-loop-peer
@@ -13,4 +14,5 @@ invariant-loop-peer g l = record {
   others : (other : ℕ) → IsAbsent other l.fn.peers → Spares other (g.S.System.told l.fn.system) (g.S.System.told l.system);
   calls : SaysNothing (g.S.System.told l.fn.system) (g.S.System.told l.system);
   times : KeepsTimes (g.S.System.told l.fn.system) (g.S.System.told l.system);
+  read : (k : ℕ) (d : Peer) → k < l.peer-index → IsRead (g.S.System.told l.system) (slice_index_or l.peers k d).number;
 }

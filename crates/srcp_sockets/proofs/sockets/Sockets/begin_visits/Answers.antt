@@ -3,6 +3,7 @@ use Rattle.std.proofs.lemmas.List.{with_items_is}
 use Rattle.srcp_sockets.specs.declared.peer.Peer.{Peer}
 use Rattle.srcp_sockets.specs.Doors.{Stands}
 use Rattle.srcp_sockets.proofs.Naming.{named_silent}
+use Rattle.srcp_sockets.proofs.Serving.{all_read}
 use Rattle.srcp_sockets.proofs.Standing.{stands_turned}
 use Rattle.srcp_sockets.proofs.Timing.{timed_kept}
 use Rattle.srcp_sockets.proofs.sockets.Sockets.begin_visits.Goals as goal
@@ -22,3 +23,15 @@ invariant_of-self g c =
       named = named_silent old new last c.begin_visits.ensures.calls c.args.self.now.named;
       timed = timed_kept old new c.args.self.now.turn c.begin_visits.ensures.times c.args.self.now.timed;
     }
+
+pub returns-clause-read : goal.returns-clause-read
+returns-clause-read g c =
+    let old = g.S.System.told c.args.self.now.system in
+    let new = g.S.System.told c.begin_visits.new.system in
+    let listening = c.args.self.now.listening in
+    let last = c.args.self.now.last in
+    all_read new c.begin_visits.new.peers listening last
+    (stands_turned old new c.as_mut_slice.result.now c.begin_visits.new.peers listening last
+    c.begin_visits.auto.peers c.begin_visits.ensures.kept c.begin_visits.ensures.those c.begin_visits.ensures.others
+    (subst (λ (ps : List Peer). Stands old ps listening last) (sym c.as_mut_slice.ensures.value) c.args.self.now.stands))
+    c.begin_visits.ensures.read

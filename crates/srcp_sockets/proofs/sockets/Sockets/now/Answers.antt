@@ -4,7 +4,7 @@ use Rattle.srcp_sockets.specs.Steps.{Clocks, Told}
 use Rattle.srcp_sockets.proofs.Keeping.{says_after, says_call, says_step}
 use Rattle.srcp_sockets.proofs.Naming.{named_call, named_silent}
 use Rattle.srcp_sockets.proofs.Parting.{stands_clocked}
-use Rattle.srcp_sockets.proofs.Standing.{stands_step}
+use Rattle.srcp_sockets.proofs.Serving.{read_clocked, stands_now}
 use Rattle.srcp_sockets.proofs.Timing.{timed_moment}
 use Rattle.srcp_sockets.proofs.sockets.Sockets.now.Goals as goal
 
@@ -15,8 +15,8 @@ invariant_of-self g c =
     let new = g.S.System.told c.told_now.new.self in
     let answer = c.tell-answer.result in
     record {
-      stands = stands_step mid new c.args.self.now.peers.items c.args.self.now.listening c.args.self.now.last (Told (NowCall answer))
-          (λ s a. refl) c.told_now.ensures
+      stands = stands_now mid new c.args.self.now.peers.items c.args.self.now.listening c.args.self.now.last answer
+          (read_clocked old mid c.clock-shown.result c.clock-shown.ensures c.requires) c.told_now.ensures
           (stands_clocked old mid c.args.self.now.peers.items c.args.self.now.listening c.args.self.now.last c.clock-shown.result
           c.clock-shown.ensures c.args.self.now.stands);
       named = named_call mid new c.args.self.now.last (NowCall answer) (says_call mid new (NowCall answer) c.told_now.ensures) refl

@@ -1,0 +1,6 @@
+use Rattle.srcp_sockets.proofs.Pasts.{read_then}
+use Rattle.srcp_sockets.proofs.laws.peers_are_read.Goals as goal
+
+pub returns : goal.returns
+returns g c before after socket answer is = read_then socket before after answer
+    (c.args.door.now.sockets.stands.sound _ is socket).served
