@@ -39,7 +39,7 @@ pub record Account : Type 0 where
   pub leave : Leave
   pub watched : Bool  -- it was accepted, and was not let go
   pub honest : Bool  -- its end was told only when it might be
-  pub unread : Bool  -- after a wait a read might find something and less than a piece was held, and since then none was made
+  pub unread : Bool  -- a read might find something when a wait was over, with less than a piece held, and none was made
   pub served : Bool  -- no moment was told while it was there and unread
   pub rested : Bool  -- each long wait found it at rest
 
