@@ -4,12 +4,11 @@ ghost use Rattle.std.specs.Prelude.{◌≡◌, ◌≢◌, ◌<◌, ◌≤◌, �
 ghost use Rattle.srcp_sockets.specs.Steps.{SaysNothing, Tells, Told};
 ghost use Rattle.srcp_serve.specs.Calls.{ReadCall, WriteCall};
 ghost use Rattle.srcp_sockets.specs.Times.{KeepsTimes};
-ghost use Rattle.srcp_sockets.specs.Peers.{Asks, IsKept, MayEnd, Offers, Spares, after_wake, has_rest, is_due, is_over, queued_more, given};
-ghost use Rattle.srcp_sockets.specs.Peers.{is_resting, may_have, queued_more, tries_again, woken_output, is_lost, is_over, missed, refused, rests_reading, is_wanting};
+ghost use Rattle.srcp_sockets.specs.Peers.{Asks, IsKept, MayEnd, Offers, Spares, after_wake, has_rest, is_due, is_over};
+ghost use Rattle.srcp_sockets.specs.Peers.{is_resting, is_wanting, may_have, queued_more, tries_again, woken_output};
 ghost use Rattle.srcp_sockets.specs.declared.readiness.Reading.{Reading};
 ghost use Rattle.srcp_sockets.specs.declared.readiness.Writing.{Writing};
 ghost use Rattle.srcp_sockets.specs.Doors.{IsRead};
-ghost use Rattle.srcp_sockets.specs.Peers.{rests_writing, taken, woken_input, woken_output};
 ghost use Rattle.srcp_sockets.specs.Turns.{after_read, got_bytes, tells_end};
 ghost use Rattle.srcp_door.specs.Ends.{begun, written};
 ghost use Rattle.srcp_door.specs.Pacing.{IsShort, fits, line_after, weight_of};
