@@ -17,6 +17,9 @@ use crate::system::System;
 /// How often the socket of a peer that was let go is read in a turn: what still comes is dropped as fast as it comes.
 const MOST_DRAINED: u32 = 64;
 
+/// How many peers that were let go are kept before one goes for a newcomer.
+pub(crate) const MOST_LEAVING: usize = 64;
+
 impl Peer {
     /// Lets it go, at that time of the clock that is never set.
     pub(crate) fn let_go(&mut self, since: u64)
@@ -151,6 +154,11 @@ pub(crate) fn part<S: System>(system: &mut S, peers: &mut [Peer])
     for peer in peers.iter_mut() {
         peer.part(system);
     }
+}
+
+/// Returns how many were let go.
+pub(crate) fn count_leaving(peers: &[Peer]) -> usize {
+    peers.iter().filter(|peer| !peer.stay.is_here()).count()
 }
 
 /// Returns the place of the first peer for which nothing is left to do, at that time of the clock that is never set.

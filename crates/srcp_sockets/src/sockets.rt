@@ -17,7 +17,7 @@ ghost use Rattle.srcp_sockets.specs.Peers.{is_closable, is_here};
 ghost use Rattle.srcp_sockets.specs.Doors.{AreRead, IsMissing, IsPresent, Stands};
 
 use crate::delivering::deliver;
-use crate::leaving::{first_gone, first_shut, part};
+use crate::leaving::{MOST_LEAVING, count_leaving, first_gone, first_shut, part};
 use crate::peer::Peer;
 use crate::peers::{begin_visits, flush, listen, wake};
 use crate::readiness::Flush;
@@ -223,7 +223,7 @@ impl<S: System + Drop> Sockets<S> {
         if self.listening.is_quiet() {
             return Ok(None);
         }
-        if self.peers.len() >= self.peers.capacity() {
+        if self.is_crowded() {
             self.make_room();
             return Ok(None);
         }
@@ -264,6 +264,14 @@ impl<S: System + Drop> Sockets<S> {
         self.system.told_close(number, Ok(()));
         self.turn.note_close(Ok(()));
         Ok(())
+    }
+
+    /// Returns whether one that was let go has to be closed before anybody is let in.
+    fn is_crowded(&self) -> bool
+        ensures { result ≡ false → length self.now.peers.items < vec_capacity self.now.peers }
+    {
+        self.peers.len() >= self.peers.capacity()
+            || count_leaving(self.peers.as_slice()) >= MOST_LEAVING
     }
 
     /// Closes the first peer that was let go and is owed nothing. If there is none, nobody is let in until one is closed.
