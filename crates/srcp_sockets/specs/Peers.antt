@@ -236,3 +236,20 @@ closable_as clock state (stay.Shut since) = true
 -- it was let go, and is owed nothing, or lost, or its time is over
 abbrev pub is_closable : (clock : ℕ) → Peer → Bool
 is_closable clock p = closable_as clock p.output p.stay
+
+-- no read finds anything any more
+abbrev pub has_ended : Reading → Bool
+has_ended input.Ready = false
+has_ended input.Draining = false
+has_ended input.Quiet = false
+has_ended input.Ended = true
+has_ended input.Failed = true
+
+abbrev pub gone_as : (clock : ℕ) → Reading → Writing → Stay → Bool
+gone_as clock came state stay.Here = false
+gone_as clock came state (stay.Leaving since) = is_lost state || is_overdue clock since
+gone_as clock came state (stay.Shut since) = is_lost state || (has_ended came || is_overdue clock since)
+
+-- nothing is left to do for it: it was let go, and is owed nothing and ended too, or lost, or its time is over
+abbrev pub is_gone : (clock : ℕ) → Peer → Bool
+is_gone clock p = gone_as clock p.input p.output p.stay

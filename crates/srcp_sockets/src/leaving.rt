@@ -6,7 +6,7 @@ ghost use Rattle.std.specs.Prelude.{◌≡◌, ◌≢◌, ◌<◌, ℕ, [], true
 ghost use Rattle.srcp_sockets.specs.declared.peer.Peer.{Peer};
 ghost use Rattle.srcp_sockets.specs.Steps.{SaysNothing};
 ghost use Rattle.srcp_sockets.specs.Times.{KeepsTimes};
-ghost use Rattle.srcp_sockets.specs.Peers.{IsKept, Spares, is_closable, is_here, is_lost};
+ghost use Rattle.srcp_sockets.specs.Peers.{IsKept, Spares, is_closable, is_gone, is_here, is_lost};
 ghost use Rattle.srcp_sockets.specs.Doors.{AreApart, AreKept, AreThose, IsAbsent};
 
 use crate::peer::Peer;
@@ -119,7 +119,8 @@ impl Peer {
 
     /// Returns whether nothing is left to do for it.
     fn is_gone(&self, clock: u64) -> bool
-        ensures { result ≡ true → is_closable clock self.now ≡ true }
+        ensures is { result ≡ is_gone clock self.now }
+        ensures closable { result ≡ true → is_closable clock self.now ≡ true }
     {
         match self.stay {
             Stay::Here => false,
@@ -164,7 +165,8 @@ pub(crate) fn count_leaving(peers: &[Peer]) -> usize {
 /// Returns the place of the first peer for which nothing is left to do, at that time of the clock that is never set.
 pub(crate) fn first_gone(peers: &[Peer], clock: u64) -> Option<usize>
     ensures { IfSome result (λ place. (place < length peers.now)
-        × ((d : Peer) → is_closable clock (slice_index_or peers.now place d) ≡ true)) }
+        × ((d : Peer) → (is_gone clock (slice_index_or peers.now place d) ≡ true)
+        × (is_closable clock (slice_index_or peers.now place d) ≡ true))) }
 {
     for place in 0..peers.len() {
         if peers[place].is_gone(clock) {

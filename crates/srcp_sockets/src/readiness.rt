@@ -1,7 +1,7 @@
 //! What a read and a write of a peer's socket may find, and what is flushed to it.
 
 ghost use Rattle.std.specs.Prelude.{◌≡◌, ◌≢◌, true, false};
-ghost use Rattle.srcp_sockets.specs.Peers.{flushes_all, given, is_lost, is_over, may_have, missed, refused, rests_reading};
+ghost use Rattle.srcp_sockets.specs.Peers.{flushes_all, given, is_lost, is_over, may_have, missed, refused, rests_reading, has_ended};
 ghost use Rattle.srcp_sockets.specs.Peers.{rests_writing, taken, tries_again, woken_input, woken_output};
 
 use crate::queue::{MOST_INCOMING, Outgoing, Queue};
@@ -73,7 +73,9 @@ impl Reading {
     }
 
     /// Returns whether no read finds anything any more.
-    pub(crate) fn has_ended(self) -> bool {
+    pub(crate) fn has_ended(self) -> bool
+        ensures { result ≡ has_ended self }
+    {
         match self {
             Reading::Ready | Reading::Draining | Reading::Quiet => false,
             Reading::Ended | Reading::Failed => true,
