@@ -91,7 +91,14 @@ let_go_goes number answer l = record {
 }
   where
     sound : (b : Bool) (a : Account) → Sound a → Sound (if b then let_go a else a)
-    sound true a h = record { took = h.took; handed = h.handed; honest = h.honest; rested = h.rested; rightly = h.rightly; served = h.served }
+    sound true a h = record {
+      took = h.took;
+      handed = h.handed;
+      honest = h.honest;
+      rested = h.rested;
+      rightly = h.rightly;
+      served = h.served;
+    }
     sound false a h = h
 
     fresh : (b : Bool) (a : Account) → Fresh a → Fresh (if b then let_go a else a)

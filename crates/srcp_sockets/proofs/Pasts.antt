@@ -118,11 +118,13 @@ rightly_before socket a (Told (NowCall answer)) h = h
 rightly_before socket a (Told (AcceptCall answer)) h = h
 rightly_before socket a (Told (ReadCall who (Ok (got.Bytes count)) buffer)) h = sym
     (if_same (λ (x : Account). x.leave.rightly) (who == socket) _ a refl) ∙ h
-rightly_before socket a (Told (ReadCall who (Ok got.Ended) buffer)) h = sym (if_same (λ (x : Account). x.leave.rightly) (who == socket) _ a refl)
+rightly_before socket a (Told (ReadCall who (Ok got.Ended) buffer)) h = sym
+    (if_same (λ (x : Account). x.leave.rightly) (who == socket) _ a refl)
     ∙ h
 rightly_before socket a (Told (ReadCall who (Ok got.Nothing) buffer)) h = h
 rightly_before socket a (Told (ReadCall who (Err fault) buffer)) h = h
-rightly_before socket a (Told (WriteCall who bytes (Ok count))) h = sym (if_same (λ (x : Account). x.leave.rightly) (who == socket) _ a refl) ∙ h
+rightly_before socket a (Told (WriteCall who bytes (Ok count))) h = sym
+    (if_same (λ (x : Account). x.leave.rightly) (who == socket) _ a refl) ∙ h
 rightly_before socket a (Told (WriteCall who bytes (Err fault))) h = h
 rightly_before socket a (Told (CloseCall who answer)) h = sym (if_same (λ (x : Account). x.leave.rightly) (who == socket) _ a refl) ∙ h
 

@@ -23,8 +23,8 @@ no_and : (b : Bool) → (b && false) ≡ false
 no_and true = refl
 no_and false = refl
 
-pub read_asked : (old new : Option (List Step)) (n : ℕ) (buffer : List ℕ) (answer : Result ℕ ErrorKind) → Tells old (Reads n buffer answer) new
-    → IsRead new n
+pub read_asked : (old new : Option (List Step)) (n : ℕ) (buffer : List ℕ) (answer : Result ℕ ErrorKind)
+    → Tells old (Reads n buffer answer) new → IsRead new n
 read_asked old new n buffer answer tells later is =
     let t = tells later is in
     let a : Account = account n t.0 in

@@ -295,7 +295,8 @@ stands_waited old new before after most count ready l last rest quiet tells long
       stands.closed (tells log is).0 (tells log is).1 socket (absent_before socket before after long those absent) in
       record { watched = h.watched; kept = h.kept })));
   heard = λ log is. subst (λ (a : Account). Hears a (fold woken_listening l (take count ready))) (sym (more 0 log is))
-      (noted_hears (fold (woken 0) (waited 0 (account 0 (tells log is).0) most) (take count ready)) (fold woken_listening l (take count ready))
+      (noted_hears (fold (woken 0) (waited 0 (account 0 (tells log is).0) most) (take count ready))
+      (fold woken_listening l (take count ready))
       (all_heard (waited 0 (account 0 (tells log is).0) most) l (take count ready)
       (let h : Hears (account 0 (tells log is).0) l = stands.heard (tells log is).0 (tells log is).1 in
       record {
@@ -507,7 +508,14 @@ refused_hears a l Again h = record { fresh = h.fresh; lost = h.lost; cut = h.cut
 refused_hears a l Fault h = record { fresh = h.fresh; lost = h.lost; cut = h.cut; ended = h.ended; failed = h.failed; heard = tt }
 
 refused_sound : (a : Account) (said : Refusal) → Sound a → Sound (record a { received = heard_refusal a.received said })
-refused_sound a Later h = record { took = h.took; handed = h.handed; honest = h.honest; rested = h.rested; rightly = h.rightly; served = h.served }
+refused_sound a Later h = record {
+  took = h.took;
+  handed = h.handed;
+  honest = h.honest;
+  rested = h.rested;
+  rightly = h.rightly;
+  served = h.served;
+}
 refused_sound a Again h = h
 refused_sound a Fault h = h
 

@@ -28,8 +28,8 @@ pub fn sockets_follow<S: System + Drop>(door: &SocketDoor<S>)
     let _sockets = &door.sockets;
 }
 
-/// What a socket did not take of what the door told to have taken for its peer is held in order, while the peer is there
-/// or is kept; unless a write found that the socket takes no more.
+/// What a socket did not take of what the door told to have taken for its peer is held in order, while the peer is
+/// there or is kept; unless a write found that the socket takes no more.
 pub fn untaken_is_held<S: System + Drop>(door: &SocketDoor<S>)
     ensures { (log : List Step) → S.told door.now.sockets.system ≡ Some log → (k : ℕ) (d : Peer)
         → k < length door.now.sockets.peers.items
@@ -71,9 +71,9 @@ pub fn waits_are_safe<S: System + Drop>(door: &SocketDoor<S>)
 }
 
 /// A socket was shut down and closed once at most, after the core let its peer go. It was shut down when all that was
-/// taken for it was taken by the socket. It was closed when that was so and it was shut down, or a write had found that it
-/// takes no more, or 10 seconds were over by the clock that was read. A socket that was accepted and is not closed has a
-/// peer.
+/// taken for it was taken by the socket. It was closed when that was so and it was shut down, or a write had found that
+/// it takes no more, or 10 seconds were over by the clock that was read. A socket that was accepted and is not closed
+/// has a peer.
 pub fn closed_rightly<S: System + Drop>(door: &SocketDoor<S>)
     ensures shut { (before after : List Step) (socket : ℕ)
         → S.told door.now.sockets.system ≡ Some (before ++ Shuts socket ∷ after)

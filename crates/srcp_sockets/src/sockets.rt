@@ -274,7 +274,8 @@ impl<S: System + Drop> Sockets<S> {
             || count_leaving(self.peers.as_slice()) >= MOST_LEAVING
     }
 
-    /// Closes the first peer that was let go and is owed nothing. If there is none, nobody is let in until one is closed.
+    /// Closes the first peer that was let go and is owed nothing. If there is none, nobody is let in until one is
+    /// closed.
     fn make_room(&mut self)
         ensures calls { SaysNothing (S.told self.old.system) (S.told self.new.system) }
         ensures last { self.new.last ≡ self.old.last }

@@ -23,5 +23,6 @@ loop-preserved g c =
       kept = waited_all clocked waited c.part.new.peers c.wake.new.peers (Some 8) c.wait-count.result c.wait-count.new.ready
           (λ e. absurd (true≢false e)) c.wait-count.ensures.told c.wake.auto.peers c.wake.ensures
           (clocked_all (g.S.System.told c.part.new.system) clocked c.part.new.peers c.clock.result c.clock.ensures c.part.ensures.kept);
-      apart = waited_apart c.part.new.peers c.wake.new.peers (take c.wait-count.result c.wait-count.new.ready) c.wake.auto.peers c.wake.ensures parted;
+      apart = waited_apart c.part.new.peers c.wake.new.peers (take c.wait-count.result c.wait-count.new.ready)
+          c.wake.auto.peers c.wake.ensures parted;
     }
