@@ -2,7 +2,6 @@
 
 ghost use Rattle.srcp_sockets.specs.Doors.{AreApart, AreKept};
 
-use crate::leaving::part;
 use crate::peer::Peer;
 use crate::peers::{flush, wake};
 use crate::readiness::Flush;
@@ -24,8 +23,7 @@ pub(crate) fn deliver<S: System>(
     ensures { AreKept (S.told system.new) peers.new }
 {
     for _ in 0..LAST_LOOKS {
-        flush(system, peers, Flush::All);
-        part(system, peers);
+        let _leaving = flush(system, peers, Flush::All);
         if !peers.iter().any(|peer| peer.is_owed()) {
             return;
         }

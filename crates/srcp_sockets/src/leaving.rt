@@ -7,7 +7,6 @@ ghost use Rattle.srcp_sockets.specs.declared.peer.Peer.{Peer};
 ghost use Rattle.srcp_sockets.specs.Steps.{SaysNothing};
 ghost use Rattle.srcp_sockets.specs.Times.{KeepsTimes};
 ghost use Rattle.srcp_sockets.specs.Peers.{IsKept, Spares, is_closable, is_gone, is_here, is_lost};
-ghost use Rattle.srcp_sockets.specs.Doors.{AreApart, AreKept, AreThose, IsAbsent};
 
 use crate::peer::Peer;
 use crate::readiness::Flush;
@@ -28,8 +27,24 @@ impl Peer {
         self.stay = Stay::Leaving { since };
     }
 
+    /// Flushes a peer that is there, and goes on with one that was let go.
+    pub(crate) fn hand_over<S: System>(&mut self, system: &mut S, what: Flush)
+        requires { IsKept (S.told system.old) self.old }
+        ensures kept { IsKept (S.told system.new) self.new }
+        ensures others { (other : ℕ) → other ≢ self.old.number → Spares other (S.told system.old) (S.told system.new) }
+        ensures calls { SaysNothing (S.told system.old) (S.told system.new) }
+        ensures times { KeepsTimes (S.told system.old) (S.told system.new) }
+        ensures number { self.new.number ≡ self.old.number }
+    {
+        if self.stay.is_here() {
+            self.flush(system, what);
+        } else {
+            self.part(system);
+        }
+    }
+
     /// Goes on with a peer that was let go.
-    pub(crate) fn part<S: System>(&mut self, system: &mut S)
+    fn part<S: System>(&mut self, system: &mut S)
         requires { IsKept (S.told system.old) self.old }
         ensures kept { IsKept (S.told system.new) self.new }
         ensures others { (other : ℕ) → other ≢ self.old.number → Spares other (S.told system.old) (S.told system.new) }
@@ -139,21 +154,6 @@ impl Peer {
             Stay::Here | Stay::Leaving { .. } => false,
             Stay::Shut { .. } => true,
         }
-    }
-}
-
-/// Goes on with each peer that was let go.
-pub(crate) fn part<S: System>(system: &mut S, peers: &mut [Peer])
-    requires kept { AreKept (S.told system.old) peers.old }
-    requires apart { AreApart peers.old }
-    ensures kept { AreKept (S.told system.new) peers.new }
-    ensures those { AreThose peers.old peers.new }
-    ensures others { (other : ℕ) → IsAbsent other peers.old → Spares other (S.told system.old) (S.told system.new) }
-    ensures calls { SaysNothing (S.told system.old) (S.told system.new) }
-    ensures times { KeepsTimes (S.told system.old) (S.told system.new) }
-{
-    for peer in peers.iter_mut() {
-        peer.part(system);
     }
 }
 

@@ -17,7 +17,7 @@ ghost use Rattle.srcp_sockets.specs.Peers.{is_closable, is_here};
 ghost use Rattle.srcp_sockets.specs.Doors.{AreRead, IsMissing, IsPresent, Stands};
 
 use crate::delivering::deliver;
-use crate::leaving::{MOST_LEAVING, count_leaving, first_gone, first_shut, part};
+use crate::leaving::{MOST_LEAVING, count_leaving, first_gone, first_shut};
 use crate::peer::Peer;
 use crate::peers::{begin_visits, flush, listen, wake};
 use crate::readiness::Flush;
@@ -74,11 +74,10 @@ impl<S: System + Drop> Sockets<S> {
         ensures calls { SaysNothing (S.told self.old.system) (S.told self.new.system) }
         ensures read { AreRead (S.told self.new.system) }
     {
-        self.part();
-        self.close_gone();
         let held = self.goes_on();
         let what = self.flushing(held);
-        self.flush(what);
+        let leaving = self.flush(what);
+        self.close_gone(leaving);
         self.look(held, ready);
         self.begin_visits();
     }
@@ -130,12 +129,12 @@ impl<S: System + Drop> Sockets<S> {
         self.wait(ready);
     }
 
-    /// Flushes each peer.
-    fn flush(&mut self, what: Flush)
+    /// Flushes each peer that is there, and goes on with those that were let go. Returns whether one was.
+    fn flush(&mut self, what: Flush) -> bool
         ensures { SaysNothing (S.told self.old.system) (S.told self.new.system) }
     {
         self.flushed = self.turn.clock;
-        flush(&mut self.system, self.peers.as_mut_slice(), what);
+        flush(&mut self.system, self.peers.as_mut_slice(), what)
     }
 
     /// Waits as long as nothing happens without a word of a socket, and notes which are ready.
@@ -286,19 +285,14 @@ impl<S: System + Drop> Sockets<S> {
         }
     }
 
-    /// Goes on with each peer that was let go.
-    fn part(&mut self)
+    /// Closes the first peer that was let go and for which nothing is left to do, if one was let go.
+    fn close_gone(&mut self, leaving: bool)
         ensures calls { SaysNothing (S.told self.old.system) (S.told self.new.system) }
         ensures last { self.new.last ≡ self.old.last }
     {
-        part(&mut self.system, self.peers.as_mut_slice());
-    }
-
-    /// Closes the first peer that was let go and for which nothing is left to do.
-    fn close_gone(&mut self)
-        ensures calls { SaysNothing (S.told self.old.system) (S.told self.new.system) }
-        ensures last { self.new.last ≡ self.old.last }
-    {
+        if !leaving {
+            return;
+        }
         if let Some(place) = first_gone(self.peers.as_slice(), self.turn.clock) {
             self.close_at(place);
         }

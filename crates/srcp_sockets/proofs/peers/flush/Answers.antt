@@ -16,21 +16,21 @@ loop-peer-init g c = record {
 
 pub loop-peer-preserved : goal.loop-peer-preserved
 loop-peer-preserved g c = record {
-  kept = set_kept (g.S.System.told c.loop-peer.system) (g.S.System.told c.flush.new.system) c.loop-peer.peers c.loop-peer.peer-index
-      c.peer-item.result c.flush.new.self (omega arith) c.loop-peer.invariant.apart c.loop-peer.invariant.kept
-      c.flush.ensures.kept c.flush.ensures.others;
-  apart = set_apart c.loop-peer.peers c.loop-peer.peer-index c.peer-item.result c.flush.new.self (omega arith)
-      c.flush.ensures.number c.loop-peer.invariant.apart;
-  those = set_those c.args.peers.now c.loop-peer.peers c.loop-peer.peer-index c.peer-item.result c.flush.new.self (omega arith)
-      c.loop-peer.auto.peers c.flush.ensures.number c.loop-peer.invariant.those;
+  kept = set_kept (g.S.System.told c.loop-peer.system) (g.S.System.told c.hand_over.new.system) c.loop-peer.peers c.loop-peer.peer-index
+      c.peer-item.result c.hand_over.new.self (omega arith) c.loop-peer.invariant.apart c.loop-peer.invariant.kept
+      c.hand_over.ensures.kept c.hand_over.ensures.others;
+  apart = set_apart c.loop-peer.peers c.loop-peer.peer-index c.peer-item.result c.hand_over.new.self (omega arith)
+      c.hand_over.ensures.number c.loop-peer.invariant.apart;
+  those = set_those c.args.peers.now c.loop-peer.peers c.loop-peer.peer-index c.peer-item.result c.hand_over.new.self (omega arith)
+      c.loop-peer.auto.peers c.hand_over.ensures.number c.loop-peer.invariant.those;
   others = λ other absent. spares_then other (g.S.System.told c.args.system.now) (g.S.System.told c.loop-peer.system)
-      (g.S.System.told c.flush.new.system)
+      (g.S.System.told c.hand_over.new.system)
       (c.loop-peer.invariant.others other absent)
-      (c.flush.ensures.others other (absent_there other c.args.peers.now c.loop-peer.peers c.loop-peer.peer-index c.peer-item.result
+      (c.hand_over.ensures.others other (absent_there other c.args.peers.now c.loop-peer.peers c.loop-peer.peer-index c.peer-item.result
       (omega arith)
       c.loop-peer.auto.peers c.loop-peer.invariant.those absent));
-  calls = says_then (g.S.System.told c.args.system.now) (g.S.System.told c.loop-peer.system) (g.S.System.told c.flush.new.system)
-      c.loop-peer.invariant.calls c.flush.ensures.calls;
-  times = keeps_then (g.S.System.told c.args.system.now) (g.S.System.told c.loop-peer.system) (g.S.System.told c.flush.new.system)
-      c.loop-peer.invariant.times c.flush.ensures.times;
+  calls = says_then (g.S.System.told c.args.system.now) (g.S.System.told c.loop-peer.system) (g.S.System.told c.hand_over.new.system)
+      c.loop-peer.invariant.calls c.hand_over.ensures.calls;
+  times = keeps_then (g.S.System.told c.args.system.now) (g.S.System.told c.loop-peer.system) (g.S.System.told c.hand_over.new.system)
+      c.loop-peer.invariant.times c.hand_over.ensures.times;
 }
