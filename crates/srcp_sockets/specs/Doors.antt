@@ -1,5 +1,5 @@
 -- What holds of all sockets of a door.
-use Rattle.std.specs.Prelude.{⊤, ◌&&◌, ◌≡◌, ◌≢◌, ℕ, ◌<◌, ◌≤◌, Bool, true, false, List, [], length, slice_index_or, Option, Some}
+use Rattle.std.specs.Prelude.{⊤, ◌&&◌, ◌≡◌, ◌≢◌, ℕ, ◌<◌, ◌≤◌, Bool, true, false, List, [], length, slice_index_or, Option, Some, not}
 use Rattle.std.specs.Io.{StartsWith}
 use Rattle.srcp_sockets.specs.declared.peer.Peer.{Peer}
 use Rattle.srcp_sockets.specs.declared.stay.Stay.TheVariants as stay
@@ -48,6 +48,11 @@ IsMissing socket peers = (k : ℕ) (d : Peer) → k < length peers → (slice_in
 abbrev pub AreThose : List Peer → List Peer → Type 0
 AreThose old new = (k : ℕ) (d : Peer) → k < length old → (slice_index_or new k d).number
     ≡ (slice_index_or old k d).number
+
+-- with `clear` no mark stays, and else each
+abbrev pub AreMarked : (clear : Bool) → (old new : List Peer) → Type 0
+AreMarked clear old new = (k : ℕ) (d : Peer) → k < length old → (slice_index_or new k d).share.mark
+    ≡ (not clear && (slice_index_or old k d).share.mark)
 
 -- ---- each socket that ever was
 

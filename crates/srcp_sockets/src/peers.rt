@@ -5,7 +5,7 @@ ghost use Rattle.srcp_sockets.specs.declared.peer.Peer.{Peer};
 ghost use Rattle.srcp_sockets.specs.Steps.{SaysNothing};
 ghost use Rattle.srcp_sockets.specs.Times.{KeepsTimes};
 ghost use Rattle.srcp_sockets.specs.Peers.{Spares, after_wake};
-ghost use Rattle.srcp_sockets.specs.Doors.{AreApart, AreKept, AreThose, IsAbsent, IsRead};
+ghost use Rattle.srcp_sockets.specs.Doors.{AreApart, AreKept, AreMarked, AreThose, IsAbsent, IsRead};
 ghost use Rattle.srcp_sockets.specs.Listeners.{woken_listening};
 
 use crate::peer::Peer;
@@ -42,6 +42,7 @@ pub(crate) fn begin_visits<S: System>(system: &mut S, peers: &mut [Peer], clear:
     ensures times { KeepsTimes (S.told system.old) (S.told system.new) }
     ensures read { (k : ℕ) (d : Peer) → k < length peers.new
         → IsRead (S.told system.new) (slice_index_or peers.new k d).number }
+    ensures marks { AreMarked clear peers.old peers.new }
 {
     for peer in peers.iter_mut() {
         peer.begin_visit(system, clear);

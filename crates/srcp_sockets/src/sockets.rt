@@ -1,6 +1,6 @@
 //! The system's sockets, with their peers.
 
-ghost use Rattle.std.specs.Prelude.{All, false, true, ◌≡◌, ◌<◌, ◌≤◌, ◌-◌, max, ℕ, ◌⊎◌, Option, Some, None, Ok, Err, Result, IfErr, IfNone, IfOk, IfSome, List, [], length, slice_index_or, vec_capacity};
+ghost use Rattle.std.specs.Prelude.{not, All, false, true, ◌≡◌, ◌<◌, ◌≤◌, ◌-◌, max, ℕ, ◌⊎◌, Option, Some, None, Ok, Err, Result, IfErr, IfNone, IfOk, IfSome, List, [], length, slice_index_or, vec_capacity};
 ghost use Rattle.srcp_sockets.specs.declared.peer.Peer.{Peer};
 ghost use Rattle.srcp_sockets.specs.Facts.{Stands-prop};
 ghost use Rattle.std.specs.Option.{option_map};
@@ -14,7 +14,7 @@ ghost use Rattle.srcp_serve.specs.Calls.{ExpectCall, NowCall, AcceptCall, ReadCa
 ghost use Rattle.srcp_sockets.specs.Steps.{Accepts, SaysNothing, SaysOne, Step, Tells};
 ghost use Rattle.srcp_sockets.specs.Listeners.{refused_listening};
 ghost use Rattle.srcp_sockets.specs.Peers.{is_closable, is_here};
-ghost use Rattle.srcp_sockets.specs.Doors.{AreRead, IsMissing, IsPresent, Stands};
+ghost use Rattle.srcp_sockets.specs.Doors.{AreMarked, AreRead, IsMissing, IsPresent, Stands};
 
 use crate::delivering::deliver;
 use crate::leaving::{MOST_LEAVING, count_leaving, first_gone, first_shut};
@@ -152,6 +152,7 @@ impl<S: System + Drop> Sockets<S> {
     fn begin_visits(&mut self)
         ensures calls { SaysNothing (S.told self.old.system) (S.told self.new.system) }
         ensures read { AreRead (S.told self.new.system) }
+        ensures marks { AreMarked (not self.old.refused) self.old.peers.items self.new.peers.items }
     {
         let clear = !self.refused;
         self.refused = false;

@@ -1,8 +1,9 @@
-use Rattle.std.proofs.Common.{arith, refl}
+use Rattle.std.proofs.Common.{ap, arith, refl}
+use Rattle.srcp_door.specs.declared.pacing.Share.{Share}
 use Rattle.srcp_sockets.proofs.Keeping.{says_none, says_then, spares_none, spares_then}
 use Rattle.srcp_sockets.proofs.Serving.{set_read}
 use Rattle.srcp_sockets.proofs.Timing.{keeps_none, keeps_then}
-use Rattle.srcp_sockets.proofs.Lists.{absent_there, set_apart, set_kept, set_those}
+use Rattle.srcp_sockets.proofs.Lists.{absent_there, set_apart, set_kept, set_marked, set_rest, set_those}
 use Rattle.srcp_sockets.proofs.peers.begin_visits.Goals as goal
 
 pub loop-peer-init : goal.loop-peer-init
@@ -14,6 +15,8 @@ loop-peer-init g c = record {
   calls = says_none (g.S.System.told c.args.system.now);
   times = keeps_none (g.S.System.told c.args.system.now);
   read = λ k d lt. absurd (omega (arith, lt));
+  marked = λ k d lt. absurd (omega (arith, lt));
+  rest = λ k d late. refl;
 }
 
 pub loop-peer-preserved : goal.loop-peer-preserved
@@ -38,4 +41,7 @@ loop-peer-preserved g c = record {
   read = set_read (g.S.System.told c.loop-peer.system) (g.S.System.told c.begin_visit.new.system) c.loop-peer.peers
       c.loop-peer.peer-index c.peer-item.result c.begin_visit.new.self (omega arith) c.loop-peer.invariant.apart
       c.begin_visit.ensures.number c.begin_visit.ensures.others c.begin_visit.ensures.read c.loop-peer.invariant.read;
+  marked = set_marked c.args.peers.now c.loop-peer.peers c.loop-peer.peer-index c.peer-item.result c.begin_visit.new.self c.args.clear
+      (omega arith) (ap (λ (s : Share). s.mark) c.begin_visit.ensures.mark) c.loop-peer.invariant.rest c.loop-peer.invariant.marked;
+  rest = set_rest c.args.peers.now c.loop-peer.peers c.loop-peer.peer-index c.begin_visit.new.self c.loop-peer.invariant.rest;
 }

@@ -1,4 +1,4 @@
-use Rattle.std.specs.Prelude.{ℕ, ◌<◌, slice_index_or}
+use Rattle.std.specs.Prelude.{◌≡◌, ℕ, ◌<◌, ◌≤◌, ◌&&◌, not, slice_index_or}
 use Rattle.srcp_sockets.specs.declared.peer.Peer.{Peer}
 use Rattle.srcp_sockets.specs.Steps.{SaysNothing}
 use Rattle.srcp_sockets.specs.Times.{KeepsTimes}
@@ -15,4 +15,7 @@ invariant-loop-peer g l = record {
   calls : SaysNothing (g.S.System.told l.fn.system) (g.S.System.told l.system);
   times : KeepsTimes (g.S.System.told l.fn.system) (g.S.System.told l.system);
   read : (k : ℕ) (d : Peer) → k < l.peer-index → IsRead (g.S.System.told l.system) (slice_index_or l.peers k d).number;
+  marked : (k : ℕ) (d : Peer) → k < l.peer-index
+      → (slice_index_or l.peers k d).share.mark ≡ (not l.clear && (slice_index_or l.fn.peers k d).share.mark);
+  rest : (k : ℕ) (d : Peer) → l.peer-index ≤ k → slice_index_or l.peers k d ≡ slice_index_or l.fn.peers k d;
 }

@@ -1,7 +1,7 @@
-use Rattle.std.proofs.Common.{◌∙◌, List, rules, subst, sym}
+use Rattle.std.proofs.Common.{◌∙◌, not, List, rules, subst, sym}
 use Rattle.std.proofs.lemmas.List.{with_items_is}
 use Rattle.srcp_sockets.specs.declared.peer.Peer.{Peer}
-use Rattle.srcp_sockets.specs.Doors.{Stands}
+use Rattle.srcp_sockets.specs.Doors.{AreMarked, Stands}
 use Rattle.srcp_sockets.proofs.Naming.{named_silent}
 use Rattle.srcp_sockets.proofs.Serving.{all_read}
 use Rattle.srcp_sockets.proofs.Standing.{stands_turned}
@@ -35,3 +35,10 @@ returns-clause-read g c =
     c.begin_visits.auto.peers c.begin_visits.ensures.kept c.begin_visits.ensures.those c.begin_visits.ensures.others
     (subst (λ (ps : List Peer). Stands old ps listening last) (sym c.as_mut_slice.ensures.value) c.args.self.now.stands))
     c.begin_visits.ensures.read
+
+pub returns-clause-marks : goal.returns-clause-marks
+returns-clause-marks g c =
+    let clear = not c.args.self.now.refused in
+    subst (λ (ps : List Peer). AreMarked clear c.args.self.now.peers.items ps)
+    (sym (with_items_is c.args.self.now.peers c.begin_visits.new.peers (c.begin_visits.auto.peers ∙ search rules)))
+    (subst (λ (ps : List Peer). AreMarked clear ps c.begin_visits.new.peers) c.as_mut_slice.ensures.value c.begin_visits.ensures.marks)
