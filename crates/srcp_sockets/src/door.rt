@@ -67,6 +67,13 @@ impl<S: System + Drop> SocketDoor<S> {
         self.sockets.wait_at_most(milliseconds);
     }
 
+    /// Returns the system below, which tells what it was asked if it keeps that.
+    pub fn system(&self) -> &S
+        ensures { result.now ≡ self.now.sockets.system }
+    {
+        &self.sockets.system
+    }
+
     /// Counts a call that failed.
     fn failed(&mut self)
         ensures counted { self.new.faults ≡ one_more self.old.faults }

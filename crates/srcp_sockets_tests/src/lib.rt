@@ -1,0 +1,11 @@
+//! Tests of `srcp_sockets`. They stand here so that it is proved once.
+#![tactic(auto)]
+
+#[cfg(test)]
+mod network;
+#[cfg(test)]
+mod record;
+#[cfg(test)]
+mod recorder;
+#[cfg(test)]
+mod serving;

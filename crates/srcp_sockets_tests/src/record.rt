@@ -1,0 +1,111 @@
+//! What a system was asked and answered, and what its door told it.
+
+use srcp_serve::{DoorFault, Got};
+use srcp_sockets::Ready;
+use std::alloc::{AllocError, Global};
+use std::io::ErrorKind;
+use std::vec::Vec;
+
+/// A call of the system with its answer, or a call of the door.
+#[derive(Drop)]
+pub(crate) enum Entry {
+    Accepts {
+        number: u32,
+        answer: Result<(), ErrorKind>,
+    },
+    /// The buffer as it is afterwards.
+    Reads {
+        socket: u32,
+        buffer: Vec<u8>,
+        answer: Result<usize, ErrorKind>,
+    },
+    /// The bytes that were handed over.
+    Writes {
+        socket: u32,
+        bytes: Vec<u8>,
+        answer: Result<usize, ErrorKind>,
+    },
+    /// All of `ready`, as it is afterwards.
+    Waits {
+        most: Option<u64>,
+        count: usize,
+        ready: Vec<Ready>,
+    },
+    Clocks(Option<u64>),
+    Expect {
+        due: Option<u64>,
+        slack: Option<usize>,
+    },
+    Now(Result<u64, DoorFault>),
+    Accept(Result<Option<u32>, DoorFault>),
+    /// The buffer as it is afterwards.
+    Read {
+        peer: u32,
+        answer: Result<Got, DoorFault>,
+        buffer: Vec<u8>,
+    },
+    /// The bytes that were handed over.
+    Write {
+        peer: u32,
+        bytes: Vec<u8>,
+        answer: Result<usize, DoorFault>,
+    },
+    Close {
+        peer: u32,
+        answer: Result<(), DoorFault>,
+    },
+}
+
+/// Returns what a socket took, all writes joined.
+pub(crate) fn took_of(
+    alloc: Global,
+    entries: &[Entry],
+    number: u32,
+) -> Result<Vec<u8>, AllocError> {
+    let mut took = Vec::new(alloc);
+    for entry in entries {
+        if let Entry::Writes {
+            socket,
+            bytes,
+            answer: Ok(count),
+        } = entry
+            && *socket == number
+        {
+            took.extend_from_slice(bytes.get(..*count).unwrap_or(&[]))?;
+        }
+    }
+    Ok(took)
+}
+
+/// Returns what the clock showed when a socket took the last bytes in which that line stands, if it took such bytes.
+pub(crate) fn time_of(entries: &[Entry], number: u32, line: &[u8]) -> Option<u64> {
+    let mut shown = None;
+    let mut time = None;
+    for entry in entries {
+        match entry {
+            Entry::Clocks(answer) => shown = *answer,
+            Entry::Writes { socket, bytes, .. } if *socket == number => {
+                if has_line(bytes, line) {
+                    time = shown;
+                }
+            }
+            _ => (),
+        }
+    }
+    time
+}
+
+/// Returns whether one of the lines ends so.
+fn has_line(bytes: &[u8], end: &[u8]) -> bool {
+    bytes
+        .split_inclusive(|byte| *byte == b'\n')
+        .any(|line| line.ends_with(end))
+}
+
+/// Returns how many waits had no limit.
+pub(crate) fn sleeps(entries: &[Entry]) -> usize {
+    entries
+        .iter()
+        .filter(|entry| matches!(entry, Entry::Waits { most: None, .. }))
+        .count()
+}

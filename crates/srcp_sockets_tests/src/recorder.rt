@@ -1,0 +1,167 @@
+//! A system that keeps what it was asked and told.
+
+ghost use Rattle.std.specs.Prelude.{◌≡◌, ◌∷◌, ◌++◌, [], None, IfSome, MatchOption};
+
+use crate::network::{Event, Network};
+use crate::record::Entry;
+use srcp_serve::{DoorFault, Got};
+use srcp_sockets::{Ready, SocketDoor, System};
+use std::alloc::{AllocError, Global};
+use std::io::ErrorKind;
+use std::vec::Vec;
+
+/// A network, and all that it was asked and told, up to the first for which memory is refused.
+#[derive(Drop)]
+pub(crate) struct Recorder<'a> {
+    alloc: Global,
+    network: Network<'a>,
+    told: Option<Vec<Entry>>,
+}
+
+/// Opens a door to a network, whose clocks show 0.
+pub(crate) fn open<'a>(
+    alloc: Global,
+    network: Network<'a>,
+) -> Result<SocketDoor<Recorder<'a>>, AllocError> {
+    SocketDoor::open(Recorder::new(alloc, network), alloc, 0, 0)
+}
+
+impl<'a> Recorder<'a> {
+    fn new(alloc: Global, network: Network<'a>) -> Recorder<'a>
+        ensures { IfSome result.told (λ told. told.items ≡ []) }
+    {
+        Recorder {
+            alloc,
+            network,
+            told: Some(Vec::new(alloc)),
+        }
+    }
+
+    /// Returns all that was asked and told.
+    ///
+    /// # Errors
+    /// Where memory was refused for one of them.
+    pub(crate) fn entries(&self) -> Result<&[Entry], AllocError> {
+        match &self.told {
+            Some(entries) => Ok(entries.as_slice()),
+            None => Err(AllocError),
+        }
+    }
+
+    fn tell(&mut self, entry: Entry)
+        ensures { MatchOption self.old.told (self.new.told ≡ None) (λ old.
+            IfSome self.new.told (λ new. new.items ≡ old.items ++ entry ∷ [])) }
+    {
+        if let Some(mut told) = self.told.take()
+            && told.push(entry).is_ok()
+        {
+            self.told = Some(told);
+        }
+    }
+}
+
+impl System for Recorder<'_> {
+    ghost use Rattle.std.specs.Prelude.{map, option_map};
+    ghost use Rattle.srcp_serve.specs.Calls.{ExpectCall, NowCall, AcceptCall, ReadCall, WriteCall, CloseCall};
+    ghost use Rattle.srcp_sockets.specs.Steps.{Step, Accepts, Clocks, Reads, Writes, Waits, Told};
+    ghost use Rattle.srcp_sockets_tests.specs.declared.record.Entry.TheVariants as entry;
+
+    ghost told = { λ r. option_map (λ entries. map (λ e. elim e as (λ _. Step) [
+      | entry.Accepts number answer ↦ Accepts number answer
+      | entry.Reads socket buffer answer ↦ Reads socket buffer.items answer
+      | entry.Writes socket bytes answer ↦ Writes socket bytes.items answer
+      | entry.Waits most count ready ↦ Waits most count ready.items
+      | entry.Clocks answer ↦ Clocks answer
+      | entry.Expect due slack ↦ Told (ExpectCall due slack)
+      | entry.Now answer ↦ Told (NowCall answer)
+      | entry.Accept answer ↦ Told (AcceptCall answer)
+      | entry.Read peer answer buffer ↦ Told (ReadCall peer answer buffer.items)
+      | entry.Write peer bytes answer ↦ Told (WriteCall peer bytes.items answer)
+      | entry.Close peer answer ↦ Told (CloseCall peer answer)
+    ]) entries.items) r.told };
+
+    fn accept(&mut self, number: u32) -> Result<(), ErrorKind> {
+        let answer = self.network.accept();
+        self.tell(Entry::Accepts { number, answer });
+        answer
+    }
+
+    fn read(&mut self, socket: u32, buffer: &mut [u8]) -> Result<usize, ErrorKind> {
+        let answer = self.network.read(socket, buffer);
+        match Vec::from_slice(self.alloc, buffer) {
+            Ok(buffer) => self.tell(Entry::Reads {
+                socket,
+                buffer,
+                answer,
+            }),
+            Err(_) => self.told = None,
+        }
+        answer
+    }
+
+    fn write(&mut self, socket: u32, bytes: &[u8]) -> Result<usize, ErrorKind> {
+        let answer = self.network.write(socket, bytes);
+        match Vec::from_slice(self.alloc, bytes) {
+            Ok(bytes) => self.tell(Entry::Writes {
+                socket,
+                bytes,
+                answer,
+            }),
+            Err(_) => self.told = None,
+        }
+        answer
+    }
+
+    fn wait(&mut self, most: Option<u64>, ready: &mut [Ready]) -> usize {
+        let count = self.network.wait(most, ready);
+        match Vec::from_slice(self.alloc, ready) {
+            Ok(ready) => self.tell(Entry::Waits { most, count, ready }),
+            Err(_) => self.told = None,
+        }
+        count
+    }
+
+    fn clock(&mut self) -> Option<u64> {
+        let answer = Some(self.network.clock());
+        self.tell(Entry::Clocks(answer));
+        answer
+    }
+
+    fn told_expect(&mut self, due: Option<u64>, slack: Option<usize>) {
+        self.tell(Entry::Expect { due, slack });
+    }
+
+    fn told_now(&mut self, answer: Result<u64, DoorFault>) {
+        self.tell(Entry::Now(answer));
+    }
+
+    fn told_accept(&mut self, answer: Result<Option<u32>, DoorFault>) {
+        self.tell(Entry::Accept(answer));
+    }
+
+    fn told_read(&mut self, peer: u32, answer: Result<Got, DoorFault>, buffer: &[u8]) {
+        match Vec::from_slice(self.alloc, buffer) {
+            Ok(buffer) => self.tell(Entry::Read {
+                peer,
+                answer,
+                buffer,
+            }),
+            Err(_) => self.told = None,
+        }
+    }
+
+    fn told_write(&mut self, peer: u32, bytes: &[u8], answer: Result<usize, DoorFault>) {
+        match Vec::from_slice(self.alloc, bytes) {
+            Ok(bytes) => self.tell(Entry::Write {
+                peer,
+                bytes,
+                answer,
+            }),
+            Err(_) => self.told = None,
+        }
+    }
+
+    fn told_close(&mut self, peer: u32, answer: Result<(), DoorFault>) {
+        self.tell(Entry::Close { peer, answer });
+    }
+}

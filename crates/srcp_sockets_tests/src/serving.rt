@@ -1,0 +1,197 @@
+//! Serving over a network in memory.
+
+use crate::network::{Happens, Network, at};
+use crate::record::{sleeps, time_of, took_of};
+use crate::recorder::{Recorder, open};
+use srcp_core::Core;
+use srcp_rules::{Bus, Flat, Layout};
+use srcp_serve::Served;
+use srcp_sockets::{SocketDoor, serve_sockets};
+use std::alloc::{AllocError, Global};
+use std::test::Fail;
+use std::vec::Vec;
+
+/// How many turns are made: more than it takes until nothing happens any more.
+const TURNS: u64 = 400;
+
+/// How many bytes a client makes room for that reads.
+const AMPLE: usize = 100_000;
+
+const BUS: Bus = Bus {
+    number: 1,
+    power: true,
+    gl_max: 0,
+    ga_max: 9,
+    ga_ports: 2,
+    fb_ports: 0,
+};
+
+/// Serves what happens.
+fn serve_events<'a>(
+    alloc: Global,
+    network: Network<'a>,
+) -> Result<(Served, SocketDoor<Recorder<'a>>), Fail> {
+    let mut layout = Layout::new(alloc);
+    layout.add(BUS)?;
+    let mut core = Core::<Flat>::new(alloc, &layout, 0, 0)?;
+    let mut door = open(alloc, network)?;
+    let served = serve_sockets(&mut core, &mut door, TURNS);
+    Ok((served, door))
+}
+
+/// Returns what became of serving without a failure, if so many were let in.
+fn all_served(opened: u64) -> Served {
+    Served {
+        turns: TURNS,
+        opened,
+        faults: 0,
+    }
+}
+
+/// Returns lines without the stamps in front of them. The line of the welcome has none, and stays as it is.
+fn without_stamps(alloc: Global, lines: &[u8]) -> Result<Vec<u8>, AllocError> {
+    let mut rest = Vec::new(alloc);
+    for line in lines.split_inclusive(|byte| *byte == b'\n') {
+        let stamped = line.first().is_some_and(|byte| byte.is_ascii_digit());
+        let space = line.iter().position(|byte| *byte == b' ').unwrap_or(0);
+        let start = if stamped { space.saturating_add(1) } else { 0 };
+        rest.extend_from_slice(line.get(start..).unwrap_or(&[]))?;
+    }
+    Ok(rest)
+}
+
+/// Returns what the socket of a client took, without stamps.
+fn told(
+    alloc: Global,
+    door: &SocketDoor<Recorder<'_>>,
+    number: u32,
+) -> Result<Vec<u8>, AllocError> {
+    let took = took_of(alloc, door.system().entries()?, number)?;
+    without_stamps(alloc, &took)
+}
+
+#[test]
+fn serves_all_who_come(rt: HostRuntime) -> Result<(), Fail> {
+    let events = [
+        at(0, 1, Happens::Connects),
+        at(0, 2, Happens::Connects),
+        at(0, 2, Happens::Receives(AMPLE)),
+        at(3, 3, Happens::Connects),
+        at(3, 3, Happens::Receives(AMPLE)),
+        at(3, 3, Happens::Sends(b"GO\n")),
+        at(5, 1, Happens::Sends(b"GO\nGET 1 POW")),
+        at(9, 1, Happens::Receives(AMPLE)),
+        at(12, 1, Happens::Sends(b"ER\n")),
+    ];
+    let (served, door) = serve_events(rt.alloc(), Network::new(rt.alloc(), &events, false))?;
+    assert_eq!(rt; served, all_served(3));
+    for (client, lines) in [
+        (
+            1,
+            "srcp_server 1.0; SRCP 0.8.4; SRCPOTHER 0.8.3\n200 OK GO 2\n100 INFO 1 POWER OFF\n",
+        ),
+        (2, "srcp_server 1.0; SRCP 0.8.4; SRCPOTHER 0.8.3\n"),
+        (
+            3,
+            "srcp_server 1.0; SRCP 0.8.4; SRCPOTHER 0.8.3\n200 OK GO 1\n",
+        ),
+    ] {
+        assert_eq!(rt;
+            told(rt.alloc(), &door, client)?.as_slice(),
+            lines.as_bytes(),
+            "to client {client}"
+        );
+    }
+    // Then nothing happens, and nothing wakes it.
+    assert!(rt; sleeps(door.system().entries()?) > 300);
+    Ok(())
+}
+
+#[test]
+fn writes_what_a_socket_takes(rt: HostRuntime) -> Result<(), Fail> {
+    for room in [0, 1, 44, 45, 46, 62, 63] {
+        let events = [
+            at(0, 1, Happens::Connects),
+            at(0, 1, Happens::Sends(b"GO\n")),
+            at(5, 1, Happens::Receives(room)),
+            at(20, 1, Happens::Receives(AMPLE)),
+        ];
+        // Up to the moment at which it makes more room, and to the end.
+        for (count, all) in [(3, room), (4, 63)] {
+            let network = Network::new(rt.alloc(), events.get(..count).unwrap_or(&[]), false);
+            let (served, door) = serve_events(rt.alloc(), network)?;
+            assert_eq!(rt; served, all_served(1));
+            let took = took_of(rt.alloc(), door.system().entries()?, 1)?;
+            assert_eq!(rt; took.len(), all, "with room for {room}");
+        }
+    }
+    Ok(())
+}
+
+#[test]
+fn makes_interrupted_calls_again(rt: HostRuntime) -> Result<(), Fail> {
+    let events = [
+        at(0, 1, Happens::Connects),
+        at(0, 1, Happens::Receives(AMPLE)),
+        at(2, 1, Happens::Sends(b"GO\n")),
+        at(4, 1, Happens::Sends(b"GET 1 POWER\n")),
+    ];
+    let (served, door) = serve_events(rt.alloc(), Network::new(rt.alloc(), &events, true))?;
+    assert_eq!(rt; served, all_served(1));
+    let lines = "srcp_server 1.0; SRCP 0.8.4; SRCPOTHER 0.8.3\n200 OK GO 1\n100 INFO 1 POWER OFF\n";
+    assert_eq!(rt; told(rt.alloc(), &door, 1)?.as_slice(), lines.as_bytes());
+    Ok(())
+}
+
+#[test]
+fn reads_what_stands_behind_urgent_data(rt: HostRuntime) -> Result<(), Fail> {
+    let events = [
+        at(0, 1, Happens::Connects),
+        at(0, 1, Happens::Receives(AMPLE)),
+        at(5, 1, Happens::Sends(b"GO\nGET 1 POWER\n")),
+        at(5, 1, Happens::SendsUrgently(b"GET 1 POWER\n")),
+    ];
+    let (_, door) = serve_events(rt.alloc(), Network::new(rt.alloc(), &events, false))?;
+    let lines =
+        "srcp_server 1.0; SRCP 0.8.4; SRCPOTHER 0.8.3\n200 OK GO 1\n100 INFO 1 POWER OFF\n100 INFO 1 POWER OFF\n";
+    assert_eq!(rt; told(rt.alloc(), &door, 1)?.as_slice(), lines.as_bytes());
+    Ok(())
+}
+
+#[test]
+fn hands_out_no_input_while_it_makes_up_a_stall(rt: HostRuntime) -> Result<(), Fail> {
+    let events = [
+        at(0, 1, Happens::Connects),
+        at(0, 1, Happens::Receives(AMPLE)),
+        at(0, 1, Happens::Sends(b"SET CONNECTIONMODE SRCP INFO\nGO\n")),
+        at(0, 2, Happens::Connects),
+        at(0, 2, Happens::Receives(AMPLE)),
+        at(
+            5,
+            2,
+            Happens::Sends(b"GO\nINIT 1 GA 5 N\nINIT 1 GA 6 N\nSET 1 GA 5 0 1 100\n"),
+        ),
+        at(50, 0, Happens::StandsStill(400)),
+        at(300, 2, Happens::Sends(b"SET 1 GA 6 0 1 200\n")),
+    ];
+    let (served, door) = serve_events(rt.alloc(), Network::new(rt.alloc(), &events, false))?;
+    assert_eq!(rt; served, all_served(2));
+    let entries = door.system().entries()?;
+    let on = time_of(entries, 1, b" 100 INFO 1 GA 6 0 1\n").unwrap_or(u64::MAX);
+    let off = time_of(entries, 1, b" 100 INFO 1 GA 6 0 0\n").unwrap_or(0);
+    let lasted = off.saturating_sub(on);
+    assert!(rt; (200..210).contains(&lasted), "it is on for {lasted} ms");
+    Ok(())
+}
+
+#[test]
+fn turns_away_who_finds_no_place(rt: HostRuntime) -> Result<(), Fail> {
+    let mut events = Vec::new(rt.alloc());
+    for number in 1..71 {
+        events.push(at(0, number, Happens::Connects))?;
+    }
+    let (served, door) = serve_events(rt.alloc(), Network::new(rt.alloc(), &events, false))?;
+    assert_eq!(rt; served, all_served(64));
+    assert!(rt; sleeps(door.system().entries()?) > 300);
+    Ok(())
+}
