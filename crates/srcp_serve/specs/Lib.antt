@@ -1,6 +1,5 @@
 pub mod Calls
 pub mod Given
-pub mod Listening
 pub mod Pacing
 pub mod Places
 pub mod Serving

@@ -1,5 +1,5 @@
-//! Serving: what the server asks of the outside (`Door`), how it serves the peers of a door turn by turn (`serve`), the door
-//! over the system's sockets (`SocketDoor`), and what holds of every list of calls of a door (`laws`).
+//! Serving: what the server asks of the outside (`Door`), how it serves the peers of a door turn by turn (`serve`), and what
+//! holds of every list of calls of a door (`laws`).
 //!
 //! It neither reads a configuration nor prints: `srcp_tool` does that. What the peers are answered is said in `srcp_core`.
 #![tactic(auto)]
@@ -7,9 +7,7 @@
 mod door;
 pub mod laws;
 mod serving;
-mod socket;
 mod tally;
 
 pub use door::{Door, DoorFault, Got, Served};
 pub use serving::serve;
-pub use socket::{ListenFault, SocketDoor};

@@ -2,8 +2,6 @@
 #![tactic(auto)]
 
 #[cfg(test)]
-mod loopback;
-#[cfg(test)]
 mod script_door;
 #[cfg(test)]
 mod serving;

@@ -2,14 +2,14 @@
 #![tactic(auto)]
 
 ghost use Rattle.std.specs.Prelude.{◌≡◌};
-ghost use Rattle.srcp_serve.specs.Listening.{listen_text};
+ghost use Rattle.srcp_sockets.specs.Faults.{listen_text};
 ghost use Rattle.srcp_tool.specs.Faults.{fault_status, fault_text};
 
 use clap::error::ErrorKind;
 use srcp_core::Core;
 use srcp_layout_file::read_layout;
 use srcp_rules::{Bus, Layout, Nested};
-use srcp_serve::{ListenFault, SocketDoor, serve};
+use srcp_sockets::{ListenFault, SocketDoor, serve_sockets};
 use srcp_tool::{Tool, ToolFault, check, mirror, read_config, read_words, replay};
 use std::alloc::Global;
 use std::io::{Read, Write};
@@ -142,7 +142,7 @@ fn serve_layout<R: Files + AllocGlobal + Net + Clock>(
     if turns < u64::MAX {
         door.wait_at_most(LONGEST_TURN);
     }
-    serve(&mut core, &mut door, turns);
+    serve_sockets(&mut core, &mut door, turns);
     Ok(())
 }
 

@@ -3,8 +3,6 @@
 //! door in `laws`).
 //!
 //! `System` is the small trait of system calls, `MioSystem` makes them, and `SocketDoor` is the door over any of them.
-//!
-//! It is not the server's door yet: lines are not paced, and each turn flushes and polls.
 #![tactic(auto)]
 
 mod course;

@@ -2,7 +2,8 @@
 
 use srcp_core::Core;
 use srcp_rules::{Flat, Layout};
-use srcp_serve::{Door, DoorFault, ListenFault, Served, SocketDoor, serve};
+use srcp_serve::{Door, DoorFault, Served};
+use srcp_sockets::{ListenFault, SocketDoor, serve_sockets};
 use std::cell::Cell;
 use std::io;
 use std::io::{ErrorKind, Read, Write};
@@ -78,7 +79,7 @@ fn answers_a_client(rt: HostRuntime) -> Result<(), Fail> {
         opened: 1,
         faults: 0,
     };
-    assert_eq!(rt; serve(&mut core, &mut door, 10_000), served);
+    assert_eq!(rt; serve_sockets(&mut core, &mut door, 10_000), served);
     let mut heard = [0u8; 63];
     client.read_exact(&mut heard)?;
     assert_eq!(rt; heard.as_slice(), BOTH_LINES);
@@ -141,7 +142,7 @@ fn delivers_what_was_taken_in_the_last_turn(rt: HostRuntime) -> Result<(), Fail>
     let mut door = SocketDoor::listen(&rt, rt.alloc(), port, Still)?;
     door.wait_at_most(0);
     let mut client = TcpStream::connect(&rt, address)?;
-    assert_eq!(rt; serve(&mut core, &mut door, 1).opened, 1);
+    assert_eq!(rt; serve_sockets(&mut core, &mut door, 1).opened, 1);
     drop(door);
     let mut heard = [0u8; 45];
     client.read_exact(&mut heard)?;
