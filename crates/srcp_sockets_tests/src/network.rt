@@ -54,6 +54,9 @@ struct Socket {
     mark: usize,
     over: bool,
     reset: bool,
+    // The server shut it for writing, and closed it.
+    shut: bool,
+    closed: bool,
     // For how many bytes there is room.
     room: usize,
     // What it was found ready for since the last wait.
@@ -87,6 +90,8 @@ impl Socket {
             mark: 0,
             over: false,
             reset: false,
+            shut: false,
+            closed: false,
             room: 0,
             edge: None,
         }
@@ -96,7 +101,7 @@ impl Socket {
     fn read(&mut self, buffer: &mut [u8]) -> Result<usize, ErrorKind>
         ensures { IfOk result (λ count. count ≤ length buffer.new) }
     {
-        if self.reset {
+        if self.reset || self.closed {
             return Err(ErrorKind::ConnectionReset);
         }
         let end = if self.read < self.mark {
@@ -122,7 +127,7 @@ impl Socket {
     fn write(&mut self, bytes: &[u8]) -> Result<usize, ErrorKind>
         ensures { IfOk result (λ count. count ≤ length bytes.now) }
     {
-        if self.reset {
+        if self.reset || self.shut || self.closed {
             return Err(ErrorKind::BrokenPipe);
         }
         let count = bytes.len().min(self.room);
@@ -237,6 +242,20 @@ impl<'a> Network<'a> {
         }
     }
 
+    /// Has a socket take no more.
+    pub(crate) fn shutdown(&mut self, number: u32) {
+        if let Some(socket) = self.sockets.get_mut(place(number)) {
+            socket.shut = true;
+        }
+    }
+
+    /// Has a socket take and give no more.
+    pub(crate) fn close(&mut self, number: u32) {
+        if let Some(socket) = self.sockets.get_mut(place(number)) {
+            socket.closed = true;
+        }
+    }
+
     /// Waits until a socket is ready, so many milliseconds at most if that is said. Returns how many were found ready.
     pub(crate) fn wait(&mut self, most: Option<u64>, ready: &mut [Ready]) -> usize
         ensures { result ≤ length ready.new }
@@ -316,7 +335,7 @@ impl<'a> Network<'a> {
             count = 1;
         }
         for socket in &mut self.sockets {
-            if !socket.accepted || count >= ready.len() {
+            if !socket.accepted || socket.closed || count >= ready.len() {
                 continue;
             }
             if let Some(edge) = socket.edge.take() {

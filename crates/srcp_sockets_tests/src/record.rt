@@ -25,6 +25,12 @@ pub(crate) enum Entry {
         bytes: Vec<u8>,
         answer: Result<usize, ErrorKind>,
     },
+    Shuts {
+        socket: u32,
+    },
+    Closes {
+        socket: u32,
+    },
     /// All of `ready`, as it is afterwards.
     Waits {
         most: Option<u64>,

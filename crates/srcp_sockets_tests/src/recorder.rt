@@ -63,13 +63,15 @@ impl<'a> Recorder<'a> {
 impl System for Recorder<'_> {
     ghost use Rattle.std.specs.Prelude.{map, option_map};
     ghost use Rattle.srcp_serve.specs.Calls.{ExpectCall, NowCall, AcceptCall, ReadCall, WriteCall, CloseCall};
-    ghost use Rattle.srcp_sockets.specs.Steps.{Step, Accepts, Clocks, Reads, Writes, Waits, Told};
+    ghost use Rattle.srcp_sockets.specs.Steps.{Step, Accepts, Clocks, Closes, Reads, Shuts, Writes, Waits, Told};
     ghost use Rattle.srcp_sockets_tests.specs.declared.record.Entry.TheVariants as entry;
 
     ghost told = { λ r. option_map (λ entries. map (λ e. elim e as (λ _. Step) [
       | entry.Accepts number answer ↦ Accepts number answer
       | entry.Reads socket buffer answer ↦ Reads socket buffer.items answer
       | entry.Writes socket bytes answer ↦ Writes socket bytes.items answer
+      | entry.Shuts socket ↦ Shuts socket
+      | entry.Closes socket ↦ Closes socket
       | entry.Waits most count ready ↦ Waits most count ready.items
       | entry.Clocks answer ↦ Clocks answer
       | entry.Expect due slack ↦ Told (ExpectCall due slack)
@@ -110,6 +112,16 @@ impl System for Recorder<'_> {
             Err(_) => self.told = None,
         }
         answer
+    }
+
+    fn shutdown(&mut self, socket: u32) {
+        self.network.shutdown(socket);
+        self.tell(Entry::Shuts { socket });
+    }
+
+    fn close(&mut self, socket: u32) {
+        self.network.close(socket);
+        self.tell(Entry::Closes { socket });
     }
 
     fn wait(&mut self, most: Option<u64>, ready: &mut [Ready]) -> usize {

@@ -190,8 +190,12 @@ fn turns_away_who_finds_no_place(rt: HostRuntime) -> Result<(), Fail> {
     for number in 1..71 {
         events.push(at(0, number, Happens::Connects))?;
     }
+    for number in 65..71 {
+        events.push(at(30, number, Happens::HalfCloses))?;
+    }
     let (served, door) = serve_events(rt.alloc(), Network::new(rt.alloc(), &events, false))?;
     assert_eq!(rt; served, all_served(64));
-    assert!(rt; sleeps(door.system().entries()?) > 300);
+    // Those who were turned away go, and then nothing wakes it.
+    assert!(rt; sleeps(door.system().entries()?) > 200);
     Ok(())
 }
