@@ -2,6 +2,8 @@
 #![tactic(auto)]
 
 #[cfg(test)]
+mod lingering;
+#[cfg(test)]
 mod loopback;
 #[cfg(test)]
 mod network;
@@ -9,5 +11,7 @@ mod network;
 mod record;
 #[cfg(test)]
 mod recorder;
+#[cfg(test)]
+mod scene;
 #[cfg(test)]
 mod serving;

@@ -108,6 +108,27 @@ fn has_line(bytes: &[u8], end: &[u8]) -> bool {
         .any(|line| line.ends_with(end))
 }
 
+/// Returns what the clock showed last when a socket was closed, if it was.
+pub(crate) fn closed_at(entries: &[Entry], number: u32) -> Option<u64> {
+    let mut shown = None;
+    for entry in entries {
+        match entry {
+            Entry::Clocks(answer) => shown = *answer,
+            Entry::Closes { socket } if *socket == number => return shown,
+            _ => (),
+        }
+    }
+    None
+}
+
+/// Returns how often a socket was shut down.
+pub(crate) fn shuts(entries: &[Entry], number: u32) -> usize {
+    entries
+        .iter()
+        .filter(|entry| matches!(entry, Entry::Shuts { socket } if *socket == number))
+        .count()
+}
+
 /// Returns how many waits had no limit.
 pub(crate) fn sleeps(entries: &[Entry]) -> usize {
     entries

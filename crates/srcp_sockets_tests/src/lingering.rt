@@ -1,0 +1,90 @@
+//! Peers that were let go, over a network in memory.
+
+use crate::network::{Happens, Network, at};
+use crate::record::{closed_at, shuts, took_of};
+use crate::scene::{AMPLE, all_served, serve_events, told};
+use std::test::Fail;
+use std::vec::Vec;
+
+/// How many bytes a session is sent that begins and ends itself in the first ten milliseconds: the welcome line and two replies.
+const ALL: usize = 76;
+
+#[test]
+fn keeps_who_was_let_go_for_its_time(rt: HostRuntime) -> Result<(), Fail> {
+    for (later, last, taken, shut, closed) in [
+        (
+            at(3_000, 1, Happens::Receives(AMPLE)),
+            at(3_100, 1, Happens::HalfCloses),
+            ALL,
+            1,
+            3_100,
+        ),
+        (
+            at(3_000, 1, Happens::Receives(AMPLE)),
+            at(30_000, 1, Happens::HalfCloses),
+            ALL,
+            1,
+            10_005,
+        ),
+        (
+            at(3_000, 1, Happens::Receives(10)),
+            at(30_000, 1, Happens::HalfCloses),
+            60,
+            0,
+            10_005,
+        ),
+        (
+            at(3_000, 1, Happens::HalfCloses),
+            at(3_100, 1, Happens::Receives(AMPLE)),
+            ALL,
+            1,
+            3_100,
+        ),
+        (
+            at(3_000, 1, Happens::Resets),
+            at(30_000, 1, Happens::Receives(AMPLE)),
+            50,
+            0,
+            3_000,
+        ),
+    ] {
+        let events = [
+            at(0, 1, Happens::Connects),
+            at(0, 1, Happens::Receives(50)),
+            at(5, 1, Happens::Sends(b"GO\nTERM 0 SESSION\nGET 1 POWER\n")),
+            later,
+            last,
+        ];
+        let (served, door) = serve_events(rt.alloc(), Network::new(rt.alloc(), &events, false))?;
+        assert_eq!(rt; served, all_served(1));
+        let entries = door.system().entries()?;
+        assert_eq!(rt; took_of(rt.alloc(), entries, 1)?.len(), taken);
+        assert_eq!(rt; shuts(entries, 1), shut);
+        let after = closed_at(entries, 1).unwrap_or(0).saturating_sub(closed);
+        assert!(rt;
+            closed_at(entries, 1) >= Some(closed) && after < 20,
+            "{after} ms after its time"
+        );
+    }
+    Ok(())
+}
+
+#[test]
+fn gives_up_nobody_who_is_owed_for_one_who_is_not(rt: HostRuntime) -> Result<(), Fail> {
+    let mut events = Vec::new(rt.alloc());
+    events.push(at(0, 1, Happens::Connects))?;
+    events.push(at(0, 1, Happens::Receives(50)))?;
+    events.push(at(0, 1, Happens::Sends(b"GO\nTERM 0 SESSION\n")))?;
+    for number in 2..202 {
+        events.push(at(20, number, Happens::Connects))?;
+    }
+    events.push(at(4_000, 1, Happens::Receives(AMPLE)))?;
+    let (served, door) = serve_events(rt.alloc(), Network::new(rt.alloc(), &events, false))?;
+    assert_eq!(rt; served, all_served(65));
+    let lines = "srcp_server 1.0; SRCP 0.8.4; SRCPOTHER 0.8.3\n200 OK GO 1\n200 OK\n";
+    assert_eq!(rt; told(rt.alloc(), &door, 1)?.as_slice(), lines.as_bytes());
+    // The first who was turned away went for one who came later.
+    let first = closed_at(door.system().entries()?, 66).unwrap_or(u64::MAX);
+    assert!(rt; first < 1_000, "it was closed at {first} ms");
+    Ok(())
+}

@@ -1,0 +1,71 @@
+//! Serving what happens in a network.
+
+use crate::network::Network;
+use crate::record::took_of;
+use crate::recorder::{Recorder, open};
+use srcp_core::Core;
+use srcp_rules::{Bus, Flat, Layout};
+use srcp_serve::Served;
+use srcp_sockets::{SocketDoor, serve_sockets};
+use std::alloc::{AllocError, Global};
+use std::test::Fail;
+use std::vec::Vec;
+
+/// How many turns are made: more than it takes until nothing happens any more.
+const TURNS: u64 = 2_000;
+
+/// How many bytes a client makes room for that reads.
+pub(crate) const AMPLE: usize = 100_000;
+
+const BUS: Bus = Bus {
+    number: 1,
+    power: true,
+    gl_max: 0,
+    ga_max: 9,
+    ga_ports: 2,
+    fb_ports: 0,
+};
+
+/// Serves what happens.
+pub(crate) fn serve_events<'a>(
+    alloc: Global,
+    network: Network<'a>,
+) -> Result<(Served, SocketDoor<Recorder<'a>>), Fail> {
+    let mut layout = Layout::new(alloc);
+    layout.add(BUS)?;
+    let mut core = Core::<Flat>::new(alloc, &layout, 0, 0)?;
+    let mut door = open(alloc, network)?;
+    let served = serve_sockets(&mut core, &mut door, TURNS);
+    Ok((served, door))
+}
+
+/// Returns what became of serving without a failure, if so many were let in.
+pub(crate) fn all_served(opened: u64) -> Served {
+    Served {
+        turns: TURNS,
+        opened,
+        faults: 0,
+    }
+}
+
+/// Returns lines without the stamps in front of them. The line of the welcome has none, and stays as it is.
+fn without_stamps(alloc: Global, lines: &[u8]) -> Result<Vec<u8>, AllocError> {
+    let mut rest = Vec::new(alloc);
+    for line in lines.split_inclusive(|byte| *byte == b'\n') {
+        let stamped = line.first().is_some_and(|byte| byte.is_ascii_digit());
+        let space = line.iter().position(|byte| *byte == b' ').unwrap_or(0);
+        let start = if stamped { space.saturating_add(1) } else { 0 };
+        rest.extend_from_slice(line.get(start..).unwrap_or(&[]))?;
+    }
+    Ok(rest)
+}
+
+/// Returns what the socket of a client took, without stamps.
+pub(crate) fn told(
+    alloc: Global,
+    door: &SocketDoor<Recorder<'_>>,
+    number: u32,
+) -> Result<Vec<u8>, AllocError> {
+    let took = took_of(alloc, door.system().entries()?, number)?;
+    without_stamps(alloc, &took)
+}
