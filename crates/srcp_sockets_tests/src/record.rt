@@ -108,6 +108,30 @@ fn has_line(bytes: &[u8], end: &[u8]) -> bool {
         .any(|line| line.ends_with(end))
 }
 
+/// Returns how many lines were handed out in the turn in which most were.
+pub(crate) fn most_lines(entries: &[Entry]) -> usize {
+    let mut most = 0;
+    let mut lines = 0usize;
+    for entry in entries {
+        match entry {
+            Entry::Expect { .. } => lines = 0,
+            Entry::Read {
+                answer: Ok(Got::Bytes(count)),
+                buffer,
+                ..
+            } => lines = lines.saturating_add(lines_in(buffer.get(..*count).unwrap_or(&[]))),
+            _ => (),
+        }
+        most = lines.max(most);
+    }
+    most
+}
+
+/// Returns how many lines end in bytes.
+pub(crate) fn lines_in(bytes: &[u8]) -> usize {
+    bytes.iter().filter(|byte| **byte == b'\n').count()
+}
+
 /// Returns what the clock showed last when a socket was closed, if it was.
 pub(crate) fn closed_at(entries: &[Entry], number: u32) -> Option<u64> {
     let mut shown = None;

@@ -23,7 +23,7 @@ const BUS: Bus = Bus {
     gl_max: 0,
     ga_max: 9,
     ga_ports: 2,
-    fb_ports: 0,
+    fb_ports: 1,
 };
 
 /// Serves what happens.

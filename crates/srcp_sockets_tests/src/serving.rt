@@ -1,7 +1,7 @@
 //! Serving over a network in memory.
 
 use crate::network::{Happens, Network, at};
-use crate::record::{sleeps, time_of, took_of};
+use crate::record::{lines_in, most_lines, sleeps, time_of, took_of};
 use crate::scene::{AMPLE, all_served, serve_events, told};
 use std::test::Fail;
 use std::vec::Vec;
@@ -133,5 +133,34 @@ fn turns_away_who_finds_no_place(rt: HostRuntime) -> Result<(), Fail> {
     assert_eq!(rt; served, all_served(64));
     // Those who were turned away go, and then nothing wakes it.
     assert!(rt; sleeps(door.system().entries()?) > 200);
+    Ok(())
+}
+
+#[test]
+fn hands_out_as_many_lines_as_panels_take(rt: HostRuntime) -> Result<(), Fail> {
+    let mut commands = Vec::new(rt.alloc());
+    // Lines of 16 bytes: no piece of 256 ends within one.
+    for _ in 0..96 {
+        commands.extend_from_slice(b"SET 1 FB 1 1   \n")?;
+    }
+    let mut events = Vec::new(rt.alloc());
+    events.push(at(0, 1, Happens::Connects))?;
+    events.push(at(0, 1, Happens::Receives(AMPLE)))?;
+    events.push(at(0, 1, Happens::Sends(b"SET CONNECTIONMODE SRCP INFO\nGO\n")))?;
+    for number in 2..10 {
+        events.push(at(20, number, Happens::Connects))?;
+        events.push(at(20, number, Happens::Receives(AMPLE)))?;
+        events.push(at(20, number, Happens::Sends(b"GO\n")))?;
+    }
+    for number in 2..10 {
+        events.push(at(50, number, Happens::Sends(&commands)))?;
+    }
+    let (served, door) = serve_events(rt.alloc(), Network::new(rt.alloc(), &events, false))?;
+    assert_eq!(rt; served, all_served(9));
+    let entries = door.system().entries()?;
+    // Three lines of the handshake, the rows of its session, of POWER and of the sensor, one row of each other session, and
+    // each change.
+    assert_eq!(rt; lines_in(&took_of(rt.alloc(), entries, 1)?), 782);
+    assert_eq!(rt; most_lines(entries), 96);
     Ok(())
 }
