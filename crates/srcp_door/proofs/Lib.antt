@@ -1,2 +1,1 @@
-mod HeldLaws
 mod Lines

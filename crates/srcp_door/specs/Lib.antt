@@ -1,5 +1,2 @@
-pub mod Ahead
-pub mod Ends
-pub mod Handing
 pub mod Moments
 pub mod Pacing

@@ -1,4 +1,4 @@
--- How much lines weigh, and what is seen of the pacing.
+-- How much lines weigh, and what is let through.
 use Rattle.std.specs.Prelude.{◌≡◌, ◌≢◌, ℕ, ◌+◌, ◌-◌, ◌<◌, ◌≤◌, ◌==◌, Bool, ◌||◌, ◌&&◌, not, cond}
 use Rattle.std.specs.Prelude.{nat_le, nat_lt, Option, ⊤, List, [], ◌∷◌, ◌++◌, length, take, fold, count_by}
 use Rattle.std.specs.Bool.{MatchBool}
@@ -9,13 +9,6 @@ use Rattle.srcp_door.specs.declared.pacing.Line.TheVariants.{Ended, Begun}
 use Rattle.srcp_door.specs.declared.pacing.Pace.{Pace}
 use Rattle.srcp_door.specs.declared.pacing.Pace.TheVariants.{Paced, OneLine}
 use Rattle.srcp_door.specs.declared.pacing.Share.{Share}
-
--- how much may still be let through in this turn, whether a peer was refused its first line, and whether the end of a
--- peer may still be told
-pub record Budget : Type 0 where
-  pub pace : Pace
-  pub refused : Bool
-  pub end : Bool
 
 -- how many lines end in bytes
 abbrev pub lines : List ℕ → ℕ
@@ -115,15 +108,6 @@ abbrev pub share_after : Share → (handed : List ℕ) → Share
 share_after share handed = record {
   line = line_after share.line handed;
   mark = share.mark || not (weight_of share.line handed == 0);
-}
-
--- the pacing after a prefix of a peer's piece was handed out to it: the peer was refused its first line if one was kept
--- back and it has no mark
-abbrev pub budget_after : Budget → Share → (piece handed : List ℕ) → Budget
-budget_after budget share piece handed = record {
-  pace = spent budget.pace (weight_of share.line handed);
-  refused = budget.refused || not (lines handed == lines piece) && not (share_after share handed).mark;
-  end = budget.end;
 }
 
 -- less may be let through than any line can weigh

@@ -1,12 +1,11 @@
 //! How many lines are let through in a turn.
 
 ghost use Rattle.std.specs.Prelude.{◌≡◌, ◌<◌, ◌≤◌, ◌+◌, ◌↔◌, ◌⊎◌, ◌==◌, ◌&&◌, false, true, not, cond, IsTrue, length, take};
-ghost use Rattle.srcp_door.specs.Pacing.{Allows, Budget, IsFirstWeight, IsLongest, IsShort, budget_after, fits};
+ghost use Rattle.srcp_door.specs.Pacing.{Allows, IsFirstWeight, IsLongest, IsShort, fits};
 ghost use Rattle.srcp_door.specs.Pacing.{line_after, line_weight, lines, pace_of, share_after, spent, weight_of};
 
 use memchr::memchr;
 use srcp_rules::{MOST_CHANGES, weight};
-use std::marker::Model;
 
 /// How many changes may come in a turn before a panel overruns, if none is there when it begins: one may begin in it.
 pub const MOST_SLACK: usize = 256;
@@ -154,78 +153,6 @@ struct Front {
     // Whether a line ends in the piece behind it, and how much the next such line weighs.
     more: bool,
     next: usize,
-}
-
-/// How much the lines that are let through may still weigh in this turn, whether a peer was refused its first one, and
-/// whether the end of a peer may still be told. Seen as a record of the three.
-#[derive(Drop)]
-pub struct Pacing {
-    pace: Pace,
-    refused: bool,
-    end: bool,
-}
-
-impl Model for Pacing {
-    ghost use Rattle.std.specs.Prelude.{IsTrue};
-    ghost use Rattle.srcp_door.specs.Pacing.{Budget, IsShort};
-
-    ghost Value = { Budget };
-
-    ghost view = { λ p. record { pace = p.pace; refused = p.refused; end = p.end } };
-
-    ghost invariant = { λ p. IsTrue p.refused → IsShort p.pace };
-}
-
-impl Pacing {
-    /// Lets no line through that weighs something, before the first turn.
-    pub fn new() -> Pacing
-        ensures { result ≡ record { pace = Pace.Paced 0; refused = false; end = false } }
-    {
-        Pacing {
-            pace: Pace::Paced { left: 0 },
-            refused: false,
-            end: false,
-        }
-    }
-
-    /// Begins a turn, by how many changes may come before a panel overruns, if one is there. With `tick` it lets one line
-    /// through though the panels may take none, so that nobody starves behind a panel that does not read. Returns
-    /// whether every peer that asked for a line since the marks were cleared got one: they are to be cleared then.
-    pub fn begin_turn(&mut self, slack: Option<usize>, tick: bool) -> bool
-        ensures budget { self.new ≡ record { pace = pace_of slack tick; refused = false; end = true } }
-        ensures round { IsTrue result ↔ self.old.refused ≡ false }
-    {
-        let round = !self.refused;
-        self.pace = Pace::of_turn(slack, tick);
-        self.refused = false;
-        self.end = true;
-        round
-    }
-
-    /// Returns how many bytes of a peer's piece may be handed out now: all of a piece in which no line ends, and else
-    /// those of whole lines, as many as may go. A peer that has its mark gets none that weighs something, and one that
-    /// gets such a line gets its mark.
-    pub fn allow(&mut self, share: &mut Share, piece: &[u8]) -> usize
-        ensures allowed { Allows self.old.pace share.old piece.now result }
-        ensures within { result ≤ length piece.now }
-        ensures share { share.new ≡ share_after share.old (take result piece.now) }
-        ensures budget { self.new ≡ budget_after self.old share.old piece.now (take result piece.now) }
-        ensures fair { IsTrue self.new.refused → IsShort self.new.pace }
-    {
-        let allowed = self.pace.allow(share, piece);
-        self.refused |= allowed.refused;
-        allowed.count
-    }
-
-    /// Returns whether the end of a peer may be told now, which is then the one of this turn.
-    pub fn allow_end(&mut self) -> bool
-        ensures allowed { result ≡ self.old.end }
-        ensures new { self.new ≡ record { pace = self.old.pace; refused = self.old.refused; end = false } }
-    {
-        let allowed = self.end;
-        self.end = false;
-        allowed
-    }
 }
 
 /// Returns the prefix of a piece whose lines weigh at most so much: all of a piece in which no line ends, and else

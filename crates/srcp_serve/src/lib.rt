@@ -10,4 +10,4 @@ mod serving;
 mod tally;
 
 pub use door::{Door, DoorFault, Got, Served};
-pub use serving::serve;
+pub use serving::{MOST_WRITES, serve};

@@ -13,6 +13,7 @@ use crate::tally::Tally;
 use places::Places;
 use srcp_core::{Core, MOST_IN_PIECE};
 use srcp_rules::Rows;
+pub use visit::MOST_WRITES;
 use visit::{PieceBuffer, Seat, close, let_go, visit};
 
 /// Serves the peers of a door for so many turns, over a core that has no connection. In each turn the door is asked for

@@ -22,7 +22,7 @@ use Rattle.srcp_serve.specs.declared.door.Got.{Got}
 use Rattle.srcp_serve.specs.declared.door.Got.TheVariants as got
 use Rattle.srcp_sockets.specs.Accounts.{Account, Sent, Received, account, account_step, told_step, is_at_rest, is_short, may_end, refused_read, refused_write, shut_down, untouched, waited, read_in, wrote, woken, woken_sent, woken_came}
 use Rattle.srcp_door.specs.Pacing.{line_after}
-use Rattle.srcp_door.specs.declared.ending.Ending.{Ending}
+use Rattle.srcp_sockets.specs.declared.ending.Ending.{Ending}
 use Rattle.srcp_door.specs.declared.pacing.Line.{Line}
 use Rattle.srcp_door.specs.declared.pacing.Line.TheVariants as line
 use Rattle.srcp_door.specs.declared.pacing.Share.{Share}

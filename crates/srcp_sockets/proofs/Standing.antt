@@ -25,7 +25,7 @@ use Rattle.srcp_serve.specs.declared.door.Got.TheVariants as got
 use Rattle.srcp_sockets.specs.Accounts.{Account, accepted, account, account_step, heard, heard_refusal, is_at_rest, is_short, told_step, waited, woken, woken_came, woken_sent, noted}
 use Rattle.srcp_sockets.specs.Peers.{Agrees, IsKept, Spares, WritesAs, after_wake, is_resting}
 use Rattle.srcp_door.specs.Pacing.{line_after}
-use Rattle.srcp_door.specs.declared.ending.Ending.TheVariants as ending
+use Rattle.srcp_sockets.specs.declared.ending.Ending.TheVariants as ending
 use Rattle.srcp_door.specs.declared.pacing.Line.TheVariants as line
 use Rattle.srcp_sockets.specs.Listeners.{refused_listening, woken_listening}
 use Rattle.srcp_sockets.specs.Doors.{AreApart, AreKept, AreThose, AreWithin, Closed, Fresh, HeardAs, Hears, IsAbsent, Sound, Stands, IsThere}

@@ -1,5 +1,6 @@
 pub mod Accounts
 pub mod Doors
+pub mod Ends
 pub mod Facts
 pub mod Faults
 pub mod Follows

@@ -15,7 +15,7 @@ use Rattle.srcp_sockets.specs.declared.peer.Peer.{Peer}
 use Rattle.srcp_sockets.specs.declared.stay.Stay.{Stay}
 use Rattle.srcp_sockets.specs.declared.stay.Stay.TheVariants as stay
 use Rattle.srcp_door.specs.Pacing.{line_after}
-use Rattle.srcp_door.specs.declared.ending.Ending.TheVariants as ending
+use Rattle.srcp_sockets.specs.declared.ending.Ending.TheVariants as ending
 use Rattle.srcp_door.specs.declared.pacing.Line.TheVariants as line
 use Rattle.srcp_sockets.specs.Steps.{Step, Reads, Tells, Writes, refusal_told}
 use Rattle.srcp_sockets.specs.Accounts.{Account, Leave, Sent, Received, account, is_overdue}

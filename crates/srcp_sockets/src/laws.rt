@@ -1,7 +1,7 @@
 //! What holds of every door over a system, whatever the system answered. Each function does nothing: what it ensures is
 //! a law.
 
-ghost use Rattle.std.specs.Prelude.{◌≡◌, ◌++◌, ◌∷◌, ◌==◌, ◌&&◌, ◌||◌, ◌<◌, ◌⊎◌, ℕ, List, length, slice_index_or, Option, Some, Ok, Result, true, false};
+ghost use Rattle.std.specs.Prelude.{◌≡◌, ◌++◌, ◌∷◌, ◌==◌, ◌&&◌, ◌||◌, ◌*◌, ◌<◌, ◌≤◌, ◌⊎◌, ℕ, List, length, slice_index_or, Option, Some, Ok, Result, true, false};
 ghost use Rattle.std.specs.Io.{StartsWith};
 ghost use Rattle.srcp_sockets.specs.declared.peer.Peer.{Peer};
 ghost use Rattle.srcp_serve.specs.declared.door.DoorFault.{DoorFault};
@@ -15,7 +15,10 @@ ghost use Rattle.srcp_sockets.specs.Times.{AreKeptTimes, ArePaced, times};
 ghost use Rattle.srcp_sockets.specs.Streams.{gave, handed, taken, took};
 
 use crate::door::SocketDoor;
+use crate::queue::MOST_OUTGOING;
 use crate::system::System;
+use srcp_info::LONGEST_LINE;
+use srcp_serve::MOST_WRITES;
 
 /// What each socket took is a prefix of what the door told to have taken for its peer; what the door handed out of a
 /// peer is a prefix of what its socket gave.
@@ -107,3 +110,8 @@ pub fn turns_are_paced<S: System + Drop>(door: &SocketDoor<S>)
 {
     let _sockets = &door.sockets;
 }
+
+/// The lines that a peer is written in a visit at most can be queued.
+pub fn visits_fit()
+    ensures { MOST_WRITES * LONGEST_LINE ≤ MOST_OUTGOING }
+{}

@@ -8,6 +8,7 @@
 mod course;
 mod delivering;
 mod door;
+mod ending;
 mod fault;
 pub mod laws;
 mod leaving;
@@ -25,10 +26,11 @@ mod waiting;
 
 pub use course::serve_sockets;
 pub use door::SocketDoor;
+pub use ending::Ending;
 pub use fault::ListenFault;
 pub use mio_system::MioSystem;
 pub use peer::{Handed, Peer};
-pub use queue::{MOST_INCOMING, MOST_OUTGOING, MOST_PIECE, Outgoing, Queue};
+pub use queue::{MOST_INCOMING, MOST_OUTGOING, Outgoing, Queue};
 pub use readiness::{Flush, Reading, Writing};
 pub use stay::{PATIENCE, Stay};
 pub use system::{Ready, Refusal, System, refusal_of};

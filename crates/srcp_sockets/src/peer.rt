@@ -10,19 +10,21 @@ ghost use Rattle.srcp_sockets.specs.declared.readiness.Reading.{Reading};
 ghost use Rattle.srcp_sockets.specs.declared.readiness.Writing.{Writing};
 ghost use Rattle.srcp_sockets.specs.Doors.{IsRead};
 ghost use Rattle.srcp_sockets.specs.Turns.{after_read, got_bytes, tells_end};
-ghost use Rattle.srcp_door.specs.Ends.{begun, written};
+ghost use Rattle.srcp_sockets.specs.Ends.{begun, written};
 ghost use Rattle.srcp_door.specs.Pacing.{IsShort, fits, line_after, weight_of};
-ghost use Rattle.srcp_door.specs.declared.ending.Ending.{Ending};
+ghost use Rattle.srcp_sockets.specs.declared.ending.Ending.{Ending};
 ghost use Rattle.srcp_door.specs.declared.pacing.Line.{Line};
 
-use crate::queue::{MOST_INCOMING, MOST_OUTGOING, MOST_PIECE, Outgoing, Queue};
+use crate::ending::Ending;
+use crate::queue::{MOST_INCOMING, MOST_OUTGOING, Outgoing, Queue};
 use crate::readiness::{Flush, Reading, Writing};
 use crate::stay::Stay;
 use crate::system::{Ready, System, refusal_of};
 use crate::turn::Turn;
-use srcp_door::{Ending, Line, MOST_WRITES, Share};
+use srcp_core::MOST_IN_PIECE;
+use srcp_door::{Line, Share};
 use srcp_info::LONGEST_LINE;
-use srcp_serve::{DoorFault, Got};
+use srcp_serve::{DoorFault, Got, MOST_WRITES};
 use std::alloc::{AllocError, Global};
 
 /// How many bytes of a peer may wait until the clock goes on. What else may be queued holds the lines that a peer is
@@ -183,7 +185,7 @@ impl Peer {
         ensures times { KeepsTimes (S.told system.old) (S.told system.new) }
         ensures number { self.new.number ≡ self.old.number }
         ensures stay { self.new.stay ≡ self.old.stay }
-        ensures asked { may_have self.old.input ≡ true → length self.old.incoming < MOST_PIECE
+        ensures asked { may_have self.old.input ≡ true → length self.old.incoming < MOST_IN_PIECE
             → Asks self.old.number (S.told system.old) (S.told system.new) }
         ensures read { IsRead (S.told system.new) self.old.number }
         ensures ending { self.new.ending ≡ begun self.old.ending (is_over self.new.incoming self.new.input) }
@@ -203,10 +205,10 @@ impl Peer {
     /// Returns whether a read may find something and less than a piece is held.
     fn is_wanting(&self) -> bool
         ensures is { result ≡ is_wanting self.now.input self.now.incoming }
-        ensures yes { result ≡ true → (may_have self.now.input ≡ true) × (length self.now.incoming < MOST_PIECE) }
-        ensures no { result ≡ false → may_have self.now.input ≡ true → MOST_PIECE ≤ length self.now.incoming }
+        ensures yes { result ≡ true → (may_have self.now.input ≡ true) × (length self.now.incoming < MOST_IN_PIECE) }
+        ensures no { result ≡ false → may_have self.now.input ≡ true → MOST_IN_PIECE ≤ length self.now.incoming }
     {
-        self.input.is_ready() && self.incoming.len() < MOST_PIECE
+        self.input.is_ready() && self.incoming.len() < MOST_IN_PIECE
     }
 
     /// Reads its socket once, if a read may find something and less than a piece is held.
@@ -217,7 +219,7 @@ impl Peer {
         ensures calls { SaysNothing (S.told system.old) (S.told system.new) }
         ensures times { KeepsTimes (S.told system.old) (S.told system.new) }
         ensures number { self.new.number ≡ self.old.number }
-        ensures asked { may_have self.old.input ≡ true → length self.old.incoming < MOST_PIECE
+        ensures asked { may_have self.old.input ≡ true → length self.old.incoming < MOST_IN_PIECE
             → Asks self.old.number (S.told system.old) (S.told system.new) }
         ensures read { IsRead (S.told system.new) self.old.number }
         ensures same { self.new ≡ record self.old { incoming = self.new.incoming; input = self.new.input } }
@@ -294,7 +296,7 @@ impl Peer {
           asked = self.new.asked;
         } }
     {
-        let within = MOST_PIECE.min(buffer.len()).min(self.incoming.len());
+        let within = MOST_IN_PIECE.min(buffer.len()).min(self.incoming.len());
         let allowed = turn.allow(&mut self.share, &self.incoming.front()[..within]);
         let count = allowed.count;
         if count == 0 {

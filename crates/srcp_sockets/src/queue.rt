@@ -15,9 +15,6 @@ pub const MOST_OUTGOING: usize = 40_960;
 /// How many bytes are read ahead at most.
 pub const MOST_INCOMING: usize = 4_096;
 
-/// How many bytes are handed out at once, at most.
-pub const MOST_PIECE: usize = 256;
-
 /// What a peer was written that its socket did not take yet.
 pub type Outgoing = Queue<MOST_OUTGOING>;
 

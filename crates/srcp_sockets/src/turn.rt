@@ -7,9 +7,13 @@ ghost use Rattle.srcp_door.specs.declared.pacing.Line.{Line};
 ghost use Rattle.srcp_sockets.specs.Turns.{after_call, after_read, after_wait, begun, earlier, ended, first_turn, handed_out};
 ghost use Rattle.srcp_sockets.specs.Turns.{is_behind, is_pending, is_short, moment_at, stop, tells_end, time_left, told_at};
 
-use srcp_door::{Allowed, Pace, RESERVE, Share, Timekeeper};
+use srcp_door::{Allowed, MOST_SLACK, Pace, RESERVE, Share, Timekeeper};
+use srcp_feed::MOST_WAITING;
 use srcp_rules::MOST_CHANGES;
 use srcp_serve::{DoorFault, Got};
+
+// The most changes that may wait for a panel are those that may come before one overruns for which none waits.
+const _: () = prove!(MOST_SLACK == MOST_WAITING);
 
 /// A wait for what falls due ends so much earlier than it, as a part of the wait: the system may end a wait late by a
 /// thousandth of it, or a two-hundredth for a process of low priority. The turns behind it wait for the rest.

@@ -10,8 +10,8 @@ use crate::tally::Tally;
 use srcp_core::{Core, MOST_IN_PIECE};
 use srcp_rules::Rows;
 
-/// How many times a peer is written to in a turn.
-const MOST_WRITES: u32 = 300;
+/// How many times a peer is written to in a visit, at most.
+pub const MOST_WRITES: u32 = 300;
 
 /// The room for what is read of a peer at once. One is kept for all, since it would be cleared for each visit.
 pub(super) type PieceBuffer = [u8; MOST_IN_PIECE];

@@ -1,10 +1,9 @@
 //! When the end of a peer may be told.
 
 ghost use Rattle.std.specs.Prelude.{◌≡◌, ◌≢◌, ◌↔◌, ◌⊎◌, ◌<◌, false, true, IsTrue, ℕ};
-ghost use Rattle.srcp_door.specs.Ends.{begun, written};
+ghost use Rattle.srcp_sockets.specs.Ends.{begun, written};
 
-/// How many times a peer is written to in a visit, at most.
-pub const MOST_WRITES: u32 = 300;
+use srcp_serve::MOST_WRITES;
 
 /// How far a peer is on the way to its end. That is told once its input is over, a whole visit behind that had no more
 /// for it, and its socket took all of it. So changes that go on coming put it off no longer than that.
