@@ -1,6 +1,6 @@
 //! The system as it is: mio's sockets and a clock. It tells nothing, and only makes the calls.
 
-ghost use Rattle.std.specs.Prelude.{◌≡◌, IfOk};
+ghost use Rattle.std.specs.Prelude.{◌≡◌, IfOk, ◌<◌, IfSome, length};
 
 use crate::door::MOST_READY;
 use crate::system::{Ready, System};
@@ -40,6 +40,8 @@ pub struct MioSystem<C: Clock + Drop> {
     shown: u64,
     // By rising numbers.
     sockets: Vec<Socket>,
+    // The place of the socket that was asked last.
+    recent: usize,
 }
 
 impl<C: Clock + Drop> MioSystem<C> {
@@ -67,6 +69,7 @@ impl<C: Clock + Drop> MioSystem<C> {
             clock,
             shown: 0,
             sockets: Vec::new(alloc),
+            recent: 0,
         })
     }
 
@@ -100,13 +103,29 @@ impl<C: Clock + Drop> MioSystem<C> {
     }
 
     fn socket(&mut self, number: u32) -> Result<&mut Socket, ErrorKind> {
-        match self
+        let Some(place) = self.place(number) else {
+            return Err(ErrorKind::NotFound);
+        };
+        self.recent = place;
+        Ok(&mut self.sockets[place])
+    }
+
+    /// Returns the place of a socket. It looks first behind the one that was asked last, since they are asked by rising
+    /// numbers.
+    fn place(&self, number: u32) -> Option<usize>
+        ensures { IfSome result (λ place. place < length self.now.sockets.items) }
+    {
+        let next = self.recent.saturating_add(1);
+        if self
             .sockets
-            .binary_search_by_key(&number, |socket| socket.number)
+            .get(next)
+            .is_some_and(|socket| socket.number == number)
         {
-            Ok(place) => Ok(&mut self.sockets[place]),
-            Err(_) => Err(ErrorKind::NotFound),
+            return Some(next);
         }
+        self.sockets
+            .binary_search_by_key(&number, |socket| socket.number)
+            .ok()
     }
 }
 

@@ -357,7 +357,9 @@ impl Peer {
     {
         let count = self.enqueue(bytes);
         self.cut = count < bytes.len();
-        self.ending = self.ending.written(!self.cut);
+        if !self.ending.is_open() {
+            self.ending = self.ending.written(!self.cut);
+        }
         system.told_write(self.number, bytes, Ok(count));
         count
     }
