@@ -203,9 +203,9 @@ def panels_that_read_are_kept(program):
     return f"{closed} of {PANELS} panels were closed" if closed else None
 
 
-def changes_without_end(throttle):
+def changes_without_end(throttle, command=b"SET 1 FB 1 %d\n"):
     """Sends changes as fast as they are taken, until the connection is shut."""
-    changes = b"".join(b"SET 1 FB 1 %d\n" % (turn % 2) for turn in range(1000))
+    changes = b"".join(command % (turn % 2) for turn in range(1000))
     try:
         while True:
             throttle.socket.sendall(changes)

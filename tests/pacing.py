@@ -1,12 +1,13 @@
 """What sessions that send without end do to panels that read, and to sessions that wait for a reply."""
 import os
 import signal
+import socket
 import threading
 import time
 from contextlib import contextmanager
 
 from door import changes_without_end, pipelines, reads_to_the_end
-from serving import Client, served
+from serving import Client, mirrored, rows_of, served
 
 PANELS = 8
 SECONDS_OF_LOAD = 3
@@ -14,6 +15,8 @@ QUIET_BESIDE = 20
 LONGEST_REPLY = 2
 LOCKS = 150
 SETS = 1_000_000
+ROWS = 1_000
+LONGEST_END = 4
 CLOSED = 1
 
 
@@ -68,6 +71,18 @@ def read_with_pauses(panel, pause, every):
             next_pause = time.monotonic() + every
 
 
+@contextmanager
+def sending_without_end(throttles, command=b"SET 1 FB 1 %d\n"):
+    """The sessions send changes as fast as they are taken, and read all replies."""
+    threads = [threading.Thread(target=reads_to_the_end, args=(throttle, [])) for throttle in throttles]
+    threads += [threading.Thread(target=changes_without_end, args=(throttle, command)) for throttle in throttles]
+    with running(threads):
+        try:
+            yield
+        finally:
+            shut(throttles)
+
+
 def sessions_on_both_sides(program):
     """Sessions that send without end have places before the panels and behind them: no panel that reads is closed."""
     for before, behind in ((16, 16), (24, 8)):
@@ -92,22 +107,21 @@ def sessions_on_both_sides(program):
 
 
 def quiet_session_beside_many(program):
-    """A session that sends one command at a time is answered soon, though others send without end and a panel reads."""
+    """A session that sends one change at a time is answered soon, though others send without end and a panel reads."""
     with served(program) as (port, _):
-        panel, late = Client(port, "INFO"), None
+        panel = Client(port, "INFO")
         throttles = [Client(port, "COMMAND") for _ in range(QUIET_BESIDE)]
         late = Client(port, "COMMAND")
-        threads = [threading.Thread(target=reads_to_the_end, args=(client, [])) for client in (panel, *throttles)]
-        threads += [threading.Thread(target=changes_without_end, args=(throttle,)) for throttle in throttles]
-        with running(threads):
-            time.sleep(0.5)
-            late.socket.settimeout(LONGEST_REPLY)
-            try:
-                replies = [late.asks("GET 1 POWER") for _ in range(5)]
-            except TimeoutError:
-                replies = None
-            shut([panel, *throttles])
-    return None if replies == ["100 INFO 1 POWER OFF"] * 5 else f"a quiet session is answered {replies}"
+        with running([threading.Thread(target=reads_to_the_end, args=(panel, []))]):
+            with sending_without_end(throttles):
+                time.sleep(0.5)
+                late.socket.settimeout(LONGEST_REPLY)
+                try:
+                    replies = [late.asks(f"SET 1 FB 2 {turn % 2}") for turn in range(5)]
+                except TimeoutError:
+                    replies = None
+            shut([panel])
+    return None if replies == ["200 OK"] * 5 else f"a quiet session is answered {replies}"
 
 
 def one_session_sends_a_million_commands(program):
@@ -179,5 +193,38 @@ def end_of_a_session_with_locks(program):
     return "the panel is closed" if closed else None
 
 
+def told_to_the_end(client, seconds):
+    """All that comes, and whether the stream ends within so many seconds."""
+    end, pieces = time.monotonic() + seconds, [b"-"]
+    while pieces[-1]:
+        client.settimeout(max(end - time.monotonic(), 0.001))
+        try:
+            pieces.append(client.recv(1 << 16))
+        except TimeoutError:
+            break
+    return b"".join(pieces[1:]), not pieces[-1]
+
+
+def half_closed_panel_beside_many(program):
+    """A panel that sends no more is sent its whole listing while 32 sessions send without end, and then its stream ends."""
+    with served(program) as (port, _):
+        first = Client(port, "COMMAND")
+        first.asks_many([f"INIT 1 GL {address} N 1 28 5" for address in range(1, ROWS + 1)])
+        with sending_without_end([Client(port, "COMMAND") for _ in range(32)], b"SET 1 GL 1 1 %d 28\n"):
+            time.sleep(0.3)
+            with socket.create_connection(("127.0.0.1", port)) as panel:
+                panel.sendall(b"SET CONNECTIONMODE SRCP INFO\nGO\n")
+                panel.shutdown(socket.SHUT_WR)
+                told, ended = told_to_the_end(panel, LONGEST_END)
+        listed = Client(port, "INFO").hears_until(b" 1 FB 8 0\n")
+    # Before its rows come the welcome line and two replies.
+    lines = told[:told.rfind(b"\n") + 1].splitlines(keepends=True)[3:]
+    held = mirrored(program, b"".join(line for line in lines if b" GL 1 " not in line))
+    got, want = ({line.split(b" ", 1)[1] for line in rows_of(rows) if b" GL 1 " not in line} for rows in (held, listed))
+    if wrong := got ^ want:
+        return f"of {len(want)} rows {len(wrong)} are missing or wrong: {sorted(wrong)[:3]}"
+    return None if ended else f"its stream goes on after {LONGEST_END} s and {len(lines)} lines"
+
+
 PACING_CASES = (sessions_on_both_sides, quiet_session_beside_many, one_session_sends_a_million_commands, panels_that_pause,
-                end_of_a_session_with_locks)
+                end_of_a_session_with_locks, half_closed_panel_beside_many)
