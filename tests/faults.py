@@ -6,6 +6,7 @@ import functools
 import os
 import resource
 import select
+import signal
 import socket
 import struct
 import threading
@@ -111,15 +112,32 @@ def served_with_faults(program, calls, fault_of):
             answerer.join()
 
 
-def processor_share(server, seconds):
-    """Which share of a processor a process takes for so long."""
-    def taken():
-        fields = Path(f"/proc/{server.pid}/stat").read_text().rsplit(")", 1)[1].split()
-        return (int(fields[11]) + int(fields[12])) / os.sysconf("SC_CLK_TCK")
+def processor_seconds(pid):
+    """How much of a processor a process took so far."""
+    fields = Path(f"/proc/{pid}/stat").read_text().rsplit(")", 1)[1].split()
+    return (int(fields[11]) + int(fields[12])) / os.sysconf("SC_CLK_TCK")
 
-    before, begun = taken(), time.monotonic()
-    time.sleep(seconds)
-    return (taken() - before) / (time.monotonic() - begun)
+
+@contextmanager
+def process_that_never_rests():
+    child = os.fork()
+    while child == 0:
+        pass
+    try:
+        yield child
+    finally:
+        os.kill(child, signal.SIGKILL)
+        os.waitpid(child, 0)
+
+
+def processor_share(server, seconds):
+    """How much of a processor a process takes for so long, as a share of what one takes that never rests: on a busy machine
+    that is little too."""
+    with process_that_never_rests() as other:
+        before = processor_seconds(server.pid), processor_seconds(other)
+        time.sleep(seconds)
+        taken, others = processor_seconds(server.pid) - before[0], processor_seconds(other) - before[1]
+    return taken / max(others, 0.01)
 
 
 @asks_the_system

@@ -198,14 +198,22 @@ def end_of_a_session_with_much_behind_it(program):
 
 
 def clients_at_64_places(program):
-    """Clients that find no place, and stay, cost no work."""
+    """Clients that find no place are turned away. If they stay all the same they cost no work, and the next one is let in
+    once a place is free."""
     with served(program) as (port, server):
         sessions = [Client(port, "COMMAND") for _ in range(64)]
         turned_away = [socket.create_connection(("127.0.0.1", port), timeout=SECONDS) for _ in range(10)]
+        if any(client.recv(100) for client in turned_away):
+            return "a client is answered that finds no place"
         share = processor_share(server, 1)
         reply = sessions[63].asks("GET 1 POWER")
+        sessions.pop(10).close()
+        time.sleep(0.1)
+        replies = reply, Client(port, "COMMAND").asks("GET 1 POWER")
         del turned_away
-    return None if share < 0.2 and reply == "100 INFO 1 POWER OFF" else f"{share:.0%} of a processor, and a reply: {reply}"
+    if share > 0.2:
+        return f"it takes {share:.0%} of a processor"
+    return None if replies == ("100 INFO 1 POWER OFF",) * 2 else f"one that has a place and one that comes are answered {replies}"
 
 
 LINGERING_CASES = (urgent_data_stalls_nobody, pulse_sent_to_a_server_that_stood_still, fall_after_a_long_wait,

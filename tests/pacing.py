@@ -14,6 +14,7 @@ SECONDS_OF_LOAD = 3
 QUIET_BESIDE = 20
 LONGEST_REPLY = 2
 LOCKS = 150
+ENDS = 10
 SETS = 1_000_000
 ROWS = 1_000
 LONGEST_END = 4
@@ -175,20 +176,15 @@ def panels_that_pause(program):
 def end_of_a_session_with_locks(program):
     """A session that ends with 150 locks, beside 16 that send without end, closes no panel."""
     with served(program) as (port, _):
-        holder, panel = Client(port, "COMMAND"), Client(port, "INFO")
-        ended = []
-        holder.asks_many([f"INIT 1 GL {address} N 1 28 0" for address in range(1, LOCKS + 17)])
-        throttles = [Client(port, "COMMAND") for _ in range(16)]
-        reader = threading.Thread(target=reads_to_the_end, args=(panel, ended))
-        end = time.monotonic() + SECONDS_OF_LOAD
-        with running([reader]):
-            with running([threading.Thread(target=pipelines, args=(throttle, LOCKS + address, end))
-                          for address, throttle in enumerate(throttles, 1)]):
-                for _ in range(5):
+        holder, panel, ended = Client(port, "COMMAND"), Client(port, "INFO"), []
+        holder.asks_many([f"INIT 1 GL {address} N 1 28 0" for address in range(1, LOCKS + 1)])
+        with running([threading.Thread(target=reads_to_the_end, args=(panel, ended))]):
+            with sending_without_end([Client(port, "COMMAND") for _ in range(16)]):
+                for _ in range(ENDS):
                     holder.asks_many([f"SET 1 LOCK GL {address} 0" for address in range(1, LOCKS + 1)])
                     holder.close()
                     holder = Client(port, "COMMAND")
-            closed = len(ended)
+                closed = len(ended)
             shut([panel])
     return "the panel is closed" if closed else None
 

@@ -34,6 +34,7 @@ from lingering import LINGERING_CASES
 from lint_and_status import LOOKING_CASES
 from pacing import PACING_CASES
 from pages import PAGE_CASES
+from rates import RATE_CASES
 from run_script import RUN_SCRIPT_CASES
 from safety import SAFETY_CASES
 from serving import SERVING_CASES, WELCOME, TriedNothing
@@ -244,7 +245,7 @@ STREAM_CASES = (input_past_its_limit, input_at_its_limit, input_that_cannot_be_r
                 run_in_little_memory, full_bus_that_stalls_nobody)
 ALL_CASES = (STREAM_CASES + TABLE_CASES + INPUT_CASES + SERVING_CASES + DOOR_CASES + FAULT_CASES + CLIENT_CASES
              + PAGE_CASES + RUN_SCRIPT_CASES + SAFETY_CASES + LOOKING_CASES + PACKAGE_CASES + LINGERING_CASES + PACING_CASES
-             + BRIDGE_CASES)
+             + RATE_CASES + BRIDGE_CASES)
 BESIDE = 10  # cases of bridges/ at once
 
 

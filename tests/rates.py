@@ -1,0 +1,154 @@
+"""How fast a panel has to read beside sessions that send without end, and how many changes may come at one moment."""
+import os
+import signal
+import subprocess
+import sys
+import tempfile
+import threading
+import time
+from contextlib import contextmanager
+from pathlib import Path
+
+from door import reads_to_the_end, small_socket
+from pacing import running, sending_without_end, shut
+from serving import Client, served
+
+PANEL = Path(__file__).resolve().parent.parent / "examples" / "panel.py"
+SETS = 1_000_000
+LONGEST = 60
+# The bytes of a line that tells a change of FB 1.
+LINE = len(b"1793674849.260 100 INFO 1 FB 1 1\n")
+GONE = "416 ERROR no data"
+SECONDS_OF_LOAD = 5
+LONGEST_UNTIL_CLOSED = 15
+PORTS = 149
+FALLS = 10
+
+
+@contextmanager
+def panel_reading(port, lines_a_second):
+    """The session of a panel in a process of its own, for which the system keeps little, and that reads so many lines of a
+    change a second."""
+    panel, told = small_socket(port), b""
+    panel.sendall(b"SET CONNECTIONMODE SRCP INFO\nGO\n")
+    while told.count(b"\n") < 3:
+        told += panel.recv(1)
+    child = os.fork()
+    if child == 0:
+        try:
+            read_at(panel, lines_a_second * LINE)
+        finally:
+            os._exit(0)
+    panel.close()
+    try:
+        yield int(told.split()[-1])
+    finally:
+        os.kill(child, signal.SIGKILL)
+        os.waitpid(child, 0)
+
+
+def read_at(client, bytes_a_second):
+    """Reads so much a second, until the end."""
+    client.settimeout(None)
+    begun, count = time.monotonic(), 0
+    while True:
+        due = int((time.monotonic() - begun) * bytes_a_second) - count
+        if due < LINE:
+            time.sleep(0.002)
+            continue
+        piece = client.recv(due)
+        if not piece:
+            return
+        count += len(piece)
+
+
+def closed_after(port, lines_a_second, seconds):
+    """When a panel that reads so fast is closed beside a session that sends without end, or None if it is kept so long."""
+    asker = Client(port, "COMMAND")
+    with sending_without_end([Client(port, "COMMAND")]), panel_reading(port, lines_a_second) as session:
+        begun = time.monotonic()
+        while (waited := time.monotonic() - begun) < seconds:
+            if asker.asks(f"GET 0 SESSION {session}") == GONE:
+                return waited
+            time.sleep(0.05)
+    return None
+
+
+def panel_that_reads_a_little_faster_than_a_line_a_millisecond(program):
+    """It is kept beside a session that sends without end."""
+    with served(program) as (port, _):
+        closed = closed_after(port, 1_500, SECONDS_OF_LOAD)
+    return None if closed is None else f"it is closed after {closed:.1f} s"
+
+
+def panel_that_reads_slower_than_a_line_a_millisecond(program):
+    """It is closed once all buffers on its way are full, so that nobody waits for it for ever."""
+    with served(program) as (port, _):
+        closed = closed_after(port, 300, LONGEST_UNTIL_CLOSED)
+    return f"it is not closed in {LONGEST_UNTIL_CLOSED} s" if closed is None else None
+
+
+def panel_of_the_examples_beside_a_million_commands(program):
+    """The panel of examples/ prints each change of a session that sends a million in one go."""
+    with served(program) as (port, _), tempfile.NamedTemporaryFile() as out:
+        throttle = Client(port, "COMMAND")
+        throttle.asks("INIT 1 GL 3 N 1 28 5")
+        commands = b"".join(b"SET 1 GL 3 1 %d 28\n" % (turn % 29) for turn in range(SETS)) + b"SET 1 POWER ON last\n"
+        panel = subprocess.Popen([sys.executable, PANEL, "--port", str(port)], stdout=out)
+        try:
+            time.sleep(1)
+            with running([threading.Thread(target=reads_to_the_end, args=(throttle, [])),
+                          threading.Thread(target=throttle.socket.sendall, args=(commands,))]):
+                end = time.monotonic() + LONGEST
+                while time.monotonic() < end and not last_bytes(out.name).endswith((b" ON last\n", b" server\n")):
+                    time.sleep(0.1)
+                shut([throttle])
+        finally:
+            panel.kill()
+            panel.wait()
+        told = Path(out.name).read_bytes()
+    count = told.count(b" 100 INFO 1 GL 3 1 ")
+    return None if count == SETS else f"it prints {count} of {SETS} changes; at last {told[-40:]!r}"
+
+
+def last_bytes(name):
+    with open(name, "rb") as file:
+        file.seek(0, os.SEEK_END)
+        file.seek(max(file.tell() - 100, 0))
+        return file.read()
+
+
+def changes_at_one_moment_beside_many(program):
+    """Ports fall back at one moment, 149 of them, while sessions before and behind a panel send without end. The panel is
+    told of each fall."""
+    with served(program) as (port, _):
+        first = Client(port, "COMMAND")
+        addresses = [range(fall * PORTS + 1, (fall + 1) * PORTS + 1) for fall in range(FALLS)]
+        first.asks_many([f"INIT 1 GA {address} N" for of_fall in addresses for address in of_fall])
+        throttles = [Client(port, "COMMAND") for _ in range(6)]
+        place = Client(port, "COMMAND")
+        throttles += [Client(port, "COMMAND") for _ in range(6)]
+        place.asks("TERM 0 SESSION")
+        # While no panel is there these are taken at once, so that those of a fall are due at one moment.
+        begun = time.monotonic()
+        for fall, of_fall in enumerate(addresses):
+            due = 2000 + 100 * fall - int((time.monotonic() - begun) * 1000)
+            first.asks_many([f"SET 1 GA {address} 0 1 {due}" for address in of_fall])
+        panel = Client(port, "INFO")
+        panel.hears_until(b" 100 INFO 1 FB 8 0\n")
+        with sending_without_end(throttles):
+            heard = falls_heard(panel, FALLS * PORTS)
+    return None if heard == FALLS * PORTS else f"a panel is told of {heard} of {FALLS * PORTS} falls"
+
+
+def falls_heard(panel, most):
+    """How many falls a panel is told of until they are so many or it is closed."""
+    heard, rest = 0, panel.begun
+    while heard < most and (piece := panel.socket.recv(1 << 20)):
+        *lines, rest = (rest + piece).split(b"\n")
+        heard += sum(b" 100 INFO 1 GA " in line for line in lines)
+    return heard
+
+
+RATE_CASES = (panel_that_reads_a_little_faster_than_a_line_a_millisecond, panel_that_reads_slower_than_a_line_a_millisecond,
+              panel_of_the_examples_beside_a_million_commands, changes_at_one_moment_beside_many)
