@@ -43,8 +43,8 @@ def shut(clients):
 
 @contextmanager
 def panel_that_pauses(port, pause, every):
-    """A panel in a process of its own, which stands still for `pause` seconds each `every` seconds; it says at the end
-    whether it was closed."""
+    """A panel in a process of its own, which stands still for `pause` seconds after each `every` seconds. Its session is in
+    the list at the end if it was closed."""
     panel, closed = Client(port, "INFO", receives=4096), []
     child = os.fork()
     if child == 0:
@@ -157,20 +157,21 @@ def told_until(panel, end):
 
 
 def panels_that_pause(program):
-    """One pauses for 150 ms, one for 50 ms each half second, while sessions send without end: neither is closed."""
+    """One pauses once for 150 ms, one for 50 ms each second, while sessions send without end: neither is closed."""
     for senders in (1, 32):
-        with served(program) as (port, _):
-            first = Client(port, "COMMAND")
-            first.asks(*(f"INIT 1 GL {address} N 1 28 5" for address in range(1, senders + 1)))
-            throttles = [Client(port, "COMMAND") for _ in range(senders)]
-            end = time.monotonic() + SECONDS_OF_LOAD
-            with panel_that_pauses(port, 0.15, SECONDS_OF_LOAD / 2) as once, panel_that_pauses(port, 0.05, 0.5) as often:
-                with running([threading.Thread(target=pipelines, args=(throttle, address, end))
-                              for address, throttle in enumerate(throttles, 1)]):
-                    pass
-        if once or often:
-            return f"beside {senders} sessions panels that pause are closed: {len(once)} for 150 ms, {len(often)} for 50 ms"
+        if closed := panels_closed_by_pauses(program, senders, 2 * SECONDS_OF_LOAD):
+            return f"beside {senders} sessions panels that pause are closed: {closed}"
     return None
+
+
+def panels_closed_by_pauses(program, senders, seconds):
+    """Which pauses close a panel while so many sessions send without end for so long."""
+    with served(program) as (port, _):
+        throttles = [Client(port, "COMMAND") for _ in range(senders)]
+        with panel_that_pauses(port, 0.15, seconds / 2) as once, panel_that_pauses(port, 0.05, 1) as often:
+            with sending_without_end(throttles):
+                time.sleep(seconds)
+    return [name for name, closed in (("150 ms once", once), ("50 ms each second", often)) if closed]
 
 
 def end_of_a_session_with_locks(program):

@@ -2,7 +2,8 @@
 """bench_latency.py PROGRAM [SECONDS]: how long a lone command waits beside a panel that stops reading, and how late a fall is.
 
 One session sends without end, and one panel reads nothing, until the server closes it. A third session sends one command at
-a time meanwhile and for a second more: it prints the median, the 99th percentile and the greatest of its waits.
+a time meanwhile and for a second more, in turn a question, which brings no change, and a change. It prints the median, the 99th
+percentile and the greatest of the waits of each.
 Then a port is set for SECONDS, 60 if not given, and it prints how late a panel is told of its fall.
 """
 import sys
@@ -17,16 +18,17 @@ from serving import Client, served  # noqa: E402
 SECONDS_AT_MOST = 60
 
 
-def waits_beside(port: int, panel: Client) -> tuple[list[float], float]:
-    """How long each command of a lone session waits for its reply, until a second after the panel's session has ended, and
-    when that was."""
-    lone, waits, begun, closed = Client(port, "COMMAND"), [], time.monotonic(), 0.0
+def waits_beside(port: int, panel: Client) -> tuple[dict[str, list[float]], float]:
+    """How long each question and each change of a lone session waits for its reply, until a second after the panel's session
+    has ended, and when that was."""
+    lone, waits, begun, closed = Client(port, "COMMAND"), {"question": [], "change": []}, time.monotonic(), 0.0
     while not closed or time.monotonic() < begun + closed + 1:
-        sent = time.monotonic()
-        reply = lone.asks(f"GET 0 SESSION {panel.session}")
-        waits.append(time.monotonic() - sent)
-        if reply.startswith("416") and not closed:
-            closed = sent - begun
+        for name, command in (("question", f"GET 0 SESSION {panel.session}"), ("change", "SET 1 FB 2 1")):
+            sent = time.monotonic()
+            reply = lone.asks(command)
+            waits[name].append(time.monotonic() - sent)
+            if reply.startswith("416") and not closed:
+                closed = sent - begun
         assert sent < begun + SECONDS_AT_MOST, "the panel is not closed"
     return waits, closed
 
@@ -42,10 +44,12 @@ def panel_that_stops(program: str):
         throttle.socket.shutdown(2)
         for thread in threads:
             thread.join()
-    waits.sort()
-    middle, high = (waits[len(waits) * part // 100] * 1e3 for part in (50, 99))
-    print(f"a lone command beside a panel that reads nothing and is closed after {closed:.1f} s: median {middle:.2f} ms, "
-          f"99 of 100 {high:.2f} ms, at most {waits[-1] * 1e3:.2f} ms, of {len(waits):,}", flush=True)
+    print(f"a panel that reads nothing is closed after {closed:.1f} s", flush=True)
+    for name, of_name in waits.items():
+        of_name.sort()
+        middle, high = (of_name[len(of_name) * part // 100] * 1e3 for part in (50, 99))
+        print(f"a lone {name} beside it waits: median {middle:.2f} ms, 99 of 100 {high:.2f} ms, at most {of_name[-1] * 1e3:.2f} ms, "
+              f"of {len(of_name):,}", flush=True)
 
 
 def fall(program: str, seconds: int):
