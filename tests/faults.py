@@ -130,14 +130,15 @@ def process_that_never_rests():
         os.waitpid(child, 0)
 
 
-def processor_share(server, seconds):
-    """How much of a processor a process takes for so long, as a share of what one takes that never rests: on a busy machine
-    that is little too."""
+def work_without_rest(server, seconds):
+    """How much of a processor a server takes for so long, as a text, if that is a fifth of one, or on a busy machine half of
+    what a process takes that never rests; or None."""
     with process_that_never_rests() as other:
-        before = processor_seconds(server.pid), processor_seconds(other)
+        before, begun = (processor_seconds(server.pid), processor_seconds(other)), time.monotonic()
         time.sleep(seconds)
         taken, others = processor_seconds(server.pid) - before[0], processor_seconds(other) - before[1]
-    return taken / max(others, 0.01)
+        share = taken / (time.monotonic() - begun)
+    return f"it takes {share:.0%} of a processor" if share > 0.2 or taken > max(others / 2, 0.1) else None
 
 
 @asks_the_system
@@ -183,13 +184,13 @@ def waits_in_vain(program, refusal):
         # the wait that began before that ends by a command
         throttle.socket.sendall(b"CHECK 1 POWER\n")
         before = calls[WAIT]
-        share = processor_share(server, 1)
+        busy = work_without_rest(server, 1)
         tries = calls[WAIT] - before
         refuses.clear()
         throttle.line()
         reply = throttle.asks("GET 1 POWER")
-    if share > 0.2 or not 0 < tries < 500:
-        return f"{errno.errorcode[refusal]}: it waits {tries} times a second, and takes {share:.0%} of a processor"
+    if busy or not 0 < tries < 500:
+        return f"{errno.errorcode[refusal]}: it waits {tries} times a second; {busy}"
     return None if reply == "100 INFO 1 POWER OFF" else f"then a command is answered {reply}"
 
 
@@ -200,7 +201,7 @@ def accept_that_is_refused(program):
         limits = resource.prlimit(server.pid, resource.RLIMIT_NOFILE)
         resource.prlimit(server.pid, resource.RLIMIT_NOFILE, (0, limits[1]))
         with socket.create_connection(("127.0.0.1", port), timeout=SECONDS) as newcomer:
-            share = processor_share(server, 1)
+            busy = work_without_rest(server, 1)
             reply = throttle.asks("GET 1 POWER")
             newcomer.settimeout(0.1)
             try:
@@ -210,8 +211,8 @@ def accept_that_is_refused(program):
             resource.prlimit(server.pid, resource.RLIMIT_NOFILE, limits)
             newcomer.settimeout(SECONDS)
             told = newcomer.recv(100)
-    if share > 0.2 or reply != "100 INFO 1 POWER OFF":
-        return f"it takes {share:.0%} of a processor, and a command is answered {reply}"
+    if busy or reply != "100 INFO 1 POWER OFF":
+        return f"{busy}; a command is answered {reply}"
     return None if told == WELCOME else f"with a descriptor it was told {told!r}"
 
 
