@@ -107,7 +107,8 @@ def panel_of_the_examples_beside_a_million_commands(program):
             panel.kill()
             panel.wait()
         told = Path(out.name).read_bytes()
-    count = told.count(b" 100 INFO 1 GL 3 1 ")
+    # One line of its listing looks like a change.
+    count = told.count(b" 100 INFO 1 GL 3 1 ") - 1
     return None if count == SETS else f"it prints {count} of {SETS} changes; at last {told[-40:]!r}"
 
 
@@ -137,8 +138,24 @@ def changes_at_one_moment_beside_many(program):
         panel = Client(port, "INFO")
         panel.hears_until(b" 100 INFO 1 FB 8 0\n")
         with sending_without_end(throttles):
-            heard = falls_heard(panel, FALLS * PORTS)
+            heard = in_a_process(falls_heard, panel, FALLS * PORTS)
     return None if heard == FALLS * PORTS else f"a panel is told of {heard} of {FALLS * PORTS} falls"
+
+
+def in_a_process(reads, *words):
+    """What a function returns in a process of its own, where no thread of this one holds it up."""
+    told, tells = os.pipe()
+    child = os.fork()
+    if child == 0:
+        try:
+            os.write(tells, repr(reads(*words)).encode())
+        finally:
+            os._exit(0)
+    os.close(tells)
+    with open(told, encoding="ascii") as answer:
+        text = answer.read()
+    os.waitpid(child, 0)
+    return int(text or -1)
 
 
 def falls_heard(panel, most):
