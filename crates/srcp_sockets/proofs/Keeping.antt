@@ -198,18 +198,21 @@ pub spares_shut : (n other : ℕ) (old new : Option (List Step)) → other ≢ n
 spares_shut n other old new differ tells =
     spares_after other old new (Shuts n) tells (λ a. skips (n == other) (shut_down a) a (alien n other differ))
 
-pub kept_taken : (old new : Option (List Step)) (p : Peer) (bytes : List ℕ) (count : ℕ) (ending : Ending) → p.stay ≡ stay.Here
+pub kept_taken : (old new : Option (List Step)) (p : Peer) (bytes : List ℕ) (count : ℕ) (ending : Ending) (room : ℕ)
+    → p.stay ≡ stay.Here
     → Tells old (Told (WriteCall p.number bytes (Ok count))) new → IsKept old p
     → IsKept new (record p {
       outgoing = queued_more p.output p.outgoing (take count bytes);
       cut = nat_lt count (length bytes);
       ending = ending;
+      room = room;
     })
-kept_taken old new p bytes count ending here tells kept =
+kept_taken old new p bytes count ending room here tells kept =
     let q : Peer = record p {
       outgoing = queued_more p.output p.outgoing (take count bytes);
       cut = nat_lt count (length bytes);
       ending = ending;
+      room = room;
     } in
     kept_after old new (Told (WriteCall p.number bytes (Ok count))) p q tells refl
     (λ (a : Account) (h : Agrees a p). agrees_own (p.number == p.number) _ a q (own p.number) (record {
@@ -322,9 +325,9 @@ kept_again told p again kept log is =
     }
 
 -- its mark was cleared, or it went on on the way to its end
-pub kept_visit : (told : Option (List Step)) (p : Peer) (share : Share) (ending : Ending) → share.line ≡ p.share.line → IsKept told p
-    → IsKept told (record p { share = share; ending = ending })
-kept_visit told p share ending same kept log is =
+pub kept_visit : (told : Option (List Step)) (p : Peer) (share : Share) (ending : Ending) (room : ℕ) → share.line ≡ p.share.line
+    → IsKept told p → IsKept told (record p { share = share; ending = ending; room = room })
+kept_visit told p share ending room same kept log is =
     let h = kept log is in
     record {
       cut = h.cut;

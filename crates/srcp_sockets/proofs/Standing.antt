@@ -47,6 +47,7 @@ nobody = record {
   share = record { line = line.Ended; mark = true };
   ending = ending.Open;
   asked = true;
+  room = 300;
 }
 
 pub find : (socket : ℕ) (peers : List Peer) → IsThere socket peers ⊎ IsAbsent socket peers
@@ -381,6 +382,7 @@ newcomer number = record {
   share = record { line = line.Ended; mark = true };
   ending = ending.Open;
   asked = true;
+  room = 300;
 }
 
 -- what an accept says of the sockets

@@ -65,6 +65,8 @@ pub struct Peer {
     pub ending: Ending,
     /// Whether input of it was handed out since it was flushed: what it is written then is an answer.
     pub asked: bool,
+    /// How many lines may still be queued for it in this visit while its socket refuses more.
+    pub room: u32,
 }
 
 /// What a read of a peer gave.
@@ -93,6 +95,7 @@ impl Peer {
           share = record { line = Line.Ended; mark = true };
           ending = Ending.Open;
           asked = true;
+          room = MOST_WRITES;
         }) }
     {
         Ok(Peer {
@@ -109,6 +112,7 @@ impl Peer {
             },
             ending: Ending::Open,
             asked: true,
+            room: MOST_WRITES,
         })
     }
 
@@ -176,8 +180,9 @@ impl Peer {
             || self.asked && (self.cut || self.incoming.is_empty())
     }
 
-    /// Begins a visit: reads its socket, and goes on on the way to its end. With `clear` its mark is cleared.
-    pub fn begin_visit<S: System>(&mut self, system: &mut S, clear: bool)
+    /// Begins a visit: reads its socket, and goes on on the way to its end. With `clear` its mark is cleared. So many lines
+    /// may be queued in the visit while its socket refuses more.
+    pub fn begin_visit<S: System>(&mut self, system: &mut S, clear: bool, room: u32)
         requires { IsKept (S.told system.old) self.old }
         ensures kept { IsKept (S.told system.new) self.new }
         ensures others { (other : ℕ) → other ≢ self.old.number → Spares other (S.told system.old) (S.told system.new) }
@@ -195,9 +200,11 @@ impl Peer {
           input = self.new.input;
           share = self.new.share;
           ending = self.new.ending;
+          room = room;
         } }
     {
         self.fill(system);
+        self.room = room;
         self.share.mark = !clear && self.share.mark;
         self.ending = self.ending.begin_visit(self.input.is_over(&self.incoming));
     }
@@ -369,11 +376,16 @@ impl Peer {
         ensures count { result ≤ length bytes.now }
         ensures new { self.new ≡ record self.old {
           outgoing = queued_more self.old.output self.old.outgoing (take result bytes.now);
+          room = self.new.room;
         } }
     {
         match self.output {
             Writing::Lost => bytes.len(),
-            Writing::Open | Writing::Full => self.outgoing.take(bytes),
+            Writing::Full if self.room == 0 => 0,
+            Writing::Open | Writing::Full => {
+                self.room = self.room.saturating_sub(1);
+                self.outgoing.take(bytes)
+            }
         }
     }
 

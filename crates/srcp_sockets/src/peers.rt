@@ -31,8 +31,9 @@ pub(crate) fn flush<S: System>(system: &mut S, peers: &mut [Peer], what: Flush) 
     leaving
 }
 
-/// Begins the visit of each peer; with `clear` the marks are cleared.
-pub(crate) fn begin_visits<S: System>(system: &mut S, peers: &mut [Peer], clear: bool)
+/// Begins the visit of each peer; with `clear` the marks are cleared. So many lines may be queued for each whose socket
+/// refuses more.
+pub(crate) fn begin_visits<S: System>(system: &mut S, peers: &mut [Peer], clear: bool, room: u32)
     requires kept { AreKept (S.told system.old) peers.old }
     requires apart { AreApart peers.old }
     ensures kept { AreKept (S.told system.new) peers.new }
@@ -45,7 +46,7 @@ pub(crate) fn begin_visits<S: System>(system: &mut S, peers: &mut [Peer], clear:
     ensures marks { AreMarked clear peers.old peers.new }
 {
     for peer in peers.iter_mut() {
-        peer.begin_visit(system, clear);
+        peer.begin_visit(system, clear, room);
     }
 }
 

@@ -25,7 +25,7 @@ use crate::stay::PATIENCE;
 use crate::system::{Ready, Refusal, System, refusal_of};
 use crate::turn::Turn;
 use crate::waiting::{Listening, longest_wait};
-use srcp_serve::{DoorFault, Got};
+use srcp_serve::{DoorFault, Got, MOST_WRITES};
 use std::alloc::{AllocError, Global};
 use std::vec::Vec;
 
@@ -74,12 +74,13 @@ impl<S: System + Drop> Sockets<S> {
         ensures calls { SaysNothing (S.told self.old.system) (S.told self.new.system) }
         ensures read { AreRead (S.told self.new.system) }
     {
-        let held = self.goes_on();
+        let holds = self.holds_input();
+        let held = self.goes_on(holds);
         let what = self.flushing(held);
         let leaving = self.flush(what);
         self.close_gone(leaving);
         self.look(held, ready);
-        self.begin_visits();
+        self.begin_visits(holds);
     }
 
     /// Returns whether the clock went on since the flush before, or the turn stands still until it does.
@@ -87,9 +88,9 @@ impl<S: System + Drop> Sockets<S> {
         self.turn.clock != self.flushed || self.turn.stop() > 0
     }
 
-    /// Returns whether input of a peer is held that the core takes, until the clock goes on.
-    fn goes_on(&self) -> bool {
-        !self.has_ticked() && self.holds_input()
+    /// Returns whether the turn goes on with the input that is held, where `holds` says that some is: until the clock goes on.
+    fn goes_on(&self, holds: bool) -> bool {
+        !self.has_ticked() && holds
     }
 
     /// Returns what is flushed, where `held` says that the turn goes on with the input that is held: all before a wait, or
@@ -148,15 +149,23 @@ impl<S: System + Drop> Sockets<S> {
         self.turn.wait();
     }
 
-    /// Begins the visit of each peer. The marks are cleared if no peer was refused its first line in the turn before.
-    fn begin_visits(&mut self)
+    /// Begins the visit of each peer; `holds` says whether input was held as the turn began. The marks are cleared if no peer
+    /// was refused its first line in the turn before.
+    fn begin_visits(&mut self, holds: bool)
         ensures calls { SaysNothing (S.told self.old.system) (S.told self.new.system) }
         ensures read { AreRead (S.told self.new.system) }
         ensures marks { AreMarked (not self.old.refused) self.old.peers.items self.new.peers.items }
     {
         let clear = !self.refused;
+        let room = self.room(holds);
         self.refused = false;
-        begin_visits(&mut self.system, self.peers.as_mut_slice(), clear);
+        begin_visits(&mut self.system, self.peers.as_mut_slice(), clear, room);
+    }
+
+    /// Returns how many lines may be queued for a peer whose socket refuses more. While commands wait for the panels, that
+    /// is what the panels lack: so what may be queued for a panel lasts for as many lines, one a millisecond.
+    fn room(&self, holds: bool) -> u32 {
+        if holds { self.turn.lack() } else { MOST_WRITES }
     }
 
     /// Delivers what was taken, for 10 seconds at most, and lets the sockets go.

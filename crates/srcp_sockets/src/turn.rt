@@ -10,7 +10,7 @@ ghost use Rattle.srcp_sockets.specs.Turns.{is_behind, is_pending, is_short, mome
 use srcp_door::{Allowed, MOST_SLACK, Pace, RESERVE, Share, Timekeeper};
 use srcp_feed::MOST_WAITING;
 use srcp_rules::MOST_CHANGES;
-use srcp_serve::{DoorFault, Got};
+use srcp_serve::{DoorFault, Got, MOST_WRITES};
 
 // The most changes that may wait for a panel are those that may come before one overruns for which none waits.
 const _: () = prove!(MOST_SLACK == MOST_WAITING);
@@ -89,6 +89,15 @@ impl Turn {
         ensures { result ≡ stop self.now }
     {
         u64::from(is_behind(self.before) && is_behind(self.slack))
+    }
+
+    /// Returns how many changes the panels lack for a line to go before the clock goes on; as many as a peer is written lines
+    /// in a visit if there is no panel.
+    pub(crate) fn lack(&self) -> u32 {
+        match self.slack {
+            Some(slack) => u32::try_from(RESERVE.saturating_sub(slack)).unwrap_or(MOST_WRITES),
+            None => MOST_WRITES,
+        }
     }
 
     /// Returns whether the panels can take less than a line may bring.
