@@ -295,7 +295,7 @@ impl<S: System + Drop> Sockets<S> {
         }
     }
 
-    /// Closes the first peer that was let go and for which nothing is left to do, if one was let go.
+    /// Closes the peers that were let go and for which nothing is left to do, if one was let go.
     fn close_gone(&mut self, leaving: bool)
         ensures calls { SaysNothing (S.told self.old.system) (S.told self.new.system) }
         ensures last { self.new.last ≡ self.old.last }
@@ -303,7 +303,10 @@ impl<S: System + Drop> Sockets<S> {
         if !leaving {
             return;
         }
-        if let Some(place) = first_gone(self.peers.as_slice(), self.turn.clock) {
+        for _ in 0..MOST_LEAVING {
+            let Some(place) = first_gone(self.peers.as_slice(), self.turn.clock) else {
+                return;
+            };
             self.close_at(place);
         }
     }
