@@ -84,6 +84,22 @@ def sending_without_end(throttles, command=b"SET 1 FB 1 %d\n"):
             shut(throttles)
 
 
+def in_a_process(reads, *words):
+    """What a function returns in a process of its own, where no thread of this one holds it up."""
+    told, tells = os.pipe()
+    child = os.fork()
+    if child == 0:
+        try:
+            os.write(tells, repr(reads(*words)).encode())
+        finally:
+            os._exit(0)
+    os.close(tells)
+    with open(told, encoding="ascii") as answer:
+        text = answer.read()
+    os.waitpid(child, 0)
+    return int(text or -1)
+
+
 def sessions_on_both_sides(program):
     """Sessions that send without end have places before the panels and behind them: no panel that reads is closed."""
     for before, behind in ((16, 16), (24, 8)):
@@ -131,28 +147,30 @@ def one_session_sends_a_million_commands(program):
         throttle, panel = Client(port, "COMMAND"), Client(port, "INFO")
         throttle.asks("INIT 1 GL 3 N 1 28 5")
         commands = b"".join(b"SET 1 GL 3 1 %d 28\n" % (turn % 29) for turn in range(SETS)) + b"SET 1 POWER ON last\n"
-        ended = []
-        threads = [threading.Thread(target=reads_to_the_end, args=(throttle, [])),
-                   threading.Thread(target=throttle.socket.sendall, args=(commands,))]
-        with running(threads):
-            try:
-                told = told_until(panel, b" 100 INFO 1 POWER ON last\n")
-            except (EOFError, OSError) as fault:
-                told = repr(fault)
+        with running([threading.Thread(target=reads_to_the_end, args=(throttle, [])),
+                      threading.Thread(target=send_all, args=(throttle, commands))]):
+            told = in_a_process(told_until, panel, b" 100 INFO 1 POWER ON last\n")
             shut([throttle])
     return None if told == SETS else f"a panel is told {told} of {SETS} changes"
 
 
+def send_all(client, commands):
+    """Sends all of it, unless the connection is shut meanwhile."""
+    try:
+        client.socket.sendall(commands)
+    except OSError:
+        pass
+
+
 def told_until(panel, end):
-    """How many changes of a locomotive's speed a panel is told until the line that ends so."""
+    """How many changes of a locomotive's speed a panel is told until the line that ends so, or until it is closed."""
     count, rest = 0, panel.begun
-    while not rest.endswith(end):
-        more = panel.socket.recv(1 << 20)
-        if not more:
-            raise EOFError(f"after {count}")
-        lines = (rest + more).split(b"\n")
-        rest = lines[-1] if not more.endswith(end) else end
-        count += sum(b" 100 INFO 1 GL 3 1 " in line for line in lines[:-1])
+    while piece := panel.socket.recv(1 << 20):
+        lines, _, rest = (rest + piece).rpartition(b"\n")
+        count += lines.count(b" 100 INFO 1 GL 3 1 ")
+        if (lines + b"\n").endswith(end):
+            break
+    # One line of its listing looks like a change.
     return count - 1
 
 
