@@ -5,6 +5,8 @@ import tempfile
 import tomllib
 from pathlib import Path
 
+from serving import expected_text
+
 SECONDS = 300
 DOCUMENT = b"""port = 4303
 [[bus]]
@@ -80,7 +82,8 @@ def fault_of_script(script):
 
 
 def script_cut_after_each_byte(program):
-    script, whole = (STORED_RUN / "stdin").read_bytes(), (STORED_RUN / "stdout").read_bytes()
+    script = (STORED_RUN / "stdin").read_bytes()
+    whole = expected_text((STORED_RUN / "stdout").read_bytes())
     sent = whole.partition(b"\n")[2]
     for count in range(len(script) + 1):
         status, complaint, told = outcome(program, [], script[:count])

@@ -4,9 +4,10 @@ No program computes these records. Each follows from what is promised of the one
 gives no connection, and the next one gets its number; a line that is refused is answered 500 and changes nothing.
 """
 from run_cases import CASES, parse_record
+from serving import expected_text
 
 SCRIPT = (CASES / "listing-whole" / "stdin").read_text()
-OUTPUT = (CASES / "listing-whole" / "stdout").read_bytes()
+OUTPUT = expected_text((CASES / "listing-whole" / "stdout").read_bytes())
 # the lines that the throttle and the panel are sent where nothing is refused, without the listing, and the rows at the end
 THROTTLE = parse_record(OUTPUT)[0]["1"]["sent"].splitlines()
 PANEL = parse_record(OUTPUT)[0]["2"]["sent"].splitlines()[:3]

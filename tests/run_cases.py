@@ -37,14 +37,13 @@ from pages import PAGE_CASES
 from rates import RATE_CASES
 from run_script import RUN_SCRIPT_CASES
 from safety import SAFETY_CASES
-from serving import SERVING_CASES, WELCOME, TriedNothing
+from serving import SERVING_CASES, TriedNothing, expected_text
 from tables import TABLE_CASES
 
 TESTS = Path(__file__).resolve().parent
 CASES = TESTS / "cases"
 INPUT_LIMIT = 16_777_216
 CONFIG_LIMIT = 1_048_576
-TEXTS = {b"{WELCOME}": WELCOME.removesuffix(b"\n"), b"{VERSION}": WELCOME.partition(b";")[0]}
 SECONDS = 300
 
 
@@ -89,9 +88,7 @@ def run_case(folder, program):
 
     def expected(name):
         text = content(name)
-        for word in TEXTS if text else ():
-            text = text.replace(word, TEXTS[word])
-        return text
+        return expected_text(text) if text else text
 
     elsewhere = content("stdin.from")
     stdin = content(elsewhere.decode().strip() if elsewhere else "stdin")

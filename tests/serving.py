@@ -18,7 +18,16 @@ ga_max = 2044
 fb_ports = 8
 """
 WELCOME = b"srcp_server 1.0; SRCP 0.8.4; SRCPOTHER 0.8.3\n"
+# in what a case expects these words stand for texts of the program
+TEXTS = {b"{WELCOME}": WELCOME.removesuffix(b"\n"), b"{VERSION}": WELCOME.partition(b";")[0]}
 SECONDS = 20
+
+
+def expected_text(text):
+    """What a case expects, with the texts of the program in place of their words."""
+    for word in TEXTS:
+        text = text.replace(word, TEXTS[word])
+    return text
 
 
 class TriedNothing(Exception):
