@@ -126,7 +126,8 @@ def status_of_no_server(program):
 def signals_that_end_the_server(program):
     """Ctrl-C, SIGTERM, and the end of its terminal (SIGHUP), which a server that nohup starts ignores."""
     for number in (signal.SIGINT, signal.SIGTERM, signal.SIGHUP):
-        with served(program) as (_, server):
+        # the gate itself may run under nohup
+        with served(program, prepare=lambda: signal.signal(signal.SIGHUP, signal.SIG_DFL)) as (_, server):
             server.send_signal(number)
             if server.wait(SECONDS) != -number:
                 return f"{number!r} ends it with {server.returncode}"
