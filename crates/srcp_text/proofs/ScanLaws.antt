@@ -1,5 +1,5 @@
 -- Laws of the words of a line that is gone through from its front.
-use Rattle.std.specs.Prelude.{◌≡◌, ℕ, ◌+◌, ◌<◌, ◌≤◌, Bool, false, not, List, [], ◌∷◌, length, take, drop, get_or, position, unwrap_or}
+use Rattle.std.specs.Prelude.{◌≡◌, ℕ, ◌+◌, ◌<◌, ◌≤◌, Bool, false, not, List, [], ◌∷◌, length, take, drop, get_or, position}
 use Rattle.std.specs.Prelude.{nat_lt, Option, Some, None}
 use Rattle.std.specs.List.{list_any, filter, slice_split, position_or_len}
 use Rattle.std.proofs.Common.{refl, ap, sym, ◌∙◌, arith, inl, inr, suc, drop-cons, add-one, length-drop}
@@ -16,14 +16,6 @@ use Rattle.srcp_text.proofs.WordLaws.{words_of_blank, words_of_word}
 -- the first place that passes is within the list
 pub position_or_len-le : (p : ℕ → Bool) (xs : List ℕ) → position_or_len p xs ≤ length xs
 position_or_len-le p xs = prefix_len-le-length (λ x. not (p x)) xs
-
--- the first place that passes, or the length
-pub unwrap_or-position : (p : ℕ → Bool) (xs : List ℕ) → unwrap_or (position p xs) (length xs) ≡ position_or_len p xs
-unwrap_or-position p xs =
-    elim (cases_lt (position_or_len p xs) (length xs)) [
-      | inl inside ↦ rw (lt-ltb (position_or_len p xs) (length xs) inside) refl
-      | inr outside ↦ rw (le-ltb (position_or_len p xs) (length xs) outside) (omega (arith, position_or_len-le p xs))
-    ]
 
 -- where it is found
 pub position_some : (p : ℕ → Bool) (xs : List ℕ) (n : ℕ) → position p xs ≡ Some n → (position_or_len p xs ≡ n) × (n < length xs)
@@ -44,14 +36,10 @@ words_of-drop_blanks (x ∷ xs) =
           ap (λ n. words_of (drop n (x ∷ xs))) e
     ]
 
--- what is left begins with no blank
-pub first_filled : (xs : List ℕ) → 0 < length (drop (position_or_len is_filled xs) xs)
-    → 0 < position_or_len is_blank (drop (position_or_len is_filled xs) xs)
-first_filled xs some =
-    let n = position_or_len is_filled xs in
-    let inside : n < length xs = omega (arith, length-drop n xs, some) in
-    let filled = not-true (is_blank (get_or xs n 0)) (passes_at_first is_filled xs 0 inside) in
-    rw (drop-cons xs n 0 inside, filled) (omega arith)
+-- what begins with no blank has none at its first place
+first_filled : (xs : List ℕ) → 0 < length xs → is_blank (get_or xs 0 0) ≡ false → 0 < position_or_len is_blank xs
+first_filled [] some filled = absurd (omega arith)
+first_filled (x ∷ xs) some filled = rw filled (omega arith)
 
 no_blank : (xs : List ℕ) → length xs ≤ position_or_len is_blank xs → list_any is_blank xs ≡ false
 no_blank [] h = refl
@@ -98,26 +86,26 @@ words_of-none xs e =
       | inr outside ↦ sym (words_of-drop_blanks xs) ∙ ap words_of (drop_all (position_or_len is_filled xs) xs outside)
     ]
 
--- and where one begins, it goes up to the next blank
-pub words_of-some : (xs : List ℕ) (n k : ℕ) → position is_filled xs ≡ Some n
-    → unwrap_or (position is_blank (drop n xs)) (length (drop n xs)) ≡ k → words_of xs ≡ take k (drop n xs) ∷ words_of (drop k (drop n xs))
-words_of-some xs n k e at_k =
-    let found = position_some is_filled xs n e in
-    let begun = ap (λ m. drop m xs) found.0 in
-    let some : 0 < length (drop n xs) = omega (arith, length-drop n xs, found.1) in
-    let filled = first_filled xs (rw (found.0) some) in
-    let at = sym (unwrap_or-position is_blank (drop n xs)) ∙ at_k in
-    let first = words_of-first (drop n xs) (rw (found.0) at filled) in
-    sym (words_of-drop_blanks xs) ∙ ap words_of begun ∙ rw at at first
+-- what stands from there on begins with no blank
+pub begins_filled : (xs begun : List ℕ) (n : ℕ) → position is_filled xs ≡ Some n → begun ≡ drop n xs
+    → (0 < length begun) × (is_blank (get_or begun 0 0) ≡ false)
+begins_filled xs begun n found from =
+    let at = position_some is_filled xs n found in
+    let inside : position_or_len is_filled xs < length xs = omega (arith, at.0, at.1) in
+    let filled = not-true (is_blank (get_or xs (position_or_len is_filled xs) 0)) (passes_at_first is_filled xs 0 inside) in (
+      omega (arith, ap length from, length-drop n xs, at.1),
+      rw (from, drop-cons xs n 0 at.1) (sym (ap (λ k. is_blank (get_or xs k 0)) at.0) ∙ filled),
+    )
 
--- the same of a front that is cut off
+-- and where one begins, it goes up to the next blank
 pub words_of-cut : (xs begun word left : List ℕ) (n k : ℕ) → position is_filled xs ≡ Some n → begun ≡ drop n xs
-    → k ≡ unwrap_or (position is_blank begun) (length begun) → word ≡ take k begun → left ≡ drop k begun
-    → words_of xs ≡ word ∷ words_of left
+    → k ≡ position_or_len is_blank begun → word ≡ take k begun → left ≡ drop k begun → words_of xs ≡ word ∷ words_of left
 words_of-cut xs begun word left n k found from at front back =
-    words_of-some xs n k found (sym (ap (λ ys. unwrap_or (position is_blank ys) (length ys)) from) ∙ sym at)
-    ∙ ap (λ ys. take k ys ∷ words_of (drop k ys)) (sym from) ∙ ap (λ ys. ys ∷ words_of (drop k begun)) (sym front)
-    ∙ ap (λ ys. word ∷ words_of ys) (sym back)
+    let starts = begins_filled xs begun n found from in
+    let some : 0 < position_or_len is_blank begun = first_filled begun starts.0 starts.1 in
+    sym (words_of-drop_blanks xs) ∙ ap (λ m. words_of (drop m xs)) (position_some is_filled xs n found).0 ∙ ap words_of (sym from)
+    ∙ words_of-first begun some ∙ ap (λ m. take m begun ∷ words_of (drop m begun)) (sym at)
+    ∙ ap (λ ys. ys ∷ words_of (drop k begun)) (sym front) ∙ ap (λ ys. word ∷ words_of ys) (sym back)
 
 -- what a search for a byte finds is its first place
 pub first_place : (a : ℕ) (xs : List ℕ) (found : Option ℕ) → IsFirstByte (is_byte a) xs found → found ≡ position (is_byte a) xs

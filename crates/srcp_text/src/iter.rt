@@ -4,7 +4,7 @@ ghost use Rattle.std.specs.Prelude.{◌≡◌, [], ◌∷◌, MatchOption};
 ghost use Rattle.std.specs.Iterator.{YieldsFirstRef, item_count};
 ghost use Rattle.srcp_text.specs.Words.{bit_word, words_of};
 
-use crate::word::{first_blank, first_filled};
+use crate::word::{first_filled, word_len};
 use std::marker::Model;
 
 /// The words of a line that are still to come. Contracts see it as the list of them.
@@ -57,8 +57,7 @@ impl<'a> Iterator for Words<'a> {
 
     fn next(&mut self) -> Option<&'a [u8]> {
         let begun = &self.rest[first_filled(self.rest)?..];
-        let end = first_blank(begun).unwrap_or(begun.len());
-        let (word, rest) = begun.split_at(end);
+        let (word, rest) = begun.split_at(word_len(begun));
         self.rest = rest;
         Some(word)
     }

@@ -1,6 +1,7 @@
 //! The words of a line: what stands between spaces and tabs.
 
-ghost use Rattle.std.specs.Prelude.{◌≡◌, ◌≤◌, length, position};
+ghost use Rattle.std.specs.Prelude.{◌≡◌, ◌<◌, ◌≤◌, false, length, position, slice_index};
+ghost use Rattle.std.specs.List.{position_or_len};
 ghost use Rattle.srcp_text.specs.Words.{is_blank, is_filled, is_keyword, words_of};
 
 use crate::iter::Words;
@@ -29,11 +30,17 @@ pub(crate) fn first_filled(text: &[u8]) -> Option<usize>
     text.iter().position(|byte| !is_blank_byte(*byte))
 }
 
-// Where the first blank of a text stands.
-pub(crate) fn first_blank(text: &[u8]) -> Option<usize>
-    ensures { result ≡ position is_blank text.now }
+// How many bytes the first word has of a text that begins with it.
+pub(crate) fn word_len(text: &[u8]) -> usize
+    requires some { 0 < length text.now }
+    requires begun { is_blank (slice_index text.now 0) ≡ false }
+    ensures { result ≡ position_or_len is_blank text.now }
 {
-    text.iter().position(|byte| is_blank_byte(*byte))
+    let mut len = 1;
+    while len < text.len() && !is_blank_byte(text[len]) {
+        len += 1;
+    }
+    len
 }
 
 // Whether a byte parts words: space and tab do.
