@@ -1,7 +1,7 @@
 -- The rows of a bus, group by group: look-ups and changes.
 use Rattle.std.specs.Prelude.{◌≡◌, ℕ, zero, suc, ◌+◌, ◌<◌, Bool, true, false, cond, is_some, not, List, [], ◌∷◌, map, Option, Some, None}
 use Rattle.std.specs.Prelude.{MatchOption, Result, Ok, Err, OnOk, OnErr}
-use Rattle.std.proofs.Common.{refl, sym, ap, ◌∙◌, arith, true≢false}
+use Rattle.std.proofs.Common.{refl, sym, ap, subst, ◌∙◌, arith, true≢false}
 use Rattle.std.specs.List.{AllByRecursion, range_with_len}
 use Rattle.std.specs.List.Sorted.{IsStrictlySortedBy}
 use Rattle.std.specs.Map.{set_value}
@@ -17,7 +17,7 @@ use Rattle.srcp_info.specs.declared.change.Row.{Row}
 use Rattle.srcp_info.specs.declared.change.Cursor.TheVariants as cursor
 use Rattle.srcp_info.specs.declared.value.Value.TheVariants as value
 use Rattle.srcp_info.specs.Key.{group_place, key_cmp, owns}
-use Rattle.srcp_info.proofs.ClientLaws.{all_put, put_over, rising_put}
+use Rattle.srcp_info.proofs.ClientLaws.{all_filter, all_put, put_over, rising_filter, rising_put}
 use Rattle.srcp_rules.specs.State.{State, IsRising, fb_device, first_row, has_row, power_device, put_row, row_after, row_at, without}
 use Rattle.srcp_rules.specs.Rows.{put_rows}
 use Rattle.srcp_rules.specs.declared.nested.bus_rows.BusRows.{BusRows}
@@ -85,6 +85,27 @@ of_group-put_row bus g row rows here h = record {
   each = all_put row_key (λ other. IsIn bus g other.shown.key) row rows here h.each;
 }
 
+pub of_group-put_rows : (bus : ℕ) (g : Group) (added rows : State) → AllByRecursion (λ row. IsIn bus g row.shown.key) added
+    → AreOfGroup bus g rows → AreOfGroup bus g (put_rows added rows)
+of_group-put_rows bus g [] rows new h = h
+of_group-put_rows bus g (row ∷ added) rows new h =
+    of_group-put_rows bus g added (put_row row rows) new.1 (of_group-put_row bus g row rows new.0 h)
+
+-- rows were added, or memory was refused
+pub of_group-added : {E : Type 0} (bus : ℕ) (g : Group) (added before after : State) (r : Result (Unit {0}) E)
+    → OnOk r (after ≡ put_rows added before) → OnErr r (after ≡ before)
+    → AllByRecursion (λ row. IsIn bus g row.shown.key) added → AreOfGroup bus g before → AreOfGroup bus g after
+of_group-added bus g added before after (Ok u) e f new h =
+    subst (AreOfGroup bus g) (sym e) (of_group-put_rows bus g added before new h)
+of_group-added bus g added before after (Err x) e f new h = subst (AreOfGroup bus g) (sym f) h
+
+pub of_group-without : (bus : ℕ) (g : Group) (device : Device) (rows : State) → AreOfGroup bus g rows
+    → AreOfGroup bus g (without device rows)
+of_group-without bus g device rows h = record {
+  rising = rising_filter row_key (λ row. not (owns device row.shown.key)) rows h.rising;
+  each = all_filter (λ row. IsIn bus g row.shown.key) (λ row. not (owns device row.shown.key)) rows h.each;
+}
+
 -- ---- the rows that begin with the registry
 
 pub power_of_group : (bus : ℕ) (on : Bool)
@@ -133,18 +154,18 @@ module _ {bus : ℕ} {rows : BusRows} (are : AreRowsOfBus bus rows) where
   tagged =
       let devices : (g : Group) (es : List (ℕ × State)) → AreDevices bus g es → Placed bus g (device_rows es) =
       λ g es h. placed bus g (device_rows es) (devices_in_group bus g es h) in (
-        devices group.Session rows.sessions.by_address.entries are.sessions,
+        placed bus group.Session (group_rows rows group.Session) are.sessions.each,
         (
           placed bus group.Power (group_rows rows group.Power) are.power.each,
           (
-            devices group.Gl rows.locomotives.by_address.entries are.locomotives,
+            devices group.Gl rows.locomotives are.locomotives,
             (
-              devices group.Ga rows.accessories.by_address.entries are.accessories,
+              devices group.Ga rows.accessories are.accessories,
               (
                 placed bus group.Fb (group_rows rows group.Fb) are.feedback.each,
                 (
-                  devices group.LockGl rows.locomotive_locks.by_address.entries are.locomotive_locks,
-                  (devices group.LockGa rows.accessory_locks.by_address.entries are.accessory_locks, tt),
+                  devices group.LockGl rows.locomotive_locks are.locomotive_locks,
+                  (devices group.LockGa rows.accessory_locks are.accessory_locks, tt),
                 ),
               ),
             ),
@@ -164,18 +185,18 @@ module _ {bus : ℕ} {rows : BusRows} (are : AreRowsOfBus bus rows) where
   bus_rising =
       let devices : (g : Group) (es : List (ℕ × State)) → AreDevices bus g es → IsRising (device_rows es) = devices_rising bus in
       listed-rising whole place_of (OnBus bus) (in_order bus) (by_place rows) tagged (places_rise rows) (
-        devices group.Session rows.sessions.by_address.entries are.sessions,
+        are.sessions.rising,
         (
           are.power.rising,
           (
-            devices group.Gl rows.locomotives.by_address.entries are.locomotives,
+            devices group.Gl rows.locomotives are.locomotives,
             (
-              devices group.Ga rows.accessories.by_address.entries are.accessories,
+              devices group.Ga rows.accessories are.accessories,
               (
                 are.feedback.rising,
                 (
-                  devices group.LockGl rows.locomotive_locks.by_address.entries are.locomotive_locks,
-                  (devices group.LockGa rows.accessory_locks.by_address.entries are.accessory_locks, tt),
+                  devices group.LockGl rows.locomotive_locks are.locomotive_locks,
+                  (devices group.LockGa rows.accessory_locks are.accessory_locks, tt),
                 ),
               ),
             ),

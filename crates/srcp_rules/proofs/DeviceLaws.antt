@@ -1,17 +1,16 @@
 -- The rows of devices of one group of one bus, by address: look-ups and changes.
-use Rattle.std.specs.Prelude.{◌≡◌, ℕ, ◌<◌, Bool, true, false, cond, is_some, not, List, [], ◌∷◌, ◌++◌, length, filter, find}
-use Rattle.std.specs.Prelude.{Option, Some, None, nat_lt, slice_get}
+use Rattle.std.specs.Prelude.{◌≡◌, ℕ, zero, suc, ◌+◌, ◌<◌, ◌==◌, Bool, true, false, cond, is_some, not, List, [], ◌∷◌, ◌++◌, drop}
+use Rattle.std.specs.Prelude.{length, filter, find, Option, Some, None, nat_lt, slice_get, slice_index_or}
 use Rattle.std.proofs.Common.{refl, sym, ap, subst, ◌∙◌, arith, true≢false}
 use Rattle.std.proofs.lemmas.Bool.Decides.{nat_tests}
+use Rattle.std.proofs.lemmas.List.Folds.{find-append}
 use Rattle.std.proofs.lemmas.Option.{none-some, same_Some}
 use Rattle.std.specs.List.{AllByRecursion}
 use Rattle.std.specs.List.Sorted.{IsStrictlySortedBy}
 use Rattle.std.specs.Map.{set_value, remove_entry}
-use Rattle.std.specs.Option.{option_map_or}
-use Rattle.std.specs.Ordering.{is_gt, nat_cmp}
+use Rattle.std.specs.Option.{option_map, option_map_or, option_or}
+use Rattle.std.specs.Ordering.{is_eq, is_gt, nat_cmp}
 use Rattle.std.specs.BTreeMap.{is_at, insert_entry}
-use Rattle.std.specs.BTreeMap.Range.{entries_between}
-use Rattle.std.specs.declared.ops.Bound.TheVariants.{Included, Unbounded}
 use Rattle.std.specs.declared.cmp.Ordering.TheVariants.{Less}
 use Rattle.srcp_info.specs.declared.key.Group.{Group}
 use Rattle.srcp_info.specs.declared.key.Key.{Key}
@@ -20,15 +19,17 @@ use Rattle.srcp_info.specs.declared.change.Row.{Row}
 use Rattle.srcp_info.specs.declared.change.Cursor.{Cursor}
 use Rattle.srcp_info.specs.declared.change.Cursor.TheVariants as at
 use Rattle.srcp_info.specs.Key.{is_after, key_cmp, device_of, has_reached, owns}
-use Rattle.srcp_info.proofs.ClientLaws.{after_from_less, all_put, rising_put}
+use Rattle.srcp_info.proofs.ClientLaws.{after_from_less, all_append, all_put, rising_put}
 use Rattle.srcp_rules.specs.State.{State, IsRising, has_row, key_at, put_row, row_at, row_after, without}
 use Rattle.srcp_rules.specs.Rows.{put_rows}
+use Rattle.srcp_rules.specs.Numbered.{numbered}
+use Rattle.srcp_rules.specs.Nested.{AreDevices, AreOfDevice, IsIn, device_rows, entry_at}
 use Rattle.srcp_rules.proofs.FindLaws.{each-weaken, find_same}
 use Rattle.srcp_rules.proofs.StateLaws.{row_key, row_at-first}
-use Rattle.srcp_rules.specs.Nested.{AreDevices, AreOfDevice, IsIn, device_rows, entry_at}
 use Rattle.srcp_rules.proofs.OrderLaws.{address_order, device_in_group, device_order, group_alike, owns-other, owns-own}
-use Rattle.srcp_rules.proofs.PutLaws.{find_none, put_rows-new, without-all}
-use Rattle.srcp_rules.proofs.ListedLaws.{IsTagged, each-listed, entry_holds, row_at-listed, row_after-listed}
+use Rattle.srcp_rules.proofs.PutLaws.{find_none, find_past, put_rows-new, without-all}
+use Rattle.srcp_rules.proofs.ListedLaws.{IsTagged, each-listed, entry_holds, row_at-listed}
+use Rattle.srcp_rules.proofs.NumberedLaws.{entry_at-numbered}
 use Rattle.srcp_rules.proofs.TaggedLaws.{listed-put_row, listed-put_rows_new, listed-rising, listed-without_all}
 
 abbrev pub whole : State → State
@@ -59,24 +60,36 @@ first_of_both (row ∷ rows) rest h = refl
 above : (m n : ℕ) → not (not (is_gt (nat_cmp m n))) ≡ nat_lt n m
 above m n = grind (arith, nat_tests)
 
-module _ (last : Key) (address : ℕ) (rows : State) (device : AreOfDevice last.bus last.group address rows) where
-  -- the key's own device has the first row of a greater port beyond it
-  pub row_after-own_device : address ≡ last.address
-      → row_after (at.After last) rows ≡ find (λ row. nat_lt last.port row.shown.key.port) rows
-  row_after-own_device e =
-      find_same (λ row. not (has_reached (at.After last) row.shown.key)) (λ row. nat_lt last.port row.shown.key.port) rows
-      (each-weaken {P = λ row. IsIn last.bus last.group row.shown.key × (row.shown.key.address ≡ address)}
-      (λ row t. ap (λ o. not (not (is_gt o))) (device_order row.shown.key last t.0.0 t.0.1 (t.1 ∙ e)) ∙ above row.shown.key.port last.port)
+-- the tests of ports
+same_port : (m n : ℕ) → is_eq (nat_cmp m n) ≡ (m == n)
+same_port m n = grind (arith, nat_tests)
+
+abbrev IsOf : Key → Row → Type 0
+IsOf key row = IsIn key.bus key.group row.shown.key × (row.shown.key.address ≡ key.address)
+
+module _ (key : Key) (rows : State) (device : AreOfDevice key.bus key.group key.address rows) where
+  -- in the key's own device the row at a key is the one of its port
+  pub row_at-own_device : row_at key rows ≡ find (λ row. row.shown.key.port == key.port) rows
+  row_at-own_device =
+      find_same (λ row. is_eq (key_cmp row.shown.key key)) (λ row. row.shown.key.port == key.port) rows
+      (each-weaken {P = IsOf key}
+      (λ row t. ap is_eq (device_order row.shown.key key t.0.0 t.0.1 t.1) ∙ same_port row.shown.key.port key.port)
       rows device.each)
 
-  -- and a later one its first row
-  pub row_after-later_device : last.address < address → row_after (at.After last) rows ≡ slice_get rows 0
-  row_after-later_device h =
-      first_beyond (at.After last) rows
-      (each-weaken {P = λ row. IsIn last.bus last.group row.shown.key × (row.shown.key.address ≡ address)}
-      (λ row t. ap not
-      (after_from_less row.shown.key last (address_order last row.shown.key (sym t.0.0) (sym t.0.1) (omega (arith, h, t.1)))))
+  -- and the next one is the first of a greater port
+  pub row_after-own_device : row_after (at.After key) rows ≡ find (λ row. nat_lt key.port row.shown.key.port) rows
+  row_after-own_device =
+      find_same (λ row. not (has_reached (at.After key) row.shown.key)) (λ row. nat_lt key.port row.shown.key.port) rows
+      (each-weaken {P = IsOf key}
+      (λ row t. ap (λ o. not (not (is_gt o))) (device_order row.shown.key key t.0.0 t.0.1 t.1)
+      ∙ above row.shown.key.port key.port)
       rows device.each)
+
+-- without a first device there is no row
+pub no_first_device : (es : List (ℕ × State)) → None ≡ option_map (λ (e : ℕ × State). e.1) (slice_get es 0)
+    → None ≡ slice_get (device_rows es) 0
+no_first_device [] is = refl
+no_first_device (f ∷ fs) is = absurd (none-some f.1 is)
 
 module _ (bus : ℕ) (g : Group) where
   abbrev Here : Key → Type 0
@@ -109,11 +122,11 @@ module _ (bus : ℕ) (g : Group) where
   all_or_none at.Done outside key x = refl
 
   -- the first row of all is that of the first device
-  pub first_device : (es : List (ℕ × State)) → AllByRecursion (λ e. AreOfDevice bus g e.0 e.1) es
-      → (e : ℕ × State) → slice_get es 0 ≡ Some e → slice_get (device_rows es) 0 ≡ slice_get e.1 0
-  first_device [] each e is = absurd (none-some e is)
-  first_device (f ∷ fs) each e is =
-      first_of_both f.1 (device_rows fs) each.0.some ∙ ap (λ (x : ℕ × State). slice_get x.1 0) (same_Some f e is)
+  pub first_device : (es : List (ℕ × State)) → AllByRecursion (λ e. AreOfDevice bus g e.0 e.1) es → (rows : State)
+      → Some rows ≡ option_map (λ (e : ℕ × State). e.1) (slice_get es 0) → slice_get rows 0 ≡ slice_get (device_rows es) 0
+  first_device [] each rows is = absurd (none-some rows (sym is))
+  first_device (f ∷ fs) each rows is =
+      ap (λ (xs : State). slice_get xs 0) (same_Some rows f.1 is) ∙ sym (first_of_both f.1 (device_rows fs) each.0.some)
 
   module _ (es : List (ℕ × State)) (devices : AreDevices bus g es) where
     tagged : AllByRecursion (IsTagged whole address_of Here) es
@@ -213,13 +226,73 @@ module _ (bus : ℕ) (g : Group) where
         listed-put_rows_new whole address_of Here in_order key.address added new.each es tagged devices.sorted added
         (absent_by key here free (entry_at key.address es) refl) (put_rows-new added new.rising)
 
--- no row of an address below the key's is beyond it
-pub row_after-devices : (last : Key) (es : List (ℕ × State)) → AreDevices last.bus last.group es
-    → row_after (at.After last) (device_rows es)
-    ≡ row_after (at.After last) (device_rows (entries_between nat_cmp (Included last.address) Unbounded es))
-row_after-devices last es devices =
-    row_after-listed whole address_of (Here last.bus last.group) (at.After last) last.address
-    (λ key x h. ap (λ o. not (is_gt o)) (address_order key last x.0 x.1 h)) es (tagged last.bus last.group es devices)
+-- ---- the row after a key of the group
+
+module _ {B : Type 0} (value : B → State) (last : Key) where
+  abbrev AreDevicesAt : ℕ → List (Option B) → Type 0
+  AreDevicesAt first places =
+      AllByRecursion (λ e. AreOfDevice last.bus last.group e.0 e.1) (numbered value first places)
+
+  -- a device before the key's has no row beyond the key
+  earlier : (address : ℕ) (rows : State) → address < last.address → AreOfDevice last.bus last.group address rows
+      → AllByRecursion (λ row. not (has_reached (at.After last) row.shown.key) ≡ false) rows
+  earlier address rows h device =
+      each-weaken {P = λ row. IsIn last.bus last.group row.shown.key × (row.shown.key.address ≡ address)}
+      (λ row t. ap (λ o. not (not (is_gt o)))
+      (address_order row.shown.key last t.0.0 t.0.1 (omega (arith, h, t.1)))) rows device.each
+
+  -- and all rows of the devices behind it are
+  later : (first : ℕ) → last.address < first → (places : List (Option B)) → AreDevicesAt first places
+      → AllByRecursion (λ row. has_reached (at.After last) row.shown.key ≡ false) (device_rows (numbered value first places))
+  later first h [] each = tt
+  later first h (None ∷ places) each = later (first + 1) (omega (arith, h)) places each
+  later first h (Some x ∷ places) each =
+      all_append (λ row. has_reached (at.After last) row.shown.key ≡ false) (value x)
+      (device_rows (numbered value (first + 1) places))
+      (each-weaken {P = λ row. IsIn last.bus last.group row.shown.key × (row.shown.key.address ≡ first)}
+      (λ row t. ap not
+      (after_from_less row.shown.key last (address_order last row.shown.key (sym t.0.0) (sym t.0.1) (omega (arith, h, t.1)))))
+      (value x) each.0.each)
+      (later (first + 1) (omega (arith, h)) places each.1)
+
+  -- the next row is of the key's own device, or else the first behind it
+  pub row_after-numbered : (from first k : ℕ) → last.address ≡ first + k → from ≡ last.address + 1
+      → (places : List (Option B)) → AreDevicesAt first places
+      → row_after (at.After last) (device_rows (numbered value first places))
+      ≡ option_or
+      (option_map_or (λ rows. row_after (at.After last) rows) (option_map value (slice_index_or places k None)) None)
+      (slice_get (device_rows (numbered value from (drop (suc k) places))) 0)
+  row_after-numbered from first k e f [] each = refl
+  row_after-numbered from first zero e f (None ∷ places) each =
+      first_beyond (at.After last) (device_rows (numbered value (first + 1) places))
+      (later (first + 1) (omega (arith, e)) places each)
+      ∙ ap (λ n. slice_get (device_rows (numbered value n places)) 0) (omega (arith, e, f))
+  row_after-numbered from first zero e f (Some x ∷ places) each =
+      find-append (λ row. not (has_reached (at.After last) row.shown.key)) (value x)
+      (device_rows (numbered value (first + 1) places))
+      ∙ ap (option_or (row_after (at.After last) (value x)))
+      (first_beyond (at.After last) (device_rows (numbered value (first + 1) places))
+      (later (first + 1) (omega (arith, e)) places each.1)
+      ∙ ap (λ n. slice_get (device_rows (numbered value n places)) 0) (omega (arith, e, f)))
+  row_after-numbered from first (suc k) e f (None ∷ places) each =
+      row_after-numbered from (first + 1) k (omega (arith, e)) f places each
+  row_after-numbered from first (suc k) e f (Some x ∷ places) each =
+      find_past (λ row. not (has_reached (at.After last) row.shown.key)) (value x)
+      (device_rows (numbered value (first + 1) places)) (earlier first (value x) (omega (arith, e)) each.0)
+      ∙ row_after-numbered from (first + 1) k (omega (arith, e)) f places each.1
+
+  pub row_after-places : (places : List (Option B)) → AreDevices last.bus last.group (numbered value 0 places)
+      → row_after (at.After last) (device_rows (numbered value 0 places))
+      ≡ option_or
+      (option_map_or (λ rows. row_after (at.After last) rows) (entry_at last.address (numbered value 0 places)) None)
+      (slice_get (device_rows (numbered value (last.address + 1) (drop (last.address + 1) places))) 0)
+  row_after-places places devices =
+      let own = λ (o : Option State). option_map_or (λ rows. row_after (at.After last) rows) o None in
+      let rest = λ (n : ℕ). slice_get (device_rows (numbered value (last.address + 1) (drop n places))) 0 in
+      row_after-numbered (last.address + 1) 0 last.address (omega arith) refl places devices.each
+      ∙ ap (λ n. option_or (own (option_map value (slice_index_or places last.address None))) (rest n)) {x = suc last.address} {y = last.address + 1} (omega arith)
+      ∙ ap (λ o. option_or (own o) (rest (last.address + 1)))
+      (sym (entry_at-numbered value last.address 0 last.address (omega arith) places))
 
 -- no devices are devices of any group
 pub no_devices : (bus : ℕ) (g : Group) (es : List (ℕ × State)) → es ≡ [] → AreDevices bus g es

@@ -60,7 +60,7 @@ above_trans n m e ks h = each-weaken {P = λ k. nat_cmp m k ≡ Less} (λ k f. n
 
 module _ {X : Type 0} where
   -- no entry has a number below all of them
-  none_above : (n : ℕ) (es : List (ℕ × X)) → AllByRecursion (λ k. nat_cmp n k ≡ Less) (keys_of es) → entry_at n es ≡ None
+  pub none_above : (n : ℕ) (es : List (ℕ × X)) → AllByRecursion (λ k. nat_cmp n k ≡ Less) (keys_of es) → entry_at n es ≡ None
   none_above n [] h = refl
   none_above n (e ∷ es) h = ap (λ o. cond (is_eq o) (Some e.1) (entry_at n es)) h.0 ∙ none_above n es h.1
 

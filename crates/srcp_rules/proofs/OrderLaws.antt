@@ -25,7 +25,7 @@ greater m n h =
     by_ranked (m < n) (m ≡ n) (n < m) (nat_cmp m n) (ranked m n (nat_cmp m n) refl) (λ o lt. absurd (omega (arith, h, lt)))
     (λ o eq. absurd (omega (arith, h, eq))) (λ o gt. o)
 
-same : (m n : ℕ) → m ≡ n → nat_cmp m n ≡ Equal
+pub same : (m n : ℕ) → m ≡ n → nat_cmp m n ≡ Equal
 same m n e = ap (nat_cmp m) (sym e) ∙ tied_itself nat_cmp_total m
 
 -- ---- keys

@@ -60,13 +60,13 @@ pub record AreOfGroup (bus : ℕ) (group : Group) (rows : State) : Type 0 where
 
 -- these are rows of the bus, each in its group
 pub record AreRowsOfBus (bus : ℕ) (rows : BusRows) : Type 0 where
-  pub sessions : AreDevices bus Session rows.sessions.by_address.entries
+  pub sessions : AreOfGroup bus Session rows.sessions.items
   pub power : AreOfGroup bus Power (option_to_list rows.power)
-  pub locomotives : AreDevices bus Gl rows.locomotives.by_address.entries
-  pub accessories : AreDevices bus Ga rows.accessories.by_address.entries
+  pub locomotives : AreDevices bus Gl rows.locomotives
+  pub accessories : AreDevices bus Ga rows.accessories
   pub feedback : AreOfGroup bus Fb rows.feedback.items
-  pub locomotive_locks : AreDevices bus LockGl rows.locomotive_locks.by_address.entries
-  pub accessory_locks : AreDevices bus LockGa rows.accessory_locks.by_address.entries
+  pub locomotive_locks : AreDevices bus LockGl rows.locomotive_locks
+  pub accessory_locks : AreDevices bus LockGa rows.accessory_locks
 
 -- the groups of a bus, in the order of a listing
 abbrev pub bus_groups : List Group
@@ -74,13 +74,13 @@ bus_groups = Session ∷ Power ∷ Gl ∷ Ga ∷ Fb ∷ LockGl ∷ LockGa ∷ []
 
 -- the rows of one group of a bus
 abbrev pub group_rows : BusRows → Group → State
-group_rows rows Session = device_rows rows.sessions.by_address.entries
+group_rows rows Session = rows.sessions.items
 group_rows rows Power = option_to_list rows.power
-group_rows rows Gl = device_rows rows.locomotives.by_address.entries
-group_rows rows Ga = device_rows rows.accessories.by_address.entries
+group_rows rows Gl = device_rows rows.locomotives
+group_rows rows Ga = device_rows rows.accessories
 group_rows rows Fb = rows.feedback.items
-group_rows rows LockGl = device_rows rows.locomotive_locks.by_address.entries
-group_rows rows LockGa = device_rows rows.accessory_locks.by_address.entries
+group_rows rows LockGl = device_rows rows.locomotive_locks
+group_rows rows LockGa = device_rows rows.accessory_locks
 
 -- the rows of a bus
 abbrev pub bus_rows : BusRows → State

@@ -13,7 +13,7 @@ use crate::layout::Bus;
 use crate::nested::devices::Devices;
 use crate::obeyed::Memory;
 use crate::rows::MOST_ROWS;
-use crate::sorted_rows::{row_after_in, row_in, set_in};
+use crate::sorted_rows::{add_all, drop_in, row_after_in, row_in, set_in};
 use srcp_info::{Cursor, Device, Group, Key, Row};
 use std::alloc::Global;
 
@@ -31,8 +31,8 @@ const GROUPS: [Group; 7] = [
 /// The rows of one bus.
 #[derive(Drop)]
 pub(crate) struct BusRows {
-    /// The sessions, which the server's own bus alone has.
-    sessions: Devices<1>,
+    /// The rows of the sessions, by rising number; the server's own bus alone has some.
+    sessions: Vec<Row>,
     /// Its power row, if the bus has one.
     power: Option<Row>,
     locomotives: Devices<2>,
@@ -51,7 +51,7 @@ impl BusRows {
     {
         let feedback = feedback_rows(alloc, bus)?;
         Ok(BusRows {
-            sessions: Devices::new(alloc),
+            sessions: Vec::new(alloc),
             power: power_row(bus),
             locomotives: Devices::new(alloc),
             accessories: Devices::new(alloc),
@@ -63,11 +63,11 @@ impl BusRows {
 
     /// The row at the key.
     pub(crate) fn row(&self, key: &Key) -> Option<&Row>
-        requires { (bus : ℕ) × AreRowsOfBus bus self.now }
+        requires { AreRowsOfBus key.now.bus self.now }
         ensures { option_copied result ≡ row_at key.now (bus_rows self.now) }
     {
         match key.group {
-            Group::Session => self.sessions.row(key),
+            Group::Session => row_in(&self.sessions, key),
             Group::Power => row_in(self.power.as_slice(), key),
             Group::Gl => self.locomotives.row(key),
             Group::Ga => self.accessories.row(key),
@@ -99,7 +99,7 @@ impl BusRows {
         ensures { option_copied result ≡ row_after cursor (group_rows self.now group) }
     {
         match group {
-            Group::Session => self.sessions.row_after(bus, group, cursor),
+            Group::Session => row_after_in(&self.sessions, cursor),
             Group::Power => row_after_in(self.power.as_slice(), cursor),
             Group::Gl => self.locomotives.row_after(bus, group, cursor),
             Group::Ga => self.accessories.row_after(bus, group, cursor),
@@ -122,7 +122,7 @@ impl BusRows {
         ensures bus { AreRowsOfBus first.now.shown.key.bus self.new }
     {
         match first.shown.key.group {
-            Group::Session => self.sessions.add(first, added),
+            Group::Session => add_all(&mut self.sessions, added),
             Group::Gl => self.locomotives.add(first, added),
             Group::Ga => self.accessories.add(first, added),
             Group::LockGl => self.locomotive_locks.add(first, added),
@@ -139,7 +139,7 @@ impl BusRows {
         ensures bus { AreRowsOfBus row.now.shown.key.bus self.new }
     {
         match row.shown.key.group {
-            Group::Session => self.sessions.set(row),
+            Group::Session => set_in(&mut self.sessions, *row),
             Group::Power => self.power = Some(*row),
             Group::Gl => self.locomotives.set(row),
             Group::Ga => self.accessories.set(row),
@@ -157,7 +157,7 @@ impl BusRows {
         ensures bus { AreRowsOfBus device.bus self.new }
     {
         match device.group {
-            Group::Session => self.sessions.drop_device(device),
+            Group::Session => drop_in(&mut self.sessions, device),
             Group::Gl => self.locomotives.drop_device(device),
             Group::Ga => self.accessories.drop_device(device),
             Group::LockGl => self.locomotive_locks.drop_device(device),

@@ -4,7 +4,7 @@ ghost use Rattle.srcp_rules.specs.Nested.{AreOfDevice};
 ghost use Rattle.srcp_rules.specs.State.{IsRising, has_row, put_row, row_after, row_at};
 
 use crate::sorted_rows::place_of;
-use srcp_info::{Key, Row, compare};
+use srcp_info::{Key, Row};
 use std::marker::Model;
 
 /// The rows of one device by rising port: at most N, which stand in the value itself. Contracts see
@@ -47,28 +47,25 @@ impl<const N: usize> DeviceRows<N> {
         &self.rows[..self.count]
     }
 
-    /// Finds the row at the key. The rows are so few that a look at each costs less than a search.
+    /// Returns the row at a key of the device, whose rows differ by their ports alone.
     pub(crate) fn row(&self, key: &Key) -> Option<&Row>
+        requires { AreOfDevice key.now.bus key.now.group key.now.address self.now }
         ensures { option_copied result ≡ row_at key.now self.now }
     {
         self.as_slice()
             .iter()
-            .find(|row| compare(&row.shown.key, key).is_eq())
+            .find(|row| row.shown.key.port == key.port)
     }
 
-    /// Finds the row with the least key beyond a key of the group, where this is the device at an address from the
-    /// key's on. The rows of the key's own device differ from it by their ports alone.
+    /// Returns the row with the least key beyond a key of the device.
     #[inline(always)]
-    pub(crate) fn row_after(&self, address: u32, last: &Key) -> Option<&Row>
-        requires device { AreOfDevice last.now.bus last.now.group address self.now }
-        requires from { last.now.address ≤ address }
+    pub(crate) fn row_after(&self, last: &Key) -> Option<&Row>
+        requires { AreOfDevice last.now.bus last.now.group last.now.address self.now }
         ensures { option_copied result ≡ row_after (After last.now) self.now }
     {
-        let rows = self.as_slice();
-        if address != last.address {
-            return rows.first();
-        }
-        rows.iter().find(|row| row.shown.key.port > last.port)
+        self.as_slice()
+            .iter()
+            .find(|row| row.shown.key.port > last.port)
     }
 
     /// Sets a row that is there.

@@ -1,61 +1,89 @@
-ghost use Rattle.std.specs.Prelude.{◌≡◌, ◌≤◌, ℕ, [], false, IsTrue, OnOk, OnErr, length, option_copied, slice_get};
+//! The devices of one group of one bus, each at the place of its address.
+ghost use Rattle.std.specs.Prelude.{◌≡◌, ◌+◌, ◌<◌, ◌≤◌, ℕ, [], None, drop, false, IsTrue, IfSome, OnOk, OnErr, length};
+ghost use Rattle.std.specs.Prelude.{option_copied, slice_get};
+ghost use Rattle.std.specs.Box.{box_value};
 ghost use Rattle.std.specs.Mem.{FitsInMemory};
+ghost use Rattle.std.specs.Option.{option_map, option_map_or};
 ghost use Rattle.srcp_rules.specs.Rows.{put_rows};
 ghost use Rattle.srcp_rules.specs.State.{has_row, key_at, put_row, row_after, row_at, without};
 ghost use Rattle.srcp_info.specs.declared.key.Group.{Group};
 ghost use Rattle.srcp_info.specs.declared.change.Cursor.TheVariants.{After};
 ghost use Rattle.srcp_info.specs.Key.{device_of};
 ghost use Rattle.srcp_rules.specs.contracts.nested.device_rows.DeviceRows.{the_row as device_row};
-ghost use Rattle.srcp_rules.specs.Nested.{AreDevices, AreOfDevice, device_rows};
+ghost use Rattle.srcp_rules.specs.Nested.{AreDevices, AreOfDevice, device_rows, entry_at};
+ghost use Rattle.srcp_rules.specs.Numbered.{numbered};
 
 use crate::nested::device_rows::DeviceRows;
-use crate::nested::value_at;
 use crate::obeyed::Memory;
 use srcp_info::{Cursor, Device, Group, Key, Row};
 use std::alloc::Global;
-use std::collections::BTreeMap;
+use std::marker::Model;
 
-/// The rows of devices of one group of one bus, by address: at most N of each.
+/// The rows of devices of one group of one bus: at most N of each. There is a place for each address up to the greatest
+/// that was added, so a look-up needs no search. Contracts see the devices that are there, by address.
 #[derive(Drop)]
 pub(crate) struct Devices<const N: usize> {
-    by_address: BTreeMap<u32, DeviceRows<N>>,
+    places: Vec<Option<Box<DeviceRows<N>>>>,
+    alloc: Global,
+}
+
+impl<const N: usize> Model for Devices<N> {
+    ghost use Rattle.std.specs.Prelude.{ℕ, List};
+    ghost use Rattle.std.specs.Box.{box_value};
+    ghost use Rattle.srcp_rules.specs.State.{State};
+    ghost use Rattle.srcp_rules.specs.Numbered.{numbered};
+
+    ghost Value = { List (ℕ × State) };
+
+    ghost view = { λ d. numbered box_value 0 d.places.items };
 }
 
 impl<const N: usize> Devices<N> {
-    /// No device.
+    /// Returns no device.
     pub(crate) fn new(alloc: Global) -> Devices<N>
-        ensures { result.by_address.entries ≡ [] }
+        ensures { result ≡ [] }
     {
         Devices {
-            by_address: BTreeMap::new(alloc),
+            places: Vec::new(alloc),
+            alloc,
         }
     }
 
-    /// The row at the key.
+    /// Returns the device at an address.
+    #[inline(always)]
+    fn device(&self, address: u32) -> Option<&DeviceRows<N>>
+        ensures { option_copied result ≡ entry_at address self.now }
+    {
+        match self.places.get(address as usize)? {
+            Some(device) => Some(device),
+            None => None,
+        }
+    }
+
+    /// Returns the row at the key.
     pub(crate) fn row(&self, key: &Key) -> Option<&Row>
-        requires devices { (bus : ℕ) × (group : Group) × AreDevices bus group self.now.by_address.entries }
+        requires devices { AreDevices key.now.bus key.now.group self.now }
         requires fits { FitsInMemory (device_row N.row) }
-        ensures { option_copied result ≡ row_at key.now (device_rows self.now.by_address.entries) }
+        ensures { option_copied result ≡ row_at key.now (device_rows self.now) }
     {
-        value_at(&self.by_address, key.address)?.row(key)
+        self.device(key.address)?.row(key)
     }
 
-    /// Finds the row with the least key.
+    /// Returns the row with the least key.
     fn first(&self) -> Option<&Row>
-        requires devices { (bus : ℕ) × (group : Group) × AreDevices bus group self.now.by_address.entries }
+        requires devices { (bus : ℕ) × (group : Group) × AreDevices bus group self.now }
         requires fits { FitsInMemory (device_row N.row) }
-        ensures { option_copied result ≡ slice_get (device_rows self.now.by_address.entries) 0 }
+        ensures { option_copied result ≡ slice_get (device_rows self.now) 0 }
     {
-        let (_, device) = self.by_address.first_key_value()?;
-        device.as_slice().first()
+        first_device(&self.places, 0)?.as_slice().first()
     }
 
-    /// The row with the least key beyond the cursor, where these are devices of this group of this bus.
+    /// Returns the row with the least key beyond the cursor, if these are devices of this group of this bus.
     #[inline(always)]
     pub(crate) fn row_after(&self, bus: u8, group: Group, cursor: Cursor) -> Option<&Row>
-        requires devices { AreDevices bus group self.now.by_address.entries }
+        requires devices { AreDevices bus group self.now }
         requires fits { FitsInMemory (device_row N.row) }
-        ensures { option_copied result ≡ row_after cursor (device_rows self.now.by_address.entries) }
+        ensures { option_copied result ≡ row_after cursor (device_rows self.now) }
     {
         let least = Key {
             bus,
@@ -70,64 +98,115 @@ impl<const N: usize> Devices<N> {
         }
     }
 
-    /// Finds the row with the least key beyond a key of the group itself.
+    /// Returns the row with the least key beyond a key of the group itself.
     #[inline(always)]
     fn row_beyond(&self, last: &Key) -> Option<&Row>
-        requires devices { AreDevices last.now.bus last.now.group self.now.by_address.entries }
+        requires devices { AreDevices last.now.bus last.now.group self.now }
         requires fits { FitsInMemory (device_row N.row) }
-        ensures { option_copied result ≡ row_after (After last.now) (device_rows self.now.by_address.entries) }
+        ensures { option_copied result ≡ row_after (After last.now) (device_rows self.now) }
     {
-        for (address, device) in self.by_address.range(last.address..) {
-            if let Some(row) = device.row_after(*address, last) {
-                return Some(row);
-            }
+        let places = &self.places;
+        if let Some(row) = self.row_beyond_in_device(last) {
+            return Some(row);
         }
-        None
+        first_device(places, last.address as usize + 1)?
+            .as_slice()
+            .first()
+    }
+
+    /// Returns the row with the least key beyond a key, if it is of the key's own device.
+    #[inline(always)]
+    fn row_beyond_in_device(&self, last: &Key) -> Option<&Row>
+        requires devices { AreDevices last.now.bus last.now.group self.now }
+        requires fits { FitsInMemory (device_row N.row) }
+        ensures { option_copied result
+            ≡ option_map_or (λ rows. row_after (After last.now) rows) (entry_at last.now.address self.now) None }
+    {
+        self.device(last.address)?.row_after(last)
     }
 
     /// Adds the rows of a device that is not there.
     pub(crate) fn add(&mut self, first: &Row, added: &[Row]) -> Result<(), Memory>
-        requires devices { AreDevices first.now.shown.key.bus first.now.shown.key.group self.old.by_address.entries }
+        requires devices { AreDevices first.now.shown.key.bus first.now.shown.key.group self.old }
         requires device { AreOfDevice first.now.shown.key.bus first.now.shown.key.group first.now.shown.key.address
             added.now }
         requires few { length added.now ≤ N }
         requires fits { FitsInMemory (device_row N.row) }
         requires free { (port : ℕ)
-            → has_row (key_at (device_of first.now.shown.key) port) (device_rows self.old.by_address.entries) ≡ false }
-        ensures ok { OnOk result
-            (device_rows self.new.by_address.entries ≡ put_rows added.now (device_rows self.old.by_address.entries)) }
-        ensures err { OnErr result (device_rows self.new.by_address.entries ≡ device_rows self.old.by_address.entries) }
-        ensures devices { AreDevices first.now.shown.key.bus first.now.shown.key.group self.new.by_address.entries }
+            → has_row (key_at (device_of first.now.shown.key) port) (device_rows self.old) ≡ false }
+        ensures ok { OnOk result (device_rows self.new ≡ put_rows added.now (device_rows self.old)) }
+        ensures err { OnErr result (device_rows self.new ≡ device_rows self.old) }
+        ensures devices { AreDevices first.now.shown.key.bus first.now.shown.key.group self.new }
     {
-        let address = first.shown.key.address;
-        let device = DeviceRows::of(first, added);
-        match self.by_address.insert(address, device) {
-            Ok(_) => Ok(()),
-            Err(_) => Err(Memory),
-        }
+        let place = first.shown.key.address as usize;
+        reach(&mut self.places, place)?;
+        let Ok(device) = Box::new(self.alloc, DeviceRows::of(first, added)) else {
+            return Err(Memory);
+        };
+        self.places[place] = Some(device);
+        Ok(())
     }
 
     /// Sets a row that is there.
     pub(crate) fn set(&mut self, row: &Row)
-        requires devices { AreDevices row.now.shown.key.bus row.now.shown.key.group self.old.by_address.entries }
-        requires there { IsTrue (has_row row.now.shown.key (device_rows self.old.by_address.entries)) }
+        requires devices { AreDevices row.now.shown.key.bus row.now.shown.key.group self.old }
+        requires there { IsTrue (has_row row.now.shown.key (device_rows self.old)) }
         requires fits { FitsInMemory (device_row N.row) }
-        ensures rows { device_rows self.new.by_address.entries
-            ≡ put_row row.now (device_rows self.old.by_address.entries) }
-        ensures devices { AreDevices row.now.shown.key.bus row.now.shown.key.group self.new.by_address.entries }
+        ensures rows { device_rows self.new ≡ put_row row.now (device_rows self.old) }
+        ensures devices { AreDevices row.now.shown.key.bus row.now.shown.key.group self.new }
     {
-        if let Some(device) = self.by_address.get_mut(&row.shown.key.address) {
-            device.set(row);
-        }
+        let Some(place) = self.places.get_mut(row.shown.key.address as usize) else {
+            return;
+        };
+        let Some(device) = place else {
+            return;
+        };
+        device.set(row);
     }
 
     /// Takes out the rows of a device.
     pub(crate) fn drop_device(&mut self, device: Device)
-        requires { AreDevices device.bus device.group self.old.by_address.entries }
-        ensures rows { device_rows self.new.by_address.entries
-            ≡ without device (device_rows self.old.by_address.entries) }
-        ensures devices { AreDevices device.bus device.group self.new.by_address.entries }
+        requires { AreDevices device.bus device.group self.old }
+        ensures rows { device_rows self.new ≡ without device (device_rows self.old) }
+        ensures devices { AreDevices device.bus device.group self.new }
     {
-        let _ = self.by_address.remove(&device.address);
+        let Some(place) = self.places.get_mut(device.address as usize) else {
+            return;
+        };
+        *place = None;
     }
+}
+
+/// Returns the first device at a place from this one on.
+#[inline(always)]
+fn first_device<const N: usize>(
+    places: &[Option<Box<DeviceRows<N>>>],
+    from: usize,
+) -> Option<&DeviceRows<N>>
+    ensures { option_copied result
+        ≡ option_map (λ e. e.1) (slice_get (numbered box_value from (drop from places.now)) 0) }
+{
+    for place in from..places.len() {
+        if let Some(device) = &places[place] {
+            return Some(device);
+        }
+    }
+    None
+}
+
+/// Makes places up to this one. Fails if memory is refused.
+fn reach<const N: usize>(
+    places: &mut Vec<Option<Box<DeviceRows<N>>>>,
+    place: usize,
+) -> Result<(), Memory>
+    ensures same { numbered box_value 0 places.new.items
+        ≡ numbered box_value 0 places.old.items }
+    ensures there { OnOk result (place < length places.new.items) }
+{
+    while places.len() <= place {
+        if places.push(None).is_err() {
+            return Err(Memory);
+        }
+    }
+    Ok(())
 }

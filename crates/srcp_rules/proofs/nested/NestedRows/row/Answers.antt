@@ -6,7 +6,7 @@ use Rattle.srcp_rules.proofs.NestedLaws.{found_bus, row_at-bus, row_at-no_bus}
 use Rattle.srcp_rules.proofs.nested.NestedRows.row.Goals as goal
 
 pub row-requires : goal.row-requires
-row-requires c = (c.args.key.now.bus, found_bus c.self.invariant c.in_ok-get.ensures.value)
+row-requires c = found_bus c.self.invariant c.in_ok-get.ensures.value
 
 pub returns : goal.returns
 returns c =

@@ -1,13 +1,15 @@
 use Rattle.std.specs.Prelude.{◌≡◌, ℕ, ◌≤◌, false, List, length, Result, OnOk}
 use Rattle.std.proofs.Common.{refl, sym, subst, ◌∙◌, arith}
 use Rattle.srcp_info.specs.declared.key.Group.{Group}
+use Rattle.srcp_info.specs.declared.key.Group.TheVariants as group
 use Rattle.srcp_info.specs.declared.key.Key.{Key}
 use Rattle.srcp_info.specs.Key.{device_of}
 use Rattle.srcp_rules.specs.declared.nested.bus_rows.BusRows.{BusRows}
 use Rattle.srcp_rules.specs.State.{State, has_row, key_at}
 use Rattle.srcp_rules.specs.Rows.{put_rows}
-use Rattle.srcp_rules.specs.Nested.{AreDevices, AreOfDevice, AreRowsOfBus, bus_rows, group_rows, most_rows}
-use Rattle.srcp_rules.proofs.BusRowsLaws.{WithGroup, has_row-group, on_ok, put_rows-group}
+use Rattle.srcp_rules.specs.Nested.{AreDevices, AreOfDevice, AreRowsOfBus, IsIn, bus_rows, group_rows, most_rows}
+use Rattle.srcp_rules.proofs.FindLaws.{each-weaken}
+use Rattle.srcp_rules.proofs.BusRowsLaws.{WithGroup, has_row-group, of_group-added, on_ok, put_rows-group}
 use Rattle.srcp_rules.proofs.nested.bus_rows.BusRows.add.Goals as goal
 
 module _ (key : Key) (added : State) {rows : BusRows} (are : AreRowsOfBus key.bus rows) {g : Group} (is : key.group ≡ g) where
@@ -36,12 +38,6 @@ module _ (key : Key) (added : State) {rows : BusRows} (are : AreRowsOfBus key.bu
 pub add-requires : goal.add-requires
 add-requires c =
     let bus = c.requires.bus in
-    let a = asked c.args.first.now.shown.key c.args.added.now bus c.in-Session.is bus.sessions c.requires.few c.requires.free in
-    (omega arith, (a.0, (c.requires.device, (a.1.0, (omega arith, a.1.1)))))
-
-pub add-requires-in-Gl : goal.add-requires-in-Gl
-add-requires-in-Gl c =
-    let bus = c.requires.bus in
     let a = asked c.args.first.now.shown.key c.args.added.now bus c.in-Gl.is bus.locomotives c.requires.few c.requires.free in
     (omega arith, (a.0, (c.requires.device, (a.1.0, (omega arith, a.1.1)))))
 
@@ -65,15 +61,34 @@ add-requires-in-LockGa c =
 
 pub returns-in-Session-clause-ok : goal.returns-in-Session-clause-ok
 returns-in-Session-clause-ok c =
-    let after : BusRows = record c.args.self.now { sessions = c.add.new.self } in
+    let after : BusRows = record c.args.self.now { sessions = c.add_all.new.rows } in
     has c.args.first.now.shown.key c.args.added.now c.requires.bus c.in-Session.is after c.requires.device (refl, refl)
-    c.add.result c.add.ensures.ok
+    c.add_all.result c.add_all.ensures.ok
+
+pub returns-in-Session-clause-bus : goal.returns-in-Session-clause-bus
+returns-in-Session-clause-bus c =
+    let key = c.args.first.now.shown.key in
+    let are = c.requires.bus in
+    record {
+      sessions =
+          of_group-added key.bus group.Session c.args.added.now c.args.self.now.sessions.items c.add_all.new.rows.items
+          c.add_all.result c.add_all.ensures.ok c.add_all.ensures.err
+          (each-weaken {P = λ row. IsIn key.bus key.group row.shown.key × (row.shown.key.address ≡ key.address)}
+          (λ row t. (t.0.0, t.0.1 ∙ c.in-Session.is)) c.args.added.now c.requires.device.each)
+          are.sessions;
+      power = are.power;
+      locomotives = are.locomotives;
+      accessories = are.accessories;
+      feedback = are.feedback;
+      locomotive_locks = are.locomotive_locks;
+      accessory_locks = are.accessory_locks;
+    }
 
 pub returns-in-Gl-clause-ok : goal.returns-in-Gl-clause-ok
 returns-in-Gl-clause-ok c =
-    let after : BusRows = record c.args.self.now { locomotives = c.add-in-Gl.new.self } in
+    let after : BusRows = record c.args.self.now { locomotives = c.add.new.self } in
     has c.args.first.now.shown.key c.args.added.now c.requires.bus c.in-Gl.is after c.requires.device (refl, refl)
-    c.add-in-Gl.result c.add-in-Gl.ensures.ok
+    c.add.result c.add.ensures.ok
 
 pub returns-in-Ga-clause-ok : goal.returns-in-Ga-clause-ok
 returns-in-Ga-clause-ok c =

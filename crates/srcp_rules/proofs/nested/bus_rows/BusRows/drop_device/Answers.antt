@@ -1,18 +1,36 @@
-use Rattle.std.proofs.Common.{refl, sym, ap, ◌∙◌, true≢false, inl, inr}
+use Rattle.std.proofs.Common.{refl, sym, ap, subst, ◌∙◌, true≢false, inl, inr}
+use Rattle.srcp_info.specs.declared.key.Group.TheVariants as group
 use Rattle.srcp_info.specs.WellFormed.{can_go}
 use Rattle.srcp_rules.specs.declared.nested.bus_rows.BusRows.{BusRows}
-use Rattle.srcp_rules.proofs.BusRowsLaws.{without-group}
+use Rattle.srcp_rules.specs.Nested.{AreOfGroup}
+use Rattle.srcp_rules.proofs.BusRowsLaws.{of_group-without, without-group}
 use Rattle.srcp_rules.proofs.nested.bus_rows.BusRows.drop_device.Goals as goal
 
 pub returns-in-Session-clause-rows : goal.returns-in-Session-clause-rows
 returns-in-Session-clause-rows c =
-    let after : BusRows = record c.args.self.now { sessions = c.drop_device.new.self } in
-    without-group c.requires.bus c.args.device after c.in-Session.is (refl, refl) c.drop_device.ensures.rows
+    let after : BusRows = record c.args.self.now { sessions = c.drop_in.new.rows } in
+    without-group c.requires.bus c.args.device after c.in-Session.is (refl, refl) c.drop_in.ensures
+
+pub returns-in-Session-clause-bus : goal.returns-in-Session-clause-bus
+returns-in-Session-clause-bus c =
+    let bus = c.args.device.bus in
+    let are = c.requires.bus in
+    record {
+      sessions =
+          subst (AreOfGroup bus group.Session) (sym c.drop_in.ensures)
+          (of_group-without bus group.Session c.args.device c.args.self.now.sessions.items are.sessions);
+      power = are.power;
+      locomotives = are.locomotives;
+      accessories = are.accessories;
+      feedback = are.feedback;
+      locomotive_locks = are.locomotive_locks;
+      accessory_locks = are.accessory_locks;
+    }
 
 pub returns-in-Gl-clause-rows : goal.returns-in-Gl-clause-rows
 returns-in-Gl-clause-rows c =
-    let after : BusRows = record c.args.self.now { locomotives = c.drop_device-in-Gl.new.self } in
-    without-group c.requires.bus c.args.device after c.in-Gl.is (refl, refl) c.drop_device-in-Gl.ensures.rows
+    let after : BusRows = record c.args.self.now { locomotives = c.drop_device.new.self } in
+    without-group c.requires.bus c.args.device after c.in-Gl.is (refl, refl) c.drop_device.ensures.rows
 
 pub returns-in-Ga-clause-rows : goal.returns-in-Ga-clause-rows
 returns-in-Ga-clause-rows c =

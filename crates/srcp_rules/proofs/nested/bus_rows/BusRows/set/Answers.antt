@@ -17,11 +17,6 @@ asked key are is {ds} h there = (subst (λ (g : Group). AreDevices key.bus g ds)
 
 pub set-requires : goal.set-requires
 set-requires c =
-    let a = asked c.args.row.now.shown.key c.requires.bus c.in-Session.is c.requires.bus.sessions c.requires.there in
-    (omega arith, (a.0, (a.1, omega arith)))
-
-pub set-requires-in-Gl : goal.set-requires-in-Gl
-set-requires-in-Gl c =
     let a = asked c.args.row.now.shown.key c.requires.bus c.in-Gl.is c.requires.bus.locomotives c.requires.there in
     (omega arith, (a.0, (a.1, omega arith)))
 
@@ -41,7 +36,12 @@ set-requires-in-LockGa c =
     (omega arith, (a.0, (a.1, omega arith)))
 
 pub set_in-requires-clause-there : goal.set_in-requires-clause-there
-set_in-requires-clause-there c = sym (has_row-group c.requires.bus c.args.row.now.shown.key c.in-Fb.is) ∙ c.requires.there
+set_in-requires-clause-there c =
+    sym (has_row-group c.requires.bus c.args.row.now.shown.key c.in-Session.is) ∙ c.requires.there
+
+pub set_in-requires-in-Fb-clause-there : goal.set_in-requires-in-Fb-clause-there
+set_in-requires-in-Fb-clause-there c =
+    sym (has_row-group c.requires.bus c.args.row.now.shown.key c.in-Fb.is) ∙ c.requires.there
 
 pub returns-in-Power-clause-rows : goal.returns-in-Power-clause-rows
 returns-in-Power-clause-rows c =
@@ -53,13 +53,30 @@ returns-in-Power-clause-rows c =
 
 pub returns-in-Session-clause-rows : goal.returns-in-Session-clause-rows
 returns-in-Session-clause-rows c =
-    let after : BusRows = record c.args.self.now { sessions = c.set.new.self } in
-    put_row-group c.requires.bus c.args.row.now after (refl, c.in-Session.is) (refl, refl) c.set.ensures.rows
+    let after : BusRows = record c.args.self.now { sessions = c.set_in.new.rows } in
+    put_row-group c.requires.bus c.args.row.now after (refl, c.in-Session.is) (refl, refl) c.set_in.ensures
+
+pub returns-in-Session-clause-bus : goal.returns-in-Session-clause-bus
+returns-in-Session-clause-bus c =
+    let row = c.args.row.now in
+    let bus = row.shown.key.bus in
+    let are = c.requires.bus in
+    record {
+      sessions =
+          subst (AreOfGroup bus group.Session) (sym c.set_in.ensures)
+          (of_group-put_row bus group.Session row c.args.self.now.sessions.items (refl, c.in-Session.is) are.sessions);
+      power = are.power;
+      locomotives = are.locomotives;
+      accessories = are.accessories;
+      feedback = are.feedback;
+      locomotive_locks = are.locomotive_locks;
+      accessory_locks = are.accessory_locks;
+    }
 
 pub returns-in-Gl-clause-rows : goal.returns-in-Gl-clause-rows
 returns-in-Gl-clause-rows c =
-    let after : BusRows = record c.args.self.now { locomotives = c.set-in-Gl.new.self } in
-    put_row-group c.requires.bus c.args.row.now after (refl, c.in-Gl.is) (refl, refl) c.set-in-Gl.ensures.rows
+    let after : BusRows = record c.args.self.now { locomotives = c.set.new.self } in
+    put_row-group c.requires.bus c.args.row.now after (refl, c.in-Gl.is) (refl, refl) c.set.ensures.rows
 
 pub returns-in-Ga-clause-rows : goal.returns-in-Ga-clause-rows
 returns-in-Ga-clause-rows c =
@@ -78,8 +95,8 @@ returns-in-LockGa-clause-rows c =
 
 pub returns-in-Fb-clause-rows : goal.returns-in-Fb-clause-rows
 returns-in-Fb-clause-rows c =
-    let after : BusRows = record c.args.self.now { feedback = c.set_in.new.rows } in
-    put_row-group c.requires.bus c.args.row.now after (refl, c.in-Fb.is) (refl, refl) c.set_in.ensures
+    let after : BusRows = record c.args.self.now { feedback = c.set_in-in-Fb.new.rows } in
+    put_row-group c.requires.bus c.args.row.now after (refl, c.in-Fb.is) (refl, refl) c.set_in-in-Fb.ensures
 
 pub returns-in-Fb-clause-bus : goal.returns-in-Fb-clause-bus
 returns-in-Fb-clause-bus c =
@@ -92,7 +109,7 @@ returns-in-Fb-clause-bus c =
       locomotives = are.locomotives;
       accessories = are.accessories;
       feedback =
-          subst (AreOfGroup bus group.Fb) (sym c.set_in.ensures)
+          subst (AreOfGroup bus group.Fb) (sym c.set_in-in-Fb.ensures)
           (of_group-put_row bus group.Fb row c.args.self.now.feedback.items (refl, c.in-Fb.is) are.feedback);
       locomotive_locks = are.locomotive_locks;
       accessory_locks = are.accessory_locks;

@@ -1,28 +1,37 @@
-use Rattle.std.proofs.Common.{refl, sym, ap, subst, ◌∙◌}
+use Rattle.std.specs.Prelude.{Some, slice_set}
+use Rattle.std.specs.Box.{box_value}
+use Rattle.std.proofs.Common.{refl, sym, ap, subst, ◌∙◌, arith}
 use Rattle.std.specs.List.{AllByRecursion}
 use Rattle.std.specs.BTreeMap.{insert_entry}
 use Rattle.std.specs.Ordering.{nat_cmp}
 use Rattle.srcp_rules.specs.Nested.{AreOfDevice, device_rows}
 use Rattle.srcp_rules.proofs.ListedLaws.{each-insert_entry}
+use Rattle.srcp_rules.proofs.NumberedLaws.{insert_entry-numbered, numbered-sorted}
 use Rattle.srcp_rules.proofs.DeviceLaws.{devices-insert}
 use Rattle.srcp_rules.proofs.nested.devices.Devices.add.Goals as goal
 
-pub returns-in-Ok-clause-ok : goal.returns-in-Ok-clause-ok
-returns-in-Ok-clause-ok g c =
+pub returns-clause-ok : goal.returns-clause-ok
+returns-clause-ok g c =
     let key = c.args.first.now.shown.key in
-    let entries = c.args.self.now.by_address.entries in
-    ap device_rows c.in-Ok.ensures.entries
-    ∙ ap (λ rows. device_rows (insert_entry nat_cmp entries key.address rows)) c.of-device.ensures
-    ∙ devices-insert key.bus key.group entries c.requires.devices key (refl, refl) c.args.added.now c.requires.device c.requires.free
+    let places = c.reach.new.places.items in
+    ap device_rows
+    (sym (insert_entry-numbered box_value key.address 0 key.address (omega arith) places c.in_ok-reach.ensures.there c.in-Ok.device)
+    ∙ ap (λ es. insert_entry nat_cmp es key.address c.in-Ok.device.value) (c.in_ok-reach.ensures.same ∙ c.self.view_is)
+    ∙ ap (insert_entry nat_cmp c.args.self.now key.address) (c.in-Ok.ensures.ok ∙ c.of.ensures))
+    ∙ devices-insert key.bus key.group c.args.self.now c.requires.devices key (refl, refl) c.args.added.now c.requires.device c.requires.free
 
-pub returns-in-Ok-clause-devices : goal.returns-in-Ok-clause-devices
-returns-in-Ok-clause-devices g c =
+pub returns-clause-devices : goal.returns-clause-devices
+returns-clause-devices g c =
     let key = c.args.first.now.shown.key in
     let of = AreOfDevice key.bus key.group in
+    let places = c.reach.new.places.items in
     record {
-      each = subst (AllByRecursion (λ e. of e.0 e.1)) (sym c.in-Ok.ensures.entries)
-          (each-insert_entry of key.address c.of-device.result
-          (subst (of key.address)
-          (sym c.of-device.ensures) c.requires.device) c.args.self.now.by_address.entries c.requires.devices.each);
-      sorted = c.insert.ensures.ordered;
+      each = subst (AllByRecursion (λ e. of e.0 e.1))
+          (sym (sym (insert_entry-numbered box_value key.address 0 key.address (omega arith) places c.in_ok-reach.ensures.there
+          c.in-Ok.device)
+          ∙ ap (λ es. insert_entry nat_cmp es key.address c.in-Ok.device.value) (c.in_ok-reach.ensures.same ∙ c.self.view_is)))
+          (each-insert_entry of key.address c.in-Ok.device.value
+          (subst (of key.address) (sym (c.in-Ok.ensures.ok ∙ c.of.ensures)) c.requires.device)
+          c.args.self.now c.requires.devices.each);
+      sorted = numbered-sorted box_value 0 (slice_set places key.address (Some c.in-Ok.device));
     }

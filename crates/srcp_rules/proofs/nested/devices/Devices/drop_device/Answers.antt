@@ -1,23 +1,42 @@
-use Rattle.std.proofs.Common.{refl, sym, ap, subst, ◌∙◌}
+use Rattle.std.specs.Prelude.{None, slice_set}
+use Rattle.std.specs.Box.{box_value}
+use Rattle.std.proofs.Common.{refl, sym, ap, subst, ◌∙◌, arith}
 use Rattle.std.specs.List.{AllByRecursion}
+use Rattle.std.specs.Map.{remove_entry}
+use Rattle.std.specs.BTreeMap.{is_at}
+use Rattle.std.specs.Ordering.{nat_cmp}
 use Rattle.srcp_rules.specs.Nested.{AreOfDevice, device_rows}
 use Rattle.srcp_rules.proofs.ListedLaws.{each-remove_entry}
+use Rattle.srcp_rules.proofs.NumberedLaws.{numbered-sorted, remove_entry-numbered, remove_entry-past}
 use Rattle.srcp_rules.proofs.DeviceLaws.{devices-remove}
 use Rattle.srcp_rules.proofs.nested.devices.Devices.drop_device.Goals as goal
 
 pub returns-clause-rows : goal.returns-clause-rows
 returns-clause-rows g c =
     let device = c.args.device in
-    ap device_rows c.remove.ensures.entries
-    ∙ devices-remove device.bus device.group c.args.self.now.by_address.entries c.requires device (refl, refl)
+    ap device_rows
+    (sym (remove_entry-numbered box_value device.address 0 device.address (omega arith) c.self.inside.places.items)
+    ∙ ap (remove_entry (is_at (nat_cmp device.address))) c.self.view_is)
+    ∙ devices-remove device.bus device.group c.args.self.now c.requires device (refl, refl)
 
 pub returns-clause-devices : goal.returns-clause-devices
 returns-clause-devices g c =
     let device = c.args.device in
     let of = AreOfDevice device.bus device.group in
+    let places = c.self.inside.places.items in
     record {
-      each =
-          subst (AllByRecursion (λ e. of e.0 e.1)) (sym c.remove.ensures.entries)
-          (each-remove_entry of device.address c.args.self.now.by_address.entries c.requires.each);
-      sorted = c.remove.ensures.ordered;
+      each = subst (AllByRecursion (λ e. of e.0 e.1))
+          (sym (ap (remove_entry (is_at (nat_cmp device.address))) c.self.view_is)
+          ∙ remove_entry-numbered box_value device.address 0 device.address (omega arith) places)
+          (each-remove_entry of device.address c.args.self.now c.requires.each);
+      sorted = numbered-sorted box_value 0 (slice_set places device.address None);
     }
+
+-- past the last place there is no device
+pub returns-in_default-clause-rows : goal.returns-in_default-clause-rows
+returns-in_default-clause-rows g c =
+    let device = c.args.device in
+    ap device_rows
+    (remove_entry-past box_value device.address c.self.inside.places.items c.in_default.ensures.item.3
+    ∙ ap (remove_entry (is_at (nat_cmp device.address))) c.self.view_is)
+    ∙ devices-remove device.bus device.group c.args.self.now c.requires device (refl, refl)

@@ -1,12 +1,26 @@
-use Rattle.std.proofs.Common.{sym, ap, ◌∙◌, slice_get}
+use Rattle.std.specs.Prelude.{option_copied, slice_get}
+use Rattle.std.specs.Box.{box_value}
+use Rattle.std.proofs.Common.{ℕ, ap, ◌∙◌}
+use Rattle.std.specs.Option.{option_map}
+use Rattle.srcp_rules.specs.Numbered.{numbered}
 use Rattle.srcp_rules.specs.State.{State}
-use Rattle.srcp_rules.proofs.DeviceLaws.{first_device}
+use Rattle.srcp_rules.proofs.DeviceLaws.{first_device, no_first_device}
 use Rattle.srcp_rules.proofs.nested.devices.Devices.first.Goals as goal
 
 pub returns : goal.returns
 returns g c =
-    let devices = c.requires.devices in
+    let of = c.requires.devices in
     c.first.ensures.value
     ∙ ap (λ (rows : State). slice_get rows 0) c.as_slice.ensures
-    ∙ sym (first_device devices.0 devices.1 c.args.self.now.by_address.entries devices.2.each
-    (c.in_ok-device.field-0-0.now, c.in_ok-device.device.now) c.in_ok-device.ensures.first)
+    ∙ first_device of.0 of.1 c.args.self.now of.2.each _
+    (c.in_ok-first_device.ensures
+    ∙ ap (λ places. option_map (λ (e : ℕ × State). e.1) (slice_get (numbered box_value 0 places) 0)) c.deref.ensures.value
+    ∙ ap (λ es. option_map (λ (e : ℕ × State). e.1) (slice_get es 0)) c.self.view_is)
+
+pub returns-in_err-first_device : goal.returns-in_err-first_device
+returns-in_err-first_device g c =
+    ap option_copied c.from_residual.ensures
+    ∙ no_first_device c.args.self.now
+    (c.in_err-first_device.ensures
+    ∙ ap (λ places. option_map (λ (e : ℕ × State). e.1) (slice_get (numbered box_value 0 places) 0)) c.deref.ensures.value
+    ∙ ap (λ es. option_map (λ (e : ℕ × State). e.1) (slice_get es 0)) c.self.view_is)

@@ -1,57 +1,67 @@
-use Rattle.std.proofs.Common.{◌≡◌, ℕ, ◌≤◌, sym, ap, subst, ◌∙◌}
+use Rattle.std.specs.Prelude.{option_copied, slice_get}
+use Rattle.std.specs.Box.{box_value}
+use Rattle.std.proofs.Common.{◌≡◌, ℕ, ◌+◌, List, Option, Box, Global, None, drop, sym, ap, subst, ◌∙◌, arith}
 use Rattle.std.specs.List.{AllByRecursion}
-use Rattle.std.specs.Ordering.{nat_cmp}
-use Rattle.std.specs.BTreeMap.Range.{entries_between}
-use Rattle.std.specs.declared.ops.Bound.TheVariants.{Included, Unbounded}
-use Rattle.srcp_info.specs.declared.change.Cursor.TheVariants.{After}
+use Rattle.std.specs.Option.{option_map, option_map_or, option_or}
 use Rattle.srcp_info.specs.declared.key.Key.{Key}
+use Rattle.srcp_info.specs.declared.change.Row.{Row}
+use Rattle.srcp_info.specs.declared.change.Cursor.TheVariants.{After}
+use Rattle.srcp_rules.specs.Numbered.{numbered}
 use Rattle.srcp_rules.specs.State.{State, row_after}
-use Rattle.srcp_rules.specs.Nested.{AreOfDevice, device_rows}
-use Rattle.srcp_rules.proofs.ListedLaws.{each-from, first_has, first_has_none}
-use Rattle.srcp_rules.proofs.DeviceLaws.{row_after-devices}
+use Rattle.srcp_rules.specs.Nested.{AreDevices, AreOfDevice, device_rows, entry_at}
+use Rattle.srcp_rules.proofs.NumberedLaws.{each-from_place}
+use Rattle.srcp_rules.proofs.DeviceLaws.{first_device, no_first_device, row_after-places}
 use Rattle.srcp_rules.proofs.nested.devices.Devices.row_beyond.Goals as goal
 
-abbrev FromKey : Key → ℕ × State → Type 0
-FromKey last e = AreOfDevice last.bus last.group e.0 e.1 × (last.address ≤ e.0)
+-- the row beyond the key in its own device
+abbrev own : Key → List (ℕ × State) → Option Row
+own last es = option_map_or (λ rows. row_after (After last) rows) (entry_at last.address es) None
 
-pub loop-address-init : goal.loop-address-init
-loop-address-init g c =
+-- the first row behind that device
+abbrev behind : Key → List (Option (Box State Global)) → Option Row
+behind last places =
+    slice_get (device_rows (numbered box_value (last.address + 1) (drop (last.address + 1) places))) 0
+
+module _ (last : Key) {es : List (ℕ × State)} (places : List (Option (Box State Global)))
+    (are : AreDevices last.bus last.group es) (view : numbered box_value 0 places ≡ es) where
+  devices : AreDevices last.bus last.group (numbered box_value 0 places)
+  devices = subst (AreDevices last.bus last.group) (sym view) are
+
+  -- they answer the look-up
+  both : {o : Option Row} → o ≡ own last es → option_or o (behind last places) ≡ row_after (After last) (device_rows es)
+  both {o} e =
+      ap (λ o. option_or o (behind last places)) (e ∙ ap (own last) (sym view))
+      ∙ sym (row_after-places box_value last places devices)
+      ∙ ap (λ es. row_after (After last) (device_rows es)) view
+
+  each : AllByRecursion (λ e. AreOfDevice last.bus last.group e.0 e.1)
+      (numbered box_value (last.address + 1) (drop (last.address + 1) places))
+  each = each-from_place box_value (λ e. AreOfDevice last.bus last.group e.0 e.1) (last.address + 1) 0 (last.address + 1)
+      (omega arith) places devices.each
+
+pub returns-in-Some : goal.returns-in-Some
+returns-in-Some g c =
+    both c.args.last.now c.self.inside.places.items c.requires.devices c.self.view_is c.in-Some.ensures
+
+pub returns : goal.returns
+returns g c =
     let last = c.args.last.now in
-    let entries = c.args.self.now.by_address.entries in
-    let lent = c.into_iter-address-iterator.result in
-    let gives = c.into_iter-address-iterator.ensures.into_iter_gives in
-    let between = c.range-address-items.ensures.between tt in
-    let is : lent ≡ entries_between nat_cmp (Included last.address) Unbounded entries = cc in
-    record {
-      can = tt;
-      finite = tt;
-      each =
-          subst (AllByRecursion (FromKey c.args.last.now)) (sym is)
-          (each-from (λ e. AreOfDevice last.bus last.group e.0 e.1) last.address entries c.requires.devices.each);
-      rest =
-          row_after-devices last entries c.requires.devices
-          ∙ ap (λ es. row_after (After last) (device_rows es)) (sym is);
-    }
+    let places = c.self.inside.places.items in
+    c.first.ensures.value
+    ∙ ap (λ (rows : State). slice_get rows 0) c.as_slice.ensures
+    ∙ first_device last.bus last.group _ (each last places c.requires.devices c.self.view_is) _
+    (c.in_ok-first_device.ensures
+    ∙ ap (λ places. option_map (λ (e : ℕ × State). e.1)
+    (slice_get (numbered box_value (last.address + 1) (drop (last.address + 1) places)) 0)) c.deref.ensures.value)
+    ∙ both last places c.requires.devices c.self.view_is c.in_default.ensures
 
-pub row_after-requires : goal.row_after-requires
-row_after-requires g c =
-    (c.requires.fits, (subst (AllByRecursion (FromKey c.args.last.now)) c.in-Some.ensures.steps c.loop-address.invariant.each).0)
-
-pub returns-in-Some-row_after : goal.returns-in-Some-row_after
-returns-in-Some-row_after g c =
-    first_has (λ e. e.1) (After c.args.last.now) c.loop-address.address-iterator c.next.new.self
-    (c.in-Some.address.now, c.in-Some.device.now) c.in-Some.ensures.steps
-    c.in-Some-row_after.row.now c.in-Some-row_after.ensures
-    ∙ sym c.loop-address.invariant.rest
-
-pub loop-address-preserved : goal.loop-address-preserved
-loop-address-preserved g c =
-    record {
-      can = tt;
-      finite = tt;
-      each =
-          (subst (AllByRecursion (FromKey c.args.last.now)) c.in-Some.ensures.steps c.loop-address.invariant.each).1;
-      rest = c.loop-address.invariant.rest
-          ∙ first_has_none (λ e. e.1) (After c.args.last.now) c.loop-address.address-iterator c.next.new.self
-          (c.in-Some.address.now, c.in-Some.device.now) c.in-Some.ensures.steps c.in_default.ensures;
-    }
+pub returns-in_err-first_device : goal.returns-in_err-first_device
+returns-in_err-first_device g c =
+    let last = c.args.last.now in
+    let places = c.self.inside.places.items in
+    ap option_copied c.from_residual.ensures
+    ∙ no_first_device _
+    (c.in_err-first_device.ensures
+    ∙ ap (λ places. option_map (λ (e : ℕ × State). e.1)
+    (slice_get (numbered box_value (last.address + 1) (drop (last.address + 1) places)) 0)) c.deref.ensures.value)
+    ∙ both last places c.requires.devices c.self.view_is c.in_default.ensures

@@ -1,47 +1,72 @@
-use Rattle.std.proofs.Common.{refl, is_some, sym, ap, subst, ◌∙◌, true≢false}
-use Rattle.srcp_rules.specs.Nested.{AreOfDevice, device_rows}
+use Rattle.std.specs.Prelude.{Some, None, is_some, slice_set}
+use Rattle.std.specs.Box.{box_value, with_value}
+use Rattle.std.proofs.Common.{◌≡◌, refl, sym, ap, subst, ◌∙◌, arith, true≢false}
 use Rattle.std.specs.List.{AllByRecursion}
+use Rattle.std.specs.Map.{set_value}
+use Rattle.std.specs.BTreeMap.{is_at}
+use Rattle.std.specs.Ordering.{nat_cmp}
+use Rattle.srcp_rules.specs.Nested.{AreOfDevice, device_rows, entry_at}
 use Rattle.srcp_rules.proofs.ListedLaws.{each-set_value}
+use Rattle.srcp_rules.proofs.NumberedLaws.{entry_at-past, entry_at-place, numbered-sorted, set_value-numbered}
 use Rattle.srcp_rules.proofs.DeviceLaws.{device-put_row, devices-set_row, found_device, row_at-device, row_at-no_device}
 use Rattle.srcp_rules.proofs.nested.devices.Devices.set.Goals as goal
 
 pub set-requires : goal.set-requires
 set-requires g c =
     let key = c.args.row.now.shown.key in
-    let entries = c.args.self.now.by_address.entries in (
+    let found : Some c.deref_mut.result.now ≡ entry_at key.address c.args.self.now =
+    ap Some c.deref_mut.ensures.value
+    ∙ entry_at-place box_value key.address c.self.inside.places.items
+    (sym c.in-Some-place.is ∙ c.in-Some.ensures.item.3.1 None)
+    ∙ ap (entry_at key.address) c.self.view_is in (
       c.requires.fits,
       (
-        (found_device key.bus key.group entries c.requires.devices key.address c.in-Some.device.now (sym c.in-Some.ensures.value)).rising,
-        ap is_some (row_at-device key.bus key.group entries c.requires.devices key c.in-Some.device.now c.in-Some.ensures.value)
-            ∙ c.requires.there,
+        (found_device key.bus key.group c.args.self.now c.requires.devices key.address _ (sym found)).rising,
+        ap is_some (row_at-device key.bus key.group c.args.self.now c.requires.devices key _ found) ∙ c.requires.there,
       ),
     )
 
-pub returns-in-Some-clause-rows : goal.returns-in-Some-clause-rows
-returns-in-Some-clause-rows g c =
+pub returns-clause-rows : goal.returns-clause-rows
+returns-clause-rows g c =
     let row = c.args.row.now in
     let key = row.shown.key in
+    let places = c.self.inside.places.items in
+    let device = c.in-Some-place.device in
     let after = c.set.new.self in
-    ap device_rows (c.get_mut.follows.holds after).0
-    ∙ devices-set_row key.bus key.group c.args.self.now.by_address.entries c.requires.devices row
-    (refl, refl) c.in-Some.device.now after c.in-Some.ensures.value c.set.ensures
+    let found : Some c.deref_mut.result.now ≡ entry_at key.address c.args.self.now =
+    ap Some c.deref_mut.ensures.value
+    ∙ entry_at-place box_value key.address places (sym c.in-Some-place.is ∙ c.in-Some.ensures.item.3.1 None)
+    ∙ ap (entry_at key.address) c.self.view_is in
+    ap device_rows
+    (sym (set_value-numbered box_value key.address 0 key.address (omega arith) places device (with_value device after)
+    (sym (c.in-Some.ensures.item.3.1 None) ∙ c.in-Some-place.is))
+    ∙ ap (λ es. set_value (is_at (nat_cmp key.address)) es after) c.self.view_is)
+    ∙ devices-set_row key.bus key.group c.args.self.now c.requires.devices row (refl, refl) c.deref_mut.result.now after
+    found c.set.ensures
 
-pub returns-in-Some-clause-devices : goal.returns-in-Some-clause-devices
-returns-in-Some-clause-devices g c =
+pub returns-clause-devices : goal.returns-clause-devices
+returns-clause-devices g c =
     let row = c.args.row.now in
     let key = row.shown.key in
     let of = AreOfDevice key.bus key.group in
-    let entries = c.args.self.now.by_address.entries in
+    let places = c.self.inside.places.items in
+    let device = c.in-Some-place.device in
     let after = c.set.new.self in
-    let held = c.get_mut.follows.holds after in
-    let device = found_device key.bus key.group entries c.requires.devices key.address c.in-Some.device.now (sym c.in-Some.ensures.value) in
+    let found : Some c.deref_mut.result.now ≡ entry_at key.address c.args.self.now =
+    ap Some c.deref_mut.ensures.value
+    ∙ entry_at-place box_value key.address places (sym c.in-Some-place.is ∙ c.in-Some.ensures.item.3.1 None)
+    ∙ ap (entry_at key.address) c.self.view_is in
     record {
-      each = subst (AllByRecursion (λ e. of e.0 e.1)) (sym held.0)
+      each = subst (AllByRecursion (λ e. of e.0 e.1))
+          (sym (ap (λ es. set_value (is_at (nat_cmp key.address)) es after) c.self.view_is)
+          ∙ set_value-numbered box_value key.address 0 key.address (omega arith) places device (with_value device after)
+          (sym (c.in-Some.ensures.item.3.1 None) ∙ c.in-Some-place.is))
           (each-set_value of key.address after
           (subst (of key.address) (sym c.set.ensures)
-          (device-put_row key.bus key.group key.address row c.in-Some.device.now
-          (refl, refl) refl device)) entries c.requires.devices.each);
-      sorted = held.4;
+          (device-put_row key.bus key.group key.address row c.deref_mut.result.now (refl, refl) refl
+          (found_device key.bus key.group c.args.self.now c.requires.devices key.address _ (sym found))))
+          c.args.self.now c.requires.devices.each);
+      sorted = numbered-sorted box_value 0 (slice_set places key.address (Some (with_value device after)));
     }
 
 -- the row is there, and so is its device
@@ -51,5 +76,17 @@ returns-in_default-clause-rows g c =
     absurd (true≢false
     (sym c.requires.there
     ∙ sym (ap is_some
-    (row_at-no_device key.bus key.group c.args.self.now.by_address.entries c.requires.devices key
-    c.in_default.ensures.value))))
+    (row_at-no_device key.bus key.group c.args.self.now c.requires.devices key
+    (entry_at-past box_value key.address c.self.inside.places.items c.in_default.ensures.item.3
+    ∙ ap (entry_at key.address) c.self.view_is)))))
+
+pub returns-in_default-place-clause-rows : goal.returns-in_default-place-clause-rows
+returns-in_default-place-clause-rows g c =
+    let key = c.args.row.now.shown.key in
+    absurd (true≢false
+    (sym c.requires.there
+    ∙ sym (ap is_some
+    (row_at-no_device key.bus key.group c.args.self.now c.requires.devices key
+    (entry_at-place box_value key.address c.self.inside.places.items
+    (sym c.in_default-place.is ∙ c.in-Some.ensures.item.3.1 None)
+    ∙ ap (entry_at key.address) c.self.view_is)))))
