@@ -1,5 +1,6 @@
 -- Who has a place as which guest: a newcomer takes one, and who is let go leaves one.
-use Rattle.std.proofs.Common.{◌≡◌, ◌∙◌, ℕ, zero, suc, ◌+◌, Bool, true, false, List, [], ◌∷◌, ◌++◌, map, length, if◌then◌else◌, Option, Some, None, refl, ap, sym, subst, arith, ◌==◌}
+use Rattle.std.proofs.Common.{◌≡◌, ◌∙◌, ℕ, zero, suc, ◌+◌, Bool, true, false, List, [], ◌∷◌, ◌++◌, map, length, if◌then◌else◌, Option, Some}
+use Rattle.std.proofs.Common.{None, refl, ap, sym, subst, arith, ◌==◌}
 use Rattle.std.specs.List.{list_any, AllByRecursion}
 use Rattle.std.specs.Prelude.{is_none}
 use Rattle.std.proofs.lemmas.List.{map-append}
@@ -16,33 +17,42 @@ use Rattle.srcp_serve.proofs.Guests.{IsGuest, AreGuests, turned_round}
 
 -- ---- places
 
-pub kept_all : (P : Seat → Type 0) (calls : List Call) (places : List (Option Seat)) → AllByRecursion P (seats places) → AllByRecursion P (seats (map (kept calls) places))
+pub kept_all : (P : Seat → Type 0) (calls : List Call) (places : List (Option Seat)) → AllByRecursion P (seats places)
+    → AllByRecursion P (seats (map (kept calls) places))
 kept_all P calls [] h = tt
 kept_all P calls (None ∷ places) h = kept_all P calls places h
 kept_all P calls (Some seat ∷ places) h = by (list_any is_close (visit calls seat)) (kept_all P calls places h.1)
   where
-    by : (b : Bool) → AllByRecursion P (seats (map (kept calls) places)) → AllByRecursion P (seats ((if b then None else Some seat) ∷ map (kept calls) places))
+    by : (b : Bool) → AllByRecursion P (seats (map (kept calls) places))
+        → AllByRecursion P (seats ((if b then None else Some seat) ∷ map (kept calls) places))
     by true more = more
     by false more = (h.0, more)
 
-pub kept_apart : (calls : List Call) (places : List (Option Seat)) → PeersApart (seats places) → PeersApart (seats (map (kept calls) places))
+pub kept_apart : (calls : List Call) (places : List (Option Seat)) → PeersApart (seats places)
+    → PeersApart (seats (map (kept calls) places))
 kept_apart calls [] h = tt
 kept_apart calls (None ∷ places) h = kept_apart calls places h
 kept_apart calls (Some seat ∷ places) h = by (list_any is_close (visit calls seat)) (kept_apart calls places h.1)
   where
-    by : (b : Bool) → PeersApart (seats (map (kept calls) places)) → PeersApart (seats ((if b then None else Some seat) ∷ map (kept calls) places))
+    by : (b : Bool) → PeersApart (seats (map (kept calls) places))
+        → PeersApart (seats ((if b then None else Some seat) ∷ map (kept calls) places))
     by true more = more
     by false more = (kept_all (λ other. (other.peer == seat.peer) ≡ false) calls places h.0, more)
 
-pub seated_all : (P : Seat → Type 0) (seat : Seat) (places : List (Option Seat)) → P seat → AllByRecursion P (seats places) → AllByRecursion P (seats (seated seat places))
+pub seated_all : (P : Seat → Type 0) (seat : Seat) (places : List (Option Seat)) → P seat → AllByRecursion P (seats places)
+    → AllByRecursion P (seats (seated seat places))
 seated_all P seat [] new h = tt
 seated_all P seat (None ∷ places) new h = (new, h)
 seated_all P seat (Some other ∷ places) new h = (h.0, seated_all P seat places new h.1)
 
-pub seated_apart : (seat : Seat) (places : List (Option Seat)) → IsNoneOf seat.peer (seats places) → PeersApart (seats places) → PeersApart (seats (seated seat places))
+pub seated_apart : (seat : Seat) (places : List (Option Seat)) → IsNoneOf seat.peer (seats places) → PeersApart (seats places)
+    → PeersApart (seats (seated seat places))
 seated_apart seat [] new h = tt
 seated_apart seat (None ∷ places) new h = (new, h)
-seated_apart seat (Some other ∷ places) new h = (seated_all (λ x. (x.peer == other.peer) ≡ false) seat places (turned_round other.peer seat.peer new.0) h.0, seated_apart seat places new.1 h.1)
+seated_apart seat (Some other ∷ places) new h = (
+  seated_all (λ x. (x.peer == other.peer) ≡ false) seat places (turned_round other.peer seat.peer new.0) h.0,
+  seated_apart seat places new.1 h.1,
+)
 
 -- ---- guests
 
@@ -65,7 +75,9 @@ guest_next peer [] h = (refl, tt)
 guest_next peer (guest ∷ guests) h = (h.0, guest_next peer guests h.1)
 
 pub guest_last : (peer : ℕ) (guests : List ℕ) → IsNew peer guests → IsGuest (length guests + 1) peer (guests ++ peer ∷ [])
-guest_last peer guests h = let same : suc (length guests) ≡ length guests + 1 = omega arith in subst (λ (n : ℕ). IsGuest n peer (guests ++ peer ∷ [])) same (guest_next peer guests h)
+guest_last peer guests h =
+    let same : suc (length guests) ≡ length guests + 1 = omega arith in
+    subst (λ (n : ℕ). IsGuest n peer (guests ++ peer ∷ [])) same (guest_next peer guests h)
 
 -- a new peer is not the guest of any number
 guest_other : (n peer new : ℕ) (guests : List ℕ) → IsNew new guests → IsGuest n peer guests → (peer == new) ≡ false
@@ -79,9 +91,13 @@ pub new_unseated : (new : ℕ) (guests : List ℕ) (all : List Seat) → IsNew n
 new_unseated new guests [] h k = tt
 new_unseated new guests (seat ∷ all) h k = (guest_other seat.conn seat.peer new guests h k.0, new_unseated new guests all h k.1)
 
-pub guests_before : (new : ℕ) (guests : List ℕ) (all : List Seat) → IsNew new guests → AreGuests guests all → AreGuests (guests ++ new ∷ []) all
+pub guests_before : (new : ℕ) (guests : List ℕ) (all : List Seat) → IsNew new guests → AreGuests guests all
+    → AreGuests (guests ++ new ∷ []) all
 guests_before new guests [] h k = tt
-guests_before new guests (seat ∷ all) h k = (guest_before seat.conn seat.peer new guests (turned_round seat.peer new (guest_other seat.conn seat.peer new guests h k.0)) k.0, guests_before new guests all h k.1)
+guests_before new guests (seat ∷ all) h k = (
+  guest_before seat.conn seat.peer new guests (turned_round seat.peer new (guest_other seat.conn seat.peer new guests h k.0)) k.0,
+  guests_before new guests all h k.1,
+)
 
 -- ---- the beginning of a turn
 
@@ -94,12 +110,16 @@ module _ (buses : List Bus) (before : ℕ → List ℕ) where
 
   pub even_moment : (stand : Stand) (moment : ℕ) → IsEven stand → IsEven (with_moment buses stand moment)
   even_moment stand moment h = record {
-    sending = subst (λ (v : World). IsSending (map before stand.guests) v.connections) (sym (fold-append (happens buses) start stand.events (At moment ∷ []))) (sending_moment buses (map before stand.guests) moment (course buses stand.events) h.sending);
+    sending =
+        subst (λ (v : World). IsSending (map before stand.guests) v.connections)
+        (sym (fold-append (happens buses) start stand.events (At moment ∷ [])))
+        (sending_moment buses (map before stand.guests) moment (course buses stand.events) h.sending);
     known = h.known;
     apart = h.apart;
   }
 
-  pub even_welcomed : (stand : Stand) (guest : Guest) → IsNew guest.peer stand.guests → before guest.peer ≡ [] → IsEven stand → IsEven (welcomed buses stand guest)
+  pub even_welcomed : (stand : Stand) (guest : Guest) → IsNew guest.peer stand.guests → before guest.peer ≡ [] → IsEven stand
+      → IsEven (welcomed buses stand guest)
   even_welcomed stand guest new none h = by (fault buses (course buses stand.events) (Open guest.granted)) refl
     where
       next : course buses (stand.events ++ Open guest.granted ∷ []) ≡ happens buses (course buses stand.events) (Open guest.granted)
@@ -107,18 +127,32 @@ module _ (buses : List Bus) (before : ℕ → List ℕ) where
 
       by : (o : Option CoreFault) → fault buses (course buses stand.events) (Open guest.granted) ≡ o → IsEven (welcomed buses stand guest)
       by None e =
-          let yes : welcomed buses stand guest ≡ let_in buses stand guest = ap (λ o. if is_none o then let_in buses stand guest else record stand { events = stand.events ++ Open guest.granted ∷ [] }) e in
-          let texts : map before stand.guests ++ [] ∷ [] ≡ map before (stand.guests ++ guest.peer ∷ []) = ap (λ t. map before stand.guests ++ t ∷ []) (sym none) ∙ sym (map-append before stand.guests (guest.peer ∷ [])) in
+          let yes : welcomed buses stand guest ≡ let_in buses stand guest =
+          ap (λ o. if is_none o then let_in buses stand guest else record stand { events = stand.events ++ Open guest.granted ∷ [] })
+          e in
+          let texts : map before stand.guests ++ [] ∷ [] ≡ map before (stand.guests ++ guest.peer ∷ []) =
+          ap (λ t. map before stand.guests ++ t ∷ []) (sym none) ∙ sym (map-append before stand.guests (guest.peer ∷ [])) in
           subst IsEven (sym yes) (record {
-            sending = subst (λ (ts : List (List ℕ)). IsSending ts (course buses (stand.events ++ Open guest.granted ∷ [])).connections) texts
-                (subst (λ (v : World). IsSending (map before stand.guests ++ [] ∷ []) v.connections) (sym next) (sending_opened buses (map before stand.guests) guest.granted (course buses stand.events) h.sending e));
-            known = seated_all (λ seat. IsGuest seat.conn seat.peer (stand.guests ++ guest.peer ∷ [])) (record { peer = guest.peer; conn = length stand.guests + 1 }) stand.places (guest_last guest.peer stand.guests new) (guests_before guest.peer stand.guests (seats stand.places) new h.known);
-            apart = seated_apart (record { peer = guest.peer; conn = length stand.guests + 1 }) stand.places (new_unseated guest.peer stand.guests (seats stand.places) new h.known) h.apart;
+            sending =
+                subst (λ (ts : List (List ℕ)). IsSending ts (course buses (stand.events ++ Open guest.granted ∷ [])).connections) texts
+                (subst (λ (v : World). IsSending (map before stand.guests ++ [] ∷ []) v.connections) (sym next)
+                (sending_opened buses (map before stand.guests) guest.granted (course buses stand.events) h.sending e));
+            known =
+                seated_all (λ seat. IsGuest seat.conn seat.peer (stand.guests ++ guest.peer ∷ []))
+                (record { peer = guest.peer; conn = length stand.guests + 1 }) stand.places (guest_last guest.peer stand.guests new)
+                (guests_before guest.peer stand.guests (seats stand.places) new h.known);
+            apart =
+                seated_apart (record { peer = guest.peer; conn = length stand.guests + 1 }) stand.places
+                (new_unseated guest.peer stand.guests (seats stand.places) new h.known) h.apart;
           })
       by (Some cause) e =
-          let no : welcomed buses stand guest ≡ record stand { events = stand.events ++ Open guest.granted ∷ [] } = ap (λ o. if is_none o then let_in buses stand guest else record stand { events = stand.events ++ Open guest.granted ∷ [] }) e in
+          let no : welcomed buses stand guest ≡ record stand { events = stand.events ++ Open guest.granted ∷ [] } =
+          ap (λ o. if is_none o then let_in buses stand guest else record stand { events = stand.events ++ Open guest.granted ∷ [] })
+          e in
           subst IsEven (sym no) (record {
-            sending = subst (λ (v : World). IsSending (map before stand.guests) v.connections) (sym next) (sending_refused buses (map before stand.guests) guest.granted (course buses stand.events) cause h.sending e);
+            sending =
+                subst (λ (v : World). IsSending (map before stand.guests) v.connections) (sym next)
+                (sending_refused buses (map before stand.guests) guest.granted (course buses stand.events) cause h.sending e);
             known = h.known;
             apart = h.apart;
           })

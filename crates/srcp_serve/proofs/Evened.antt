@@ -8,14 +8,16 @@ use Rattle.srcp_core.specs.Waits.{due_next, slack}
 use Rattle.srcp_info.proofs.ClientLaws.{all_append}
 use Rattle.srcp_rules.specs.declared.layout.Bus.{Bus}
 use Rattle.srcp_serve.specs.Given.{Guest, Call}
-use Rattle.srcp_serve.specs.Serving.{Question, Moments, expects, Newcomers, Closes, Seat, Stand, IsFair, question, moment_of, newcomer_of, seats, taken, timed, turned, visits_ask, welcomed, let_in, is_let_in, turns_away, turn_asks}
+use Rattle.srcp_serve.specs.Serving.{Question, Moments, expects, Newcomers, Closes, Seat, Stand, IsFair, question, moment_of, newcomer_of}
+use Rattle.srcp_serve.specs.Serving.{seats, taken, timed, turned, visits_ask, welcomed, let_in, is_let_in, turns_away, turn_asks}
 use Rattle.srcp_serve.proofs.Takings.{no_writes}
 use Rattle.srcp_serve.proofs.Partings.{IsOfNone, AreOfPeers, asks_peer, away_peers, visits_peers}
 use Rattle.srcp_serve.proofs.Comings.{IsEven, IsNew, even_welcomed, new_unseated}
 use Rattle.srcp_serve.proofs.Evening.{even_visited}
 use Rattle.srcp_serve.proofs.Begins.{even_timed, one_newcomer, away_of_none}
 
-module _ (buses : List Bus) (before : ℕ → List ℕ) (stand : Stand) (calls : List Call) (fair : AllByRecursion IsFair calls) (fresh : (peer : ℕ) → IsNew peer stand.guests → before peer ≡ []) (even : IsEven buses before stand) where
+module _ (buses : List Bus) (before : ℕ → List ℕ) (stand : Stand) (calls : List Call) (fair : AllByRecursion IsFair calls)
+    (fresh : (peer : ℕ) → IsNew peer stand.guests → before peer ≡ []) (even : IsEven buses before stand) where
   abbrev now : Stand
   now = timed buses stand calls
 
@@ -51,19 +53,29 @@ module _ (buses : List Bus) (before : ℕ → List ℕ) (stand : Stand) (calls :
         begun_even = even_welcomed buses before now peer here (fresh peer.peer new.0) t.0;
       }
     where
-      still : (b : Bool) → no_writes (expects buses stand.events ∷ Moments ∷ Newcomers ∷ ((if b then [] else Closes peer.peer ∷ []) ++ [])) ≡ true
+      still : (b : Bool)
+          → no_writes (expects buses stand.events ∷ Moments ∷ Newcomers ∷ ((if b then [] else Closes peer.peer ∷ []) ++ [])) ≡ true
       still true = refl
       still false = refl
 
-      none : IsNew peer.peer now.guests → (b : Bool) → is_let_in buses now.events peer.granted ≡ b → IsOfNone buses (expects buses stand.events ∷ Moments ∷ Newcomers ∷ (turns_away buses now.events peer ++ [])) (seats (welcomed buses now peer).places)
+      none : IsNew peer.peer now.guests → (b : Bool) → is_let_in buses now.events peer.granted ≡ b
+          → IsOfNone buses (expects buses stand.events ∷ Moments ∷ Newcomers ∷ (turns_away buses now.events peer ++ []))
+          (seats (welcomed buses now peer).places)
       none here true e =
           let nobody : turns_away buses now.events peer ++ [] ≡ [] = ap (λ b. (if b then [] else Closes peer.peer ∷ []) ++ []) e in
-          subst (λ (qs : List Question). IsOfNone buses (expects buses stand.events ∷ Moments ∷ Newcomers ∷ qs) (seats (welcomed buses now peer).places)) (sym nobody) (none_first (seats (welcomed buses now peer).places))
+          subst (λ (qs : List Question).
+          IsOfNone buses (expects buses stand.events ∷ Moments ∷ Newcomers ∷ qs) (seats (welcomed buses now peer).places))
+          (sym nobody) (none_first (seats (welcomed buses now peer).places))
       none here false e =
-          let same : welcomed buses now peer ≡ record now { events = now.events ++ Open peer.granted ∷ [] } = ap (λ b. if b then let_in buses now peer else record now { events = now.events ++ Open peer.granted ∷ [] }) e in
+          let same : welcomed buses now peer ≡ record now { events = now.events ++ Open peer.granted ∷ [] } =
+          ap (λ b. if b then let_in buses now peer else record now { events = now.events ++ Open peer.granted ∷ [] }) e in
           let t = even_timed buses before stand (filter_map moment_of calls) even in
-          subst (λ (v : Stand). IsOfNone buses (expects buses stand.events ∷ Moments ∷ Newcomers ∷ (turns_away buses now.events peer ++ [])) (seats v.places)) (sym same)
-          (away_of_none (due_next buses (course buses stand.events)) (slack buses (course buses stand.events)) buses now.events peer (seats now.places) (new_unseated peer.peer now.guests (seats now.places) here t.0.known))
+          subst (λ (v : Stand).
+          IsOfNone buses (expects buses stand.events ∷ Moments ∷ Newcomers ∷ (turns_away buses now.events peer ++ []))
+          (seats v.places))
+          (sym same)
+          (away_of_none (due_next buses (course buses stand.events)) (slack buses (course buses stand.events)) buses now.events peer
+          (seats now.places) (new_unseated peer.peer now.guests (seats now.places) here t.0.known))
 
   begins : (peers : List Guest) → (peers ≡ []) ⊎ ((peer : Guest) × (peers ≡ peer ∷ [])) → Asks peers
       → AllByRecursion (λ peer. IsNew peer.peer stand.guests) peers → Begins peers
@@ -84,7 +96,9 @@ module _ (buses : List Bus) (before : ℕ → List ℕ) (stand : Stand) (calls :
       let peers : List Guest = filter_map newcomer_of calls in
       let away : List Question = flat_map (turns_away buses now.events) peers in
       let visits : List Question = visits_ask buses (after peers).events calls (seats (after peers).places) in
-      let of_peers : AreOfPeers (away ++ visits) = all_append (λ q. asks_peer q ≡ true) away visits (away_peers buses now.events peers) (visits_peers buses (after peers).events calls (seats (after peers).places)) in
+      let of_peers : AreOfPeers (away ++ visits) =
+      all_append (λ q. asks_peer q ≡ true) away visits (away_peers buses now.events peers)
+      (visits_peers buses (after peers).events calls (seats (after peers).places)) in
       begins peers (one_newcomer _ _ calls (away ++ visits) asked of_peers) asked new
 
   -- the step of an induction over turns

@@ -1,5 +1,6 @@
 -- After the visits of a turn each guest was sent what was taken before it and in it.
-use Rattle.std.proofs.Common.{◌≡◌, ◌∙◌, ℕ, Bool, true, false, not, cond, List, [], ◌∷◌, ◌++◌, map, filter, if◌then◌else◌, refl, ap, sym, subst, append-nil, ◌==◌}
+use Rattle.std.proofs.Common.{◌≡◌, ◌∙◌, ℕ, Bool, true, false, not, cond, List, [], ◌∷◌, ◌++◌, map, filter, if◌then◌else◌, refl, ap, sym}
+use Rattle.std.proofs.Common.{subst, append-nil, ◌==◌}
 use Rattle.std.specs.Prelude.{◌&&◌, ◌||◌}
 use Rattle.std.specs.List.{list_any, AllByRecursion}
 use Rattle.std.proofs.lemmas.List.Elements.{filter-append}
@@ -23,13 +24,15 @@ no_writes_kept g (q ∷ questions) h =
     let parts = both (not (asks_write q)) (no_writes questions) h in
     by (g q) parts.0 (no_writes_kept g questions parts.1)
   where
-    by : (b : Bool) → not (asks_write q) ≡ true → no_writes (filter g questions) ≡ true → no_writes (cond b (q ∷ filter g questions) (filter g questions)) ≡ true
+    by : (b : Bool) → not (asks_write q) ≡ true → no_writes (filter g questions) ≡ true
+        → no_writes (cond b (q ∷ filter g questions) (filter g questions)) ≡ true
     by true p more = ap (λ t. t && no_writes (filter g questions)) p ∙ more
     by false p more = more
 
 any_none : (peer : ℕ) (all : List Seat) → list_any (λ seat. seat.peer == peer) all ≡ false → IsNoneOf peer all
 any_none peer [] h = tt
-any_none peer (seat ∷ all) h = let parts = neither (seat.peer == peer) (list_any (λ other. other.peer == peer) all) h in (parts.0, any_none peer all parts.1)
+any_none peer (seat ∷ all) h =
+    let parts = neither (seat.peer == peer) (list_any (λ other. other.peer == peer) all) h in (parts.0, any_none peer all parts.1)
   where
     neither : (a b : Bool) → a || b ≡ false → (a ≡ false) × (b ≡ false)
     neither true b e = cc
@@ -39,7 +42,8 @@ pub same_each : (f g : ℕ → List ℕ) (guests : List ℕ) → ((peer : ℕ) �
 same_each f g [] h = refl
 same_each f g (guest ∷ guests) h = ap (λ t. t ∷ map f guests) (h guest) ∙ ap (λ ts. g guest ∷ ts) (same_each f g guests h)
 
-module _ (buses : List Bus) (before : ℕ → List ℕ) (stand : Stand) (calls : List Call) (first : List Question) (still : no_writes first ≡ true) (asked : map question calls ≡ first ++ visits_ask buses stand.events calls (seats stand.places)) where
+module _ (buses : List Bus) (before : ℕ → List ℕ) (stand : Stand) (calls : List Call) (first : List Question)
+    (still : no_writes first ≡ true) (asked : map question calls ≡ first ++ visits_ask buses stand.events calls (seats stand.places)) where
   -- of a peer that has no place nothing is taken
   pub nothing_taken : (peer : ℕ) → IsNoneOf peer (seats stand.places) → taken peer calls ≡ []
   nothing_taken peer none =
@@ -50,23 +54,27 @@ module _ (buses : List Bus) (before : ℕ → List ℕ) (stand : Stand) (calls :
       ∙ filter-append (asks_of peer) first theirs
       ∙ ap (λ qs. filter (asks_of peer) first ++ qs) (none_asked buses peer stand.events calls (seats stand.places) none)
       ∙ append-nil (filter (asks_of peer) first) in
-      sym (taken_visit peer calls) ∙ (none_taken peer (filter (is_about peer) calls) (ap no_writes are ∙ no_writes_kept (asks_of peer) first still)).1
+      sym (taken_visit peer calls)
+      ∙ (none_taken peer (filter (is_about peer) calls) (ap no_writes are ∙ no_writes_kept (asks_of peer) first still)).1
 
   at_first : (peer : ℕ) → before peer ≡ so_far before calls (seats stand.places) peer
   at_first peer = by (list_any (λ seat. seat.peer == peer) (seats stand.places)) refl
     where
-      by : (b : Bool) → list_any (λ seat. seat.peer == peer) (seats stand.places) ≡ b → before peer ≡ so_far before calls (seats stand.places) peer
+      by : (b : Bool) → list_any (λ seat. seat.peer == peer) (seats stand.places) ≡ b
+          → before peer ≡ so_far before calls (seats stand.places) peer
       by true e = sym (append-nil (before peer)) ∙ ap (λ b. before peer ++ (if b then [] else taken peer calls)) (sym e)
       by false e =
           sym (append-nil (before peer))
           ∙ ap (λ t. before peer ++ t) (sym (nothing_taken peer (any_none peer (seats stand.places) e)))
           ∙ ap (λ b. before peer ++ (if b then [] else taken peer calls)) (sym e)
 
-  pub even_visited : AllByRecursion IsFair calls → IsOfNone buses first (seats stand.places) → IsEven buses before stand → IsEven buses (λ peer. before peer ++ taken peer calls) (visited buses stand calls)
+  pub even_visited : AllByRecursion IsFair calls → IsOfNone buses first (seats stand.places) → IsEven buses before stand
+      → IsEven buses (λ peer. before peer ++ taken peer calls) (visited buses stand calls)
   even_visited fair none h =
       let parted = visits_parted buses first stand.events calls (seats stand.places) h.apart none asked in
       let begun : IsSending (map (so_far before calls (seats stand.places)) stand.guests) (course buses stand.events).connections =
-      subst (λ (ts : List (List ℕ)). IsSending ts (course buses stand.events).connections) (same_each before (so_far before calls (seats stand.places)) stand.guests at_first) h.sending in
+      subst (λ (ts : List (List ℕ)). IsSending ts (course buses stand.events).connections)
+      (same_each before (so_far before calls (seats stand.places)) stand.guests at_first) h.sending in
       record {
         sending = sending_visits buses stand.guests before calls fair stand.events (seats stand.places) h.known h.apart parted begun;
         known = kept_all (λ seat. IsGuest seat.conn seat.peer stand.guests) calls stand.places h.known;

@@ -1,5 +1,6 @@
 -- What was sent of each connection, by the guests: the visits of a turn add what their peers took.
-use Rattle.std.proofs.Common.{◌≡◌, ◌∙◌, ℕ, zero, suc, Bool, true, false, List, [], ◌∷◌, ◌++◌, map, filter, take, Result, Ok, Err, if◌then◌else◌, refl, ap, sym, subst, arith, append-nil, append_assoc, ◌==◌}
+use Rattle.std.proofs.Common.{◌≡◌, ◌∙◌, ℕ, zero, suc, Bool, true, false, List, [], ◌∷◌, ◌++◌, map, filter, take, Result, Ok, Err}
+use Rattle.std.proofs.Common.{if◌then◌else◌, refl, ap, sym, subst, arith, append-nil, append_assoc, ◌==◌}
 use Rattle.std.specs.Prelude.{◌||◌, flat_map}
 use Rattle.std.specs.List.{list_any, AllByRecursion}
 use Rattle.std.proofs.lemmas.Bool.Decides.{nat_tests}
@@ -21,19 +22,24 @@ IsGuest zero peer (guest ∷ guests) = ⊥
 IsGuest (suc zero) peer (guest ∷ guests) = (guest ≡ peer) × AllByRecursion (λ other. (other == peer) ≡ false) guests
 IsGuest (suc (suc n)) peer (guest ∷ guests) = ((guest == peer) ≡ false) × IsGuest (suc n) peer guests
 
-same_map : (f g : ℕ → List ℕ) (peer : ℕ) (guests : List ℕ) → ((other : ℕ) → (other == peer) ≡ false → f other ≡ g other) → AllByRecursion (λ other. (other == peer) ≡ false) guests → map f guests ≡ map g guests
+same_map : (f g : ℕ → List ℕ) (peer : ℕ) (guests : List ℕ) → ((other : ℕ) → (other == peer) ≡ false → f other ≡ g other)
+    → AllByRecursion (λ other. (other == peer) ≡ false) guests → map f guests ≡ map g guests
 same_map f g peer [] h a = refl
 same_map f g peer (guest ∷ guests) h a = ap (λ t. t ∷ map f guests) (h guest a.0) ∙ ap (λ ts. g guest ∷ ts) (same_map f g peer guests h a.1)
 
 -- what is put to the guest of that number
-put_guest : (f g : ℕ → List ℕ) (more : List ℕ) (n peer : ℕ) (guests : List ℕ) → IsGuest n peer guests → ((other : ℕ) → (other == peer) ≡ false → f other ≡ g other) → f peer ++ more ≡ g peer → put n more (map f guests) ≡ map g guests
+put_guest : (f g : ℕ → List ℕ) (more : List ℕ) (n peer : ℕ) (guests : List ℕ) → IsGuest n peer guests
+    → ((other : ℕ) → (other == peer) ≡ false → f other ≡ g other) → f peer ++ more ≡ g peer → put n more (map f guests) ≡ map g guests
 put_guest f g more n peer [] i h e = absurd i
 put_guest f g more zero peer (guest ∷ guests) i h e = absurd i
 put_guest f g more (suc zero) peer (guest ∷ guests) i h e =
-    ap (λ p. (f p ++ more) ∷ map f guests) i.0 ∙ ap (λ t. t ∷ map f guests) e ∙ ap (λ p. g p ∷ map f guests) (sym i.0) ∙ ap (λ ts. g guest ∷ ts) (same_map f g peer guests h i.1)
-put_guest f g more (suc (suc n)) peer (guest ∷ guests) i h e = ap (λ t. t ∷ put (suc n) more (map f guests)) (h guest i.0) ∙ ap (λ ts. g guest ∷ ts) (put_guest f g more (suc n) peer guests i.1 h e)
+    ap (λ p. (f p ++ more) ∷ map f guests) i.0 ∙ ap (λ t. t ∷ map f guests) e ∙ ap (λ p. g p ∷ map f guests) (sym i.0)
+    ∙ ap (λ ts. g guest ∷ ts) (same_map f g peer guests h i.1)
+put_guest f g more (suc (suc n)) peer (guest ∷ guests) i h e =
+    ap (λ t. t ∷ put (suc n) more (map f guests)) (h guest i.0) ∙ ap (λ ts. g guest ∷ ts) (put_guest f g more (suc n) peer guests i.1 h e)
 
-none_of : (peer who : ℕ) (bytes : List ℕ) (answer : Result ℕ DoorFault) → (who == peer) ≡ false → taken_in peer (WriteCall who bytes answer) ≡ []
+none_of : (peer who : ℕ) (bytes : List ℕ) (answer : Result ℕ DoorFault) → (who == peer) ≡ false
+    → taken_in peer (WriteCall who bytes answer) ≡ []
 none_of peer who bytes (Ok count) e = ap (λ b. if b then take count bytes else []) e
 none_of peer who bytes (Err failed) e = refl
 
@@ -45,17 +51,24 @@ taken_visit peer (NowCall answer ∷ calls) = taken_visit peer calls
 taken_visit peer (AcceptCall answer granted ∷ calls) = taken_visit peer calls
 taken_visit peer (ReadCall who answer buffer grants ∷ calls) = by (who == peer) ∙ taken_visit peer calls
   where
-    by : (b : Bool) → taken peer (if b then ReadCall who answer buffer grants ∷ filter (is_about peer) calls else filter (is_about peer) calls) ≡ taken peer (filter (is_about peer) calls)
+    by : (b : Bool)
+        → taken peer (if b then ReadCall who answer buffer grants ∷ filter (is_about peer) calls else filter (is_about peer) calls)
+        ≡ taken peer (filter (is_about peer) calls)
     by true = refl
     by false = refl
 taken_visit peer (CloseCall who answer ∷ calls) = by (who == peer) ∙ taken_visit peer calls
   where
-    by : (b : Bool) → taken peer (if b then CloseCall who answer ∷ filter (is_about peer) calls else filter (is_about peer) calls) ≡ taken peer (filter (is_about peer) calls)
+    by : (b : Bool)
+        → taken peer (if b then CloseCall who answer ∷ filter (is_about peer) calls else filter (is_about peer) calls)
+        ≡ taken peer (filter (is_about peer) calls)
     by true = refl
     by false = refl
-taken_visit peer (WriteCall who bytes answer ∷ calls) = by (who == peer) refl ∙ ap (λ t. taken_in peer (WriteCall who bytes answer) ++ t) (taken_visit peer calls)
+taken_visit peer (WriteCall who bytes answer ∷ calls) =
+    by (who == peer) refl ∙ ap (λ t. taken_in peer (WriteCall who bytes answer) ++ t) (taken_visit peer calls)
   where
-    by : (b : Bool) → (who == peer) ≡ b → taken peer (if b then WriteCall who bytes answer ∷ filter (is_about peer) calls else filter (is_about peer) calls) ≡ taken_in peer (WriteCall who bytes answer) ++ taken peer (filter (is_about peer) calls)
+    by : (b : Bool) → (who == peer) ≡ b
+        → taken peer (if b then WriteCall who bytes answer ∷ filter (is_about peer) calls else filter (is_about peer) calls)
+        ≡ taken_in peer (WriteCall who bytes answer) ++ taken peer (filter (is_about peer) calls)
     by true e = refl
     by false e = ap (λ t. t ++ taken peer (filter (is_about peer) calls)) (sym (none_of peer who bytes answer e))
 
@@ -70,7 +83,8 @@ pub fair_visit : (peer : ℕ) (calls : List Call) → AllByRecursion IsFair call
 fair_visit peer [] h = tt
 fair_visit peer (call ∷ calls) h = by (is_about peer call) (fair_visit peer calls h.1)
   where
-    by : (b : Bool) → AllByRecursion IsFair (filter (is_about peer) calls) → AllByRecursion IsFair (if b then call ∷ filter (is_about peer) calls else filter (is_about peer) calls)
+    by : (b : Bool) → AllByRecursion IsFair (filter (is_about peer) calls)
+        → AllByRecursion IsFair (if b then call ∷ filter (is_about peer) calls else filter (is_about peer) calls)
     by true a = (h.0, a)
     by false a = a
 
@@ -83,23 +97,32 @@ turned_round a b e = grind (arith, nat_tests)
 
 module _ (buses : List Bus) (guests : List ℕ) (before : ℕ → List ℕ) (calls : List Call) (fair : AllByRecursion IsFair calls) where
   -- the visits of a turn
-  pub sending_visits : (events : List Event) (all : List Seat) → AreGuests guests all → PeersApart all → AreAsked buses events calls all → IsSending (map (so_far before calls all) guests) (course buses events).connections
+  pub sending_visits : (events : List Event) (all : List Seat) → AreGuests guests all → PeersApart all → AreAsked buses events calls all
+      → IsSending (map (so_far before calls all) guests) (course buses events).connections
       → IsSending (map (so_far before calls []) guests) (course buses (events ++ flat_map (visit_events calls) all)).connections
-  sending_visits events [] known apart asked a = subst (λ (es : List Event). IsSending (map (so_far before calls []) guests) (course buses es).connections) (sym (append-nil events)) a
+  sending_visits events [] known apart asked a =
+      subst (λ (es : List Event). IsSending (map (so_far before calls []) guests) (course buses es).connections) (sym (append-nil events)) a
   sending_visits events (seat ∷ all) known apart asked a =
       let more : List ℕ = taken seat.peer (visit calls seat) in
-      let one = sending_visit buses seat events (visit calls seat) (map (so_far before calls (seat ∷ all)) guests) asked.0 (fair_visit seat.peer calls fair) a in
+      let one =
+      sending_visit buses seat events (visit calls seat) (map (so_far before calls (seat ∷ all)) guests) asked.0
+      (fair_visit seat.peer calls fair) a in
       let self : (seat.peer == seat.peer) ≡ true = grind (arith, nat_tests) in
       let own : so_far before calls (seat ∷ all) seat.peer ++ more ≡ so_far before calls all seat.peer =
-      ap (λ b. (before seat.peer ++ (if b || list_any (λ other. other.peer == seat.peer) all then [] else taken seat.peer calls)) ++ more) self
+      ap (λ b. (before seat.peer ++ (if b || list_any (λ other. other.peer == seat.peer) all then [] else taken seat.peer calls)) ++ more)
+      self
       ∙ append_assoc (before seat.peer) [] more
       ∙ ap (λ t. before seat.peer ++ t) (taken_visit seat.peer calls)
       ∙ ap (λ b. before seat.peer ++ (if b then [] else taken seat.peer calls)) (sym (none_any seat.peer all apart.0)) in
       let others : (other : ℕ) → (other == seat.peer) ≡ false → so_far before calls (seat ∷ all) other ≡ so_far before calls all other =
-      λ other e. ap (λ b. before other ++ (if b || list_any (λ x. x.peer == other) all then [] else taken other calls)) (turned_round other seat.peer e) in
+      λ other e.
+      ap (λ b. before other ++ (if b || list_any (λ x. x.peer == other) all then [] else taken other calls))
+      (turned_round other seat.peer e) in
       let now : put seat.conn more (map (so_far before calls (seat ∷ all)) guests) ≡ map (so_far before calls all) guests =
       put_guest (so_far before calls (seat ∷ all)) (so_far before calls all) more seat.conn seat.peer guests known.0 others own in
       let next : List Event = events ++ visit_events calls seat in
-      let here : IsSending (map (so_far before calls all) guests) (course buses next).connections = subst (λ (ts : List (List ℕ)). IsSending ts (course buses next).connections) now one in
-      subst (λ (es : List Event). IsSending (map (so_far before calls []) guests) (course buses es).connections) (append_assoc events (visit_events calls seat) (flat_map (visit_events calls) all))
+      let here : IsSending (map (so_far before calls all) guests) (course buses next).connections =
+      subst (λ (ts : List (List ℕ)). IsSending ts (course buses next).connections) now one in
+      subst (λ (es : List Event). IsSending (map (so_far before calls []) guests) (course buses es).connections)
+      (append_assoc events (visit_events calls seat) (flat_map (visit_events calls) all))
       (sending_visits next all known.1 apart.1 asked.1 here)

@@ -1,5 +1,7 @@
 -- Turns over a core that stands for a course: the newcomer, the whole turn, and turn after turn.
-use Rattle.std.proofs.Common.{◌≡◌, ◌∙◌, ℕ, zero, suc, ◌+◌, ◌≤◌, Bool, true, false, ◌==◌, List, [], ◌∷◌, ◌++◌, map, drop, fold, replicate, length, if◌then◌else◌, Option, Some, None, Ok, Err, Result, refl, ap, sym, subst, arith, append_assoc, append-nil}
+use Rattle.std.proofs.Common.{◌≡◌, ◌∙◌, ℕ, zero, suc, ◌+◌, ◌≤◌, Bool, true, false, ◌==◌, List, [], ◌∷◌, ◌++◌, map, drop, fold, replicate}
+use Rattle.std.proofs.Common.{length, if◌then◌else◌, Option, Some, None, Ok, Err, Result, refl, ap, sym, subst, arith, append_assoc}
+use Rattle.std.proofs.Common.{append-nil}
 use Rattle.std.proofs.lemmas.Bool.Decides.{nat_tests}
 use Rattle.std.proofs.lemmas.List.{append_cancel_left, map-append}
 use Rattle.std.proofs.lemmas.List.Elements.{filter_map-append}
@@ -16,8 +18,12 @@ use Rattle.srcp_core.proofs.CourseLaws.SentLinesAreOneList.{all_front}
 use Rattle.srcp_serve.specs.Calls.{Call as DoorCall, Tells, Adds, PeersDiffer, peer_of}
 use Rattle.srcp_serve.specs.Calls as door
 use Rattle.srcp_serve.specs.Given.{Guest, Call, ExpectCall, NowCall, AcceptCall, ReadCall, WriteCall, CloseCall, answers_of, told_call}
-use Rattle.srcp_serve.specs.Serving.{Seat, Stand, Expects, Moments, expects, Newcomers, IsFair, IsServed, question, is_expect, moment_of, newcomer_of, seats, visits_ask, visit_events, kept, is_let_in, let_in, welcomed, with_moment, timed, begun, visited, turned, turn_asks, turns_away, stand_after}
-use Rattle.srcp_serve.specs.Places.{IsHosting, IsServing, IsLeftOut, IsNotOf, IsOneOf, IsTurnGiven, one_if, LetsIn, MakesTurn, SeatsPeer, SeatsDiffer, ServesCourse, ServesSoFar, Sit, TakesMoment, Visit, VisitsPlaces, AreOwn, asked_by, calls_of, left_by, made_by, seat_of, visits_of}
+use Rattle.srcp_serve.specs.Serving.{Seat, Stand, Expects, Moments, expects, Newcomers, IsFair, IsServed, question, is_expect, moment_of}
+use Rattle.srcp_serve.specs.Serving.{newcomer_of, seats, visits_ask, visit_events, kept, is_let_in, let_in, welcomed, with_moment, timed}
+use Rattle.srcp_serve.specs.Serving.{begun, visited, turned, turn_asks, turns_away, stand_after}
+use Rattle.srcp_serve.specs.Places.{IsHosting, IsServing, IsLeftOut, IsNotOf, IsOneOf, IsTurnGiven, one_if, LetsIn, MakesTurn, SeatsPeer}
+use Rattle.srcp_serve.specs.Places.{SeatsDiffer, ServesCourse, ServesSoFar, Sit, TakesMoment, Visit, VisitsPlaces, AreOwn, asked_by}
+use Rattle.srcp_serve.specs.Places.{calls_of, left_by, made_by, seat_of, visits_of}
 use Rattle.srcp_serve.specs.Turns.{AsksNewcomer, AsksPeers, AsksTurn, AsksTurns, IsTurn, is_of_peer}
 use Rattle.srcp_serve.specs.Visits.{AddsGiven, CountsAsked}
 use Rattle.srcp_serve.specs.declared.door.DoorFault.{DoorFault}
@@ -77,29 +83,37 @@ peers_front : (peers : List ℕ) (xs ys : List DoorCall) → PeersDiffer peers (
 peers_front peers xs ys h =
     let first : List ℕ = filter_map peer_of xs in
     let rest : List ℕ = filter_map peer_of ys in
-    differ_front (peers ++ first) rest (subst (λ (ps : List ℕ). IsDistinct (λ a b. a == b) ps) (ap (λ ps. peers ++ ps) (filter_map-append peer_of xs ys) ∙ sym (append_assoc peers first rest)) h)
+    differ_front (peers ++ first) rest
+    (subst (λ (ps : List ℕ). IsDistinct (λ a b. a == b) ps)
+    (ap (λ ps. peers ++ ps) (filter_map-append peer_of xs ys) ∙ sym (append_assoc peers first rest)) h)
 
 no_either : (x p r : ℕ) → (x == p) ≡ false → (x == r) ≡ true → (p == r) ≡ false
 no_either x p r a b = grind (arith, nat_tests)
 
-not_known : (peers : List ℕ) (p r : ℕ) → AllByRecursion (λ x. (x == p) ≡ false) peers → list_any (λ q. q == r) peers ≡ true → (p == r) ≡ false
+not_known : (peers : List ℕ) (p r : ℕ) → AllByRecursion (λ x. (x == p) ≡ false) peers → list_any (λ q. q == r) peers ≡ true
+    → (p == r) ≡ false
 not_known [] p r h k = cc
 not_known (x ∷ peers) p r h k = by (x == r) refl k (λ e. not_known peers p r h.1 e)
   where
-    by : (b : Bool) → (x == r) ≡ b → b || list_any (λ q. q == r) peers ≡ true → (list_any (λ q. q == r) peers ≡ true → (p == r) ≡ false) → (p == r) ≡ false
+    by : (b : Bool) → (x == r) ≡ b → b || list_any (λ q. q == r) peers ≡ true → (list_any (λ q. q == r) peers ≡ true → (p == r) ≡ false)
+        → (p == r) ≡ false
     by true e k more = no_either x p r h.0 e
     by false e k more = more k
 
-fresh : (peers : List ℕ) (p : ℕ) (places : List (Option Seat)) → AllByRecursion (λ x. (x == p) ≡ false) peers → AllByRecursion (IsOneOf peers) places → AllByRecursion (IsNotOf p) places
+fresh : (peers : List ℕ) (p : ℕ) (places : List (Option Seat)) → AllByRecursion (λ x. (x == p) ≡ false) peers
+    → AllByRecursion (IsOneOf peers) places → AllByRecursion (IsNotOf p) places
 fresh peers p [] h k = tt
 fresh peers p (None ∷ places) h k = (tt, fresh peers p places h k.1)
 fresh peers p (Some seat ∷ places) h k = (not_known peers p seat.peer h k.0, fresh peers p places h k.1)
 
-known_more : (peers more : List ℕ) (places : List (Option Seat)) → AllByRecursion (IsOneOf peers) places → AllByRecursion (IsOneOf (peers ++ more)) places
+known_more : (peers more : List ℕ) (places : List (Option Seat)) → AllByRecursion (IsOneOf peers) places
+    → AllByRecursion (IsOneOf (peers ++ more)) places
 known_more peers more [] h = tt
 known_more peers more (None ∷ places) h = (tt, known_more peers more places h.1)
-known_more peers more (Some seat ∷ places) h =
-    (list_any-append (λ q. q == seat.peer) peers more ∙ ap (λ t. t || list_any (λ q. q == seat.peer) more) h.0, known_more peers more places h.1)
+known_more peers more (Some seat ∷ places) h = (
+  list_any-append (λ q. q == seat.peer) peers more ∙ ap (λ t. t || list_any (λ q. q == seat.peer) more) h.0,
+  known_more peers more places h.1,
+)
 
 known_last : (peers : List ℕ) (p : ℕ) → list_any (λ q. q == p) (peers ++ p ∷ []) ≡ true
 known_last [] p = let same : (p == p) ≡ true = grind (arith, nat_tests) in ap (λ t. t || false) same
@@ -110,33 +124,58 @@ known_last (x ∷ peers) p = by (x == p) (known_last peers p)
     by false e = e
 
 module _ (buses : List Bus) where
-  known_welcomed : (peers : List ℕ) (stand : Stand) (guest : Guest) → AllByRecursion (IsOneOf peers) stand.places → AllByRecursion (IsOneOf (peers ++ guest.peer ∷ [])) (welcomed buses stand guest).places
+  known_welcomed : (peers : List ℕ) (stand : Stand) (guest : Guest) → AllByRecursion (IsOneOf peers) stand.places
+      → AllByRecursion (IsOneOf (peers ++ guest.peer ∷ [])) (welcomed buses stand guest).places
   known_welcomed peers stand guest h = by (is_let_in buses stand.events guest.granted)
     where
       more : AllByRecursion (IsOneOf (peers ++ guest.peer ∷ [])) stand.places
       more = known_more peers (guest.peer ∷ []) stand.places h
 
-      by : (b : Bool) → AllByRecursion (IsOneOf (peers ++ guest.peer ∷ [])) (if b then let_in buses stand guest else record stand { events = stand.events ++ Open guest.granted ∷ [] }).places
-      by true = all_seated (IsOneOf (peers ++ guest.peer ∷ [])) (record { peer = guest.peer; conn = length stand.guests + 1 }) stand.places (known_last peers guest.peer) more
+      by : (b : Bool)
+          → AllByRecursion (IsOneOf (peers ++ guest.peer ∷ []))
+          (if b then let_in buses stand guest else record stand { events = stand.events ++ Open guest.granted ∷ [] }).places
+      by true =
+          all_seated (IsOneOf (peers ++ guest.peer ∷ [])) (record { peer = guest.peer; conn = length stand.guests + 1 }) stand.places
+          (known_last peers guest.peer) more
       by false = more
 
-  known_news : (answer : Result (Option ℕ) DoorFault) (granted : Bool) (peers : List ℕ) (stand : Stand) → AllByRecursion (IsOneOf peers) stand.places
-      → AllByRecursion (IsOneOf (peers ++ filter_map peer_of (door.AcceptCall answer ∷ []))) (fold (welcomed buses) stand (filter_map newcomer_of (AcceptCall answer granted ∷ []))).places
+  known_news : (answer : Result (Option ℕ) DoorFault) (granted : Bool) (peers : List ℕ) (stand : Stand)
+      → AllByRecursion (IsOneOf peers) stand.places
+      → AllByRecursion (IsOneOf (peers ++ filter_map peer_of (door.AcceptCall answer ∷ [])))
+      (fold (welcomed buses) stand (filter_map newcomer_of (AcceptCall answer granted ∷ []))).places
   known_news (Ok None) granted peers stand h = known_more peers [] stand.places h
   known_news (Ok (Some p)) granted peers stand h = known_welcomed peers stand (record { peer = p; granted = granted }) h
   known_news (Err failed) granted peers stand h = known_more peers [] stand.places h
 
-  guests_timed : (answer : Result ℕ DoorFault) (stand : Stand) → length (timed buses stand (NowCall answer ∷ [])).guests ≡ length stand.guests
+  guests_timed : (answer : Result ℕ DoorFault) (stand : Stand)
+      → length (timed buses stand (NowCall answer ∷ [])).guests ≡ length stand.guests
   guests_timed (Ok moment) stand = refl
   guests_timed (Err failed) stand = refl
 
-  known_timed : (answer : Result ℕ DoorFault) (peers : List ℕ) (stand : Stand) → AllByRecursion (IsOneOf peers) stand.places → AllByRecursion (IsOneOf peers) (timed buses stand (NowCall answer ∷ [])).places
+  known_timed : (answer : Result ℕ DoorFault) (peers : List ℕ) (stand : Stand) → AllByRecursion (IsOneOf peers) stand.places
+      → AllByRecursion (IsOneOf peers) (timed buses stand (NowCall answer ∷ [])).places
   known_timed (Ok moment) peers stand h = h
   known_timed (Err failed) peers stand h = h
 
-  hosting_timed : (answer : Result ℕ DoorFault) (stand : Stand) (keys : List (Option ℕ)) (old held : Held) (owns : List (Option Own)) → IsHosting buses stand keys old owns → StandsFor buses keys held (course buses (timed buses stand (NowCall answer ∷ [])).events) → IsHosting buses (timed buses stand (NowCall answer ∷ [])) keys held owns
-  hosting_timed (Ok moment) stand keys old held owns h stands = record { layout = h.layout; sit = h.sit; few = h.few; differ = h.differ; long = h.long; stands = stands }
-  hosting_timed (Err failed) stand keys old held owns h stands = record { layout = h.layout; sit = h.sit; few = h.few; differ = h.differ; long = h.long; stands = stands }
+  hosting_timed : (answer : Result ℕ DoorFault) (stand : Stand) (keys : List (Option ℕ)) (old held : Held) (owns : List (Option Own))
+      → IsHosting buses stand keys old owns → StandsFor buses keys held (course buses (timed buses stand (NowCall answer ∷ [])).events)
+      → IsHosting buses (timed buses stand (NowCall answer ∷ [])) keys held owns
+  hosting_timed (Ok moment) stand keys old held owns h stands = record {
+    layout = h.layout;
+    sit = h.sit;
+    few = h.few;
+    differ = h.differ;
+    long = h.long;
+    stands = stands;
+  }
+  hosting_timed (Err failed) stand keys old held owns h stands = record {
+    layout = h.layout;
+    sit = h.sit;
+    few = h.few;
+    differ = h.differ;
+    long = h.long;
+    stands = stands;
+  }
 
 -- ---- the newcomer of a turn
 
@@ -159,7 +198,8 @@ module _ (old : Held) (told_old told_new : Option (List DoorCall)) (owns : List 
     opened = no_more (length stand.guests);
   }
 
-  pub lets_none : (failed : DoorFault) → Tells told_old (door.AcceptCall (Err failed)) told_new → LetsIn old told_old owns old told_new owns false
+  pub lets_none : (failed : DoorFault) → Tells told_old (door.AcceptCall (Err failed)) told_new
+      → LetsIn old told_old owns old told_new owns false
   lets_none failed h buses stand keys told hosting is peers calls adds differ known = record {
     answer = Err failed;
     granted = true;
@@ -174,21 +214,32 @@ module _ (old : Held) (told_old told_new : Option (List DoorCall)) (owns : List 
     opened = no_more (length stand.guests);
   }
 
-pub lets_peer : (peer : ℕ) (opens : Bool) (old new : Held) (told_old told_mid told_new : Option (List DoorCall)) (owns owns_new : List (Option Own)) → Tells told_old (door.AcceptCall (Ok (Some peer))) told_mid → AsksPeers told_mid told_new → SeatsPeer peer old told_mid owns new told_new owns_new opens → LetsIn old told_old owns new told_new owns_new opens
-lets_peer peer opens old new told_old told_mid told_new owns owns_new h asks sits buses stand keys told hosting is peers calls adds differ known =
+pub lets_peer : (peer : ℕ) (opens : Bool) (old new : Held) (told_old told_mid told_new : Option (List DoorCall))
+    (owns owns_new : List (Option Own))
+    → Tells told_old (door.AcceptCall (Ok (Some peer))) told_mid → AsksPeers told_mid told_new
+    → SeatsPeer peer old told_mid owns new told_new owns_new opens → LetsIn old told_old owns new told_new owns_new opens
+lets_peer peer opens old new told_old told_mid told_new owns owns_new h asks sits buses stand keys told hosting is peers calls adds differ
+    known =
     let call : DoorCall = door.AcceptCall (Ok (Some peer)) in
     let later = asks told is in
     let first = adds_one call told_old told_mid later.adds.before h later.adds.was in
-    let same : calls ≡ call ∷ later.calls = same_calls told_old told calls (call ∷ later.calls) adds (adds_then told_old told_mid later.adds.before told (call ∷ []) later.calls later.adds.was first later.adds) in
-    let apart : IsDistinct (λ a b. a == b) (peers ++ peer ∷ filter_map peer_of later.calls) = subst (λ (cs : List DoorCall). PeersDiffer peers cs) same differ in
-    let x = sits buses stand keys told hosting is (fresh peers peer stand.places (differ_last peers peer (filter_map peer_of later.calls) apart) known) in
+    let same : calls ≡ call ∷ later.calls =
+    same_calls told_old told calls (call ∷ later.calls) adds
+    (adds_then told_old told_mid later.adds.before told (call ∷ []) later.calls later.adds.was first later.adds) in
+    let apart : IsDistinct (λ a b. a == b) (peers ++ peer ∷ filter_map peer_of later.calls) =
+    subst (λ (cs : List DoorCall). PeersDiffer peers cs) same differ in
+    let x =
+    sits buses stand keys told hosting is
+    (fresh peers peer stand.places (differ_last peers peer (filter_map peer_of later.calls) apart) known) in
     let guest : Guest = record { peer = peer; granted = x.granted } in
     record {
       answer = Ok (Some peer);
       granted = x.granted;
       early = x.welcomes.early;
       keys = x.welcomes.keys;
-      adds = given_then told_old told_mid later.adds.before told (AcceptCall (Ok (Some peer)) x.granted ∷ []) x.welcomes.early later.adds.was first x.welcomes.adds;
+      adds =
+          given_then told_old told_mid later.adds.before told
+          (AcceptCall (Ok (Some peer)) x.granted ∷ []) x.welcomes.early later.adds.was first x.welcomes.adds;
       counted = x.welcomes.counted;
       asked_for = x.welcomes.asked_for;
       asked = x.welcomes.asked ∙ sym (append-nil (turns_away buses stand.events guest));
@@ -199,7 +250,8 @@ lets_peer peer opens old new told_old told_mid told_new owns owns_new h asks sit
 
 -- ---- the calls of a turn
 
-module _ (buses : List Bus) (stand : Stand) (due slack : Option ℕ) (now : Result ℕ DoorFault) (answer : Result (Option ℕ) DoorFault) (granted : Bool) (early : List Call) (round : List (Option Visit)) where
+module _ (buses : List Bus) (stand : Stand) (due slack : Option ℕ) (now : Result ℕ DoorFault) (answer : Result (Option ℕ) DoorFault)
+    (granted : Bool) (early : List Call) (round : List (Option Visit)) where
   abbrev visits : List Visit
   visits = visits_of round
 
@@ -223,19 +275,30 @@ module _ (buses : List Bus) (stand : Stand) (due slack : Option ℕ) (now : Resu
 
   module _ (peers : list_all is_of_peer (map told_call tail) ≡ true) where
     news_are : filter_map newcomer_of calls ≡ news
-    news_are = filter_map-append newcomer_of (AcceptCall answer granted ∷ []) tail ∙ ap (λ more. news ++ more) (no_newcomers tail peers) ∙ append-nil news
+    news_are =
+        filter_map-append newcomer_of (AcceptCall answer granted ∷ []) tail ∙ ap (λ more. news ++ more) (no_newcomers tail peers)
+        ∙ append-nil news
 
     timed_is : timed buses stand calls ≡ first
-    timed_is = ap (fold (with_moment buses) stand) (filter_map-append moment_of (NowCall now ∷ []) (AcceptCall answer granted ∷ tail) ∙ ap (λ more. filter_map moment_of (NowCall now ∷ []) ++ more) (no_moments tail peers) ∙ append-nil (filter_map moment_of (NowCall now ∷ [])))
+    timed_is =
+        ap (fold (with_moment buses) stand)
+        (filter_map-append moment_of (NowCall now ∷ []) (AcceptCall answer granted ∷ tail)
+        ∙ ap (λ more. filter_map moment_of (NowCall now ∷ []) ++ more) (no_moments tail peers)
+        ∙ append-nil (filter_map moment_of (NowCall now ∷ [])))
 
     begun_is : begun buses stand calls ≡ second
     begun_is = ap (λ s. fold (welcomed buses) s (filter_map newcomer_of calls)) timed_is ∙ ap (fold (welcomed buses) first) news_are
 
-    module _ (own : AreOwn visits) (places : map seat_of round ≡ second.places) (differ : SeatsDiffer second.places) (others : AllByRecursion (IsLeftOut early) second.places) where
+    module _ (own : AreOwn visits) (places : map seat_of round ≡ second.places) (differ : SeatsDiffer second.places)
+        (others : AllByRecursion (IsLeftOut early) second.places) where
       apart : AreApart (ExpectCall due slack ∷ NowCall now ∷ AcceptCall answer granted ∷ early) visits
-      apart = visits_apart (ExpectCall due slack ∷ NowCall now ∷ AcceptCall answer granted ∷ early) round own (subst (λ (ps : List (Option Seat)). SeatsDiffer ps) (sym places) differ) (left_out (map seat_of round) (subst (λ (ps : List (Option Seat)). AllByRecursion (IsLeftOut early) ps) (sym places) others))
+      apart =
+          visits_apart (ExpectCall due slack ∷ NowCall now ∷ AcceptCall answer granted ∷ early) round own
+          (subst (λ (ps : List (Option Seat)). SeatsDiffer ps) (sym places) differ)
+          (left_out (map seat_of round) (subst (λ (ps : List (Option Seat)). AllByRecursion (IsLeftOut early) ps) (sym places) others))
         where
-          left_out : (ps : List (Option Seat)) → AllByRecursion (IsLeftOut early) ps → AllByRecursion (IsLeftOut (ExpectCall due slack ∷ NowCall now ∷ AcceptCall answer granted ∷ early)) ps
+          left_out : (ps : List (Option Seat)) → AllByRecursion (IsLeftOut early) ps
+              → AllByRecursion (IsLeftOut (ExpectCall due slack ∷ NowCall now ∷ AcceptCall answer granted ∷ early)) ps
           left_out [] h = tt
           left_out (None ∷ ps) h = (tt, left_out ps h.1)
           left_out (Some seat ∷ ps) h = ((refl, (refl, (refl, h.0))), left_out ps h.1)
@@ -246,29 +309,58 @@ module _ (buses : List Bus) (stand : Stand) (due slack : Option ℕ) (now : Resu
       pub turned_is : turned buses stand calls ≡ third
       turned_is =
           ap (λ s. visited buses s calls) begun_is
-          ∙ ap (λ ss. record second { events = second.events ++ flat_map (visit_events calls) ss; places = map (kept calls) second.places }) seats_are
-          ∙ ap (λ more. record second { events = second.events ++ more; places = map (kept calls) second.places }) (visits_make (ExpectCall due slack ∷ NowCall now ∷ AcceptCall answer granted ∷ early) visits apart calls refl)
+          ∙ ap (λ ss. record second { events = second.events ++ flat_map (visit_events calls) ss; places = map (kept calls) second.places })
+          seats_are
+          ∙ ap (λ more. record second { events = second.events ++ more; places = map (kept calls) second.places })
+          (visits_make (ExpectCall due slack ∷ NowCall now ∷ AcceptCall answer granted ∷ early) visits apart calls refl)
           ∙ ap (λ ps. record second { events = second.events ++ made_by visits; places = map (kept calls) ps }) (sym places)
-          ∙ ap (λ ps. record second { events = second.events ++ made_by visits; places = ps }) (kept_by (ExpectCall due slack ∷ NowCall now ∷ AcceptCall answer granted ∷ early) round apart calls refl ∙ sym (append-nil (map left_by round)))
+          ∙ ap (λ ps. record second { events = second.events ++ made_by visits; places = ps })
+          (kept_by (ExpectCall due slack ∷ NowCall now ∷ AcceptCall answer granted ∷ early) round apart calls refl
+          ∙ sym (append-nil (map left_by round)))
 
-      pub turn_asked : Expects due slack ≡ expects buses stand.events → map question early ≡ flat_map (turns_away buses first.events) news → map question (calls_of visits) ≡ asked_by buses second.events visits → map question calls ≡ turn_asks buses stand calls
+      pub turn_asked : Expects due slack ≡ expects buses stand.events → map question early ≡ flat_map (turns_away buses first.events) news
+          → map question (calls_of visits) ≡ asked_by buses second.events visits → map question calls ≡ turn_asks buses stand calls
       turn_asked first_asked away asked =
           let asks_second : visits_ask buses second.events calls (seats second.places) ≡ asked_by buses second.events visits =
-          ap (visits_ask buses second.events calls) seats_are ∙ visits_asked buses (ExpectCall due slack ∷ NowCall now ∷ AcceptCall answer granted ∷ early) visits apart calls refl second.events in
-          let asks : turn_asks buses stand calls ≡ expects buses stand.events ∷ Moments ∷ Newcomers ∷ (flat_map (turns_away buses first.events) news ++ asked_by buses second.events visits) =
-          ap (λ s. expects buses stand.events ∷ Moments ∷ Newcomers ∷ (flat_map (turns_away buses s.events) (filter_map newcomer_of calls) ++ visits_ask buses (begun buses stand calls).events calls (seats (begun buses stand calls).places))) timed_is
-          ∙ ap (λ ps. expects buses stand.events ∷ Moments ∷ Newcomers ∷ (flat_map (turns_away buses first.events) ps ++ visits_ask buses (begun buses stand calls).events calls (seats (begun buses stand calls).places))) news_are
-          ∙ ap (λ s. expects buses stand.events ∷ Moments ∷ Newcomers ∷ (flat_map (turns_away buses first.events) news ++ visits_ask buses s.events calls (seats s.places))) begun_is
-          ∙ ap (λ qs. expects buses stand.events ∷ Moments ∷ Newcomers ∷ (flat_map (turns_away buses first.events) news ++ qs)) asks_second in
-          ap (λ qs. Expects due slack ∷ Moments ∷ Newcomers ∷ qs) (map-append question early (calls_of visits) ∙ ap (λ qs. qs ++ map question (calls_of visits)) away ∙ ap (λ qs. flat_map (turns_away buses first.events) news ++ qs) asked) ∙ ap (λ q. q ∷ Moments ∷ Newcomers ∷ (flat_map (turns_away buses first.events) news ++ asked_by buses second.events visits)) first_asked ∙ sym asks
+          ap (visits_ask buses second.events calls) seats_are
+          ∙ visits_asked buses (ExpectCall due slack ∷ NowCall now ∷ AcceptCall answer granted ∷ early) visits apart calls refl
+          second.events in
+          let asks : turn_asks buses stand calls
+          ≡ expects buses stand.events ∷ Moments ∷ Newcomers
+          ∷ (flat_map (turns_away buses first.events) news ++ asked_by buses second.events visits) =
+          ap (λ s. expects buses stand.events ∷ Moments ∷ Newcomers
+          ∷ (flat_map (turns_away buses s.events) (filter_map newcomer_of calls)
+          ++ visits_ask buses (begun buses stand calls).events calls (seats (begun buses stand calls).places)))
+          timed_is
+          ∙ ap (λ ps. expects buses stand.events ∷ Moments ∷ Newcomers
+          ∷ (flat_map (turns_away buses first.events) ps
+          ++ visits_ask buses (begun buses stand calls).events calls (seats (begun buses stand calls).places)))
+          news_are
+          ∙ ap (λ s. expects buses stand.events ∷ Moments ∷ Newcomers
+          ∷ (flat_map (turns_away buses first.events) news ++ visits_ask buses s.events calls (seats s.places)))
+          begun_is
+          ∙ ap (λ qs. expects buses stand.events ∷ Moments ∷ Newcomers ∷ (flat_map (turns_away buses first.events) news ++ qs))
+          asks_second in
+          ap (λ qs. Expects due slack ∷ Moments ∷ Newcomers ∷ qs)
+          (map-append question early (calls_of visits) ∙ ap (λ qs. qs ++ map question (calls_of visits)) away
+          ∙ ap (λ qs. flat_map (turns_away buses first.events) news ++ qs) asked)
+          ∙ ap (λ q. q ∷ Moments ∷ Newcomers ∷ (flat_map (turns_away buses first.events) news ++ asked_by buses second.events visits))
+          first_asked
+          ∙ sym asks
 
-tail_of : (told : List DoorCall) (due slack : Option ℕ) (now : Result ℕ DoorFault) (answer : Result (Option ℕ) DoorFault) (rest : List DoorCall) → IsTurn told → told ≡ door.ExpectCall due slack ∷ door.NowCall now ∷ door.AcceptCall answer ∷ rest → list_all is_of_peer rest ≡ true
+tail_of : (told : List DoorCall) (due slack : Option ℕ) (now : Result ℕ DoorFault) (answer : Result (Option ℕ) DoorFault)
+    (rest : List DoorCall)
+    → IsTurn told → told ≡ door.ExpectCall due slack ∷ door.NowCall now ∷ door.AcceptCall answer ∷ rest → list_all is_of_peer rest ≡ true
 tail_of told due slack now answer rest t e = ap (list_all is_of_peer) (sym (ap (drop 3) (sym t.is ∙ e))) ∙ t.peers
 
-pub makes_turn : (opens : Bool) (old mid between new : Held) (told_old told_mid told_between told_new : Option (List DoorCall)) (owns_old owns owns_new : List (Option Own))
-    → TakesMoment old told_old mid told_mid → mid.denied ≡ old.denied → AsksNewcomer told_mid told_between → LetsIn mid told_mid owns_old between told_between owns opens
-    → AsksPeers told_between told_new → VisitsPlaces between told_between owns new told_new owns_new → AsksTurn told_old told_new → MakesTurn old told_old owns_old new told_new owns_new opens
-makes_turn opens old mid between new told_old told_mid told_between told_new owns_old owns owns_new moment same_count asks_in lets asks_visits visits asks_turn buses stand keys told hosting is peers calls adds differ known =
+pub makes_turn : (opens : Bool) (old mid between new : Held) (told_old told_mid told_between told_new : Option (List DoorCall))
+    (owns_old owns owns_new : List (Option Own))
+    → TakesMoment old told_old mid told_mid → mid.denied ≡ old.denied → AsksNewcomer told_mid told_between
+    → LetsIn mid told_mid owns_old between told_between owns opens
+    → AsksPeers told_between told_new → VisitsPlaces between told_between owns new told_new owns_new → AsksTurn told_old told_new
+    → MakesTurn old told_old owns_old new told_new owns_new opens
+makes_turn opens old mid between new told_old told_mid told_between told_new owns_old owns owns_new moment same_count asks_in lets
+    asks_visits visits asks_turn buses stand keys told hosting is peers calls adds differ known =
     let later = asks_visits told is in
     let w = later.adds in
     let one = asks_in w.before w.was in
@@ -278,9 +370,14 @@ makes_turn opens old mid between new told_old told_mid told_between told_new own
     let hosted = hosting_timed buses t.answer stand keys old mid owns_old hosting t.stands in
     let in_calls : List DoorCall = door.AcceptCall one.answer ∷ one.rest in
     let front : List DoorCall = door.ExpectCall t.due t.slack ∷ door.NowCall t.answer ∷ in_calls in
-    let adds_in : Adds told_old w.before front = adds_then told_old told_mid v.before w.before (door.ExpectCall t.due t.slack ∷ door.NowCall t.answer ∷ []) in_calls v.was t.adds v in
-    let whole : calls ≡ front ++ later.calls = same_calls told_old told calls (front ++ later.calls) adds (adds_then told_old told_between w.before told front later.calls w.was adds_in w) in
-    let differ_in : PeersDiffer peers in_calls = peers_front peers front later.calls (subst (λ (c : List DoorCall). PeersDiffer peers c) whole differ) in
+    let adds_in : Adds told_old w.before front =
+    adds_then told_old told_mid v.before w.before
+    (door.ExpectCall t.due t.slack ∷ door.NowCall t.answer ∷ []) in_calls v.was t.adds v in
+    let whole : calls ≡ front ++ later.calls =
+    same_calls told_old told calls (front ++ later.calls) adds
+    (adds_then told_old told_between w.before told front later.calls w.was adds_in w) in
+    let differ_in : PeersDiffer peers in_calls =
+    peers_front peers front later.calls (subst (λ (c : List DoorCall). PeersDiffer peers c) whole differ) in
     let known_first : AllByRecursion (IsOneOf peers) first_stand.places = known_timed buses t.answer peers stand known in
     let b = lets buses first_stand keys w.before hosted w.was peers in_calls v differ_in known_first in
     let news_then : List Guest = filter_map newcomer_of (AcceptCall b.answer b.granted ∷ []) in
@@ -289,20 +386,32 @@ makes_turn opens old mid between new told_old told_mid told_between told_new own
     let seen : List Call = calls_of (visits_of x.round) in
     let begins : List Call = ExpectCall t.due t.slack ∷ NowCall t.answer ∷ AcceptCall b.answer b.granted ∷ b.early in
     let all : List Call = ExpectCall t.due t.slack ∷ NowCall t.answer ∷ AcceptCall b.answer b.granted ∷ (b.early ++ seen) in
-    let adds_begun : AddsGiven told_old w.before begins = given_then told_old told_mid v.before w.before (ExpectCall t.due t.slack ∷ NowCall t.answer ∷ []) (AcceptCall b.answer b.granted ∷ b.early) v.was t.adds b.adds in
+    let adds_begun : AddsGiven told_old w.before begins =
+    given_then told_old told_mid v.before w.before (ExpectCall t.due t.slack ∷ NowCall t.answer ∷ [])
+    (AcceptCall b.answer b.granted ∷ b.early) v.was t.adds b.adds in
     let adds_all : AddsGiven told_old told all = given_then told_old told_between w.before told begins seen w.was adds_begun x.adds in
     let turned_then = asks_turn told is in
-    let same : turned_then.calls ≡ map told_call all = same_calls told_old told turned_then.calls (map told_call all) turned_then.adds adds_all in
-    let of_peers : list_all is_of_peer (map told_call (b.early ++ seen)) ≡ true = tail_of turned_then.calls t.due t.slack t.answer b.answer (map told_call (b.early ++ seen)) turned_then.turn same in
-    let ends : turned buses stand all ≡ third buses stand t.due t.slack t.answer b.answer b.granted b.early x.round = turned_is buses stand t.due t.slack t.answer b.answer b.granted b.early x.round of_peers x.own x.seats_are b.hosting.differ b.others in
+    let same : turned_then.calls ≡ map told_call all =
+    same_calls told_old told turned_then.calls (map told_call all) turned_then.adds adds_all in
+    let of_peers : list_all is_of_peer (map told_call (b.early ++ seen)) ≡ true =
+    tail_of turned_then.calls t.due t.slack t.answer b.answer (map told_call (b.early ++ seen)) turned_then.turn same in
+    let ends : turned buses stand all ≡ third buses stand t.due t.slack t.answer b.answer b.granted b.early x.round =
+    turned_is buses stand t.due t.slack t.answer b.answer b.granted b.early x.round of_peers x.own x.seats_are b.hosting.differ
+    b.others in
     let came : filter_map peer_of (map told_call all) ≡ filter_map peer_of (door.AcceptCall b.answer ∷ []) =
-    peers_told all ∙ ap (λ guests. map (λ guest. guest.peer) guests) (news_are buses stand t.due t.slack t.answer b.answer b.granted b.early x.round of_peers) ∙ sym (peers_told (AcceptCall b.answer b.granted ∷ [])) in
+    peers_told all
+    ∙ ap (λ guests. map (λ guest. guest.peer) guests)
+    (news_are buses stand t.due t.slack t.answer b.answer b.granted b.early x.round of_peers)
+    ∙ sym (peers_told (AcceptCall b.answer b.granted ∷ [])) in
     let peers_then : List ℕ = peers ++ filter_map peer_of (map told_call all) in
     let known_second : AllByRecursion (IsOneOf peers_then) second_stand.places =
-    subst (λ (ps : List ℕ). AllByRecursion (IsOneOf (peers ++ ps)) second_stand.places) (sym came) (known_news buses b.answer b.granted peers first_stand known_first) in
-    let known_round : AllByRecursion (IsOneOf peers_then) (map seat_of x.round) = subst (λ (ps : List (Option Seat)). AllByRecursion (IsOneOf peers_then) ps) (sym x.seats_are) known_second in
+    subst (λ (ps : List ℕ). AllByRecursion (IsOneOf (peers ++ ps)) second_stand.places) (sym came)
+    (known_news buses b.answer b.granted peers first_stand known_first) in
+    let known_round : AllByRecursion (IsOneOf peers_then) (map seat_of x.round) =
+    subst (λ (ps : List (Option Seat)). AllByRecursion (IsOneOf peers_then) ps) (sym x.seats_are) known_second in
     let known_last : AllByRecursion (IsOneOf peers_then) (map left_by x.round ++ []) =
-    subst (λ (ps : List (Option Seat)). AllByRecursion (IsOneOf peers_then) ps) (sym (append-nil (map left_by x.round))) (known_left peers_then x.round known_round) in
+    subst (λ (ps : List (Option Seat)). AllByRecursion (IsOneOf peers_then) ps) (sym (append-nil (map left_by x.round)))
+    (known_left peers_then x.round known_round) in
     record {
       calls = all;
       keys = x.keys;
@@ -313,8 +422,19 @@ makes_turn opens old mid between new told_old told_mid told_between told_new own
           (asked_moment buses t.answer stand old mid same_count)
           (asked_then buses first_stand.events second_stand.events
           (second_stand.events ++ made_by (visits_of x.round)) mid between new b.asked_for x.asked_for));
-      turn = record { due = t.due; slack = t.slack; now = t.answer; newcomer = b.answer; granted = b.granted; rest = b.early ++ seen; is = refl; peers = of_peers };
-      asked = turn_asked buses stand t.due t.slack t.answer b.answer b.granted b.early x.round of_peers x.own x.seats_are b.hosting.differ b.others t.asked b.asked x.asked;
+      turn = record {
+        due = t.due;
+        slack = t.slack;
+        now = t.answer;
+        newcomer = b.answer;
+        granted = b.granted;
+        rest = b.early ++ seen;
+        is = refl;
+        peers = of_peers;
+      };
+      asked =
+          turn_asked buses stand t.due t.slack t.answer b.answer b.granted b.early x.round of_peers x.own x.seats_are b.hosting.differ
+          b.others t.asked b.asked x.asked;
       known = subst (λ (s : Stand). AllByRecursion (IsOneOf peers_then) s.places) (sym ends) known_last;
       hosting = subst (λ (s : Stand). IsHosting buses s x.keys new owns_new) (sym ends) x.hosting;
       opened = ap (λ (s : Stand). length s.guests) ends ∙ b.opened ∙ ap (λ n. n + one_if opens) (guests_timed buses t.answer stand);
@@ -350,33 +470,49 @@ serves_first old told_old buses before calls layout stands was is differ =
     })
 
 -- one turn more of what is served
-served_then : (buses : List Bus) (count : ℕ) (told later : List Call) → IsServed buses count told → IsTurnGiven later → map question later ≡ turn_asks buses (stand_after buses told) later
+served_then : (buses : List Bus) (count : ℕ) (told later : List Call) → IsServed buses count told → IsTurnGiven later
+    → map question later ≡ turn_asks buses (stand_after buses told) later
     → IsServed buses (count + 1) (told ++ later) × (stand_after buses (told ++ later) ≡ turned buses (stand_after buses told) later)
 served_then buses count told later so t asked =
     let rest : List Call = NowCall t.now ∷ AcceptCall t.newcomer t.granted ∷ t.rest in
-    let asked_now : map question (ExpectCall t.due t.slack ∷ rest) ≡ turn_asks buses (stand_after buses told) (ExpectCall t.due t.slack ∷ rest) = subst (λ (c : List Call). map question c ≡ turn_asks buses (stand_after buses told) c) t.is asked in
-    subst (λ (c : List Call). IsServed buses (count + 1) (told ++ c) × (stand_after buses (told ++ c) ≡ turned buses (stand_after buses told) c)) (sym t.is)
+    let asked_now : map question (ExpectCall t.due t.slack ∷ rest)
+    ≡ turn_asks buses (stand_after buses told) (ExpectCall t.due t.slack ∷ rest) =
+    subst (λ (c : List Call). map question c ≡ turn_asks buses (stand_after buses told) c) t.is asked in
+    subst (λ (c : List Call). IsServed buses (count + 1) (told ++ c)
+    × (stand_after buses (told ++ c) ≡ turned buses (stand_after buses told) c))
+    (sym t.is)
     (served-more buses count told t.due t.slack rest so (not_now t.rest t.peers) asked_now)
 
-pub serves_on : (count opened : ℕ) (opens : Bool) (old mid new : Held) (told_old told_mid told_new : Option (List DoorCall)) (owns owns_new : List (Option Own)) → ServesSoFar count opened old told_old mid told_mid owns → AsksTurns count told_old told_mid → AsksTurn told_mid told_new
-    → MakesTurn mid told_mid owns new told_new owns_new opens → ServesSoFar (count + 1) (opened + one_if opens) old told_old new told_new owns_new
-serves_on count opened opens old mid new told_old told_mid told_new owns owns_new so asks_before asks turn buses before calls layout stands was is differ =
+pub serves_on : (count opened : ℕ) (opens : Bool) (old mid new : Held) (told_old told_mid told_new : Option (List DoorCall))
+    (owns owns_new : List (Option Own))
+    → ServesSoFar count opened old told_old mid told_mid owns → AsksTurns count told_old told_mid → AsksTurn told_mid told_new
+    → MakesTurn mid told_mid owns new told_new owns_new opens
+    → ServesSoFar (count + 1) (opened + one_if opens) old told_old new told_new owns_new
+serves_on count opened opens old mid new told_old told_mid told_new owns owns_new so asks_before asks turn buses before calls layout stands
+    was is differ =
     let told : List DoorCall = before ++ calls in
     let later = asks told is in
     let w = later.adds in
     let earlier = asks_before w.before w.was in
     let first : List DoorCall = earlier.calls in
-    let mid_is : w.before ≡ before ++ first = earlier.adds.is ∙ ap (λ b. b ++ first) (same_Some earlier.adds.before before (sym earlier.adds.was ∙ was)) in
-    let whole : calls ≡ first ++ later.calls = same_calls told_old told calls (first ++ later.calls) (record { before = before; was = was; is = refl }) (adds_then told_old told_mid w.before told first later.calls w.was earlier.adds w) in
+    let mid_is : w.before ≡ before ++ first =
+    earlier.adds.is ∙ ap (λ b. b ++ first) (same_Some earlier.adds.before before (sym earlier.adds.was ∙ was)) in
+    let whole : calls ≡ first ++ later.calls =
+    same_calls told_old told calls (first ++ later.calls) (record { before = before; was = was; is = refl })
+    (adds_then told_old told_mid w.before told first later.calls w.was earlier.adds w) in
     let differ_all : PeersDiffer [] (first ++ later.calls) = subst (λ (c : List DoorCall). PeersDiffer [] c) whole differ in
     let s = so buses before first layout stands was (w.was ∙ ap (λ b. Some b) mid_is) (peers_front [] first later.calls differ_all) in
     let peers : List ℕ = filter_map peer_of first in
     let stood : Stand = stand_after buses s.calls in
-    let x = turn buses stood s.keys told s.hosting is peers later.calls w (subst (λ (ps : List ℕ). IsDistinct (λ a b. a == b) ps) (filter_map-append peer_of first later.calls) differ_all) s.known in
+    let x =
+    turn buses stood s.keys told s.hosting is peers later.calls w
+    (subst (λ (ps : List ℕ). IsDistinct (λ a b. a == b) ps) (filter_map-append peer_of first later.calls) differ_all) s.known in
     let same : later.calls ≡ map told_call x.calls = same_calls told_mid told later.calls (map told_call x.calls) w x.adds in
     let more = served_then buses count s.calls x.calls s.served x.turn x.asked in
     let known : AllByRecursion (IsOneOf (filter_map peer_of calls)) (turned buses stood x.calls).places =
-    subst (λ (ps : List ℕ). AllByRecursion (IsOneOf ps) (turned buses stood x.calls).places) (ap (λ c. peers ++ filter_map peer_of c) (sym same) ∙ sym (filter_map-append peer_of first later.calls) ∙ ap (filter_map peer_of) (sym whole)) x.known in
+    subst (λ (ps : List ℕ). AllByRecursion (IsOneOf ps) (turned buses stood x.calls).places)
+    (ap (λ c. peers ++ filter_map peer_of c) (sym same) ∙ sym (filter_map-append peer_of first later.calls)
+    ∙ ap (filter_map peer_of) (sym whole)) x.known in
     record {
       calls = s.calls ++ x.calls;
       keys = x.keys;
@@ -390,12 +526,16 @@ serves_on count opened opens old mid new told_old told_mid told_new owns owns_ne
       opened = ap (λ (v : Stand). length v.guests) more.1 ∙ x.opened ∙ ap (λ n. n + one_if opens) s.opened;
     }
 
-pub serves_all : (count turns opened : ℕ) (old now : Held) (told_old told_now : Option (List DoorCall)) (owns : List (Option Own)) → count ≡ turns → AsksTurns turns told_old told_now → ServesSoFar count opened old told_old now told_now owns → ServesCourse turns opened old told_old now told_now
+pub serves_all : (count turns opened : ℕ) (old now : Held) (told_old told_now : Option (List DoorCall)) (owns : List (Option Own))
+    → count ≡ turns → AsksTurns turns told_old told_now → ServesSoFar count opened old told_old now told_now owns
+    → ServesCourse turns opened old told_old now told_now
 serves_all count turns opened old now told_old told_now owns e asks so buses before calls layout stands was is differ =
     let s = so buses before calls layout stands was is differ in
     let a = asks (before ++ calls) is in
-    let same : a.calls ≡ map told_call s.calls = same_calls told_old (before ++ calls) a.calls calls a.adds (record { before = before; was = was; is = refl }) ∙ sym s.are in
-    let fair : AllByRecursion IsFair s.calls = fair_given s.calls (subst (λ (c : List DoorCall). AllByRecursion door.IsFair c) same a.turns_are.fair) in
+    let same : a.calls ≡ map told_call s.calls =
+    same_calls told_old (before ++ calls) a.calls calls a.adds (record { before = before; was = was; is = refl }) ∙ sym s.are in
+    let fair : AllByRecursion IsFair s.calls =
+    fair_given s.calls (subst (λ (c : List DoorCall). AllByRecursion door.IsFair c) same a.turns_are.fair) in
     let served : IsServed buses turns s.calls = subst (λ (n : ℕ). IsServed buses n s.calls) e s.served in
     record {
       calls = s.calls;

@@ -12,13 +12,15 @@ use Rattle.srcp_core.proofs.CourseLaws.WaitsGrow.{few_close_none}
 use Rattle.srcp_core.proofs.CourseLaws.LinesBringTheirWeight.{light_lines}
 use Rattle.srcp_serve.specs.Given.{Call, ExpectCall, NowCall, AcceptCall, ReadCall, WriteCall, CloseCall}
 use Rattle.srcp_serve.specs.Serving.{Expects, Stand, OfEachTurn, empty_stand, expects, question, turned, turn_asks, turns}
-use Rattle.srcp_serve.specs.Pacing.{IsLight, IsPaced, LightServingSparesAll, LightTurnsSpare, PacedServingSparesAll, PacedTurnsSpare, SparesPanels, besides_in, brought_in, events_in, told_room, weighs_in}
+use Rattle.srcp_serve.specs.Pacing.{IsLight, IsPaced, LightServingSparesAll, LightTurnsSpare, PacedServingSparesAll, PacedTurnsSpare}
+use Rattle.srcp_serve.specs.Pacing.{SparesPanels, besides_in, brought_in, events_in, told_room, weighs_in}
 use Rattle.srcp_serve.proofs.Partings.{AreTurnsAsked, turns_parted}
 use Rattle.srcp_serve.proofs.TurnEvents.{turn_events, turned_events}
 
 module _ (buses : List Bus) where
   -- what the door was told is how many changes may come
-  room_told : (stand : Stand) (calls : List Call) → map question calls ≡ turn_asks buses stand calls → told_room calls ≡ room buses (course buses stand.events)
+  room_told : (stand : Stand) (calls : List Call) → map question calls ≡ turn_asks buses stand calls
+      → told_room calls ≡ room buses (course buses stand.events)
   room_told stand [] e = cc
   room_told stand (ExpectCall due slack_told ∷ calls) e =
       let head : Expects due slack_told ≡ expects buses stand.events = cc in
@@ -35,7 +37,8 @@ module _ (buses : List Bus) where
       → n ≤ room buses (course buses stand.events)
   room_within stand calls n asked few = subst (λ k. n ≤ k) (room_told stand calls asked) few
 
-  spares : (stand : Stand) (calls : List Call) → map question calls ≡ turn_asks buses stand calls → IsPaced buses stand calls → SparesPanels buses stand calls
+  spares : (stand : Stand) (calls : List Call) → map question calls ≡ turn_asks buses stand calls → IsPaced buses stand calls
+      → SparesPanels buses stand calls
   spares stand calls asked paced number later over =
       let more : List Event = turn_events buses stand calls in
       let same = turned_events buses stand calls in

@@ -1,5 +1,6 @@
 -- The calls of some turns are parted by what they ask: turn by turn, and in a turn peer by peer.
-use Rattle.std.proofs.Common.{◌≡◌, ◌∙◌, ℕ, Bool, true, false, not, cond, List, [], ◌∷◌, ◌++◌, map, take, length, filter, if◌then◌else◌, refl, ap, sym, subst, arith, append-nil, append_assoc, ◌==◌}
+use Rattle.std.proofs.Common.{◌≡◌, ◌∙◌, ℕ, Bool, true, false, not, cond, List, [], ◌∷◌, ◌++◌, map, take, length, filter, if◌then◌else◌}
+use Rattle.std.proofs.Common.{refl, ap, sym, subst, arith, append-nil, append_assoc, ◌==◌}
 use Rattle.std.specs.Prelude.{◌||◌, filter_map, flat_map, take_while}
 use Rattle.std.specs.List.{list_any, AllByRecursion}
 use Rattle.std.proofs.lemmas.Bool.Decides.{nat_tests}
@@ -9,7 +10,11 @@ use Rattle.srcp_core.specs.Under.{Event, Bytes}
 use Rattle.srcp_info.proofs.ClientLaws.{all_append}
 use Rattle.srcp_rules.specs.declared.layout.Bus.{Bus}
 use Rattle.srcp_serve.specs.Given.{Guest, Call, ExpectCall, NowCall, AcceptCall, ReadCall, WriteCall, CloseCall}
-use Rattle.srcp_serve.specs.Serving.{Question, Expects, Moments, expects, Newcomers, Reads, Writes, Closes, Seat, Stand, OfEachTurn, OfEachVisit, question, is_about, is_expect, visit, newcomer_of, piece_of, count_of, loses, loses_reading, turns, exchange, is_let_in, is_ready, is_closing, handed, reads_of, writes_of, closes_of, visit_asks, visits_ask, visit_events, turns_away, turn_asks, turns_ask, turned, timed, begun, seats}
+use Rattle.srcp_serve.specs.Serving.{Question, Expects, Moments, expects, Newcomers, Reads, Writes, Closes, Seat, Stand, OfEachTurn}
+use Rattle.srcp_serve.specs.Serving.{OfEachVisit, question, is_about, is_expect, visit, newcomer_of, piece_of, count_of, loses}
+use Rattle.srcp_serve.specs.Serving.{loses_reading, turns, exchange, is_let_in, is_ready, is_closing, handed, reads_of, writes_of}
+use Rattle.srcp_serve.specs.Serving.{closes_of, visit_asks, visits_ask, visit_events, turns_away, turn_asks, turns_ask, turned, timed}
+use Rattle.srcp_serve.specs.Serving.{begun, seats}
 
 -- ---- questions by whom they are about
 
@@ -37,24 +42,34 @@ abbrev pub AreOfPeers : List Question → Type 0
 AreOfPeers questions = AllByRecursion (λ q. asks_peer q ≡ true) questions
 
 -- a call is about whom its question is about
-pub about_question : (peer : ℕ) (calls : List Call) → map question (filter (is_about peer) calls) ≡ filter (asks_of peer) (map question calls)
+pub about_question : (peer : ℕ) (calls : List Call)
+    → map question (filter (is_about peer) calls) ≡ filter (asks_of peer) (map question calls)
 about_question peer [] = refl
 about_question peer (ExpectCall due slack ∷ calls) = about_question peer calls
 about_question peer (NowCall answer ∷ calls) = about_question peer calls
 about_question peer (AcceptCall answer granted ∷ calls) = about_question peer calls
-about_question peer (ReadCall who answer buffer grants ∷ calls) = kept_or (who == peer) (ReadCall who answer buffer grants) (filter (is_about peer) calls) ∙ ap (λ qs. cond (who == peer) (Reads who (length buffer) ∷ qs) qs) (about_question peer calls)
+about_question peer (ReadCall who answer buffer grants ∷ calls) =
+    kept_or (who == peer) (ReadCall who answer buffer grants) (filter (is_about peer) calls)
+    ∙ ap (λ qs. cond (who == peer) (Reads who (length buffer) ∷ qs) qs) (about_question peer calls)
   where
-    kept_or : (b : Bool) (call : Call) (more : List Call) → map question (cond b (call ∷ more) more) ≡ cond b (question call ∷ map question more) (map question more)
+    kept_or : (b : Bool) (call : Call) (more : List Call)
+        → map question (cond b (call ∷ more) more) ≡ cond b (question call ∷ map question more) (map question more)
     kept_or true call more = refl
     kept_or false call more = refl
-about_question peer (WriteCall who bytes answer ∷ calls) = kept_or (who == peer) (WriteCall who bytes answer) (filter (is_about peer) calls) ∙ ap (λ qs. cond (who == peer) (Writes who bytes ∷ qs) qs) (about_question peer calls)
+about_question peer (WriteCall who bytes answer ∷ calls) =
+    kept_or (who == peer) (WriteCall who bytes answer) (filter (is_about peer) calls)
+    ∙ ap (λ qs. cond (who == peer) (Writes who bytes ∷ qs) qs) (about_question peer calls)
   where
-    kept_or : (b : Bool) (call : Call) (more : List Call) → map question (cond b (call ∷ more) more) ≡ cond b (question call ∷ map question more) (map question more)
+    kept_or : (b : Bool) (call : Call) (more : List Call)
+        → map question (cond b (call ∷ more) more) ≡ cond b (question call ∷ map question more) (map question more)
     kept_or true call more = refl
     kept_or false call more = refl
-about_question peer (CloseCall who answer ∷ calls) = kept_or (who == peer) (CloseCall who answer) (filter (is_about peer) calls) ∙ ap (λ qs. cond (who == peer) (Closes who ∷ qs) qs) (about_question peer calls)
+about_question peer (CloseCall who answer ∷ calls) =
+    kept_or (who == peer) (CloseCall who answer) (filter (is_about peer) calls)
+    ∙ ap (λ qs. cond (who == peer) (Closes who ∷ qs) qs) (about_question peer calls)
   where
-    kept_or : (b : Bool) (call : Call) (more : List Call) → map question (cond b (call ∷ more) more) ≡ cond b (question call ∷ map question more) (map question more)
+    kept_or : (b : Bool) (call : Call) (more : List Call)
+        → map question (cond b (call ∷ more) more) ≡ cond b (question call ∷ map question more) (map question more)
     kept_or true call more = refl
     kept_or false call more = refl
 
@@ -109,10 +124,19 @@ module _ (buses : List Bus) where
       let own = same_peer seat.peer in
       let Own : Question → Type 0 = λ q. asks_of seat.peer q ≡ true in
       all_append Own (reads_of buses events seat ++ writes_of buses events calls seat) (closes_of buses events calls seat)
-      (all_append Own (reads_of buses events seat) (writes_of buses events calls seat) (elim (is_ready buses seat.conn events) as (λ b. AreOf seat.peer (if b then Reads seat.peer 256 ∷ [] else [])) [ true ↦ (own, tt) | false ↦ tt ]) (written (list_any loses_reading calls)))
+      (all_append Own (reads_of buses events seat) (writes_of buses events calls seat)
+      (elim (is_ready buses seat.conn events)
+      as (λ b. AreOf seat.peer (if b then Reads seat.peer 256 ∷ [] else [])) [ true ↦ (own, tt) | false ↦ tt ])
+      (written (list_any loses_reading calls)))
       (closed (list_any loses calls || is_closing buses seat.conn (events ++ exchange seat.conn calls)))
     where
-      written : (b : Bool) → AreOf seat.peer (if b then [] else map (Writes seat.peer) (take 300 (handed buses seat.conn (events ++ map (Bytes seat.conn) (filter_map piece_of calls)) (filter_map count_of calls))))
+      written : (b : Bool)
+          → AreOf seat.peer
+          (if b then []
+          else map (Writes seat.peer)
+          (take 300
+          (handed buses seat.conn (events ++ map (Bytes seat.conn) (filter_map piece_of calls))
+          (filter_map count_of calls))))
       written true = tt
       written false = writes_own seat.peer _
 
@@ -123,15 +147,19 @@ module _ (buses : List Bus) where
   pub visits_peers : (events : List Event) (calls : List Call) (all : List Seat) → AreOfPeers (visits_ask buses events calls all)
   visits_peers events calls [] = tt
   visits_peers events calls (seat ∷ all) =
-      all_append (λ q. asks_peer q ≡ true) (visit_asks buses events (visit calls seat) seat) (visits_ask buses (events ++ visit_events calls seat) calls all)
+      all_append (λ q. asks_peer q ≡ true) (visit_asks buses events (visit calls seat) seat)
+      (visits_ask buses (events ++ visit_events calls seat) calls all)
       (of_peers seat.peer _ (visit_own events (visit calls seat) seat)) (visits_peers (events ++ visit_events calls seat) calls all)
 
   -- what the visits ask of a peer that has no place among theirs
-  pub none_asked : (peer : ℕ) (events : List Event) (calls : List Call) (all : List Seat) → IsNoneOf peer all → filter (asks_of peer) (visits_ask buses events calls all) ≡ []
+  pub none_asked : (peer : ℕ) (events : List Event) (calls : List Call) (all : List Seat) → IsNoneOf peer all
+      → filter (asks_of peer) (visits_ask buses events calls all) ≡ []
   none_asked peer events calls [] h = refl
   none_asked peer events calls (seat ∷ all) h =
-      filter-append (asks_of peer) (visit_asks buses events (visit calls seat) seat) (visits_ask buses (events ++ visit_events calls seat) calls all)
-      ∙ ap (λ qs. qs ++ filter (asks_of peer) (visits_ask buses (events ++ visit_events calls seat) calls all)) (other_questions seat.peer peer (visit_asks buses events (visit calls seat) seat) h.0 (visit_own events (visit calls seat) seat))
+      filter-append (asks_of peer) (visit_asks buses events (visit calls seat) seat)
+      (visits_ask buses (events ++ visit_events calls seat) calls all)
+      ∙ ap (λ qs. qs ++ filter (asks_of peer) (visits_ask buses (events ++ visit_events calls seat) calls all))
+      (other_questions seat.peer peer (visit_asks buses events (visit calls seat) seat) h.0 (visit_own events (visit calls seat) seat))
       ∙ none_asked peer (events ++ visit_events calls seat) calls all h.1
 
   -- each visit asked what it was to ask
@@ -143,14 +171,19 @@ module _ (buses : List Bus) where
   abbrev pub IsOfNone : List Question → List Seat → Type 0
   IsOfNone questions all = AllByRecursion (λ seat. filter (asks_of seat.peer) questions ≡ []) all
 
-  none_more : (seat : Seat) (before more : List Question) (all : List Seat) → AreOf seat.peer more → IsNoneOf seat.peer all → IsOfNone before all → IsOfNone (before ++ more) all
+  none_more : (seat : Seat) (before more : List Question) (all : List Seat) → AreOf seat.peer more → IsNoneOf seat.peer all
+      → IsOfNone before all → IsOfNone (before ++ more) all
   none_more seat before more [] own h k = tt
   none_more seat before more (other ∷ all) own h k =
-      let apart : (seat.peer == other.peer) ≡ false = let e = h.0 in grind (arith, nat_tests) in
-      (filter-append (asks_of other.peer) before more ∙ ap (λ qs. qs ++ filter (asks_of other.peer) more) k.0 ∙ other_questions seat.peer other.peer more apart own, none_more seat before more all own h.1 k.1)
+      let apart : (seat.peer == other.peer) ≡ false = let e = h.0 in grind (arith, nat_tests) in (
+        filter-append (asks_of other.peer) before more ∙ ap (λ qs. qs ++ filter (asks_of other.peer) more) k.0
+            ∙ other_questions seat.peer other.peer more apart own,
+        none_more seat before more all own h.1 k.1,
+      )
 
   -- so the calls of a turn are parted by their peers
-  pub visits_parted : (before : List Question) (events : List Event) (calls : List Call) (all : List Seat) → PeersApart all → IsOfNone before all → map question calls ≡ before ++ visits_ask buses events calls all → AreAsked events calls all
+  pub visits_parted : (before : List Question) (events : List Event) (calls : List Call) (all : List Seat) → PeersApart all
+      → IsOfNone before all → map question calls ≡ before ++ visits_ask buses events calls all → AreAsked events calls all
   visits_parted before events calls [] apart none e = tt
   visits_parted before events calls (seat ∷ all) apart none e =
       let mine : List Question = visit_asks buses events (visit calls seat) seat in
@@ -165,8 +198,11 @@ module _ (buses : List Bus) where
       ∙ filter-append (asks_of seat.peer) mine later
       ∙ ap (λ qs. qs ++ filter (asks_of seat.peer) later) (own_questions seat.peer mine own)
       ∙ ap (λ qs. mine ++ qs) (none_asked seat.peer next calls all apart.0)
-      ∙ append-nil mine in
-      (here, visits_parted (before ++ mine) next calls all apart.1 (none_more seat before mine all own apart.0 none.1) (e ∙ sym (append_assoc before mine later)))
+      ∙ append-nil mine in (
+        here,
+        visits_parted (before ++ mine) next calls all apart.1 (none_more seat before mine all own apart.0 none.1)
+            (e ∙ sym (append_assoc before mine later)),
+      )
 
   -- ---- turn by turn
 
@@ -205,18 +241,30 @@ module _ (buses : List Bus) where
   away_peers events [] = tt
   away_peers events (peer ∷ peers) =
       all_append (λ q. asks_peer q ≡ true) (turns_away buses events peer) (flat_map (turns_away buses events) peers)
-      (elim (is_let_in buses events peer.granted) as (λ b. AreOfPeers (if b then [] else Closes peer.peer ∷ [])) [ true ↦ tt | false ↦ (refl, tt) ])
+      (elim (is_let_in buses events peer.granted)
+      as (λ b. AreOfPeers (if b then [] else Closes peer.peer ∷ [])) [ true ↦ tt | false ↦ (refl, tt) ])
       (away_peers events peers)
 
   -- what a turn asks after the moment
   abbrev rest_asks : Stand → List Call → List Question
-  rest_asks stand calls = Moments ∷ Newcomers ∷ (flat_map (turns_away buses (timed buses stand calls).events) (filter_map newcomer_of calls) ++ visits_ask buses (begun buses stand calls).events calls (seats (begun buses stand calls).places))
+  rest_asks stand calls =
+      Moments ∷ Newcomers
+      ∷ (flat_map (turns_away buses (timed buses stand calls).events) (filter_map newcomer_of calls)
+      ++ visits_ask buses (begun buses stand calls).events calls (seats (begun buses stand calls).places))
 
   rest_moments : (stand : Stand) (calls : List Call) → NoMoments (rest_asks stand calls)
   rest_moments stand calls =
       let away : List Question = flat_map (turns_away buses (timed buses stand calls).events) (filter_map newcomer_of calls) in
-      let visits : List Question = visits_ask buses (begun buses stand calls).events calls (seats (begun buses stand calls).places) in
-      (refl, (refl, no_moments (away ++ visits) (all_append (λ q. asks_peer q ≡ true) away visits (away_peers (timed buses stand calls).events (filter_map newcomer_of calls)) (visits_peers (begun buses stand calls).events calls (seats (begun buses stand calls).places)))))
+      let visits : List Question = visits_ask buses (begun buses stand calls).events calls (seats (begun buses stand calls).places) in (
+        refl,
+        (
+          refl,
+          no_moments (away ++ visits)
+              (all_append (λ q. asks_peer q ≡ true) away visits
+              (away_peers (timed buses stand calls).events (filter_map newcomer_of calls))
+              (visits_peers (begun buses stand calls).events calls (seats (begun buses stand calls).places))),
+        ),
+      )
 
   is_moment : (call : Call) → is_expect call ≡ asks_moment (question call)
   is_moment (ExpectCall due slack) = refl
@@ -226,7 +274,8 @@ module _ (buses : List Bus) where
   is_moment (WriteCall peer bytes answer) = refl
   is_moment (CloseCall peer answer) = refl
 
-  not_first : (stand : Stand) (call : Call) (questions : List Question) (all : List (List Call)) → asks_moment (question call) ≡ false → question call ∷ questions ≡ turns_ask buses stand all → ⊥
+  not_first : (stand : Stand) (call : Call) (questions : List Question) (all : List (List Call)) → asks_moment (question call) ≡ false
+      → question call ∷ questions ≡ turns_ask buses stand all → ⊥
   not_first stand call questions [] h e = cc
   not_first stand call questions (calls ∷ all) h e =
       let same : question call ≡ expects buses stand.events = cc in
@@ -234,7 +283,9 @@ module _ (buses : List Bus) where
       cc
 
   -- what is asked before the next moment, and then the turns
-  pub turns_parted : (stand : Stand) (told : List Call) (first : List Question) → NoMoments first → map question told ≡ first ++ turns_ask buses stand (turns told) → (map question (in_turn told) ≡ first) × AreTurnsAsked stand (turns told)
+  pub turns_parted : (stand : Stand) (told : List Call) (first : List Question) → NoMoments first
+      → map question told ≡ first ++ turns_ask buses stand (turns told)
+      → (map question (in_turn told) ≡ first) × AreTurnsAsked stand (turns told)
   turns_parted stand [] [] h e = (refl, tt)
   turns_parted stand [] (q ∷ first) h e = cc
   turns_parted stand (call ∷ told) first h e = by (λ other. turns_parted other told) (is_expect call) refl first h e
@@ -245,7 +296,11 @@ module _ (buses : List Bus) where
       turns_are : (b : Bool) → is_expect call ≡ b → turns (call ∷ told) ≡ (if b then (call ∷ in_turn told) ∷ turns told else turns told)
       turns_are b t = ap (λ c. if c then (call ∷ in_turn told) ∷ turns told else turns told) t
 
-      by : ((now : Stand) (asked : List Question) → NoMoments asked → map question told ≡ asked ++ turns_ask buses now (turns told) → (map question (in_turn told) ≡ asked) × AreTurnsAsked now (turns told)) → (b : Bool) → is_expect call ≡ b → (first : List Question) → NoMoments first → map question (call ∷ told) ≡ first ++ turns_ask buses stand (turns (call ∷ told)) → (map question (in_turn (call ∷ told)) ≡ first) × AreTurnsAsked stand (turns (call ∷ told))
+      by : ((now : Stand) (asked : List Question) → NoMoments asked → map question told ≡ asked ++ turns_ask buses now (turns told)
+          → (map question (in_turn told) ≡ asked) × AreTurnsAsked now (turns told))
+          → (b : Bool) → is_expect call ≡ b → (first : List Question) → NoMoments first
+          → map question (call ∷ told) ≡ first ++ turns_ask buses stand (turns (call ∷ told))
+          → (map question (in_turn (call ∷ told)) ≡ first) × AreTurnsAsked stand (turns (call ∷ told))
       by ih true t (q ∷ first) h e =
           let same : question call ≡ q = cc in
           let yes : asks_moment (question call) ≡ true = sym (is_moment call) ∙ t in
@@ -253,17 +308,25 @@ module _ (buses : List Bus) where
           cc
       by ih true t [] h e =
           let calls : List Call = call ∷ in_turn told in
-          let whole : question call ∷ map question told ≡ turn_asks buses stand calls ++ turns_ask buses (turned buses stand calls) (turns told) = e ∙ ap (turns_ask buses stand) (turns_are true t) in
+          let whole : question call ∷ map question told
+          ≡ turn_asks buses stand calls ++ turns_ask buses (turned buses stand calls) (turns told) =
+          e ∙ ap (turns_ask buses stand) (turns_are true t) in
           let head : question call ≡ expects buses stand.events = cc in
           let tail : map question told ≡ rest_asks stand calls ++ turns_ask buses (turned buses stand calls) (turns told) = cc in
-          let more = ih (turned buses stand calls) (rest_asks stand calls) (rest_moments stand calls) tail in
-          (ap (map question) (other true t), subst (λ (ts : List (List Call)). AreTurnsAsked stand ts) (sym (turns_are true t)) (ap (λ q. q ∷ map question (in_turn told)) head ∙ ap (λ qs. expects buses stand.events ∷ qs) more.0, more.1))
+          let more = ih (turned buses stand calls) (rest_asks stand calls) (rest_moments stand calls) tail in (
+            ap (map question) (other true t),
+            subst (λ (ts : List (List Call)). AreTurnsAsked stand ts) (sym (turns_are true t))
+                (ap (λ q. q ∷ map question (in_turn told)) head ∙ ap (λ qs. expects buses stand.events ∷ qs) more.0, more.1),
+          )
       by ih false t [] h e =
           let no : asks_moment (question call) ≡ false = sym (is_moment call) ∙ t in
           absurd (not_first stand call (map question told) (turns told) no (e ∙ ap (turns_ask buses stand) (turns_are false t)))
       by ih false t (q ∷ first) h e =
-          let whole : question call ∷ map question told ≡ q ∷ (first ++ turns_ask buses stand (turns told)) = e ∙ ap (λ ts. q ∷ (first ++ turns_ask buses stand ts)) (turns_are false t) in
+          let whole : question call ∷ map question told ≡ q ∷ (first ++ turns_ask buses stand (turns told)) =
+          e ∙ ap (λ ts. q ∷ (first ++ turns_ask buses stand ts)) (turns_are false t) in
           let head : question call ≡ q = cc in
           let tail : map question told ≡ first ++ turns_ask buses stand (turns told) = cc in
-          let more = ih stand first h.1 tail in
-          (ap (map question) (other false t) ∙ ap (λ a. a ∷ map question (in_turn told)) head ∙ ap (λ qs. q ∷ qs) more.0, subst (λ (ts : List (List Call)). AreTurnsAsked stand ts) (sym (turns_are false t)) more.1)
+          let more = ih stand first h.1 tail in (
+            ap (map question) (other false t) ∙ ap (λ a. a ∷ map question (in_turn told)) head ∙ ap (λ qs. q ∷ qs) more.0,
+            subst (λ (ts : List (List Call)). AreTurnsAsked stand ts) (sym (turns_are false t)) more.1,
+          )

@@ -18,12 +18,15 @@ module _ {X : Type 0} (begins : X → Bool) where
       ∙ sym (take_while-cons (λ next. not (begins next)) x xs)
 
   -- the parts of a list and then more, which begins one, are those of the list and those of the rest
-  pub parts-append : (xs : List X) (y : X) (ys : List X) → begins y ≡ true → parts begins (xs ++ y ∷ ys) ≡ parts begins xs ++ parts begins (y ∷ ys)
+  pub parts-append : (xs : List X) (y : X) (ys : List X) → begins y ≡ true
+      → parts begins (xs ++ y ∷ ys) ≡ parts begins xs ++ parts begins (y ∷ ys)
   parts-append [] y ys e = refl
   parts-append (x ∷ xs) y ys e =
       let more : List (List X) = parts begins (y ∷ ys) in
       let same = parts-append xs y ys e in
-      elim (begins x) as (λ b. (if b then (x ∷ before (xs ++ y ∷ ys)) ∷ parts begins (xs ++ y ∷ ys) else parts begins (xs ++ y ∷ ys)) ≡ (if b then (x ∷ before xs) ∷ parts begins xs else parts begins xs) ++ more) [
+      elim (begins
+      x) as (λ b. (if b then (x ∷ before (xs ++ y ∷ ys)) ∷ parts begins (xs ++ y ∷ ys) else parts begins (xs ++ y ∷ ys))
+      ≡ (if b then (x ∷ before xs) ∷ parts begins xs else parts begins xs) ++ more) [
         | true ↦ rw (part_ends xs y ys e, same) refl
         | false ↦ same
       ]

@@ -1,5 +1,6 @@
 -- Laws of places: who sits where, who is let in and who is let go.
-use Rattle.std.proofs.Common.{◌≡◌, ◌∙◌, ℕ, zero, suc, ◌+◌, ◌≤◌, Bool, true, false, ◌==◌, cond, List, [], ◌∷◌, ◌++◌, map, length, if◌then◌else◌, Option, Some, None, refl, ap, sym, subst, arith, append_assoc}
+use Rattle.std.proofs.Common.{◌≡◌, ◌∙◌, ℕ, zero, suc, ◌+◌, ◌≤◌, Bool, true, false, ◌==◌, cond, List, [], ◌∷◌, ◌++◌, map, length}
+use Rattle.std.proofs.Common.{if◌then◌else◌, Option, Some, None, refl, ap, sym, subst, arith, append_assoc}
 use Rattle.std.proofs.lemmas.Bool.Decides.{nat_tests}
 use Rattle.std.proofs.lemmas.List.Sums.{sum_by-append, sum_by-cons}
 use Rattle.std.specs.List.{list_any, count_by, slice_index_or, slice_set, prefix_len, AllByRecursion}
@@ -8,7 +9,8 @@ use Rattle.srcp_core.specs.Recording.{key_of, without_key}
 use Rattle.srcp_core.proofs.Agreement.NumbersAndKeys.{key_push, key_within, without_other}
 use Rattle.srcp_serve.specs.Given.{Call, ExpectCall, NowCall, AcceptCall, ReadCall, WriteCall, CloseCall}
 use Rattle.srcp_serve.specs.Serving.{Seat, seated, seats, kept, visit, is_about, is_close}
-use Rattle.srcp_serve.specs.Places.{Visit, calls_of, visits_of, seat_of, left_by, AreOwn, SitsAt, Sit, IsApartFrom, SeatsDiffer, IsNotOf, IsOneOf, IsOther, IsLeftOut}
+use Rattle.srcp_serve.specs.Places.{Visit, calls_of, visits_of, seat_of, left_by, AreOwn, SitsAt, Sit, IsApartFrom, SeatsDiffer, IsNotOf}
+use Rattle.srcp_serve.specs.Places.{IsOneOf, IsOther, IsLeftOut}
 use Rattle.srcp_serve.specs.Visits.{AreAbout}
 use Rattle.srcp_serve.specs.declared.serving.visit.Seat.{Seat as Own}
 use Rattle.srcp_serve.proofs.VisitLaws.{AreApart, one_visit}
@@ -28,7 +30,8 @@ pub count_append : {X : Type 0} (xs ys : List (Option X)) → count_by is_some (
 count_append xs ys = sum_by-append (λ x. cond (is_some x) 1 0) xs ys
 
 -- one place more is free
-pub count_cleared : {X : Type 0} (x : X) (front ahead : List (Option X)) → count_by is_some (front ++ None ∷ ahead) + 1 ≡ count_by is_some (front ++ Some x ∷ ahead)
+pub count_cleared : {X : Type 0} (x : X) (front ahead : List (Option X))
+    → count_by is_some (front ++ None ∷ ahead) + 1 ≡ count_by is_some (front ++ Some x ∷ ahead)
 count_cleared x front ahead =
     let a = count_append front (None ∷ ahead) in
     let b = count_append front (Some x ∷ ahead) in
@@ -36,7 +39,8 @@ count_cleared x front ahead =
     let d = count_cons (Some x) ahead in
     omega (arith, a, b, c, d)
 
-pub count_without : (n : ℕ) (keys : List (Option ℕ)) (key : ℕ) → key_of n keys ≡ Some key → count_by is_some (without_key n keys) + 1 ≡ count_by is_some keys
+pub count_without : (n : ℕ) (keys : List (Option ℕ)) (key : ℕ) → key_of n keys ≡ Some key
+    → count_by is_some (without_key n keys) + 1 ≡ count_by is_some keys
 count_without zero keys key e = cc
 count_without (suc n) [] key e = absurd (nothing n e)
   where
@@ -65,43 +69,53 @@ count_seated seat (Some other ∷ places) =
 
 -- ---- who sits where
 
-pub length-sit : (keys : List (Option ℕ)) (owns : List (Option Own)) (places : List (Option Seat)) → Sit keys owns places → length owns ≡ length places
+pub length-sit : (keys : List (Option ℕ)) (owns : List (Option Own)) (places : List (Option Seat)) → Sit keys owns places
+    → length owns ≡ length places
 length-sit keys [] [] h = refl
 length-sit keys [] (place ∷ places) h = absurd h
 length-sit keys (own ∷ owns) [] h = absurd h
 length-sit keys (own ∷ owns) (place ∷ places) h = ap (λ n. suc n) (length-sit keys owns places h.1)
 
-pub sits_here : (keys : List (Option ℕ)) (owns : List (Option Own)) (front : List (Option Seat)) (place : Option Seat) (ahead : List (Option Seat)) (i : ℕ) (d : Option Own) → length front ≡ i → Sit keys owns (front ++ place ∷ ahead) → SitsAt keys (slice_index_or owns i d) place
+pub sits_here : (keys : List (Option ℕ)) (owns : List (Option Own)) (front : List (Option Seat)) (place : Option Seat)
+    (ahead : List (Option Seat)) (i : ℕ) (d : Option Own)
+    → length front ≡ i → Sit keys owns (front ++ place ∷ ahead) → SitsAt keys (slice_index_or owns i d) place
 sits_here keys [] [] place ahead i d e h = absurd h
 sits_here keys [] (p ∷ front) place ahead i d e h = absurd h
 sits_here keys (own ∷ owns) [] place ahead zero d e h = h.0
 sits_here keys (own ∷ owns) [] place ahead (suc i) d e h = cc
 sits_here keys (own ∷ owns) (p ∷ front) place ahead zero d e h = cc
-sits_here keys (own ∷ owns) (p ∷ front) place ahead (suc i) d e h = let less : length front ≡ i = omega (arith, e) in sits_here keys owns front place ahead i d less h.1
+sits_here keys (own ∷ owns) (p ∷ front) place ahead (suc i) d e h =
+    let less : length front ≡ i = omega (arith, e) in sits_here keys owns front place ahead i d less h.1
 
-sit_cleared : (keys : List (Option ℕ)) (owns : List (Option Own)) (front : List (Option Seat)) (place : Option Seat) (ahead : List (Option Seat)) (i : ℕ) → length front ≡ i → Sit keys owns (front ++ place ∷ ahead) → Sit keys (slice_set owns i None) (front ++ None ∷ ahead)
+sit_cleared : (keys : List (Option ℕ)) (owns : List (Option Own)) (front : List (Option Seat)) (place : Option Seat)
+    (ahead : List (Option Seat)) (i : ℕ)
+    → length front ≡ i → Sit keys owns (front ++ place ∷ ahead) → Sit keys (slice_set owns i None) (front ++ None ∷ ahead)
 sit_cleared keys [] [] place ahead i e h = absurd h
 sit_cleared keys [] (p ∷ front) place ahead i e h = absurd h
 sit_cleared keys (own ∷ owns) [] place ahead zero e h = (tt, h.1)
 sit_cleared keys (own ∷ owns) [] place ahead (suc i) e h = cc
 sit_cleared keys (own ∷ owns) (p ∷ front) place ahead zero e h = cc
-sit_cleared keys (own ∷ owns) (p ∷ front) place ahead (suc i) e h = let less : length front ≡ i = omega (arith, e) in (h.0, sit_cleared keys owns front place ahead i less h.1)
+sit_cleared keys (own ∷ owns) (p ∷ front) place ahead (suc i) e h =
+    let less : length front ≡ i = omega (arith, e) in (h.0, sit_cleared keys owns front place ahead i less h.1)
 
 -- the number has no place
 abbrev IsNotNumber : ℕ → Option Seat → Type 0
 IsNotNumber n None = Unit {0}
 IsNotNumber n (Some seat) = (n == seat.conn) ≡ false
 
-sit_kept : (n : ℕ) (keys : List (Option ℕ)) (owns : List (Option Own)) (places : List (Option Seat)) → AllByRecursion (IsNotNumber n) places → Sit keys owns places → Sit (without_key n keys) owns places
+sit_kept : (n : ℕ) (keys : List (Option ℕ)) (owns : List (Option Own)) (places : List (Option Seat)) → AllByRecursion (IsNotNumber n) places
+    → Sit keys owns places → Sit (without_key n keys) owns places
 sit_kept n keys [] [] free h = tt
 sit_kept n keys [] (place ∷ places) free h = absurd h
 sit_kept n keys (own ∷ owns) [] free h = absurd h
 sit_kept n keys (None ∷ owns) (None ∷ places) free h = (tt, sit_kept n keys owns places free.1 h.1)
 sit_kept n keys (None ∷ owns) (Some seat ∷ places) free h = absurd h.0
 sit_kept n keys (Some own ∷ owns) (None ∷ places) free h = absurd h.0
-sit_kept n keys (Some own ∷ owns) (Some seat ∷ places) free h = ((h.0.0, without_other n seat.conn keys (other_no n seat.conn free.0) ∙ h.0.1), sit_kept n keys owns places free.1 h.1)
+sit_kept n keys (Some own ∷ owns) (Some seat ∷ places) free h =
+    ((h.0.0, without_other n seat.conn keys (other_no n seat.conn free.0) ∙ h.0.1), sit_kept n keys owns places free.1 h.1)
 
-number_ahead : (seat : Seat) (places : List (Option Seat)) → AllByRecursion (IsApartFrom seat) places → AllByRecursion (IsNotNumber seat.conn) places
+number_ahead : (seat : Seat) (places : List (Option Seat)) → AllByRecursion (IsApartFrom seat) places
+    → AllByRecursion (IsNotNumber seat.conn) places
 number_ahead seat [] h = tt
 number_ahead seat (None ∷ places) h = (tt, number_ahead seat places h.1)
 number_ahead seat (Some other ∷ places) h = (h.0.0, number_ahead seat places h.1)
@@ -110,41 +124,53 @@ pub all_here : {X : Type 0} (P : X → Type 0) (front : List X) (x : X) (ahead :
 all_here P [] x ahead h = h.0
 all_here P (y ∷ front) x ahead h = all_here P front x ahead h.1
 
-all_cleared : (P : Option Seat → Type 0) (front : List (Option Seat)) (place : Option Seat) (ahead : List (Option Seat)) → P None → AllByRecursion P (front ++ place ∷ ahead) → AllByRecursion P (front ++ None ∷ ahead)
+all_cleared : (P : Option Seat → Type 0) (front : List (Option Seat)) (place : Option Seat) (ahead : List (Option Seat)) → P None
+    → AllByRecursion P (front ++ place ∷ ahead) → AllByRecursion P (front ++ None ∷ ahead)
 all_cleared P [] place ahead none h = (none, h.1)
 all_cleared P (p ∷ front) place ahead none h = (h.0, all_cleared P front place ahead none h.1)
 
-numbers_around : (front : List (Option Seat)) (seat : Seat) (ahead : List (Option Seat)) → SeatsDiffer (front ++ Some seat ∷ ahead) → AllByRecursion (IsNotNumber seat.conn) (front ++ None ∷ ahead)
+numbers_around : (front : List (Option Seat)) (seat : Seat) (ahead : List (Option Seat)) → SeatsDiffer (front ++ Some seat ∷ ahead)
+    → AllByRecursion (IsNotNumber seat.conn) (front ++ None ∷ ahead)
 numbers_around [] seat ahead h = (tt, number_ahead seat ahead h.0)
 numbers_around (None ∷ front) seat ahead h = (tt, numbers_around front seat ahead h)
-numbers_around (Some other ∷ front) seat ahead h = (same_no other.conn seat.conn (all_here (IsApartFrom other) front (Some seat) ahead h.0).0, numbers_around front seat ahead h.1)
+numbers_around (Some other ∷ front) seat ahead h =
+    (same_no other.conn seat.conn (all_here (IsApartFrom other) front (Some seat) ahead h.0).0, numbers_around front seat ahead h.1)
 
 -- who has that place is let go
-pub sit_without : (keys : List (Option ℕ)) (owns : List (Option Own)) (front : List (Option Seat)) (seat : Seat) (ahead : List (Option Seat)) (i : ℕ) → length front ≡ i → SeatsDiffer (front ++ Some seat ∷ ahead) → Sit keys owns (front ++ Some seat ∷ ahead) → Sit (without_key seat.conn keys) (slice_set owns i None) (front ++ None ∷ ahead)
+pub sit_without : (keys : List (Option ℕ)) (owns : List (Option Own)) (front : List (Option Seat)) (seat : Seat)
+    (ahead : List (Option Seat)) (i : ℕ)
+    → length front ≡ i → SeatsDiffer (front ++ Some seat ∷ ahead) → Sit keys owns (front ++ Some seat ∷ ahead)
+    → Sit (without_key seat.conn keys) (slice_set owns i None) (front ++ None ∷ ahead)
 sit_without keys owns front seat ahead i e differ h =
-    sit_kept seat.conn keys (slice_set owns i None) (front ++ None ∷ ahead) (numbers_around front seat ahead differ) (sit_cleared keys owns front (Some seat) ahead i e h)
+    sit_kept seat.conn keys (slice_set owns i None) (front ++ None ∷ ahead) (numbers_around front seat ahead differ)
+    (sit_cleared keys owns front (Some seat) ahead i e h)
 
-pub differ_cleared : (front : List (Option Seat)) (seat : Seat) (ahead : List (Option Seat)) → SeatsDiffer (front ++ Some seat ∷ ahead) → SeatsDiffer (front ++ None ∷ ahead)
+pub differ_cleared : (front : List (Option Seat)) (seat : Seat) (ahead : List (Option Seat)) → SeatsDiffer (front ++ Some seat ∷ ahead)
+    → SeatsDiffer (front ++ None ∷ ahead)
 differ_cleared [] seat ahead h = h.1
 differ_cleared (None ∷ front) seat ahead h = differ_cleared front seat ahead h
-differ_cleared (Some other ∷ front) seat ahead h = (all_cleared (IsApartFrom other) front (Some seat) ahead tt h.0, differ_cleared front seat ahead h.1)
+differ_cleared (Some other ∷ front) seat ahead h =
+    (all_cleared (IsApartFrom other) front (Some seat) ahead tt h.0, differ_cleared front seat ahead h.1)
 
 -- ---- a newcomer
 
-pub sit_pushed : (keys : List (Option ℕ)) (key : ℕ) (owns : List (Option Own)) (places : List (Option Seat)) → Sit keys owns places → Sit (keys ++ Some key ∷ []) owns places
+pub sit_pushed : (keys : List (Option ℕ)) (key : ℕ) (owns : List (Option Own)) (places : List (Option Seat)) → Sit keys owns places
+    → Sit (keys ++ Some key ∷ []) owns places
 sit_pushed keys key [] [] h = tt
 sit_pushed keys key [] (place ∷ places) h = absurd h
 sit_pushed keys key (own ∷ owns) [] h = absurd h
 sit_pushed keys key (None ∷ owns) (None ∷ places) h = (tt, sit_pushed keys key owns places h.1)
 sit_pushed keys key (None ∷ owns) (Some seat ∷ places) h = absurd h.0
 sit_pushed keys key (Some own ∷ owns) (None ∷ places) h = absurd h.0
-sit_pushed keys key (Some own ∷ owns) (Some seat ∷ places) h = ((h.0.0, key_push seat.conn keys (Some key) (key_within seat.conn keys own.key h.0.1).1 ∙ h.0.1), sit_pushed keys key owns places h.1)
+sit_pushed keys key (Some own ∷ owns) (Some seat ∷ places) h =
+    ((h.0.0, key_push seat.conn keys (Some key) (key_within seat.conn keys own.key h.0.1).1 ∙ h.0.1), sit_pushed keys key owns places h.1)
 
 -- which place is free, as the first
 abbrev pub free_in : List (Option Own) → ℕ
 free_in owns = prefix_len (λ own. not (is_none own)) owns
 
-pub sit_seated : (keys : List (Option ℕ)) (own : Own) (seat : Seat) (owns : List (Option Own)) (places : List (Option Seat)) → SitsAt keys (Some own) (Some seat) → Sit keys owns places → Sit keys (slice_set owns (free_in owns) (Some own)) (seated seat places)
+pub sit_seated : (keys : List (Option ℕ)) (own : Own) (seat : Seat) (owns : List (Option Own)) (places : List (Option Seat))
+    → SitsAt keys (Some own) (Some seat) → Sit keys owns places → Sit keys (slice_set owns (free_in owns) (Some own)) (seated seat places)
 sit_seated keys own seat [] [] new h = tt
 sit_seated keys own seat [] (place ∷ places) new h = absurd h
 sit_seated keys own seat (o ∷ owns) [] new h = absurd h
@@ -153,7 +179,8 @@ sit_seated keys own seat (None ∷ owns) (Some other ∷ places) new h = absurd 
 sit_seated keys own seat (Some o ∷ owns) (None ∷ places) new h = absurd h.0
 sit_seated keys own seat (Some o ∷ owns) (Some other ∷ places) new h =
     let step : suc (free_in owns) ≡ 1 + free_in owns = omega arith in
-    subst (λ (i : ℕ). Sit keys (slice_set (Some o ∷ owns) i (Some own)) (Some other ∷ seated seat places)) step (h.0, sit_seated keys own seat owns places new h.1)
+    subst (λ (i : ℕ). Sit keys (slice_set (Some o ∷ owns) i (Some own)) (Some other ∷ seated seat places)) step
+    (h.0, sit_seated keys own seat owns places new h.1)
 
 pub free_is : (owns : List (Option Own)) (free : ℕ) → position is_none owns ≡ Some free → free ≡ free_in owns
 free_is owns free e = by (nat_lt (free_in owns) (length owns)) e
@@ -162,7 +189,8 @@ free_is owns free e = by (nat_lt (free_in owns) (length owns)) e
     by true e = cc
     by false e = cc
 
-all_taken : (keys : List (Option ℕ)) (owns : List (Option Own)) (places : List (Option Seat)) → Sit keys owns places → length owns ≤ free_in owns → length owns ≤ count_by is_some places
+all_taken : (keys : List (Option ℕ)) (owns : List (Option Own)) (places : List (Option Seat)) → Sit keys owns places
+    → length owns ≤ free_in owns → length owns ≤ count_by is_some places
 all_taken keys [] places h e = omega arith
 all_taken keys (own ∷ owns) [] h e = absurd h
 all_taken keys (None ∷ owns) (place ∷ places) h e = absurd (omega (arith, e))
@@ -174,25 +202,31 @@ all_taken keys (Some own ∷ owns) (Some seat ∷ places) h e =
     omega (arith, ih, c)
 
 -- where no place is free, all are taken
-pub none_free : (keys : List (Option ℕ)) (owns : List (Option Own)) (places : List (Option Seat)) → Sit keys owns places → position is_none owns ≡ None → length owns ≤ count_by is_some places
+pub none_free : (keys : List (Option ℕ)) (owns : List (Option Own)) (places : List (Option Seat)) → Sit keys owns places
+    → position is_none owns ≡ None → length owns ≤ count_by is_some places
 none_free keys owns places h e = all_taken keys owns places h (by (nat_lt (free_in owns) (length owns)) refl e)
   where
     by : (b : Bool) → nat_lt (free_in owns) (length owns) ≡ b → cond b (Some (free_in owns)) None ≡ None → length owns ≤ free_in owns
     by true t e = cc
     by false t e = grind (arith, nat_tests)
 
-pub all_seated : (P : Option Seat → Type 0) (seat : Seat) (places : List (Option Seat)) → P (Some seat) → AllByRecursion P places → AllByRecursion P (seated seat places)
+pub all_seated : (P : Option Seat → Type 0) (seat : Seat) (places : List (Option Seat)) → P (Some seat) → AllByRecursion P places
+    → AllByRecursion P (seated seat places)
 all_seated P seat [] new h = tt
 all_seated P seat (None ∷ places) new h = (new, h.1)
 all_seated P seat (Some other ∷ places) new h = (h.0, all_seated P seat places new h.1)
 
-pub differ_seated : (seat : Seat) (places : List (Option Seat)) → AllByRecursion (IsApartFrom seat) places → SeatsDiffer places → SeatsDiffer (seated seat places)
+pub differ_seated : (seat : Seat) (places : List (Option Seat)) → AllByRecursion (IsApartFrom seat) places → SeatsDiffer places
+    → SeatsDiffer (seated seat places)
 differ_seated seat [] new h = tt
 differ_seated seat (None ∷ places) new h = (new.1, h)
-differ_seated seat (Some other ∷ places) new h =
-    (all_seated (IsApartFrom other) seat places (same_no seat.conn other.conn new.0.0, same_no seat.peer other.peer new.0.1) h.0, differ_seated seat places new.1 h.1)
+differ_seated seat (Some other ∷ places) new h = (
+  all_seated (IsApartFrom other) seat places (same_no seat.conn other.conn new.0.0, same_no seat.peer other.peer new.0.1) h.0,
+  differ_seated seat places new.1 h.1,
+)
 
-pub new_apart : (keys : List (Option ℕ)) (seat : Seat) (owns : List (Option Own)) (places : List (Option Seat)) → Sit keys owns places → seat.conn ≡ length keys + 1 → AllByRecursion (IsNotOf seat.peer) places → AllByRecursion (IsApartFrom seat) places
+pub new_apart : (keys : List (Option ℕ)) (seat : Seat) (owns : List (Option Own)) (places : List (Option Seat)) → Sit keys owns places
+    → seat.conn ≡ length keys + 1 → AllByRecursion (IsNotOf seat.peer) places → AllByRecursion (IsApartFrom seat) places
 new_apart keys seat [] [] h e new = tt
 new_apart keys seat [] (place ∷ places) h e new = absurd h
 new_apart keys seat (own ∷ owns) [] h e new = absurd h
@@ -239,32 +273,45 @@ own_other : (p q : ℕ) (calls : List Call) → (p == q) ≡ false → AreAbout 
 own_other p q [] e h = tt
 own_other p q (call ∷ calls) e h = (about_other p q call e h.0, own_other p q calls e h.1)
 
-later_other : (seat : Seat) (round : List (Option Visit)) → AllByRecursion (IsApartFrom seat) (map seat_of round) → AreOwn (visits_of round) → IsOther seat.peer (calls_of (visits_of round))
+later_other : (seat : Seat) (round : List (Option Visit)) → AllByRecursion (IsApartFrom seat) (map seat_of round) → AreOwn (visits_of round)
+    → IsOther seat.peer (calls_of (visits_of round))
 later_other seat [] h own = tt
 later_other seat (None ∷ round) h own = later_other seat round h.1 own
 later_other seat (Some v ∷ round) h own =
-    other_append seat.peer v.1 (calls_of (visits_of round)) (own_other v.0.peer seat.peer v.1 (same_no seat.peer v.0.peer h.0.1) own.0) (later_other seat round h.1 own.1)
+    other_append seat.peer v.1 (calls_of (visits_of round)) (own_other v.0.peer seat.peer v.1 (same_no seat.peer v.0.peer h.0.1) own.0)
+    (later_other seat round h.1 own.1)
 
-left_out_more : (before : List Call) (seat : Seat) (calls : List Call) (round : List (Option Visit)) → AreAbout seat.peer calls → AllByRecursion (IsApartFrom seat) (map seat_of round) → AllByRecursion (IsLeftOut before) (map seat_of round) → AllByRecursion (IsLeftOut (before ++ calls)) (map seat_of round)
+left_out_more : (before : List Call) (seat : Seat) (calls : List Call) (round : List (Option Visit)) → AreAbout seat.peer calls
+    → AllByRecursion (IsApartFrom seat) (map seat_of round) → AllByRecursion (IsLeftOut before) (map seat_of round)
+    → AllByRecursion (IsLeftOut (before ++ calls)) (map seat_of round)
 left_out_more before seat calls [] own h k = tt
 left_out_more before seat calls (None ∷ round) own h k = (tt, left_out_more before seat calls round own h.1 k.1)
-left_out_more before seat calls (Some v ∷ round) own h k = (other_append v.0.peer before calls k.0 (own_other seat.peer v.0.peer calls h.0.1 own), left_out_more before seat calls round own h.1 k.1)
+left_out_more before seat calls (Some v ∷ round) own h k = (
+  other_append v.0.peer before calls k.0 (own_other seat.peer v.0.peer calls h.0.1 own),
+  left_out_more before seat calls round own h.1 k.1,
+)
 
-pub visits_apart : (before : List Call) (round : List (Option Visit)) → AreOwn (visits_of round) → SeatsDiffer (map seat_of round) → AllByRecursion (IsLeftOut before) (map seat_of round) → AreApart before (visits_of round)
+pub visits_apart : (before : List Call) (round : List (Option Visit)) → AreOwn (visits_of round) → SeatsDiffer (map seat_of round)
+    → AllByRecursion (IsLeftOut before) (map seat_of round) → AreApart before (visits_of round)
 visits_apart before [] own h k = tt
 visits_apart before (None ∷ round) own h k = visits_apart before round own h k.1
-visits_apart before (Some v ∷ round) own h k =
-    (record { own = own.0; earlier = k.0; later = later_other v.0 round h.0 own.1 }, visits_apart (before ++ v.1) round own.1 h.1 (left_out_more before v.0 v.1 round own.0 h.0 k.1))
+visits_apart before (Some v ∷ round) own h k = (
+  record { own = own.0; earlier = k.0; later = later_other v.0 round h.0 own.1 },
+  visits_apart (before ++ v.1) round own.1 h.1 (left_out_more before v.0 v.1 round own.0 h.0 k.1),
+)
 
-pub kept_by : (before : List Call) (round : List (Option Visit)) → AreApart before (visits_of round) → (calls : List Call) → calls ≡ before ++ calls_of (visits_of round) → map (kept calls) (map seat_of round) ≡ map left_by round
+pub kept_by : (before : List Call) (round : List (Option Visit)) → AreApart before (visits_of round) → (calls : List Call)
+    → calls ≡ before ++ calls_of (visits_of round) → map (kept calls) (map seat_of round) ≡ map left_by round
 kept_by before [] h calls e = refl
 kept_by before (None ∷ round) h calls e = ap (λ more. None ∷ more) (kept_by before round h calls e)
 kept_by before (Some v ∷ round) h calls e =
     let mine : visit calls v.0 ≡ v.1 = ap (λ all. visit all v.0) e ∙ one_visit before v (calls_of (visits_of round)) h.0 in
     let others = kept_by (before ++ v.1) round h.1 calls (e ∙ sym (append_assoc before v.1 (calls_of (visits_of round)))) in
-    ap (λ own. (if list_any is_close own then None else Some v.0) ∷ map (kept calls) (map seat_of round)) mine ∙ ap (λ more. left_by (Some v) ∷ more) others
+    ap (λ own. (if list_any is_close own then None else Some v.0) ∷ map (kept calls) (map seat_of round)) mine
+    ∙ ap (λ more. left_by (Some v) ∷ more) others
 
-pub known_left : (peers : List ℕ) (round : List (Option Visit)) → AllByRecursion (IsOneOf peers) (map seat_of round) → AllByRecursion (IsOneOf peers) (map left_by round)
+pub known_left : (peers : List ℕ) (round : List (Option Visit)) → AllByRecursion (IsOneOf peers) (map seat_of round)
+    → AllByRecursion (IsOneOf peers) (map left_by round)
 known_left peers [] h = tt
 known_left peers (None ∷ round) h = (tt, known_left peers round h.1)
 known_left peers (Some v ∷ round) h = (by (list_any is_close v.1), known_left peers round h.1)

@@ -1,5 +1,6 @@
 -- The read of a visit.
-use Rattle.std.proofs.Common.{◌≡◌, ◌∙◌, ℕ, ◌≤◌, Bool, true, false, not, List, [], ◌∷◌, ◌++◌, map, take, length, Option, Some, None, Result, Ok, Err, refl, ap, sym, subst, arith, append-nil, length-take}
+use Rattle.std.proofs.Common.{◌≡◌, ◌∙◌, ℕ, ◌≤◌, Bool, true, false, not, List, [], ◌∷◌, ◌++◌, map, take, length, Option, Some, None, Result}
+use Rattle.std.proofs.Common.{Ok, Err, refl, ap, sym, subst, arith, append-nil, length-take}
 use Rattle.std.specs.List.{filter_map}
 use Rattle.std.specs.Prelude.{is_none, if◌then◌else◌, ◌||◌, MatchResult, OnOk}
 use Rattle.std.specs.Result.{is_ok}
@@ -24,7 +25,8 @@ use Rattle.srcp_serve.specs.declared.door.Got.TheVariants as got
 use Rattle.srcp_serve.proofs.AskedFor.{asked_none, asked_one}
 use Rattle.srcp_serve.proofs.Telling.{adds_none, adds_one}
 
-module _ (peer key : ℕ) (old : Held) (told_old : Option (List DoorCall)) (ready : Bool) (ready_is : ready ≡ is_none (bytes_fault key [] old)) where
+module _ (peer key : ℕ) (old : Held) (told_old : Option (List DoorCall)) (ready : Bool)
+    (ready_is : ready ≡ is_none (bytes_fault key [] old)) where
   course_says : OfConnection key old (λ buses events n. ready ≡ is_none (fault buses (course buses events) (Bytes n (giving []))))
   course_says buses events keys n layout named s =
       ready_is ∙ ap is_none (calls_agree.bytes key (giving []) old buses events keys n layout named s)
@@ -42,11 +44,15 @@ module _ (peer key : ℕ) (old : Held) (told_old : Option (List DoorCall)) (read
         stands = subst (λ (all : List Event). StandsFor buses keys old (course buses all)) (sym (append-nil events)) s.stands;
       }
 
-  module _ (answer : Result Got DoorFault) (buffer : List ℕ) (told_new : Option (List DoorCall)) (e : ready ≡ true) (full : length buffer ≡ 256) (tells : Tells told_old (door.ReadCall peer answer buffer) told_new) where
-    asks : (buses : List Bus) (events : List Event) (n : ℕ) (grants : List Bool) → ready ≡ is_none (fault buses (course buses events) (Bytes n (giving []))) → question (ReadCall peer answer buffer grants) ∷ [] ≡ (if is_ready buses n events then Reads peer 256 ∷ [] else [])
+  module _ (answer : Result Got DoorFault) (buffer : List ℕ) (told_new : Option (List DoorCall)) (e : ready ≡ true)
+      (full : length buffer ≡ 256) (tells : Tells told_old (door.ReadCall peer answer buffer) told_new) where
+    asks : (buses : List Bus) (events : List Event) (n : ℕ) (grants : List Bool)
+        → ready ≡ is_none (fault buses (course buses events) (Bytes n (giving [])))
+        → question (ReadCall peer answer buffer grants) ∷ [] ≡ (if is_ready buses n events then Reads peer 256 ∷ [] else [])
     asks buses events n grants says = ap (λ k. Reads peer k ∷ []) full ∙ ap (λ t. if t then Reads peer 256 ∷ [] else []) (sym e ∙ says)
 
-    pub read_other : (stays : Bool) → piece_of (ReadCall peer answer buffer []) ≡ None → loses_reading (ReadCall peer answer buffer []) ≡ not stays → ReadsIn peer key old told_old old told_new stays
+    pub read_other : (stays : Bool) → piece_of (ReadCall peer answer buffer []) ≡ None
+        → loses_reading (ReadCall peer answer buffer []) ≡ not stays → ReadsIn peer key old told_old old told_new stays
     read_other stays none loses buses events keys n told s is =
         record {
           read = Some (record { answer = answer; buffer = buffer; grants = [] });
@@ -67,8 +73,11 @@ module _ (peer key : ℕ) (old : Held) (told_old : Option (List DoorCall)) (read
         pieces : Option Piece → List Piece
         pieces o = filter_map (λ x. x) (o ∷ [])
 
-  pub read_bytes : (count : ℕ) (buffer : List ℕ) (told_new : Option (List DoorCall)) (new : Held) (result : Result Unit CoreFault) (stays : Bool) → ready ≡ true → length buffer ≡ 256 → Tells told_old (door.ReadCall peer (Ok (got.Bytes count)) buffer) told_new
-      → MatchResult result (λ _. bytes_fault key (take count buffer) old ≡ None) (λ cause. bytes_fault key (take count buffer) old ≡ Some cause)
+  pub read_bytes : (count : ℕ) (buffer : List ℕ) (told_new : Option (List DoorCall)) (new : Held) (result : Result Unit CoreFault)
+      (stays : Bool)
+      → ready ≡ true → length buffer ≡ 256 → Tells told_old (door.ReadCall peer (Ok (got.Bytes count)) buffer) told_new
+      → MatchResult result (λ _. bytes_fault key (take count buffer) old ≡ None)
+      (λ cause. bytes_fault key (take count buffer) old ≡ Some cause)
       → OnOk result (IsReceived key (take count buffer) old new) → stays ≡ is_ok result → ReadsIn peer key old told_old new told_new stays
   read_bytes count buffer told_new new result stays e full tells says received stays_ok buses events keys n told s named =
       let piece : List ℕ = take count buffer in
@@ -84,12 +93,16 @@ module _ (peer key : ℕ) (old : Held) (told_old : Option (List DoorCall)) (read
         counted = leads.counted ∙ ap (denied_by old.denied) (sym (append-nil leads.grants));
         asked_for = asked_one buses events (Bytes n (record { bytes = piece; grants = leads.grants })) old new
             (leads.asked buses events keys n s.layout s.named s.stands);
-        asked = asks (Ok (got.Bytes count)) buffer told_new e full tells buses events n leads.grants (course_says buses events keys n s.layout s.named s.stands);
+        asked =
+            asks (Ok (got.Bytes count)) buffer told_new e full tells buses events n leads.grants
+            (course_says buses events keys n s.layout s.named s.stands);
         stays_is = ap not (sym (stays_ok ∙ fine.0));
         stands = leads.leads buses events keys n s.layout s.named s.stands;
       }
     where
-      taken : (r : Result Unit CoreFault) → MatchResult r (λ _. bytes_fault key (take count buffer) old ≡ None) (λ cause. bytes_fault key (take count buffer) old ≡ Some cause)
+      taken : (r : Result Unit CoreFault)
+          → MatchResult r (λ _. bytes_fault key (take count buffer) old ≡ None)
+          (λ cause. bytes_fault key (take count buffer) old ≡ Some cause)
           → OnOk r (IsReceived key (take count buffer) old new) → bytes_fault key (take count buffer) old ≡ None
           → (is_ok r ≡ true) × IsReceived key (take count buffer) old new
       taken (Ok u) h received none = (refl, received)

@@ -1,5 +1,6 @@
 -- The writes of a visit: all but the last took all that was lent.
-use Rattle.std.proofs.Common.{◌≡◌, ◌∙◌, ℕ, zero, suc, ◌+◌, ◌<◌, ◌≤◌, Bool, true, false, cond, ◌==◌, not, List, [], ◌∷◌, ◌++◌, map, take, length, Option, Some, Ok, Err, ⊎_elim, refl, ap, sym, subst, arith, append_assoc, append-nil, length-append}
+use Rattle.std.proofs.Common.{◌≡◌, ◌∙◌, ℕ, zero, suc, ◌+◌, ◌<◌, ◌≤◌, Bool, true, false, cond, ◌==◌, not, List, [], ◌∷◌, ◌++◌, map, take}
+use Rattle.std.proofs.Common.{length, Option, Some, Ok, Err, ⊎_elim, refl, ap, sym, subst, arith, append_assoc, append-nil, length-append}
 use Rattle.std.proofs.Math.Seq.{take-append_seam}
 use Rattle.std.proofs.lemmas.Bool.Decides.{nat_tests}
 use Rattle.std.proofs.lemmas.List.{map-append}
@@ -13,9 +14,11 @@ use Rattle.srcp_core.specs.Stands.{StandsFor}
 use Rattle.srcp_core.specs.Under.{Event, Room}
 use Rattle.srcp_serve.specs.Calls.{Call as DoorCall}
 use Rattle.srcp_serve.specs.Given.{Call, WriteCall}
-use Rattle.srcp_serve.specs.Serving.{Writes, question, count_of, is_write, loses, loses_writing, falls_short, lent, lent_none_last, rooms, handed, unless_nil}
+use Rattle.srcp_serve.specs.Serving.{Writes, question, count_of, is_write, loses, loses_writing, falls_short, lent, lent_none_last, rooms}
+use Rattle.srcp_serve.specs.Serving.{handed, unless_nil}
 use Rattle.srcp_serve.specs.Turns.{AsksPeers}
-use Rattle.srcp_serve.specs.Visits.{AddsGiven, AreWritesTo, Follows, IsWrittenTo, TookAll, TookLess, TookNone, WasLentNone, WritesOnce, WritesOut}
+use Rattle.srcp_serve.specs.Visits.{AddsGiven, AreWritesTo, Follows, IsWrittenTo, TookAll, TookLess, TookNone, WasLentNone, WritesOnce}
+use Rattle.srcp_serve.specs.Visits.{WritesOut}
 use Rattle.srcp_serve.specs.declared.serving.visit.Wrote.TheVariants.{All, Less, Failed}
 use Rattle.srcp_serve.proofs.HandedLaws.{AreFull, texts, handed-append, full-more, unless_some}
 use Rattle.srcp_serve.proofs.Telling.{adds_none, given_then}
@@ -34,79 +37,109 @@ module _ (buses : List Bus) (peer conn : ℕ) where
   -- writes that took all, and then others
   abbrev pub written : List Event → List ℕ → List Call → List Call
   written events [] last = last
-  written events (count ∷ counts) last = WriteCall peer (lent buses conn events) (Ok count) ∷ written (events ++ Room conn count ∷ []) counts last
+  written events (count ∷ counts) last =
+      WriteCall peer (lent buses conn events) (Ok count) ∷ written (events ++ Room conn count ∷ []) counts last
 
   abbrev pub after : List Event → List ℕ → List Event
   after events counts = events ++ map (Room conn) counts
 
-  after-more : (events : List Event) (count : ℕ) (counts : List ℕ) → after (events ++ Room conn count ∷ []) counts ≡ after events (count ∷ counts)
+  after-more : (events : List Event) (count : ℕ) (counts : List ℕ)
+      → after (events ++ Room conn count ∷ []) counts ≡ after events (count ∷ counts)
   after-more events count counts = append_assoc events (Room conn count ∷ []) (map (Room conn) counts)
 
-  pub written-append : (events : List Event) (counts : List ℕ) (last : List Call) → written events counts [] ++ last ≡ written events counts last
+  pub written-append : (events : List Event) (counts : List ℕ) (last : List Call)
+      → written events counts [] ++ last ≡ written events counts last
   written-append events [] last = refl
-  written-append events (count ∷ counts) last = ap (λ calls. WriteCall peer (lent buses conn events) (Ok count) ∷ calls) (written-append (events ++ Room conn count ∷ []) counts last)
+  written-append events (count ∷ counts) last =
+      ap (λ calls. WriteCall peer (lent buses conn events) (Ok count) ∷ calls) (written-append (events ++ Room conn count ∷ []) counts last)
 
-  pub written-more : (events : List Event) (counts : List ℕ) (count : ℕ) → written events (counts ++ count ∷ []) [] ≡ written events counts (WriteCall peer (lent buses conn (after events counts)) (Ok count) ∷ [])
+  pub written-more : (events : List Event) (counts : List ℕ) (count : ℕ)
+      → written events (counts ++ count ∷ []) []
+      ≡ written events counts (WriteCall peer (lent buses conn (after events counts)) (Ok count) ∷ [])
   written-more events [] count = ap (λ all. WriteCall peer (lent buses conn all) (Ok count) ∷ []) (sym (append-nil events))
   written-more events (first ∷ counts) count =
       ap (λ calls. WriteCall peer (lent buses conn events) (Ok first) ∷ calls)
-      (written-more (events ++ Room conn first ∷ []) counts count ∙ ap (λ all. written (events ++ Room conn first ∷ []) counts (WriteCall peer (lent buses conn all) (Ok count) ∷ [])) (after-more events first counts))
+      (written-more (events ++ Room conn first ∷ []) counts count
+      ∙ ap (λ all. written (events ++ Room conn first ∷ []) counts (WriteCall peer (lent buses conn all) (Ok count) ∷ []))
+      (after-more events first counts))
 
-  written-counts : (events : List Event) (counts : List ℕ) (last : List Call) → filter_map count_of (written events counts last) ≡ counts ++ filter_map count_of last
+  written-counts : (events : List Event) (counts : List ℕ) (last : List Call)
+      → filter_map count_of (written events counts last) ≡ counts ++ filter_map count_of last
   written-counts events [] last = refl
   written-counts events (count ∷ counts) last = ap (λ more. count ∷ more) (written-counts (events ++ Room conn count ∷ []) counts last)
 
-  written-asked : (events : List Event) (counts : List ℕ) (last : List Call) → map question (written events counts last) ≡ map (Writes peer) (texts buses conn events counts) ++ map question last
+  written-asked : (events : List Event) (counts : List ℕ) (last : List Call)
+      → map question (written events counts last) ≡ map (Writes peer) (texts buses conn events counts) ++ map question last
   written-asked events [] last = refl
-  written-asked events (count ∷ counts) last = ap (λ more. Writes peer (lent buses conn events) ∷ more) (written-asked (events ++ Room conn count ∷ []) counts last)
+  written-asked events (count ∷ counts) last =
+      ap (λ more. Writes peer (lent buses conn events) ∷ more) (written-asked (events ++ Room conn count ∷ []) counts last)
 
   length-texts : (events : List Event) (counts : List ℕ) → length (texts buses conn events counts) ≡ length counts
   length-texts events [] = refl
   length-texts events (count ∷ counts) = ap (λ n. suc n) (length-texts (events ++ Room conn count ∷ []) counts)
 
-  written-loses : (events : List Event) (counts : List ℕ) (last : List Call) → list_any loses (written events counts last) ≡ list_any loses last
+  written-loses : (events : List Event) (counts : List ℕ) (last : List Call)
+      → list_any loses (written events counts last) ≡ list_any loses last
   written-loses events [] last = refl
   written-loses events (count ∷ counts) last = written-loses (events ++ Room conn count ∷ []) counts last
 
-  written-loses_writing : (events : List Event) (counts : List ℕ) (last : List Call) → list_any loses_writing (written events counts last) ≡ list_any loses_writing last
+  written-loses_writing : (events : List Event) (counts : List ℕ) (last : List Call)
+      → list_any loses_writing (written events counts last) ≡ list_any loses_writing last
   written-loses_writing events [] last = refl
   written-loses_writing events (count ∷ counts) last = written-loses_writing (events ++ Room conn count ∷ []) counts last
 
-  written-short : (events : List Event) (counts : List ℕ) (last : List Call) → AreFull buses conn events counts → list_any falls_short (written events counts last) ≡ list_any falls_short last
+  written-short : (events : List Event) (counts : List ℕ) (last : List Call) → AreFull buses conn events counts
+      → list_any falls_short (written events counts last) ≡ list_any falls_short last
   written-short events [] last full = refl
   written-short events (count ∷ counts) last full =
       let all : nat_lt count (length (lent buses conn events)) ≡ false = let e = full.0 in grind (arith, nat_tests) in
-      ap (λ t. t || list_any falls_short (written (events ++ Room conn count ∷ []) counts last)) all ∙ written-short (events ++ Room conn count ∷ []) counts last full.2
+      ap (λ t. t || list_any falls_short (written (events ++ Room conn count ∷ []) counts last)) all
+      ∙ written-short (events ++ Room conn count ∷ []) counts last full.2
 
-  written-count : (events : List Event) (counts : List ℕ) (last : List Call) → count_by is_write (written events counts last) ≡ length counts + count_by is_write last
+  written-count : (events : List Event) (counts : List ℕ) (last : List Call)
+      → count_by is_write (written events counts last) ≡ length counts + count_by is_write last
   written-count events [] last = let k = count_by is_write last in omega arith
   written-count events (count ∷ counts) last =
       let h = written-count (events ++ Room conn count ∷ []) counts last in
-      let one : count_by is_write (written events (count ∷ counts) last) ≡ 1 + count_by is_write (written (events ++ Room conn count ∷ []) counts last) =
-      sum_by-cons (λ x. cond (is_write x) 1 0) (WriteCall peer (lent buses conn events) (Ok count)) (written (events ++ Room conn count ∷ []) counts last) in
+      let one : count_by is_write (written events (count ∷ counts) last)
+      ≡ 1 + count_by is_write (written (events ++ Room conn count ∷ []) counts last) =
+      sum_by-cons (λ x. cond (is_write x) 1 0) (WriteCall peer (lent buses conn events) (Ok count))
+      (written (events ++ Room conn count ∷ []) counts last) in
       omega (arith, one, h)
 
-  written-own : (events : List Event) (counts : List ℕ) (last : List Call) → AreWritesTo peer last → AreWritesTo peer (written events counts last)
+  written-own : (events : List Event) (counts : List ℕ) (last : List Call) → AreWritesTo peer last
+      → AreWritesTo peer (written events counts last)
   written-own events [] last own = own
-  written-own events (count ∷ counts) last own = (record { bytes = lent buses conn events; answer = Ok count; is = refl }, written-own (events ++ Room conn count ∷ []) counts last own)
+  written-own events (count ∷ counts) last own = (
+    record { bytes = lent buses conn events; answer = Ok count; is = refl },
+    written-own (events ++ Room conn count ∷ []) counts last own,
+  )
 
   -- what was handed over before the last write, and by it
-  handed_then : (events : List Event) (counts last : List ℕ) (end : List (List ℕ)) → AreFull buses conn events counts → handed buses conn (after events counts) last ≡ end → length counts + length end ≤ 300
+  handed_then : (events : List Event) (counts last : List ℕ) (end : List (List ℕ)) → AreFull buses conn events counts
+      → handed buses conn (after events counts) last ≡ end → length counts + length end ≤ 300
       → take 300 (handed buses conn events (counts ++ last)) ≡ texts buses conn events counts ++ end
   handed_then events counts last end full e few =
-      let all : handed buses conn events (counts ++ last) ≡ texts buses conn events counts ++ end = handed-append buses conn events counts last full ∙ ap (λ more. texts buses conn events counts ++ more) e in
-      let size : length (texts buses conn events counts ++ end) ≤ 300 = omega (arith, length-append (texts buses conn events counts) end, length-texts events counts, few) in
+      let all : handed buses conn events (counts ++ last) ≡ texts buses conn events counts ++ end =
+      handed-append buses conn events counts last full ∙ ap (λ more. texts buses conn events counts ++ more) e in
+      let size : length (texts buses conn events counts ++ end) ≤ 300 =
+      omega (arith, length-append (texts buses conn events counts) end, length-texts events counts, few) in
       ap (take 300) all ∙ take_within 300 (texts buses conn events counts ++ end) size
 
   -- the rooms of the writes
-  rooms_are : (events : List Event) (counts : List ℕ) (last : List Call) (lost short : Bool) → AreFull buses conn events counts → list_any loses last ≡ lost → list_any falls_short last ≡ short
-      → rooms (written events counts last) ≡ (counts ++ filter_map count_of last) ++ (if not lost && (not short && nat_lt (length counts + count_by is_write last) 300) then 0 ∷ [] else [])
+  rooms_are : (events : List Event) (counts : List ℕ) (last : List Call) (lost short : Bool) → AreFull buses conn events counts
+      → list_any loses last ≡ lost → list_any falls_short last ≡ short
+      → rooms (written events counts last)
+      ≡ (counts ++ filter_map count_of last)
+      ++ (if not lost && (not short && nat_lt (length counts + count_by is_write last) 300) then 0 ∷ [] else [])
   rooms_are events counts last lost short full l s =
       let all : List Call = written events counts last in
       let front : List ℕ = counts ++ filter_map count_of last in
       ap (λ xs. xs ++ (if lent_none_last all then 0 ∷ [] else [])) (written-counts events counts last)
-      ∙ ap (λ t. front ++ (if not t && (not (list_any falls_short all) && nat_lt (count_by is_write all) 300) then 0 ∷ [] else [])) (written-loses events counts last ∙ l)
-      ∙ ap (λ t. front ++ (if not lost && (not t && nat_lt (count_by is_write all) 300) then 0 ∷ [] else [])) (written-short events counts last full ∙ s)
+      ∙ ap (λ t. front ++ (if not t && (not (list_any falls_short all) && nat_lt (count_by is_write all) 300) then 0 ∷ [] else []))
+      (written-loses events counts last ∙ l)
+      ∙ ap (λ t. front ++ (if not lost && (not t && nat_lt (count_by is_write all) 300) then 0 ∷ [] else []))
+      (written-short events counts last full ∙ s)
       ∙ ap (λ k. front ++ (if not lost && (not short && nat_lt k 300) then 0 ∷ [] else [])) (written-count events counts last)
 
   module _ (keys : List (Option ℕ)) (old : Option (List DoorCall)) where
@@ -122,9 +155,13 @@ module _ (buses : List Bus) (peer conn : ℕ) where
     Writes_out events told new stays = IsWrittenTo buses events keys conn peer old told new stays
 
     -- the last write, or none
-    ended_by : (events : List Event) (told : List DoorCall) (new : Held) (counts : List ℕ) (last : List Call) (end : List (List ℕ)) (room : List ℕ) (stays : Bool) → AreFull buses conn events counts → AddsGiven old told (written events counts last)
-        → AreWritesTo peer last → handed buses conn (after events counts) (filter_map count_of last) ≡ end → map question last ≡ map (Writes peer) end → length counts + length end ≤ 300
-        → list_any loses_writing last ≡ not stays → rooms (written events counts last) ≡ counts ++ room → StandsFor buses keys new (course buses (after events counts ++ map (Room conn) room)) → Writes_out events told new stays
+    ended_by : (events : List Event) (told : List DoorCall) (new : Held) (counts : List ℕ) (last : List Call) (end : List (List ℕ))
+        (room : List ℕ) (stays : Bool)
+        → AreFull buses conn events counts → AddsGiven old told (written events counts last)
+        → AreWritesTo peer last → handed buses conn (after events counts) (filter_map count_of last) ≡ end
+        → map question last ≡ map (Writes peer) end → length counts + length end ≤ 300
+        → list_any loses_writing last ≡ not stays → rooms (written events counts last) ≡ counts ++ room
+        → StandsFor buses keys new (course buses (after events counts ++ map (Room conn) room)) → Writes_out events told new stays
     ended_by events told new counts last end room stays full adds own hands asks few lost are stands = record {
       calls = written events counts last;
       adds = adds;
@@ -132,32 +169,45 @@ module _ (buses : List Bus) (peer conn : ℕ) where
       asked = written-asked events counts last
           ∙ ap (λ more. map (Writes peer) (texts buses conn events counts) ++ more) asks
           ∙ sym (map-append (Writes peer) (texts buses conn events counts) end)
-          ∙ ap (map (Writes peer)) (sym (handed_then events counts (filter_map count_of last) end full hands few) ∙ ap (λ all. take 300 (handed buses conn events all)) (sym (written-counts events counts last)));
+          ∙ ap (map (Writes peer))
+          (sym (handed_then events counts (filter_map count_of last) end full hands few)
+          ∙ ap (λ all. take 300 (handed buses conn events all)) (sym (written-counts events counts last)));
       stays_is = written-loses_writing events counts last ∙ lost;
       stands = subst (λ (all : List Event). StandsFor buses keys new (course buses all))
-          (append_assoc events (map (Room conn) counts) (map (Room conn) room) ∙ ap (λ more. events ++ more) (sym (map-append (Room conn) counts room)) ∙ ap (λ all. events ++ map (Room conn) all) (sym are)) stands;
+          (append_assoc events (map (Room conn) counts) (map (Room conn) room)
+          ∙ ap (λ more. events ++ more) (sym (map-append (Room conn) counts room))
+          ∙ ap (λ all. events ++ map (Room conn) all) (sym are))
+          stands;
     }
 
     -- the peer took less, or the write failed
-    last_write : (events : List Event) (told : List DoorCall) (new : Held) (counts : List ℕ) (call : Call) (count : ℕ) (stays lost short : Bool) → AreFull buses conn events counts → AddsGiven old told (written events counts (call ∷ []))
-        → AreWritesTo peer (call ∷ []) → count_of call ≡ Some count → question call ≡ Writes peer (lent buses conn (after events counts)) → count < length (lent buses conn (after events counts)) → length counts < 300
-        → list_any loses_writing (call ∷ []) ≡ not stays → list_any loses (call ∷ []) ≡ lost → list_any falls_short (call ∷ []) ≡ short → not lost && not short ≡ false
+    last_write : (events : List Event) (told : List DoorCall) (new : Held) (counts : List ℕ) (call : Call) (count : ℕ)
+        (stays lost short : Bool)
+        → AreFull buses conn events counts → AddsGiven old told (written events counts (call ∷ []))
+        → AreWritesTo peer (call ∷ []) → count_of call ≡ Some count → question call ≡ Writes peer (lent buses conn (after events counts))
+        → count < length (lent buses conn (after events counts)) → length counts < 300
+        → list_any loses_writing (call ∷ []) ≡ not stays → list_any loses (call ∷ []) ≡ lost → list_any falls_short (call ∷ []) ≡ short
+        → not lost && not short ≡ false
         → StandsFor buses keys new (course buses (after events counts ++ Room conn count ∷ [])) → Writes_out events told new stays
-    last_write events told new counts call count stays lost short full adds own count_is asks short_of few stays_is lost_is short_is ends stands =
+    last_write events told new counts call count stays lost short full adds own count_is asks short_of few stays_is lost_is short_is ends
+        stands =
         let bytes : List ℕ = lent buses conn (after events counts) in
         let differs : (count == length bytes) ≡ false = grind (arith, nat_tests) in
         let some : 0 < length bytes = omega arith in
         let counted : filter_map count_of (call ∷ []) ≡ count ∷ [] = rw count_is refl in
         let hands : handed buses conn (after events counts) (count ∷ []) ≡ bytes ∷ [] =
-        unless_some bytes _ some ∙ ap (λ t. bytes ∷ (if t then handed buses conn (after events counts ++ Room conn count ∷ []) [] else [])) differs in
+        unless_some bytes _ some
+        ∙ ap (λ t. bytes ∷ (if t then handed buses conn (after events counts ++ Room conn count ∷ []) [] else [])) differs in
         let size : length counts + 1 ≤ 300 = omega arith in
-        let no_more : last_room (not lost && (not short && nat_lt (length counts + count_by is_write (call ∷ [])) 300)) ≡ [] = stops lost short (nat_lt (length counts + count_by is_write (call ∷ [])) 300) ends in
+        let no_more : last_room (not lost && (not short && nat_lt (length counts + count_by is_write (call ∷ [])) 300)) ≡ [] =
+        stops lost short (nat_lt (length counts + count_by is_write (call ∷ [])) 300) ends in
         let are : rooms (written events counts (call ∷ [])) ≡ counts ++ count ∷ [] =
         rooms_are events counts (call ∷ []) lost short full lost_is short_is
         ∙ ap (λ xs. (counts ++ filter_map count_of (call ∷ [])) ++ xs) no_more
         ∙ append-nil (counts ++ filter_map count_of (call ∷ []))
         ∙ ap (λ xs. counts ++ xs) counted in
-        ended_by events told new counts (call ∷ []) (bytes ∷ []) (count ∷ []) stays full adds own (ap (handed buses conn (after events counts)) counted ∙ hands) (ap (λ q. q ∷ []) asks) size stays_is are stands
+        ended_by events told new counts (call ∷ []) (bytes ∷ []) (count ∷ []) stays full adds own
+        (ap (handed buses conn (after events counts)) counted ∙ hands) (ap (λ q. q ∷ []) asks) size stays_is are stands
       where
         stops : (lost short few : Bool) → not lost && not short ≡ false → last_room (not lost && (not short && few)) ≡ []
         stops true short few e = refl
@@ -165,7 +215,8 @@ module _ (buses : List Bus) (peer conn : ℕ) where
         stops false false few e = cc
 
     -- no write yet
-    takes_none : (events : List Event) (told : List DoorCall) (now : Held) → old ≡ Some told → StandsFor buses keys now (course buses events) → IsTaking events told now 0
+    takes_none : (events : List Event) (told : List DoorCall) (now : Held) → old ≡ Some told
+        → StandsFor buses keys now (course buses events) → IsTaking events told now 0
     takes_none events told now is stands = record {
       counts = [];
       many = refl;
@@ -175,18 +226,28 @@ module _ (buses : List Bus) (peer conn : ℕ) where
     }
 
     -- more calls after these writes
-    adds_last : (events : List Event) (counts : List ℕ) (mid told : List DoorCall) (calls : List Call) (told_mid : Option (List DoorCall)) → told_mid ≡ Some mid → AddsGiven old mid (written events counts []) → AddsGiven told_mid told calls → AddsGiven old told (written events counts calls)
+    adds_last : (events : List Event) (counts : List ℕ) (mid told : List DoorCall) (calls : List Call) (told_mid : Option (List DoorCall))
+        → told_mid ≡ Some mid → AddsGiven old mid (written events counts []) → AddsGiven told_mid told calls
+        → AddsGiven old told (written events counts calls)
     adds_last events counts mid told calls told_mid is first second =
-        subst (λ (all : List Call). AddsGiven old told all) (written-append events counts calls) (given_then old told_mid mid told (written events counts []) calls is first second)
+        subst (λ (all : List Call). AddsGiven old told all) (written-append events counts calls)
+        (given_then old told_mid mid told (written events counts []) calls is first second)
 
-    takes_more : (events : List Event) (mid told : List DoorCall) (before new : Held) (times : ℕ) (told_mid : Option (List DoorCall)) → told_mid ≡ Some mid → (t : IsTaking events mid before times) → TookAll buses (after events t.counts) keys conn peer told_mid told new → IsTaking events told new (times + 1)
+    takes_more : (events : List Event) (mid told : List DoorCall) (before new : Held) (times : ℕ) (told_mid : Option (List DoorCall))
+        → told_mid ≡ Some mid → (t : IsTaking events mid before times)
+        → TookAll buses (after events t.counts) keys conn peer told_mid told new → IsTaking events told new (times + 1)
     takes_more events mid told before new times told_mid is t took = record {
       counts = t.counts ++ took.count ∷ [];
       many = length-append t.counts (took.count ∷ []) ∙ ap (λ k. k + 1) t.many;
       full = full-more buses conn events t.counts took.count t.full took.all took.some;
-      adds = subst (λ (all : List Call). AddsGiven old told all) (sym (written-more events t.counts took.count)) (adds_last events t.counts mid told (WriteCall peer (lent buses conn (after events t.counts)) (Ok took.count) ∷ []) told_mid is t.adds took.adds);
+      adds =
+          subst (λ (all : List Call). AddsGiven old told all) (sym (written-more events t.counts took.count))
+          (adds_last events t.counts mid told
+          (WriteCall peer (lent buses conn (after events t.counts)) (Ok took.count) ∷ []) told_mid is t.adds took.adds);
       stands = subst (λ (all : List Event). StandsFor buses keys new (course buses all))
-          (append_assoc events (map (Room conn) t.counts) (Room conn took.count ∷ []) ∙ ap (λ more. events ++ more) (sym (map-append (Room conn) t.counts (took.count ∷ [])))) took.stands;
+          (append_assoc events (map (Room conn) t.counts) (Room conn took.count ∷ [])
+          ∙ ap (λ more. events ++ more) (sym (map-append (Room conn) t.counts (took.count ∷ []))))
+          took.stands;
     }
 
     -- the most writes there may be took all
@@ -196,9 +257,11 @@ module _ (buses : List Bus) (peer conn : ℕ) where
         let front : List (List ℕ) = texts buses conn events counts in
         let many : length counts ≡ 300 = t.many in
         let size : 300 ≡ length front = sym (length-texts events counts ∙ many) in
-        let no_more : last_room (true && (true && nat_lt (length counts + count_by is_write []) 300)) ≡ [] = ap last_room (over (length counts) many) in
+        let no_more : last_room (true && (true && nat_lt (length counts + count_by is_write []) 300)) ≡ [] =
+        ap last_room (over (length counts) many) in
         let are : rooms (written events counts []) ≡ counts =
-        rooms_are events counts [] false false t.full refl refl ∙ ap (λ xs. (counts ++ []) ++ xs) no_more ∙ append-nil (counts ++ []) ∙ append-nil counts in
+        rooms_are events counts [] false false t.full refl refl ∙ ap (λ xs. (counts ++ []) ++ xs) no_more ∙ append-nil (counts ++ [])
+        ∙ append-nil counts in
         record {
           calls = written events counts [];
           adds = t.adds;
@@ -211,60 +274,80 @@ module _ (buses : List Bus) (peer conn : ℕ) where
               ∙ ap (λ k. take k (front ++ handed buses conn (after events counts) [])) size
               ∙ take-append_seam front (handed buses conn (after events counts) [])));
           stays_is = written-loses_writing events counts [];
-          stands = subst (λ (all : List Event). StandsFor buses keys now (course buses all)) (ap (λ all. events ++ map (Room conn) all) (sym are)) t.stands;
+          stands =
+              subst (λ (all : List Event). StandsFor buses keys now (course buses all))
+              (ap (λ all. events ++ map (Room conn) all) (sym are)) t.stands;
         }
       where
         over : (k : ℕ) → k ≡ 300 → nat_lt (k + 0) 300 ≡ false
         over k e = grind (arith, nat_tests)
 
     -- nothing was lent
-    out_none : (events : List Event) (mid told : List DoorCall) (before new : Held) (times : ℕ) (told_mid : Option (List DoorCall)) → told_mid ≡ Some mid → times < 300 → (t : IsTaking events mid before times) → WasLentNone buses (after events t.counts) keys conn peer told_mid told new → Writes_out events told new true
+    out_none : (events : List Event) (mid told : List DoorCall) (before new : Held) (times : ℕ) (told_mid : Option (List DoorCall))
+        → told_mid ≡ Some mid → times < 300 → (t : IsTaking events mid before times)
+        → WasLentNone buses (after events t.counts) keys conn peer told_mid told new → Writes_out events told new true
     out_none events mid told before new times told_mid is few t was =
         let counts : List ℕ = t.counts in
         let many : length counts ≡ times = t.many in
         let size : length counts + 0 ≤ 300 = omega (arith, many, few) in
-        let more : last_room (true && (true && nat_lt (length counts + count_by is_write []) 300)) ≡ 0 ∷ [] = ap last_room (below (length counts) (omega (arith, many, few))) in
+        let more : last_room (true && (true && nat_lt (length counts + count_by is_write []) 300)) ≡ 0 ∷ [] =
+        ap last_room (below (length counts) (omega (arith, many, few))) in
         let are : rooms (written events counts []) ≡ counts ++ 0 ∷ [] =
-        rooms_are events counts [] false false t.full refl refl ∙ ap (λ xs. (counts ++ []) ++ xs) more ∙ ap (λ xs. xs ++ 0 ∷ []) (append-nil counts) in
-        ended_by events told new counts [] [] (0 ∷ []) true t.full (adds_last events counts mid told [] told_mid is t.adds was.adds) tt (ap (λ l. unless_nil l []) was.none) refl size refl are was.stands
+        rooms_are events counts [] false false t.full refl refl ∙ ap (λ xs. (counts ++ []) ++ xs) more
+        ∙ ap (λ xs. xs ++ 0 ∷ []) (append-nil counts) in
+        ended_by events told new counts [] [] (0 ∷ []) true t.full (adds_last events counts mid told [] told_mid is t.adds was.adds) tt
+        (ap (λ l. unless_nil l []) was.none) refl size refl are was.stands
       where
         below : (k : ℕ) → k < 300 → nat_lt (k + 0) 300 ≡ true
         below k h = grind (arith, nat_tests)
 
-    out_less : (events : List Event) (mid told : List DoorCall) (before new : Held) (times : ℕ) (told_mid : Option (List DoorCall)) → told_mid ≡ Some mid → times < 300 → (t : IsTaking events mid before times) → TookLess buses (after events t.counts) keys conn peer told_mid told new → Writes_out events told new true
+    out_less : (events : List Event) (mid told : List DoorCall) (before new : Held) (times : ℕ) (told_mid : Option (List DoorCall))
+        → told_mid ≡ Some mid → times < 300 → (t : IsTaking events mid before times)
+        → TookLess buses (after events t.counts) keys conn peer told_mid told new → Writes_out events told new true
     out_less events mid told before new times told_mid is few t took =
         let bytes : List ℕ = lent buses conn (after events t.counts) in
         let many : length t.counts ≡ times = t.many in
         let call : Call = WriteCall peer bytes (Ok took.count) in
         let size : length t.counts < 300 = omega (arith, many, few) in
         let short : nat_lt took.count (length bytes) ≡ true = let less = took.short in grind (arith, nat_tests) in
-        last_write events told new t.counts call took.count true false true t.full (adds_last events t.counts mid told (call ∷ []) told_mid is t.adds took.adds)
-        (record { bytes = bytes; answer = Ok took.count; is = refl }, tt) refl refl took.short size refl refl (ap (λ b. b || false) short) refl took.stands
+        last_write events told new t.counts call took.count true false true t.full
+        (adds_last events t.counts mid told (call ∷ []) told_mid is t.adds took.adds)
+        (record { bytes = bytes; answer = Ok took.count; is = refl }, tt) refl refl took.short size refl refl
+        (ap (λ b. b || false) short) refl took.stands
 
-    out_failed : (events : List Event) (mid told : List DoorCall) (before new : Held) (times : ℕ) (told_mid : Option (List DoorCall)) → told_mid ≡ Some mid → times < 300 → (t : IsTaking events mid before times) → TookNone buses (after events t.counts) keys conn peer told_mid told new → Writes_out events told new false
+    out_failed : (events : List Event) (mid told : List DoorCall) (before new : Held) (times : ℕ) (told_mid : Option (List DoorCall))
+        → told_mid ≡ Some mid → times < 300 → (t : IsTaking events mid before times)
+        → TookNone buses (after events t.counts) keys conn peer told_mid told new → Writes_out events told new false
     out_failed events mid told before new times told_mid is few t took =
         let bytes : List ℕ = lent buses conn (after events t.counts) in
         let many : length t.counts ≡ times = t.many in
         let call : Call = WriteCall peer bytes (Err took.fault) in
         let size : length t.counts < 300 = omega (arith, many, few) in
-        last_write events told new t.counts call 0 false true false t.full (adds_last events t.counts mid told (call ∷ []) told_mid is t.adds took.adds)
+        last_write events told new t.counts call 0 false true false t.full
+        (adds_last events t.counts mid told (call ∷ []) told_mid is t.adds took.adds)
         (record { bytes = bytes; answer = Err took.fault; is = refl }, tt) refl refl took.some size refl refl refl refl took.stands
 
 -- ---- the loop of the writes
 
 -- so many writes took all
-abbrev pub TakesSoFar : (peer key : ℕ) (old : Held) (told_old : Option (List DoorCall)) (now : Held) (told_now : Option (List DoorCall)) (times : ℕ) → Type 0
-TakesSoFar peer key old told_old now told_now times = Follows (λ buses events keys n told. IsTaking buses peer n keys told_old events told now times) key old told_now
+abbrev pub TakesSoFar : (peer key : ℕ) (old : Held) (told_old : Option (List DoorCall)) (now : Held) (told_now : Option (List DoorCall))
+    (times : ℕ)
+    → Type 0
+TakesSoFar peer key old told_old now told_now times =
+    Follows (λ buses events keys n told. IsTaking buses peer n keys told_old events told now times) key old told_now
 
 pub takes_first : (peer key : ℕ) (old : Held) (told_old : Option (List DoorCall)) → TakesSoFar peer key old told_old old told_old 0
 takes_first peer key old told_old buses events keys n told s is = takes_none buses peer n keys told_old events told old is s.stands
 
-module _ (peer key : ℕ) (old mid new : Held) (told_old told_mid told_new : Option (List DoorCall)) (times : ℕ) (so : TakesSoFar peer key old told_old mid told_mid times) (asks : AsksPeers told_mid told_new) where
+module _ (peer key : ℕ) (old mid new : Held) (told_old told_mid told_new : Option (List DoorCall)) (times : ℕ)
+    (so : TakesSoFar peer key old told_old mid told_mid times) (asks : AsksPeers told_mid told_new) where
   pub takes_on : WritesOnce peer key mid told_mid new told_new All → TakesSoFar peer key old told_old new told_new (times + 1)
   takes_on once buses events keys n told s is =
       let w = (asks told is).adds in
       let t = so buses events keys n w.before s w.was in
-      takes_more buses peer n keys told_old events w.before told mid new times told_mid w.was t (once buses (after buses peer n events t.counts) keys n told (record { layout = s.layout; named = s.named; stands = t.stands }) is)
+      takes_more buses peer n keys told_old events w.before told mid new times told_mid w.was t
+      (once buses (after buses peer n events t.counts) keys n told
+      (record { layout = s.layout; named = s.named; stands = t.stands }) is)
 
   pub ends_less : times < 300 → WritesOnce peer key mid told_mid new told_new Less → WritesOut peer key old told_old new told_new true
   ends_less few once buses events keys n told s is =
@@ -279,8 +362,12 @@ module _ (peer key : ℕ) (old mid new : Held) (told_old told_mid told_new : Opt
   ends_failed few once buses events keys n told s is =
       let w = (asks told is).adds in
       let t = so buses events keys n w.before s w.was in
-      out_failed buses peer n keys told_old events w.before told mid new times told_mid w.was few t (once buses (after buses peer n events t.counts) keys n told (record { layout = s.layout; named = s.named; stands = t.stands }) is)
+      out_failed buses peer n keys told_old events w.before told mid new times told_mid w.was few t
+      (once buses (after buses peer n events t.counts) keys n told
+      (record { layout = s.layout; named = s.named; stands = t.stands }) is)
 
-pub ends_full : (peer key : ℕ) (old now : Held) (told_old told_now : Option (List DoorCall)) (times : ℕ) → times ≡ 300 → TakesSoFar peer key old told_old now told_now times → WritesOut peer key old told_old now told_now true
+pub ends_full : (peer key : ℕ) (old now : Held) (told_old told_now : Option (List DoorCall)) (times : ℕ) → times ≡ 300
+    → TakesSoFar peer key old told_old now told_now times → WritesOut peer key old told_old now told_now true
 ends_full peer key old now told_old told_now times e so buses events keys n told s is =
-    out_full buses peer n keys told_old events told now (subst (λ (k : ℕ). IsTaking buses peer n keys told_old events told now k) e (so buses events keys n told s is))
+    out_full buses peer n keys told_old events told now
+    (subst (λ (k : ℕ). IsTaking buses peer n keys told_old events told now k) e (so buses events keys n told s is))

@@ -1,5 +1,6 @@
 -- What the events but room leave of what the connections were sent.
-use Rattle.std.proofs.Common.{◌≡◌, ◌∙◌, ℕ, zero, suc, ◌≤◌, Bool, true, false, List, [], ◌∷◌, ◌++◌, map, take, length, if◌then◌else◌, Option, Some, None, option_map, Result, Ok, Err, refl, ap, sym, subst, arith, append-nil, length-append}
+use Rattle.std.proofs.Common.{◌≡◌, ◌∙◌, ℕ, zero, suc, ◌≤◌, Bool, true, false, List, [], ◌∷◌, ◌++◌, map, take, length, if◌then◌else◌, Option}
+use Rattle.std.proofs.Common.{Some, None, option_map, Result, Ok, Err, refl, ap, sym, subst, arith, append-nil, length-append}
 use Rattle.std.specs.Prelude.{◌+◌, ◌||◌, ◌==◌, fold, nat_lt}
 use Rattle.std.specs.List.{AllByRecursion}
 use Rattle.std.proofs.lemmas.List.{take-append-le}
@@ -15,7 +16,9 @@ use Rattle.srcp_rules.specs.declared.layout.Bus.{Bus}
 use Rattle.srcp_rules.specs.Effect.{Effect}
 use Rattle.srcp_core.specs.Under.{Open, Bytes, At, Shut, Obeyed, Began, Ended, Piece, Order, effect, Heard, greets}
 use Rattle.srcp_core.specs.Connection.{Connection, given, sent, text}
-use Rattle.srcp_core.specs.Course.{World, fresh, numbered, with_numbered, open_connection, at_connection, did, replied, counted, is_info, state, entered, goes, greeted, ended, obeyed, commanded, answered_as, answered, order_of, fault, new_lines, fed_to, shut_as, or_refused, happens}
+use Rattle.srcp_core.specs.Course.{World, fresh, numbered, with_numbered, open_connection, at_connection, did, replied, counted, is_info}
+use Rattle.srcp_core.specs.Course.{state, entered, goes, greeted, ended, obeyed, commanded, answered_as, answered, order_of, fault}
+use Rattle.srcp_core.specs.Course.{new_lines, fed_to, shut_as, or_refused, happens}
 use Rattle.srcp_core.proofs.Agreement.MemoryAnswers.{line_law}
 use Rattle.srcp_core.specs.declared.record.CoreFault.{CoreFault}
 use Rattle.srcp_core.proofs.Agreement.NumbersAndKeys.{numbered_with}
@@ -46,20 +49,23 @@ record IsQuiet (n : ℕ) (texts : List (List ℕ)) (conns : List Connection) : T
   sending : IsSending texts conns
   none : (conn : Connection) → numbered n conns ≡ Some conn → (conn.items ≡ []) × (conn.ended ≡ false)
 
-pub steady_at : (n : ℕ) (conns : List Connection) (conn : Connection) → numbered n conns ≡ Some conn → AllByRecursion IsSteady conns → IsSteady conn
+pub steady_at : (n : ℕ) (conns : List Connection) (conn : Connection) → numbered n conns ≡ Some conn → AllByRecursion IsSteady conns
+    → IsSteady conn
 steady_at zero conns conn e a = cc
 steady_at (suc n) [] conn e a = cc
 steady_at (suc zero) (c ∷ conns) conn e a = subst IsSteady (same_Some c conn e) a.0
 steady_at (suc (suc n)) (c ∷ conns) conn e a = steady_at (suc n) conns conn e a.1
 
-sent_with : (n : ℕ) (f : Connection → Connection) (conns : List Connection) → ((conn : Connection) → numbered n conns ≡ Some conn → IsSteady conn → sent (f conn) ≡ sent conn) → AllByRecursion IsSteady conns
+sent_with : (n : ℕ) (f : Connection → Connection) (conns : List Connection)
+    → ((conn : Connection) → numbered n conns ≡ Some conn → IsSteady conn → sent (f conn) ≡ sent conn) → AllByRecursion IsSteady conns
     → map sent (with_numbered n f conns) ≡ map sent conns
 sent_with n f [] h a = refl
 sent_with zero f (c ∷ conns) h a = refl
 sent_with (suc zero) f (c ∷ conns) h a = ap (λ t. t ∷ map sent conns) (h c refl a.0)
 sent_with (suc (suc n)) f (c ∷ conns) h a = ap (λ ts. sent c ∷ ts) (sent_with (suc n) f conns h a.1)
 
-sending_with : (n : ℕ) (f : Connection → Connection) (texts : List (List ℕ)) (conns : List Connection) → ((conn : Connection) → numbered n conns ≡ Some conn → IsSteady conn → IsSteady (f conn) × (sent (f conn) ≡ sent conn))
+sending_with : (n : ℕ) (f : Connection → Connection) (texts : List (List ℕ)) (conns : List Connection)
+    → ((conn : Connection) → numbered n conns ≡ Some conn → IsSteady conn → IsSteady (f conn) × (sent (f conn) ≡ sent conn))
     → IsSending texts conns → IsSending texts (with_numbered n f conns)
 sending_with n f texts conns h a = record {
   steady = all_numbered IsSteady n f conns (λ conn e s. (h conn e s).0) a.steady;
@@ -80,7 +86,8 @@ grown_sent c d g i e s =
       ap (λ k. take k (given d)) g.taken ∙ ap (take c.taken) now ∙ take-append-le c.taken c.out g.more low ∙ ap (take c.taken) (sym before),
     )
 
-quiet_with : (n : ℕ) (f : Connection → Connection) (texts : List (List ℕ)) (conns : List Connection) → ((conn : Connection) → IsGrown conn (f conn)) → IsQuiet n texts conns → IsQuiet n texts (with_numbered n f conns)
+quiet_with : (n : ℕ) (f : Connection → Connection) (texts : List (List ℕ)) (conns : List Connection)
+    → ((conn : Connection) → IsGrown conn (f conn)) → IsQuiet n texts conns → IsQuiet n texts (with_numbered n f conns)
 quiet_with n f texts conns h q = record {
   sending = sending_with n f texts conns (λ conn e s. grown_sent conn (f conn) (h conn) (q.none conn e).0 (q.none conn e).1 s) q.sending;
   none = λ conn e. by (numbered n conns) refl conn (sym (numbered_with n f conns) ∙ e);
@@ -112,7 +119,8 @@ module _ (buses : List Bus) (n : ℕ) (texts : List (List ℕ)) where
   quiet_goes mode w q =
       let id : ℕ = w.last_id + 1 in
       let begun : World = did (Began id w.moment mode) (record w { last_id = id }) in
-      elim (nat_lt w.last_id 4294967295) as (λ t. Quiet (if t then replied n (Go id) (entered buses n id begun) else replied n (Refused C500) w)) [
+      elim (nat_lt w.last_id 4294967295)
+      as (λ t. Quiet (if t then replied n (Go id) (entered buses n id begun) else replied n (Refused C500) w)) [
         | true ↦ quiet_replied (Go id) (entered buses n id begun)
             (quiet_with n (λ conn. record conn {
               session = id;
@@ -135,7 +143,8 @@ module _ (buses : List Bus) (n : ℕ) (texts : List (List ℕ)) where
     refuses code = quiet_replied (Refused code) w q
 
     quiet_greeted : (line : Heard) → Quiet (greeted buses n mode (greets line) w)
-    quiet_greeted line = line_law Quiet buses n mode line w (quiet_replied Protocol w q) (λ chosen. quiet_chosen chosen w q) (quiet_goes mode w q) refuses
+    quiet_greeted line =
+        line_law Quiet buses n mode line w (quiet_replied Protocol w q) (λ chosen. quiet_chosen chosen w q) (quiet_goes mode w q) refuses
 
   -- the connection is no information session
   abbrev IsPlain : World → Type 0
@@ -177,7 +186,8 @@ module _ (buses : List Bus) (n : ℕ) (texts : List (List ℕ)) where
   sending_commanded session (Err code) w p q = (quiet_replied (Refused code) w q).sending
   sending_commanded session (Ok command) w p q = sending_obeyed session command (effect (state buses w) session w.moment command) w p q
 
-  sending_answered_as : (o : Option Connection) (mark : Heard) (w : World) → ((conn : Connection) → o ≡ Some conn → numbered n w.connections ≡ Some conn) → Sending w → Sending (answered_as buses n o mark w)
+  sending_answered_as : (o : Option Connection) (mark : Heard) (w : World)
+      → ((conn : Connection) → o ≡ Some conn → numbered n w.connections ≡ Some conn) → Sending w → Sending (answered_as buses n o mark w)
   sending_answered_as None mark w f a = a
   sending_answered_as (Some conn) mark w f a = by conn.info refl
     where
@@ -196,7 +206,10 @@ module _ (buses : List Bus) (n : ℕ) (texts : List (List ℕ)) where
       plain : conn.info ≡ false → IsPlain w
       plain e c t = ap (λ (x : Connection). x.info) (is c t) ∙ e
 
-      by : (t : Bool) → conn.info ≡ t → Sending (if t || conn.ended then w else (if conn.session == 0 then greeted buses n conn.mode (greets mark) w else commanded buses n conn.session (order_of buses mark) w))
+      by : (t : Bool) → conn.info ≡ t
+          → Sending (if t || conn.ended then w
+          else (if conn.session == 0 then greeted buses n conn.mode (greets mark) w
+          else commanded buses n conn.session (order_of buses mark) w))
       by true e = a
       by false e = still conn.ended refl
         where
@@ -213,7 +226,9 @@ module _ (buses : List Bus) (n : ℕ) (texts : List (List ℕ)) where
 
   sending_marks : (marks : List Heard) (w : World) → Sending w → Sending (fold (answered buses n) w marks)
   sending_marks [] w a = a
-  sending_marks (mark ∷ marks) w a = sending_marks marks (answered buses n w mark) (sending_answered_as (open_connection w n) mark w (λ conn e. (opened (numbered n w.connections) conn e).0) a)
+  sending_marks (mark ∷ marks) w a =
+      sending_marks marks (answered buses n w mark)
+      (sending_answered_as (open_connection w n) mark w (λ conn e. (opened (numbered n w.connections) conn e).0) a)
 
   sending_fed : (piece : Piece) (o : Option Connection) (w : World) → Sending w → Sending (fed_to buses n piece o w)
   sending_fed piece None w a = a
@@ -228,7 +243,11 @@ module _ (buses : List Bus) (n : ℕ) (texts : List (List ℕ)) where
       let f : Connection → Connection = λ c. record c { shut = Some (length w.steps) } in
       let once : Sending (at_connection n f w) =
       sending_with n f texts w.connections (λ c e s. (record { plain = s.plain; goes_on = s.goes_on; within = s.within }, refl)) a in
-      elim ((conn.session == 0) || conn.ended) as (λ t. Sending (if t then at_connection n f w else did (Ended conn.session w.moment) (at_connection n f w))) [ true ↦ once | false ↦ once ]
+      elim ((conn.session == 0) || conn.ended)
+      as (λ t. Sending (if t then at_connection n f w else did (Ended conn.session w.moment) (at_connection n f w))) [
+        | true ↦ once
+        | false ↦ once
+      ]
 
   pub sending_bytes : (piece : Piece) (w : World) → Sending w → Sending (happens buses w (Bytes n piece))
   sending_bytes piece w a =
@@ -253,13 +272,17 @@ module _ (buses : List Bus) (texts : List (List ℕ)) where
   sending_moment moment w a = a
 
   -- a connection more was sent nothing
-  pub sending_opened : (granted : Bool) (w : World) → IsSending texts w.connections → fault buses w (Open granted) ≡ None → IsSending (texts ++ [] ∷ []) (happens buses w (Open granted)).connections
+  pub sending_opened : (granted : Bool) (w : World) → IsSending texts w.connections → fault buses w (Open granted) ≡ None
+      → IsSending (texts ++ [] ∷ []) (happens buses w (Open granted)).connections
   sending_opened granted w a e =
       let more : AllByRecursion IsSteady (w.connections ++ fresh ∷ []) =
       all_push IsSteady w.connections fresh a.steady (record { plain = λ h. refl; goes_on = λ h. refl; within = omega arith }) in
-      let one : IsSending (texts ++ [] ∷ []) (w.connections ++ fresh ∷ []) = record { steady = more; sends = sent_push w.connections fresh ∙ ap (λ ts. ts ++ [] ∷ []) a.sends } in
+      let one : IsSending (texts ++ [] ∷ []) (w.connections ++ fresh ∷ []) =
+      record { steady = more; sends = sent_push w.connections fresh ∙ ap (λ ts. ts ++ [] ∷ []) a.sends } in
       subst (λ (o : Option CoreFault). IsSending (texts ++ [] ∷ []) (or_refused buses o (Open granted) (counted w)).connections) (sym e) one
 
   -- one that is not accepted changes nothing
-  pub sending_refused : (granted : Bool) (w : World) (cause : CoreFault) → IsSending texts w.connections → fault buses w (Open granted) ≡ Some cause → IsSending texts (happens buses w (Open granted)).connections
-  sending_refused granted w cause a e = subst (λ (o : Option CoreFault). IsSending texts (or_refused buses o (Open granted) (counted w)).connections) (sym e) a
+  pub sending_refused : (granted : Bool) (w : World) (cause : CoreFault) → IsSending texts w.connections
+      → fault buses w (Open granted) ≡ Some cause → IsSending texts (happens buses w (Open granted)).connections
+  sending_refused granted w cause a e =
+      subst (λ (o : Option CoreFault). IsSending texts (or_refused buses o (Open granted) (counted w)).connections) (sym e) a

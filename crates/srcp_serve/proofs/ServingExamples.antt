@@ -51,14 +51,16 @@ one_peer_takes = refl
 abbrev failing : List Call
 failing =
     (ExpectCall None None ∷ NowCall (Ok 0) ∷ AcceptCall (Ok (Some 1)) true ∷ WriteCall 1 welcome (Ok 45) ∷ [])
-    ++ nobody ++ (ReadCall 1 (Ok (got.Bytes 3)) (buffer (codes "GO\n")) [] ∷ WriteCall 1 go_line (Err fault.Write) ∷ CloseCall 1 (Ok tt) ∷ [])
+    ++ nobody
+    ++ (ReadCall 1 (Ok (got.Bytes 3)) (buffer (codes "GO\n")) [] ∷ WriteCall 1 go_line (Err fault.Write) ∷ CloseCall 1 (Ok tt) ∷ [])
     ++ nobody
 
 failing_is_served : IsServed buses 3 failing
 unfolding digits
 failing_is_served = record { turns_are = refl; asked = refl }
 
-failing_makes : events_of buses failing ≡ At 0 ∷ Open true ∷ Room 1 45 ∷ Room 1 0 ∷ At 0 ∷ Bytes 1 (giving (codes "GO\n")) ∷ Room 1 0 ∷ Shut 1 ∷ At 0 ∷ []
+failing_makes : events_of buses failing
+    ≡ At 0 ∷ Open true ∷ Room 1 45 ∷ Room 1 0 ∷ At 0 ∷ Bytes 1 (giving (codes "GO\n")) ∷ Room 1 0 ∷ Shut 1 ∷ At 0 ∷ []
 failing_makes = refl
 
 failing_is_sent : map sent (course buses (events_of buses failing)).connections ≡ welcome ∷ []
@@ -100,7 +102,9 @@ unread_makes = refl
 
 -- its end comes and it can't be closed, which is not tried again
 abbrev unclosed : List Call
-unclosed = asked_in (greeting ∷ []) ++ nobody ++ going ++ nobody ++ (ReadCall 1 (Ok got.Ended) (replicate 256 0) [] ∷ CloseCall 1 (Err fault.Close) ∷ []) ++ nobody
+unclosed =
+    asked_in (greeting ∷ []) ++ nobody ++ going ++ nobody
+    ++ (ReadCall 1 (Ok got.Ended) (replicate 256 0) [] ∷ CloseCall 1 (Err fault.Close) ∷ []) ++ nobody
 
 unclosed_is_served : IsServed buses 4 unclosed
 unfolding digits
@@ -110,7 +114,8 @@ unclosed_is_served = record { turns_are = refl; asked = refl }
 abbrev timeless : List Call
 timeless =
     (ExpectCall None None ∷ NowCall (Ok 1000) ∷ AcceptCall (Ok (Some 1)) true ∷ greeting ∷ [])
-    ++ ExpectCall None None ∷ NowCall (Err fault.Now) ∷ AcceptCall (Ok None) true ∷ ReadCall 1 (Ok (got.Bytes 3)) (buffer (codes "GO\n")) [] ∷ WriteCall 1 (codes "1.000 200 OK GO 1\n") (Ok 18) ∷ []
+    ++ ExpectCall None None ∷ NowCall (Err fault.Now) ∷ AcceptCall (Ok None) true ∷ ReadCall 1 (Ok (got.Bytes 3)) (buffer (codes "GO\n")) []
+    ∷ WriteCall 1 (codes "1.000 200 OK GO 1\n") (Ok 18) ∷ []
 
 timeless_is_served : IsServed buses 2 timeless
 unfolding digits
@@ -138,11 +143,13 @@ nobody_beside slack = ExpectCall None (Some slack) ∷ NowCall (Ok 0) ∷ Accept
 abbrev two_peers : List Call
 two_peers =
     asked_in (greeting ∷ [])
-    ++ ExpectCall None None ∷ NowCall (Ok 0) ∷ AcceptCall (Ok (Some 2)) true ∷ read_of 1 (codes "SET CONNECTIONMODE SRCP INFO\nGO\n") ∷ wrote 1 (codes "0.000 202 OK CONNECTIONMODE\n0.000 200 OK GO 1\n")
+    ++ ExpectCall None None ∷ NowCall (Ok 0) ∷ AcceptCall (Ok (Some 2)) true ∷ read_of 1 (codes "SET CONNECTIONMODE SRCP INFO\nGO\n")
+    ∷ wrote 1 (codes "0.000 202 OK CONNECTIONMODE\n0.000 200 OK GO 1\n")
     ∷ wrote 1 (codes "0.000 101 INFO 0 SESSION 1 INFO\n") ∷ wrote 1 (codes "0.000 100 INFO 1 POWER OFF\n") ∷ WriteCall 2 welcome (Ok 5)
     ∷ (nobody_beside 256 ++ quiet 1 ∷ wrote 2 (drop 5 welcome) ∷ [])
     ++ nobody_beside 256 ++ quiet 1 ∷ read_of 2 (codes "GO\nSET 1 POWER ON\n") ∷ wrote 2 (codes "0.000 200 OK GO 2\n0.000 200 OK\n")
-    ∷ (nobody_beside 254 ++ quiet 1 ∷ wrote 1 (codes "0.000 101 INFO 0 SESSION 2 COMMAND\n") ∷ wrote 1 (codes "0.000 100 INFO 1 POWER ON\n") ∷ quiet 2 ∷ [])
+    ∷ (nobody_beside 254 ++ quiet 1 ∷ wrote 1 (codes "0.000 101 INFO 0 SESSION 2 COMMAND\n") ∷ wrote 1 (codes "0.000 100 INFO 1 POWER ON\n")
+    ∷ quiet 2 ∷ [])
 
 two_peers_are_served : IsServed buses 5 two_peers
 unfolding digits
@@ -159,7 +166,8 @@ abbrev refused : List Call
 refused =
     (ExpectCall None None ∷ NowCall (Ok 0) ∷ AcceptCall (Ok (Some 1)) false ∷ CloseCall 1 (Ok tt) ∷ [])
     ++ (ExpectCall None None ∷ NowCall (Ok 0) ∷ AcceptCall (Ok (Some 2)) true ∷ WriteCall 2 welcome (Ok 45) ∷ [])
-    ++ nobody ++ (ReadCall 2 (Ok (got.Bytes 3)) (buffer (codes "GO\n")) (false ∷ []) ∷ wrote 2 (codes "0.000 500 ERROR out of resources\n") ∷ [])
+    ++ nobody
+    ++ (ReadCall 2 (Ok (got.Bytes 3)) (buffer (codes "GO\n")) (false ∷ []) ∷ wrote 2 (codes "0.000 500 ERROR out of resources\n") ∷ [])
 
 refused_is_served : IsServed buses 3 refused
 unfolding digits

@@ -1,5 +1,6 @@
 -- Laws of what a door tells: of some turns, and then some more.
-use Rattle.std.proofs.Common.{◌≡◌, ◌∙◌, ℕ, ◌+◌, true, not, List, [], ◌∷◌, ◌++◌, map, fold, Option, refl, ap, sym, length-append, append_assoc}
+use Rattle.std.proofs.Common.{◌≡◌, ◌∙◌, ℕ, ◌+◌, true, not, List, [], ◌∷◌, ◌++◌, map, fold, Option, refl, ap, sym, length-append}
+use Rattle.std.proofs.Common.{append_assoc}
 use Rattle.std.specs.List.{list_all}
 use Rattle.std.proofs.lemmas.List.{map-append, append-nil}
 use Rattle.std.proofs.lemmas.List.Sums.{fold-append}
@@ -10,19 +11,41 @@ use Rattle.srcp_serve.proofs.Parts.{one_part, parts-append}
 
 module _ (buses : List Bus) where
   -- so many turns and then more make what the first make, and then what the others make of that
-  pub stand_after-append : (xs : List Call) (due slack : Option ℕ) (ys : List Call) → stand_after buses (xs ++ ExpectCall due slack ∷ ys) ≡ fold (turned buses) (stand_after buses xs) (turns (ExpectCall due slack ∷ ys))
-  stand_after-append xs due slack ys = rw (parts-append is_expect xs (ExpectCall due slack) ys refl) (fold-append (turned buses) empty_stand (turns xs) (turns (ExpectCall due slack ∷ ys)))
+  pub stand_after-append : (xs : List Call) (due slack : Option ℕ) (ys : List Call)
+      → stand_after buses (xs ++ ExpectCall due slack ∷ ys) ≡ fold (turned buses) (stand_after buses xs) (turns (ExpectCall due slack ∷ ys))
+  stand_after-append xs due slack ys =
+      rw (parts-append is_expect xs (ExpectCall due slack) ys refl)
+      (fold-append (turned buses) empty_stand (turns xs) (turns (ExpectCall due slack ∷ ys)))
 
-  turns_ask-append : (stand : Stand) (xs ys : List (List Call)) → turns_ask buses stand (xs ++ ys) ≡ turns_ask buses stand xs ++ turns_ask buses (fold (turned buses) stand xs) ys
+  turns_ask-append : (stand : Stand) (xs ys : List (List Call))
+      → turns_ask buses stand (xs ++ ys) ≡ turns_ask buses stand xs ++ turns_ask buses (fold (turned buses) stand xs) ys
   turns_ask-append stand [] ys = refl
   turns_ask-append stand (x ∷ xs) ys = rw (turns_ask-append (turned buses stand x) xs ys) (sym (append_assoc (turn_asks buses stand x) _ _))
 
   -- one turn more
-  pub served-more : (n : ℕ) (told : List Call) (due slack : Option ℕ) (calls : List Call) → IsServed buses n told → list_all (λ call. not (is_expect call)) calls ≡ true
+  pub served-more : (n : ℕ) (told : List Call) (due slack : Option ℕ) (calls : List Call) → IsServed buses n told
+      → list_all (λ call. not (is_expect call)) calls ≡ true
       → map question (ExpectCall due slack ∷ calls) ≡ turn_asks buses (stand_after buses told) (ExpectCall due slack ∷ calls)
-      → IsServed buses (n + 1) (told ++ ExpectCall due slack ∷ calls) × (stand_after buses (told ++ ExpectCall due slack ∷ calls) ≡ turned buses (stand_after buses told) (ExpectCall due slack ∷ calls))
+      → IsServed buses (n + 1) (told ++ ExpectCall due slack ∷ calls)
+      × (stand_after buses (told ++ ExpectCall due slack ∷ calls)
+      ≡ turned buses (stand_after buses told) (ExpectCall due slack ∷ calls))
   served-more n told due slack calls before alone asked =
       let own = one_part is_expect calls alone in
       let last : turns (ExpectCall due slack ∷ calls) ≡ (ExpectCall due slack ∷ calls) ∷ [] = rw (own.0, own.1) refl in
-      let all : turns (told ++ ExpectCall due slack ∷ calls) ≡ turns told ++ (ExpectCall due slack ∷ calls) ∷ [] = parts-append is_expect told (ExpectCall due slack) calls refl ∙ ap (λ more. turns told ++ more) last in
-      (record { turns_are = rw (all, length-append (turns told) ((ExpectCall due slack ∷ calls) ∷ []), before.turns_are) refl; asked = rw (all, map-append question told (ExpectCall due slack ∷ calls), turns_ask-append empty_stand (turns told) ((ExpectCall due slack ∷ calls) ∷ []), before.asked, asked) (ap (λ more. turns_ask buses empty_stand (turns told) ++ more) (sym (append-nil (turn_asks buses (stand_after buses told) (ExpectCall due slack ∷ calls))))) }, stand_after-append told due slack calls ∙ ap (λ more. fold (turned buses) (stand_after buses told) more) last)
+      let all : turns (told ++ ExpectCall due slack ∷ calls) ≡ turns told ++ (ExpectCall due slack ∷ calls) ∷ [] =
+      parts-append is_expect told (ExpectCall due slack) calls refl ∙ ap (λ more. turns told ++ more) last in (
+        record {
+          turns_are = rw (all, length-append (turns told) ((ExpectCall due slack ∷ calls) ∷ []), before.turns_are) refl;
+          asked =
+              rw (
+                all,
+                map-append question told (ExpectCall due slack ∷ calls),
+                turns_ask-append empty_stand (turns told) ((ExpectCall due slack ∷ calls) ∷ []),
+                before.asked,
+                asked,
+              )
+              (ap (λ more. turns_ask buses empty_stand (turns told) ++ more)
+              (sym (append-nil (turn_asks buses (stand_after buses told) (ExpectCall due slack ∷ calls)))));
+        },
+        stand_after-append told due slack calls ∙ ap (λ more. fold (turned buses) (stand_after buses told) more) last,
+      )

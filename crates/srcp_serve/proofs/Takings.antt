@@ -1,5 +1,6 @@
 -- What the calls of a visit say was taken of a peer is what its events send.
-use Rattle.std.proofs.Common.{◌≡◌, ◌∙◌, ℕ, zero, suc, ◌≤◌, Bool, true, false, not, List, [], ◌∷◌, ◌++◌, map, take, length, if◌then◌else◌, Ok, Err, refl, ap, sym, subst, arith, append-nil, append_assoc, ◌==◌}
+use Rattle.std.proofs.Common.{◌≡◌, ◌∙◌, ℕ, zero, suc, ◌≤◌, Bool, true, false, not, List, [], ◌∷◌, ◌++◌, map, take, length, if◌then◌else◌}
+use Rattle.std.proofs.Common.{Ok, Err, refl, ap, sym, subst, arith, append-nil, append_assoc, ◌==◌}
 use Rattle.std.specs.Prelude.{◌<◌, ◌||◌, filter_map}
 use Rattle.std.specs.List.{list_all, list_any, AllByRecursion}
 use Rattle.std.proofs.lemmas.Bool.Decides.{nat_tests}
@@ -11,7 +12,9 @@ use Rattle.srcp_rules.specs.declared.layout.Bus.{Bus}
 use Rattle.srcp_core.specs.Under.{Piece, Event, Bytes, Room, Shut}
 use Rattle.srcp_core.specs.Course.{World, start, happens, course}
 use Rattle.srcp_serve.specs.Given.{Call, ExpectCall, NowCall, AcceptCall, ReadCall, WriteCall, CloseCall}
-use Rattle.srcp_serve.specs.Serving.{Question, Expects, Moments, Newcomers, Reads, Writes, Closes, Seat, question, IsFair, taken, taken_in, piece_of, count_of, is_close, loses, loses_reading, lent_none_last, exchange, is_ready, is_closing, lent, handed, unless_nil, reads_of, writes_of, closes_of, visit_asks}
+use Rattle.srcp_serve.specs.Serving.{Question, Expects, Moments, Newcomers, Reads, Writes, Closes, Seat, question, IsFair, taken, taken_in}
+use Rattle.srcp_serve.specs.Serving.{piece_of, count_of, is_close, loses, loses_reading, lent_none_last, exchange, is_ready, is_closing}
+use Rattle.srcp_serve.specs.Serving.{lent, handed, unless_nil, reads_of, writes_of, closes_of, visit_asks}
 use Rattle.srcp_serve.proofs.Sendings.{IsSending, sending_bytes, sending_shut}
 use Rattle.srcp_serve.proofs.SentLaws.{put, put_none, put_put, sending_room}
 
@@ -29,7 +32,8 @@ abbrev pub no_writes : List Question → Bool
 no_writes questions = list_all (λ q. not (asks_write q)) questions
 
 -- calls that are no writes take nothing
-pub none_taken : (peer : ℕ) (calls : List Call) → no_writes (map question calls) ≡ true → (filter_map count_of calls ≡ []) × (taken peer calls ≡ [])
+pub none_taken : (peer : ℕ) (calls : List Call) → no_writes (map question calls) ≡ true
+    → (filter_map count_of calls ≡ []) × (taken peer calls ≡ [])
 none_taken peer [] h = (refl, refl)
 none_taken peer (ExpectCall due slack ∷ calls) h = none_taken peer calls h
 none_taken peer (NowCall answer ∷ calls) h = none_taken peer calls h
@@ -53,7 +57,13 @@ split (call ∷ calls) (q ∷ first) others e =
     let head : question call ≡ q = cc in
     let tail : map question calls ≡ first ++ others = cc in
     let more = split calls first others tail in
-    record { xs = call ∷ more.xs; ys = more.ys; is = ap (λ cs. call ∷ cs) more.is; front = ap (λ a. a ∷ map question more.xs) head ∙ ap (λ qs. q ∷ qs) more.front; back = more.back }
+    record {
+      xs = call ∷ more.xs;
+      ys = more.ys;
+      is = ap (λ cs. call ∷ cs) more.is;
+      front = ap (λ a. a ∷ map question more.xs) head ∙ ap (λ qs. q ∷ qs) more.front;
+      back = more.back;
+    }
 
 pub all_parts : {X : Type 0} (P : X → Type 0) (xs ys : List X) → AllByRecursion P (xs ++ ys) → AllByRecursion P xs × AllByRecursion P ys
 all_parts P [] ys h = (tt, h)
@@ -78,79 +88,119 @@ first_of_writes peer who (suc most) bytes (byte ∷ now) questions more e =
 pub no_write : (peer : ℕ) (q : Question) (questions : List Question) (texts : List (List ℕ)) → asks_write q ≡ false → q ∷ questions
     ≡ map (Writes peer) texts → ⊥
 no_write peer q questions [] h e = cc
-no_write peer q questions (text ∷ texts) h e = let same : q ≡ Writes peer text = cc in let t : asks_write q ≡ true = ap asks_write same in cc
+no_write peer q questions (text ∷ texts) h e =
+    let same : q ≡ Writes peer text = cc in let t : asks_write q ≡ true = ap asks_write same in cc
 
 module _ (buses : List Bus) (peer conn : ℕ) where
   abbrev Sends : List (List ℕ) → List Event → Type 0
   Sends texts events = IsSending texts (course buses events).connections
 
-  sends_bytes : (texts : List (List ℕ)) (events : List Event) (pieces : List Piece) → Sends texts events → Sends texts (events ++ map (Bytes conn) pieces)
+  sends_bytes : (texts : List (List ℕ)) (events : List Event) (pieces : List Piece) → Sends texts events
+      → Sends texts (events ++ map (Bytes conn) pieces)
   sends_bytes texts events [] a = subst (λ (all : List Event). Sends texts all) (sym (append-nil events)) a
   sends_bytes texts events (piece ∷ pieces) a =
       let one : Sends texts (events ++ Bytes conn piece ∷ []) =
-      subst (λ (v : World). IsSending texts v.connections) (sym (fold-append (happens buses) start events (Bytes conn piece ∷ []))) (sending_bytes buses conn texts piece (course buses events) a) in
-      subst (λ (all : List Event). Sends texts all) (append_assoc events (Bytes conn piece ∷ []) (map (Bytes conn) pieces)) (sends_bytes texts (events ++ Bytes conn piece ∷ []) pieces one)
+      subst (λ (v : World). IsSending texts v.connections) (sym (fold-append (happens buses) start events (Bytes conn piece ∷ [])))
+      (sending_bytes buses conn texts piece (course buses events) a) in
+      subst (λ (all : List Event). Sends texts all) (append_assoc events (Bytes conn piece ∷ []) (map (Bytes conn) pieces))
+      (sends_bytes texts (events ++ Bytes conn piece ∷ []) pieces one)
 
   -- what a number of writes does
   abbrev WritesSend : List Call → Type 0
-  WritesSend calls = (most : ℕ) (events : List Event) (texts : List (List ℕ)) → map question calls ≡ map (Writes peer) (take most (handed buses conn events (filter_map count_of calls))) → Sends texts events
+  WritesSend calls =
+      (most : ℕ) (events : List Event) (texts : List (List ℕ))
+      → map question calls ≡ map (Writes peer) (take most (handed buses conn events (filter_map count_of calls))) → Sends texts events
       → Sends (put conn (taken peer calls) texts) (events ++ map (Room conn) (filter_map count_of calls))
 
-  then_sends : (calls : List Call) → WritesSend calls → (most count : ℕ) (events : List Event) (texts : List (List ℕ)) → count ≤ length (lent buses conn events)
-      → map question calls ≡ map (Writes peer) (take most (if count == length (lent buses conn events) then handed buses conn (events ++ Room conn count ∷ []) (filter_map count_of calls) else [])) → Sends texts events
-      → Sends (put conn (take count (lent buses conn events) ++ taken peer calls) texts) (events ++ (Room conn count ∷ map (Room conn) (filter_map count_of calls)))
+  then_sends : (calls : List Call) → WritesSend calls → (most count : ℕ) (events : List Event) (texts : List (List ℕ))
+      → count ≤ length (lent buses conn events)
+      → map question calls
+      ≡ map (Writes peer)
+      (take most
+      (if count == length (lent buses conn events)
+      then handed buses conn (events ++ Room conn count ∷ []) (filter_map count_of calls) else []))
+      → Sends texts events
+      → Sends (put conn (take count (lent buses conn events) ++ taken peer calls) texts)
+      (events ++ (Room conn count ∷ map (Room conn) (filter_map count_of calls)))
   then_sends calls ih most count events texts h e a =
       let now : List ℕ = lent buses conn events in
       let counts : List ℕ = filter_map count_of calls in
       let next : List Event = events ++ Room conn count ∷ [] in
       let one = sending_room buses events conn count texts h a in
-      let all : Sends (put conn (taken peer calls) (put conn (take count now) texts)) (next ++ map (Room conn) counts) = by (count == length now) e one in
-      subst (λ (ts : List (List ℕ)). Sends ts (events ++ (Room conn count ∷ map (Room conn) counts))) (put_put conn (take count now) (taken peer calls) texts)
-      (subst (λ (es : List Event). Sends (put conn (taken peer calls) (put conn (take count now) texts)) es) (append_assoc events (Room conn count ∷ []) (map (Room conn) counts)) all)
+      let all : Sends (put conn (taken peer calls) (put conn (take count now) texts)) (next ++ map (Room conn) counts) =
+      by (count == length now) e one in
+      subst (λ (ts : List (List ℕ)). Sends ts (events ++ (Room conn count ∷ map (Room conn) counts)))
+      (put_put conn (take count now) (taken peer calls) texts)
+      (subst (λ (es : List Event). Sends (put conn (taken peer calls) (put conn (take count now) texts)) es)
+      (append_assoc events (Room conn count ∷ []) (map (Room conn) counts)) all)
     where
-      by : (b : Bool) → map question calls ≡ map (Writes peer) (take most (if b then handed buses conn (events ++ Room conn count ∷ []) (filter_map count_of calls) else [])) → Sends (put conn (take count (lent buses conn events)) texts) (events ++ Room conn count ∷ [])
-          → Sends (put conn (taken peer calls) (put conn (take count (lent buses conn events)) texts)) ((events ++ Room conn count ∷ []) ++ map (Room conn) (filter_map count_of calls))
+      by : (b : Bool)
+          → map question calls
+          ≡ map (Writes peer)
+          (take most (if b then handed buses conn (events ++ Room conn count ∷ []) (filter_map count_of calls) else []))
+          → Sends (put conn (take count (lent buses conn events)) texts) (events ++ Room conn count ∷ [])
+          → Sends (put conn (taken peer calls) (put conn (take count (lent buses conn events)) texts))
+          ((events ++ Room conn count ∷ []) ++ map (Room conn) (filter_map count_of calls))
       by true e one = ih most (events ++ Room conn count ∷ []) (put conn (take count (lent buses conn events)) texts) e one
-      by false e one = ih 0 (events ++ Room conn count ∷ []) (put conn (take count (lent buses conn events)) texts) (e ∙ ap (map (Writes peer)) (none most)) one
+      by false e one =
+          ih 0 (events ++ Room conn count ∷ []) (put conn (take count (lent buses conn events)) texts)
+          (e ∙ ap (map (Writes peer)) (none most)) one
         where
           none : (n : ℕ) → take {A = List ℕ} n [] ≡ []
           none zero = refl
           none (suc n) = refl
 
-  taken_here : (who count : ℕ) (bytes now : List ℕ) → who ≡ peer → bytes ≡ now → (if who == peer then take count bytes else []) ≡ take count now
+  taken_here : (who count : ℕ) (bytes now : List ℕ) → who ≡ peer → bytes ≡ now
+      → (if who == peer then take count bytes else []) ≡ take count now
   taken_here who count bytes now p b =
       let own : (who == peer) ≡ true = grind (arith, nat_tests) in
       ap (λ t. if t then take count bytes else []) own ∙ ap (take count) b
 
   pub sending_writes : (calls : List Call) → AllByRecursion IsFair calls → WritesSend calls
   sending_writes [] fair most events texts e a =
-      subst (λ (ts : List (List ℕ)). Sends ts (events ++ [])) (sym (put_none conn texts)) (subst (λ (all : List Event). Sends texts all) (sym (append-nil events)) a)
-  sending_writes (ExpectCall due slack ∷ calls) fair most events texts e a = absurd (no_write peer (Expects due slack) (map question calls) _ refl e)
+      subst (λ (ts : List (List ℕ)). Sends ts (events ++ [])) (sym (put_none conn texts))
+      (subst (λ (all : List Event). Sends texts all) (sym (append-nil events)) a)
+  sending_writes (ExpectCall due slack ∷ calls) fair most events texts e a =
+      absurd (no_write peer (Expects due slack) (map question calls) _ refl e)
   sending_writes (NowCall answer ∷ calls) fair most events texts e a = absurd (no_write peer Moments (map question calls) _ refl e)
-  sending_writes (AcceptCall answer granted ∷ calls) fair most events texts e a = absurd (no_write peer Newcomers (map question calls) _ refl e)
-  sending_writes (ReadCall who answer buffer grants ∷ calls) fair most events texts e a = absurd (no_write peer (Reads who (length buffer)) (map question calls) _ refl e)
-  sending_writes (CloseCall who answer ∷ calls) fair most events texts e a = absurd (no_write peer (Closes who) (map question calls) _ refl e)
+  sending_writes (AcceptCall answer granted ∷ calls) fair most events texts e a =
+      absurd (no_write peer Newcomers (map question calls) _ refl e)
+  sending_writes (ReadCall who answer buffer grants ∷ calls) fair most events texts e a =
+      absurd (no_write peer (Reads who (length buffer)) (map question calls) _ refl e)
+  sending_writes (CloseCall who answer ∷ calls) fair most events texts e a =
+      absurd (no_write peer (Closes who) (map question calls) _ refl e)
   sending_writes (WriteCall who bytes (Ok count) ∷ calls) fair most events texts e a =
       let now : List ℕ = lent buses conn events in
       let counts : List ℕ = filter_map count_of calls in
-      let f = first_of_writes peer who most bytes now (map question calls) (if count == length now then handed buses conn (events ++ Room conn count ∷ []) counts else []) e in
+      let f =
+      first_of_writes peer who most bytes now (map question calls)
+      (if count == length now then handed buses conn (events ++ Room conn count ∷ []) counts else []) e in
       let fits : count ≤ length now = subst (λ (l : List ℕ). count ≤ length l) f.bytes_are fair.0 in
-      subst (λ (t : List ℕ). Sends (put conn (t ++ taken peer calls) texts) (events ++ (Room conn count ∷ map (Room conn) counts))) (sym (taken_here who count bytes now f.peer_is f.bytes_are))
+      subst (λ (t : List ℕ). Sends (put conn (t ++ taken peer calls) texts) (events ++ (Room conn count ∷ map (Room conn) counts)))
+      (sym (taken_here who count bytes now f.peer_is f.bytes_are))
       (then_sends calls (sending_writes calls fair.1) f.left count events texts fits f.others a)
   sending_writes (WriteCall who bytes (Err failed) ∷ calls) fair most events texts e a =
       let now : List ℕ = lent buses conn events in
       let counts : List ℕ = filter_map count_of calls in
-      let f = first_of_writes peer who most bytes now (map question calls) (if 0 == length now then handed buses conn (events ++ Room conn 0 ∷ []) counts else []) e in
+      let f =
+      first_of_writes peer who most bytes now (map question calls)
+      (if 0 == length now then handed buses conn (events ++ Room conn 0 ∷ []) counts else []) e in
       then_sends calls (sending_writes calls fair.1) f.left 0 events texts (omega arith) f.others a
 
   -- ---- a whole visit
 
-  last_room : (events : List Event) (texts : List (List ℕ)) (b : Bool) → Sends texts events → Sends texts (events ++ map (Room conn) (if b then 0 ∷ [] else []))
-  last_room events texts true a = subst (λ (ts : List (List ℕ)). Sends ts (events ++ Room conn 0 ∷ [])) (put_none conn texts) (sending_room buses events conn 0 texts (omega arith) a)
+  last_room : (events : List Event) (texts : List (List ℕ)) (b : Bool) → Sends texts events
+      → Sends texts (events ++ map (Room conn) (if b then 0 ∷ [] else []))
+  last_room events texts true a =
+      subst (λ (ts : List (List ℕ)). Sends ts (events ++ Room conn 0 ∷ [])) (put_none conn texts)
+      (sending_room buses events conn 0 texts (omega arith) a)
   last_room events texts false a = subst (λ (all : List Event). Sends texts all) (sym (append-nil events)) a
 
-  last_shut : (events : List Event) (texts : List (List ℕ)) (b : Bool) → Sends texts events → Sends texts (events ++ (if b then Shut conn ∷ [] else []))
-  last_shut events texts true a = subst (λ (v : World). IsSending texts v.connections) (sym (fold-append (happens buses) start events (Shut conn ∷ []))) (sending_shut buses conn texts (course buses events) a)
+  last_shut : (events : List Event) (texts : List (List ℕ)) (b : Bool) → Sends texts events
+      → Sends texts (events ++ (if b then Shut conn ∷ [] else []))
+  last_shut events texts true a =
+      subst (λ (v : World). IsSending texts v.connections) (sym (fold-append (happens buses) start events (Shut conn ∷ [])))
+      (sending_shut buses conn texts (course buses events) a)
   last_shut events texts false a = subst (λ (all : List Event). Sends texts all) (sym (append-nil events)) a
 
 -- what a visit makes happen
@@ -168,10 +218,15 @@ module _ (buses : List Bus) (seat : Seat) (events : List Event) (calls : List Ca
   closes_asked = closes_of buses events calls seat
 
   reads_none : no_writes (reads_of buses events seat) ≡ true
-  reads_none = elim (is_ready buses seat.conn events) as (λ b. no_writes (if b then Reads seat.peer 256 ∷ [] else []) ≡ true) [ true ↦ refl | false ↦ refl ]
+  reads_none = elim (is_ready buses seat.conn events) as (λ b. no_writes (if b then Reads seat.peer 256 ∷ [] else []) ≡ true) [
+    | true ↦ refl
+    | false ↦ refl
+  ]
 
   closes_none : no_writes closes_asked ≡ true
-  closes_none = elim (list_any loses calls || is_closing buses seat.conn (events ++ exchange seat.conn calls)) as (λ b. no_writes (if b then Closes seat.peer ∷ [] else []) ≡ true) [ true ↦ refl | false ↦ refl ]
+  closes_none =
+      elim (list_any loses calls || is_closing buses seat.conn (events ++ exchange seat.conn calls))
+      as (λ b. no_writes (if b then Closes seat.peer ∷ [] else []) ≡ true) [ true ↦ refl | false ↦ refl ]
 
   -- the writes among the calls
   pub record HasWrites : Type 1 where
@@ -183,7 +238,9 @@ module _ (buses : List Bus) (seat : Seat) (events : List Event) (calls : List Ca
 
   pub has_writes : map question calls ≡ visit_asks buses events calls seat → HasWrites
   has_writes e =
-      let s = split calls (reads_of buses events seat) (writes_asked ++ closes_asked) (e ∙ append_assoc (reads_of buses events seat) writes_asked closes_asked) in
+      let s =
+      split calls (reads_of buses events seat) (writes_asked ++ closes_asked)
+      (e ∙ append_assoc (reads_of buses events seat) writes_asked closes_asked) in
       let t = split s.ys writes_asked closes_asked s.back in
       let reads = none_taken seat.peer s.xs (ap no_writes s.front ∙ reads_none) in
       let closes = none_taken seat.peer t.ys (ap no_writes t.back ∙ closes_none) in
@@ -209,32 +266,51 @@ module _ (buses : List Bus) (seat : Seat) (events : List Event) (calls : List Ca
             ∙ append-nil (taken seat.peer t.xs);
       }
 
-  joined : (room : List ℕ) (shut : List Event) → ((read_events ++ map (Room seat.conn) (filter_map count_of calls)) ++ map (Room seat.conn) room) ++ shut
+  joined : (room : List ℕ) (shut : List Event)
+      → ((read_events ++ map (Room seat.conn) (filter_map count_of calls)) ++ map (Room seat.conn) room) ++ shut
       ≡ events ++ ((map (Bytes seat.conn) (filter_map piece_of calls) ++ map (Room seat.conn) (filter_map count_of calls ++ room)) ++ shut)
   joined room shut =
       let b : List Event = map (Bytes seat.conn) (filter_map piece_of calls) in
       let r : List Event = map (Room seat.conn) (filter_map count_of calls) in
       let l : List Event = map (Room seat.conn) room in
-      ap (λ es. es ++ shut) (append_assoc (events ++ b) r l ∙ append_assoc events b (r ++ l) ∙ ap (λ es. events ++ (b ++ es)) (sym (map-append (Room seat.conn) (filter_map count_of calls) room)))
+      ap (λ es. es ++ shut)
+      (append_assoc (events ++ b) r l ∙ append_assoc events b (r ++ l)
+      ∙ ap (λ es. events ++ (b ++ es)) (sym (map-append (Room seat.conn) (filter_map count_of calls) room)))
       ∙ append_assoc events (b ++ map (Room seat.conn) (filter_map count_of calls ++ room)) shut
 
   -- what the calls of a visit say was taken is sent
-  pub sending_visit : (texts : List (List ℕ)) → map question calls ≡ visit_asks buses events calls seat → AllByRecursion IsFair calls → IsSending texts (course buses events).connections
+  pub sending_visit : (texts : List (List ℕ)) → map question calls ≡ visit_asks buses events calls seat → AllByRecursion IsFair calls
+      → IsSending texts (course buses events).connections
       → IsSending (put seat.conn (taken seat.peer calls) texts) (course buses (events ++ made_of seat.conn calls)).connections
   sending_visit texts e fair a =
       let h = has_writes e in
       let now : List (List ℕ) = put seat.conn (taken seat.peer calls) texts in
       let wrote = by h (list_any loses_reading calls) h.asked in
       let wrote' : IsSending now (course buses (read_events ++ map (Room seat.conn) (filter_map count_of calls))).connections =
-      subst (λ (t : List ℕ). IsSending (put seat.conn t texts) (course buses (read_events ++ map (Room seat.conn) (filter_map count_of calls))).connections) (sym h.took)
-      (subst (λ (cs : List ℕ). IsSending (put seat.conn (taken seat.peer h.writes) texts) (course buses (read_events ++ map (Room seat.conn) cs)).connections) (sym h.counts) wrote) in
+      subst (λ (t : List ℕ).
+      IsSending (put seat.conn t texts)
+      (course buses (read_events ++ map (Room seat.conn) (filter_map count_of calls))).connections)
+      (sym h.took)
+      (subst (λ (cs : List ℕ).
+      IsSending (put seat.conn (taken seat.peer h.writes) texts)
+      (course buses (read_events ++ map (Room seat.conn) cs)).connections)
+      (sym h.counts) wrote) in
       let room : List ℕ = if lent_none_last calls then 0 ∷ [] else [] in
-      let roomed = last_room buses seat.peer seat.conn (read_events ++ map (Room seat.conn) (filter_map count_of calls)) now (lent_none_last calls) wrote' in
-      let shut = last_shut buses seat.peer seat.conn ((read_events ++ map (Room seat.conn) (filter_map count_of calls)) ++ map (Room seat.conn) room) now (list_any is_close calls) roomed in
-      subst (λ (es : List Event). IsSending now (course buses es).connections) (joined room (if list_any is_close calls then Shut seat.conn ∷ [] else [])) shut
+      let roomed =
+      last_room buses seat.peer seat.conn (read_events ++ map (Room seat.conn) (filter_map count_of calls)) now
+      (lent_none_last calls) wrote' in
+      let shut =
+      last_shut buses seat.peer seat.conn
+      ((read_events ++ map (Room seat.conn) (filter_map count_of calls)) ++ map (Room seat.conn) room) now
+      (list_any is_close calls) roomed in
+      subst (λ (es : List Event). IsSending now (course buses es).connections)
+      (joined room (if list_any is_close calls then Shut seat.conn ∷ [] else [])) shut
     where
-      by : (h : HasWrites) (b : Bool) → map question h.writes ≡ (if b then [] else map (Writes seat.peer) (take 300 (handed buses seat.conn read_events (filter_map count_of calls))))
-          → IsSending (put seat.conn (taken seat.peer h.writes) texts) (course buses (read_events ++ map (Room seat.conn) (filter_map count_of h.writes))).connections
+      by : (h : HasWrites) (b : Bool)
+          → map question h.writes
+          ≡ (if b then [] else map (Writes seat.peer) (take 300 (handed buses seat.conn read_events (filter_map count_of calls))))
+          → IsSending (put seat.conn (taken seat.peer h.writes) texts)
+          (course buses (read_events ++ map (Room seat.conn) (filter_map count_of h.writes))).connections
       by h true q = sending_writes buses seat.peer seat.conn h.writes (h.each IsFair fair) 0 read_events texts q
           (sends_bytes buses seat.peer seat.conn texts events (filter_map piece_of calls) a)
       by h false q =

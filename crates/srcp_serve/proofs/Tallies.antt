@@ -4,7 +4,8 @@ use Rattle.srcp_serve.specs.Calls.{one_more}
 use Rattle.srcp_serve.specs.Tally.{CountsFaults}
 
 -- one call failed, and was counted
-pub one_failed : (tally count tally_later count_later : ℕ) → tally ≤ count → tally_later ≡ one_more tally → count_later ≡ one_more count → CountsFaults tally count tally_later count_later
+pub one_failed : (tally count tally_later count_later : ℕ) → tally ≤ count → tally_later ≡ one_more tally → count_later ≡ one_more count
+    → CountsFaults tally count tally_later count_later
 one_failed tally count tally_later count_later le t c = record {
   within = omega (arith, le, t, c);
   onward = λ low. omega (arith, low, c);

@@ -4,7 +4,8 @@ use Rattle.std.specs.Prelude.{filter_map, flat_map, fold}
 use Rattle.srcp_rules.specs.declared.layout.Bus.{Bus}
 use Rattle.srcp_core.specs.Under.{Event, At, Open}
 use Rattle.srcp_serve.specs.Given.{Guest, Call}
-use Rattle.srcp_serve.specs.Serving.{Stand, begun, is_let_in, let_in, moment_of, newcomer_of, seats, timed, turned, visit_events, welcomed, with_moment}
+use Rattle.srcp_serve.specs.Serving.{Stand, begun, is_let_in, let_in, moment_of, newcomer_of, seats, timed, turned, visit_events, welcomed}
+use Rattle.srcp_serve.specs.Serving.{with_moment}
 
 -- a newcomer
 abbrev pub opens : Guest → Event

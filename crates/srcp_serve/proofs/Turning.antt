@@ -1,5 +1,6 @@
 -- What is asked of a door, function by function.
-use Rattle.std.proofs.Common.{◌≡◌, ◌∙◌, ℕ, ◌+◌, true, not, List, [], ◌∷◌, ◌++◌, length, Option, Result, refl, ap, sym, subst, append-nil, length-append}
+use Rattle.std.proofs.Common.{◌≡◌, ◌∙◌, ℕ, ◌+◌, true, not, List, [], ◌∷◌, ◌++◌, length, Option, Result, refl, ap, sym, subst, append-nil}
+use Rattle.std.proofs.Common.{length-append}
 use Rattle.std.proofs.lemmas.Grind.{flat_map-append}
 use Rattle.std.proofs.lemmas.List.Folds.{list_all-append}
 use Rattle.srcp_info.proofs.ClientLaws.{all_append}
@@ -19,28 +20,56 @@ pub asks_none : (old : Option (List Call)) → AsksPeers old old
 asks_none old told is = record { calls = []; adds = adds_none old told is; peers = refl; fair = tt }
 
 pub asks_one : (call : Call) (old new : Option (List Call)) → is_of_peer call ≡ true → IsFair call → Tells old call new → AsksPeers old new
-asks_one call old new e fair h told is = record { calls = call ∷ []; adds = adds_one call old new told h is; peers = ap (λ t. t && true) e; fair = (fair, tt) }
+asks_one call old new e fair h told is = record {
+  calls = call ∷ [];
+  adds = adds_one call old new told h is;
+  peers = ap (λ t. t && true) e;
+  fair = (fair, tt);
+}
 
 pub asks_close : (peer : ℕ) (old new : Option (List Call)) → Closes peer old new → AsksPeers old new
-asks_close peer old new closes told is = let c = closes told is in record { calls = CloseCall peer c.answer ∷ []; adds = c.adds; peers = refl; fair = (tt, tt) }
+asks_close peer old new closes told is = let c = closes told is in record {
+  calls = CloseCall peer c.answer ∷ [];
+  adds = c.adds;
+  peers = refl;
+  fair = (tt, tt);
+}
 
 pub asks_then : (a b c : Option (List Call)) → AsksPeers a b → AsksPeers b c → AsksPeers a c
 asks_then a b c first second told is =
     let y = second told is in
     let x = first y.adds.before y.adds.was in
-    record { calls = x.calls ++ y.calls; adds = adds_then a b y.adds.before told x.calls y.calls y.adds.was x.adds y.adds; peers = both_of_peers x.calls y.calls x.peers y.peers; fair = all_append IsFair x.calls y.calls x.fair y.fair }
+    record {
+      calls = x.calls ++ y.calls;
+      adds = adds_then a b y.adds.before told x.calls y.calls y.adds.was x.adds y.adds;
+      peers = both_of_peers x.calls y.calls x.peers y.peers;
+      fair = all_append IsFair x.calls y.calls x.fair y.fair;
+    }
 
-pub asks_moment : (due slack : Option ℕ) (answer : Result ℕ DoorFault) (old mid new : Option (List Call)) → Tells old (ExpectCall due slack) mid → Tells mid (NowCall answer) new → AsksMoment old new
+pub asks_moment : (due slack : Option ℕ) (answer : Result ℕ DoorFault) (old mid new : Option (List Call))
+    → Tells old (ExpectCall due slack) mid → Tells mid (NowCall answer) new → AsksMoment old new
 asks_moment due slack answer old mid new first h told is =
     let y = adds_one (NowCall answer) mid new told h is in
     let x = adds_one (ExpectCall due slack) old mid y.before first y.was in
-    record { due = due; slack = slack; answer = answer; adds = adds_then old mid y.before told (ExpectCall due slack ∷ []) (NowCall answer ∷ []) y.was x y }
+    record {
+      due = due;
+      slack = slack;
+      answer = answer;
+      adds = adds_then old mid y.before told (ExpectCall due slack ∷ []) (NowCall answer ∷ []) y.was x y;
+    }
 
-pub asks_newcomer : (answer : Result (Option ℕ) DoorFault) (old mid new : Option (List Call)) → Tells old (AcceptCall answer) mid → AsksPeers mid new → AsksNewcomer old new
+pub asks_newcomer : (answer : Result (Option ℕ) DoorFault) (old mid new : Option (List Call)) → Tells old (AcceptCall answer) mid
+    → AsksPeers mid new → AsksNewcomer old new
 asks_newcomer answer old mid new h later told is =
     let y = later told is in
     let first = adds_one (AcceptCall answer) old mid y.adds.before h y.adds.was in
-    record { answer = answer; rest = y.calls; adds = adds_then old mid y.adds.before told (AcceptCall answer ∷ []) y.calls y.adds.was first y.adds; peers = y.peers; fair = y.fair }
+    record {
+      answer = answer;
+      rest = y.calls;
+      adds = adds_then old mid y.adds.before told (AcceptCall answer ∷ []) y.calls y.adds.was first y.adds;
+      peers = y.peers;
+      fair = y.fair;
+    }
 
 pub turn_begins : (old mid new : Option (List Call)) → AsksMoment old mid → AsksNewcomer mid new → AsksTurn old new
 turn_begins old mid new first second told is =
@@ -48,8 +77,19 @@ turn_begins old mid new first second told is =
     let x = first y.adds.before y.adds.was in
     record {
       calls = ExpectCall x.due x.slack ∷ NowCall x.answer ∷ AcceptCall y.answer ∷ y.rest;
-      adds = adds_then old mid y.adds.before told (ExpectCall x.due x.slack ∷ NowCall x.answer ∷ []) (AcceptCall y.answer ∷ y.rest) y.adds.was x.adds y.adds;
-      turn = record { due = x.due; slack = x.slack; now = x.answer; newcomer = y.answer; rest = y.rest; is = refl; peers = y.peers; fair = y.fair };
+      adds =
+          adds_then old mid y.adds.before told (ExpectCall x.due x.slack ∷ NowCall x.answer ∷ [])
+          (AcceptCall y.answer ∷ y.rest) y.adds.was x.adds y.adds;
+      turn = record {
+        due = x.due;
+        slack = x.slack;
+        now = x.answer;
+        newcomer = y.answer;
+        rest = y.rest;
+        is = refl;
+        peers = y.peers;
+        fair = y.fair;
+      };
     }
 
 pub turn_goes_on : (old mid new : Option (List Call)) → AsksTurn old mid → AsksPeers mid new → AsksTurn old new
@@ -60,7 +100,16 @@ turn_goes_on old mid new first second told is =
     record {
       calls = x.calls ++ y.calls;
       adds = adds_then old mid y.adds.before told x.calls y.calls y.adds.was x.adds y.adds;
-      turn = record { due = t.due; slack = t.slack; now = t.now; newcomer = t.newcomer; rest = t.rest ++ y.calls; is = ap (λ calls. calls ++ y.calls) t.is; peers = both_of_peers t.rest y.calls t.peers y.peers; fair = all_append IsFair t.rest y.calls t.fair y.fair };
+      turn = record {
+        due = t.due;
+        slack = t.slack;
+        now = t.now;
+        newcomer = t.newcomer;
+        rest = t.rest ++ y.calls;
+        is = ap (λ calls. calls ++ y.calls) t.is;
+        peers = both_of_peers t.rest y.calls t.peers y.peers;
+        fair = all_append IsFair t.rest y.calls t.fair y.fair;
+      };
     }
 
 -- ---- turn after turn
@@ -84,18 +133,36 @@ one_more_turn count told calls so t =
     let whole : List Call = ExpectCall t.due t.slack ∷ rest in
     let alone = one_part is_expect rest (not_now t.rest t.peers) in
     let last : turns whole ≡ whole ∷ [] = rw (alone.0, alone.1) refl in
-    let all : turns (told ++ whole) ≡ turns told ++ whole ∷ [] = parts-append is_expect told (ExpectCall t.due t.slack) rest refl ∙ ap (λ more. turns told ++ more) last in
-    let is_turn : IsTurn whole = record { due = t.due; slack = t.slack; now = t.now; newcomer = t.newcomer; rest = t.rest; is = refl; peers = t.peers; fair = t.fair } in
+    let all : turns (told ++ whole) ≡ turns told ++ whole ∷ [] =
+    parts-append is_expect told (ExpectCall t.due t.slack) rest refl ∙ ap (λ more. turns told ++ more) last in
+    let is_turn : IsTurn whole =
+    record {
+      due = t.due;
+      slack = t.slack;
+      now = t.now;
+      newcomer = t.newcomer;
+      rest = t.rest;
+      is = refl;
+      peers = t.peers;
+      fair = t.fair;
+    } in
     let done : AreTurns (count + 1) (told ++ whole) = record {
       many = ap length all ∙ length-append (turns told) (whole ∷ []) ∙ ap (λ k. k + 1) so.many;
-      each = subst (λ (ts : List (List Call)). AllByRecursion IsTurn ts) (sym all) (all_turns (turns told) (whole ∷ []) so.each (is_turn, tt));
-      all = ap (flat_map (λ calls. calls)) all ∙ flat_map-append (λ calls. calls) (turns told) (whole ∷ []) ∙ ap (λ front. front ++ (whole ++ [])) so.all ∙ ap (λ more. told ++ more) (append-nil whole);
+      each =
+          subst (λ (ts : List (List Call)). AllByRecursion IsTurn ts) (sym all) (all_turns (turns told) (whole ∷ []) so.each (is_turn, tt));
+      all =
+          ap (flat_map (λ calls. calls)) all ∙ flat_map-append (λ calls. calls) (turns told) (whole ∷ [])
+          ∙ ap (λ front. front ++ (whole ++ [])) so.all ∙ ap (λ more. told ++ more) (append-nil whole);
       fair = all_append IsFair told whole so.fair (tt, (tt, (tt, t.fair)));
     } in
     subst (λ (c : List Call). AreTurns (count + 1) (told ++ c)) (sym t.is) done
 
 pub turns_none : (old : Option (List Call)) → AsksTurns 0 old old
-turns_none old told is = record { calls = []; adds = adds_none old told is; turns_are = record { many = refl; each = tt; all = refl; fair = tt } }
+turns_none old told is = record {
+  calls = [];
+  adds = adds_none old told is;
+  turns_are = record { many = refl; each = tt; all = refl; fair = tt };
+}
 
 pub turns_on : (count : ℕ) (old mid new : Option (List Call)) → AsksTurns count old mid → AsksTurn mid new → AsksTurns (count + 1) old new
 turns_on count old mid new so turn told is =

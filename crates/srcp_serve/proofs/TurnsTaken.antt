@@ -1,5 +1,6 @@
 -- Turn after turn: each guest's connection was sent what was taken of the guest in all the turns so far.
-use Rattle.std.proofs.Common.{◌≡◌, ◌∙◌, ℕ, Bool, true, false, not, cond, List, [], ◌∷◌, ◌++◌, map, if◌then◌else◌, Some, None, Ok, Err, refl, ap, sym, subst, append-nil, append_assoc, ◌==◌}
+use Rattle.std.proofs.Common.{◌≡◌, ◌∙◌, ℕ, Bool, true, false, not, cond, List, [], ◌∷◌, ◌++◌, map, if◌then◌else◌, Some, None, Ok, Err, refl}
+use Rattle.std.proofs.Common.{ap, sym, subst, append-nil, append_assoc, ◌==◌}
 use Rattle.std.specs.Prelude.{filter_map, flat_map, fold}
 use Rattle.std.specs.List.{AllByRecursion, IsDistinct}
 use Rattle.std.proofs.lemmas.Grind.{flat_map-append}
@@ -12,7 +13,10 @@ use Rattle.srcp_core.specs.Connection.{sent}
 use Rattle.srcp_core.specs.Course.{course}
 use Rattle.srcp_serve.specs.Calls.{peer_of}
 use Rattle.srcp_serve.specs.Given.{Guest, Call, ExpectCall, NowCall, AcceptCall, ReadCall, WriteCall, CloseCall, told_call}
-use Rattle.srcp_serve.specs.Serving.{Question, Moments, expects, Newcomers, Closes, Stand, IsFair, question, is_expect, moment_of, newcomer_of, taken, taken_in, seats, empty_stand, is_let_in, let_in, welcomed, timed, begun, turned, turns, turns_away, turn_asks, stand_after, IsServed, OfEachTurn, PeersDiffer, SendsWhatIsTaken, SentIsTaken}
+use Rattle.srcp_serve.specs.Serving.{Question, Moments, expects, Newcomers, Closes, Stand, IsFair, question, is_expect, moment_of}
+use Rattle.srcp_serve.specs.Serving.{newcomer_of, taken, taken_in, seats, empty_stand, is_let_in, let_in, welcomed, timed, begun, turned}
+use Rattle.srcp_serve.specs.Serving.{turns, turns_away, turn_asks, stand_after, IsServed, OfEachTurn, PeersDiffer, SendsWhatIsTaken}
+use Rattle.srcp_serve.specs.Serving.{SentIsTaken}
 use Rattle.srcp_serve.proofs.Takings.{all_parts, no_writes}
 use Rattle.srcp_serve.proofs.Partings.{AreAsked, AreTurnsAsked, IsNoneOf, PeersApart, in_turn, turns_parted, visits_parted}
 use Rattle.srcp_serve.proofs.Guests.{AreGuests}
@@ -28,7 +32,8 @@ record AreNew (guests : List ℕ) (peers : List Guest) : Type 0 where
   new : AllByRecursion (λ peer. IsNew peer.peer guests) peers
   differ : IsDistinct (λ a b. a.peer == b.peer) peers
 
-all_new_push : (other : ℕ) (guests : List ℕ) (peers : List Guest) → AllByRecursion (λ peer. IsNew peer.peer guests) peers → AllByRecursion (λ peer. (other == peer.peer) ≡ false) peers → AllByRecursion (λ peer. IsNew peer.peer (guests ++ other ∷ [])) peers
+all_new_push : (other : ℕ) (guests : List ℕ) (peers : List Guest) → AllByRecursion (λ peer. IsNew peer.peer guests) peers
+    → AllByRecursion (λ peer. (other == peer.peer) ≡ false) peers → AllByRecursion (λ peer. IsNew peer.peer (guests ++ other ∷ [])) peers
 all_new_push other guests [] h k = tt
 all_new_push other guests (peer ∷ peers) h k = (new_push peer.peer other guests h.0 k.0, all_new_push other guests peers h.1 k.1)
 
@@ -42,17 +47,23 @@ IsFresh before guests = (peer : ℕ) → IsNew peer guests → before peer ≡ [
 
 module _ (buses : List Bus) where
   -- those that are still to come stay new
-  new_welcomed : (stand : Stand) (peer : Guest) (more : List Guest) → AreNew stand.guests (peer ∷ more) → AreNew (welcomed buses stand peer).guests more
+  new_welcomed : (stand : Stand) (peer : Guest) (more : List Guest) → AreNew stand.guests (peer ∷ more)
+      → AreNew (welcomed buses stand peer).guests more
   new_welcomed stand peer more h = by (is_let_in buses stand.events peer.granted)
     where
       differ : IsDistinct (λ a b. a.peer == b.peer) more
       differ = IsDistinct-tail (λ a b. a.peer == b.peer) peer more h.differ
 
-      by : (b : Bool) → AreNew (if b then let_in buses stand peer else record stand { events = stand.events ++ Open peer.granted ∷ [] }).guests more
-      by true = record { new = all_new_push peer.peer stand.guests more h.new.1 (IsDistinct-head (λ a b. a.peer == b.peer) peer more h.differ); differ = differ }
+      by : (b : Bool)
+          → AreNew (if b then let_in buses stand peer else record stand { events = stand.events ++ Open peer.granted ∷ [] }).guests more
+      by true = record {
+        new = all_new_push peer.peer stand.guests more h.new.1 (IsDistinct-head (λ a b. a.peer == b.peer) peer more h.differ);
+        differ = differ;
+      }
       by false = record { new = h.new.1; differ = differ }
 
-  new_begun : (peers more : List Guest) (stand : Stand) → AreNew stand.guests (peers ++ more) → AreNew (fold (welcomed buses) stand peers).guests more
+  new_begun : (peers more : List Guest) (stand : Stand) → AreNew stand.guests (peers ++ more)
+      → AreNew (fold (welcomed buses) stand peers).guests more
   new_begun [] more stand h = h
   new_begun (peer ∷ peers) more stand h = new_begun peers more (welcomed buses stand peer) (new_welcomed stand peer (peers ++ more) h)
 
@@ -60,18 +71,23 @@ module _ (buses : List Bus) where
   was_new_welcomed : (peer : ℕ) (other : Guest) (stand : Stand) → IsNew peer (welcomed buses stand other).guests → IsNew peer stand.guests
   was_new_welcomed peer other stand = by (is_let_in buses stand.events other.granted)
     where
-      by : (b : Bool) → IsNew peer (if b then let_in buses stand other else record stand { events = stand.events ++ Open other.granted ∷ [] }).guests → IsNew peer stand.guests
+      by : (b : Bool)
+          → IsNew peer (if b then let_in buses stand other else record stand { events = stand.events ++ Open other.granted ∷ [] }).guests
+          → IsNew peer stand.guests
       by true h = (all_parts (λ guest. (guest == peer) ≡ false) stand.guests (other.peer ∷ []) h).0
       by false h = h
 
-  was_new : (peer : ℕ) (peers : List Guest) (stand : Stand) → IsNew peer (fold (welcomed buses) stand peers).guests → IsNew peer stand.guests
+  was_new : (peer : ℕ) (peers : List Guest) (stand : Stand) → IsNew peer (fold (welcomed buses) stand peers).guests
+      → IsNew peer stand.guests
   was_new peer [] stand h = h
   was_new peer (other ∷ peers) stand h = was_new_welcomed peer other stand (was_new peer peers (welcomed buses stand other) h)
 
-  even_begun : (before : ℕ → List ℕ) (peers more : List Guest) (stand : Stand) → AreNew stand.guests (peers ++ more) → IsFresh before stand.guests → IsEven buses before stand → IsEven buses before (fold (welcomed buses) stand peers)
+  even_begun : (before : ℕ → List ℕ) (peers more : List Guest) (stand : Stand) → AreNew stand.guests (peers ++ more)
+      → IsFresh before stand.guests → IsEven buses before stand → IsEven buses before (fold (welcomed buses) stand peers)
   even_begun before [] more stand new fresh even = even
   even_begun before (peer ∷ peers) more stand new fresh even =
-      even_begun before peers more (welcomed buses stand peer) (new_welcomed stand peer (peers ++ more) new) (λ other h. fresh other (was_new_welcomed other peer stand h))
+      even_begun before peers more (welcomed buses stand peer) (new_welcomed stand peer (peers ++ more) new)
+      (λ other h. fresh other (was_new_welcomed other peer stand h))
       (even_welcomed buses before stand peer new.new.0 (fresh peer.peer new.new.0) even)
 
   -- those that are turned away are written nothing
@@ -79,13 +95,16 @@ module _ (buses : List Bus) where
   away_no_writes events [] = refl
   away_no_writes events (peer ∷ peers) = by (is_let_in buses events peer.granted) (away_no_writes events peers)
     where
-      by : (b : Bool) → no_writes (flat_map (turns_away buses events) peers) ≡ true → no_writes ((if b then [] else Closes peer.peer ∷ []) ++ flat_map (turns_away buses events) peers) ≡ true
+      by : (b : Bool) → no_writes (flat_map (turns_away buses events) peers) ≡ true
+          → no_writes ((if b then [] else Closes peer.peer ∷ []) ++ flat_map (turns_away buses events) peers) ≡ true
       by true h = h
       by false h = h
 
 -- ---- after a turn
 
-module _ (buses : List Bus) (before : ℕ → List ℕ) (stand : Stand) (calls : List Call) (more : List Guest) (new : AreNew stand.guests (filter_map newcomer_of calls ++ more)) (fresh : IsFresh before stand.guests) (even : IsEven buses before stand) where
+module _ (buses : List Bus) (before : ℕ → List ℕ) (stand : Stand) (calls : List Call) (more : List Guest)
+    (new : AreNew stand.guests (filter_map newcomer_of calls ++ more)) (fresh : IsFresh before stand.guests)
+    (even : IsEven buses before stand) where
   abbrev peers : List Guest
   peers = filter_map newcomer_of calls
 
@@ -101,16 +120,19 @@ module _ (buses : List Bus) (before : ℕ → List ℕ) (stand : Stand) (calls :
   new_turned : AreNew (turned buses stand calls).guests more
   new_turned = new_begun buses peers more now new_now
 
-  fresh_turned : map question calls ≡ turn_asks buses stand calls → IsFresh (λ peer. before peer ++ taken peer calls) (turned buses stand calls).guests
+  fresh_turned : map question calls ≡ turn_asks buses stand calls
+      → IsFresh (λ peer. before peer ++ taken peer calls) (turned buses stand calls).guests
   fresh_turned asked peer none =
       let after : Stand = begun buses stand calls in
       let first : List Question = expects buses stand.events ∷ Moments ∷ Newcomers ∷ flat_map (turns_away buses now.events) peers in
       let none_now : IsNew peer now.guests = was_new buses peer peers now none in
       let none_before : IsNew peer stand.guests = subst (λ (guests : List ℕ). IsNew peer guests) same_guests none_now in
       let fresh_now : IsFresh before now.guests = λ other h. fresh other (subst (λ (guests : List ℕ). IsNew other guests) same_guests h) in
-      let even_after : IsEven buses before after = even_begun buses before peers more now new_now fresh_now (even_timed buses before stand (filter_map moment_of calls) even).0 in
+      let even_after : IsEven buses before after =
+      even_begun buses before peers more now new_now fresh_now (even_timed buses before stand (filter_map moment_of calls) even).0 in
       let unseated : IsNoneOf peer (seats after.places) = new_unseated peer after.guests (seats after.places) none even_after.known in
-      ap (λ t. t ++ taken peer calls) (fresh peer none_before) ∙ nothing_taken buses before after calls first (away_no_writes buses now.events peers) asked peer unseated
+      ap (λ t. t ++ taken peer calls) (fresh peer none_before)
+      ∙ nothing_taken buses before after calls first (away_no_writes buses now.events peers) asked peer unseated
 
 -- ---- who came in
 
@@ -126,11 +148,13 @@ peers_told (ReadCall peer answer buffer grants ∷ calls) = peers_told calls
 peers_told (WriteCall peer bytes answer ∷ calls) = peers_told calls
 peers_told (CloseCall peer answer ∷ calls) = peers_told calls
 
-apart_guests : (peer : ℕ) (guests : List Guest) → AllByRecursion (λ other. (peer == other) ≡ false) (map (λ guest. guest.peer) guests) → AllByRecursion (λ guest. (peer == guest.peer) ≡ false) guests
+apart_guests : (peer : ℕ) (guests : List Guest) → AllByRecursion (λ other. (peer == other) ≡ false) (map (λ guest. guest.peer) guests)
+    → AllByRecursion (λ guest. (peer == guest.peer) ≡ false) guests
 apart_guests peer [] h = tt
 apart_guests peer (guest ∷ guests) h = (h.0, apart_guests peer guests h.1)
 
-differ_guests : (guests : List Guest) → IsDistinct (λ a b. a == b) (map (λ guest. guest.peer) guests) → IsDistinct (λ a b. a.peer == b.peer) guests
+differ_guests : (guests : List Guest) → IsDistinct (λ a b. a == b) (map (λ guest. guest.peer) guests)
+    → IsDistinct (λ a b. a.peer == b.peer) guests
 unfolding IsDistinct
 differ_guests [] h = tt
 differ_guests (guest ∷ guests) h = (apart_guests guest.peer guests h.0, differ_guests guests h.1)
@@ -153,7 +177,9 @@ module _ (buses : List Bus) where
   SentAfter all before stand = map sent (course buses (fold (turned buses) stand all).events).connections
       ≡ map (λ peer. before peer ++ taken peer (joined all)) (fold (turned buses) stand all).guests
 
-  turns_taken : (all : List (List Call)) (before : ℕ → List ℕ) (stand : Stand) → AreTurnsAsked buses stand all → AllByRecursion IsFair (joined all) → AreNew stand.guests (filter_map newcomer_of (joined all)) → IsFresh before stand.guests → IsEven buses before stand
+  turns_taken : (all : List (List Call)) (before : ℕ → List ℕ) (stand : Stand) → AreTurnsAsked buses stand all
+      → AllByRecursion IsFair (joined all) → AreNew stand.guests (filter_map newcomer_of (joined all)) → IsFresh before stand.guests
+      → IsEven buses before stand
       → OfEachTurn buses IsTurnOfGuests stand all × SentAfter all before stand
   turns_taken [] before stand asked fair new fresh even =
       (tt, even.sending.sends ∙ same_each before (λ peer. before peer ++ []) stand.guests (λ peer. sym (append-nil (before peer))))
@@ -161,8 +187,10 @@ module _ (buses : List Bus) where
       let parts = all_parts IsFair calls (joined all) fair in
       let peers : List Guest = filter_map newcomer_of calls in
       let more : List Guest = filter_map newcomer_of (joined all) in
-      let apart : AreNew stand.guests (peers ++ more) = subst (λ (ps : List Guest). AreNew stand.guests ps) (filter_map-append newcomer_of calls (joined all)) new in
-      let coming : AllByRecursion (λ peer. IsNew peer.peer stand.guests) peers = (all_parts (λ peer. IsNew peer.peer stand.guests) peers more apart.new).0 in
+      let apart : AreNew stand.guests (peers ++ more) =
+      subst (λ (ps : List Guest). AreNew stand.guests ps) (filter_map-append newcomer_of calls (joined all)) new in
+      let coming : AllByRecursion (λ peer. IsNew peer.peer stand.guests) peers =
+      (all_parts (λ peer. IsNew peer.peer stand.guests) peers more apart.new).0 in
       let b = turn_begins buses before stand calls parts.0 fresh even asked.0 coming in
       let now : Stand = begun buses stand calls in
       let here : IsTurnOfGuests stand calls =
@@ -184,15 +212,22 @@ module _ (buses : List Bus) where
             (regrouped before calls (joined all)),
       )
     where
-      regrouped : (before : ℕ → List ℕ) (calls others : List Call) (peer : ℕ) → (before peer ++ taken peer calls) ++ taken peer others ≡ before peer ++ taken peer (calls ++ others)
-      regrouped before calls others peer = append_assoc (before peer) (taken peer calls) (taken peer others) ∙ ap (λ t. before peer ++ t) (sym (flat_map-append (taken_in peer) calls others))
+      regrouped : (before : ℕ → List ℕ) (calls others : List Call) (peer : ℕ)
+          → (before peer ++ taken peer calls) ++ taken peer others ≡ before peer ++ taken peer (calls ++ others)
+      regrouped before calls others peer =
+          append_assoc (before peer) (taken peer calls) (taken peer others)
+          ∙ ap (λ t. before peer ++ t) (sym (flat_map-append (taken_in peer) calls others))
 
   -- the calls before the first moment, and then the turns, are all the calls
   turns_joined : (told : List Call) → in_turn buses told ++ joined (turns told) ≡ told
   turns_joined [] = refl
-  turns_joined (call ∷ told) = ap (λ cs. cs ++ joined (turns (call ∷ told))) (take_while-cons (λ next. not (is_expect next)) call told) ∙ by (turns_joined told) (is_expect call)
+  turns_joined (call ∷ told) =
+      ap (λ cs. cs ++ joined (turns (call ∷ told))) (take_while-cons (λ next. not (is_expect next)) call told)
+      ∙ by (turns_joined told) (is_expect call)
     where
-      by : in_turn buses told ++ joined (turns told) ≡ told → (b : Bool) → cond (not b) (call ∷ in_turn buses told) [] ++ joined (if b then (call ∷ in_turn buses told) ∷ turns told else turns told) ≡ call ∷ told
+      by : in_turn buses told ++ joined (turns told) ≡ told → (b : Bool)
+          → cond (not b) (call ∷ in_turn buses told) [] ++ joined (if b then (call ∷ in_turn buses told) ∷ turns told else turns told)
+          ≡ call ∷ told
       by ih true = ap (λ cs. call ∷ cs) ih
       by ih false = ap (λ cs. call ∷ cs) ih
 

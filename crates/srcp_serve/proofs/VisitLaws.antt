@@ -40,32 +40,43 @@ one_visit before v after h =
     ∙ append-nil v.1
 
 -- what a visit makes happen is seen in its own calls
-same_events : (calls : List Call) (v : Visit) → AreAbout v.0.peer v.1 → visit calls v.0 ≡ v.1 → visit_events calls v.0 ≡ visit_events v.1 v.0
+same_events : (calls : List Call) (v : Visit) → AreAbout v.0.peer v.1 → visit calls v.0 ≡ v.1
+    → visit_events calls v.0 ≡ visit_events v.1 v.0
 same_events calls v own e =
     let events : List Call → List Event = λ mine. exchange v.0.conn mine ++ (if list_any is_close mine then Shut v.0.conn ∷ [] else []) in
     ap events (e ∙ sym (own_calls v.0.peer v.1 own))
 
-pub visits_make : (before : List Call) (visits : List Visit) → AreApart before visits → (calls : List Call) → calls ≡ before ++ calls_of visits → flat_map (visit_events calls) (map (λ v. v.0) visits) ≡ made_by visits
+pub visits_make : (before : List Call) (visits : List Visit) → AreApart before visits → (calls : List Call)
+    → calls ≡ before ++ calls_of visits → flat_map (visit_events calls) (map (λ v. v.0) visits) ≡ made_by visits
 visits_make before [] h calls e = refl
 visits_make before (v ∷ visits) h calls e =
     let mine : visit calls v.0 ≡ v.1 = ap (λ all. visit all v.0) e ∙ one_visit before v (calls_of visits) h.0 in
     let others = visits_make (before ++ v.1) visits h.1 calls (e ∙ sym (append_assoc before v.1 (calls_of visits))) in
-    ap (λ events. events ++ flat_map (visit_events calls) (map (λ w. w.0) visits)) (same_events calls v h.0.own mine) ∙ ap (λ events. visit_events v.1 v.0 ++ events) others
+    ap (λ events. events ++ flat_map (visit_events calls) (map (λ w. w.0) visits)) (same_events calls v h.0.own mine)
+    ∙ ap (λ events. visit_events v.1 v.0 ++ events) others
 
 module _ (buses : List Bus) where
-  pub visits_asked : (before : List Call) (visits : List Visit) → AreApart before visits → (calls : List Call) → calls ≡ before ++ calls_of visits → (events : List Event) → visits_ask buses events calls (map (λ v. v.0) visits) ≡ asked_by buses events visits
+  pub visits_asked : (before : List Call) (visits : List Visit) → AreApart before visits → (calls : List Call)
+      → calls ≡ before ++ calls_of visits → (events : List Event)
+      → visits_ask buses events calls (map (λ v. v.0) visits) ≡ asked_by buses events visits
   visits_asked before [] h calls e events = refl
   visits_asked before (v ∷ visits) h calls e events =
       let mine : visit calls v.0 ≡ v.1 = ap (λ all. visit all v.0) e ∙ one_visit before v (calls_of visits) h.0 in
-      let others = visits_asked (before ++ v.1) visits h.1 calls (e ∙ sym (append_assoc before v.1 (calls_of visits))) (events ++ visit_events v.1 v.0) in
+      let others =
+      visits_asked (before ++ v.1) visits h.1 calls (e ∙ sym (append_assoc before v.1 (calls_of visits)))
+      (events ++ visit_events v.1 v.0) in
       ap (λ own. visit_asks buses events own v.0 ++ visits_ask buses (events ++ visit_events calls v.0) calls (map (λ w. w.0) visits)) mine
-      ∙ ap (λ more. visit_asks buses events v.1 v.0 ++ visits_ask buses (events ++ more) calls (map (λ w. w.0) visits)) (same_events calls v h.0.own mine)
+      ∙ ap (λ more. visit_asks buses events v.1 v.0 ++ visits_ask buses (events ++ more) calls (map (λ w. w.0) visits))
+      (same_events calls v h.0.own mine)
       ∙ ap (λ more. visit_asks buses events v.1 v.0 ++ more) others
 
   -- some visits and then others
-  pub asked_by-append : (events : List Event) (xs ys : List Visit) → asked_by buses events (xs ++ ys) ≡ asked_by buses events xs ++ asked_by buses (events ++ made_by xs) ys
+  pub asked_by-append : (events : List Event) (xs ys : List Visit)
+      → asked_by buses events (xs ++ ys) ≡ asked_by buses events xs ++ asked_by buses (events ++ made_by xs) ys
   asked_by-append events [] ys = ap (λ all. asked_by buses all ys) (sym (append-nil events))
   asked_by-append events (v ∷ xs) ys =
       ap (λ more. visit_asks buses events v.1 v.0 ++ more)
-      (asked_by-append (events ++ visit_events v.1 v.0) xs ys ∙ ap (λ all. asked_by buses (events ++ visit_events v.1 v.0) xs ++ asked_by buses all ys) (append_assoc events (visit_events v.1 v.0) (made_by xs)))
+      (asked_by-append (events ++ visit_events v.1 v.0) xs ys
+      ∙ ap (λ all. asked_by buses (events ++ visit_events v.1 v.0) xs ++ asked_by buses all ys)
+      (append_assoc events (visit_events v.1 v.0) (made_by xs)))
       ∙ sym (append_assoc (visit_asks buses events v.1 v.0) _ _)

@@ -1,5 +1,6 @@
 -- A visit: one read, the writes, and how it ends.
-use Rattle.std.proofs.Common.{◌≡◌, ◌∙◌, ℕ, ◌+◌, Bool, true, false, cond, ◌==◌, not, List, [], ◌∷◌, ◌++◌, map, take, Option, Some, None, refl, ap, sym, subst, arith, append_assoc, append-nil}
+use Rattle.std.proofs.Common.{◌≡◌, ◌∙◌, ℕ, ◌+◌, Bool, true, false, cond, ◌==◌, not, List, [], ◌∷◌, ◌++◌, map, take, Option, Some, None}
+use Rattle.std.proofs.Common.{refl, ap, sym, subst, arith, append_assoc, append-nil}
 use Rattle.std.proofs.Math.Bool.{or-false}
 use Rattle.std.proofs.lemmas.Bool.Decides.{nat_tests}
 use Rattle.std.proofs.lemmas.List.{map-append}
@@ -19,9 +20,12 @@ use Rattle.srcp_core.specs.Under.{Event, Piece, Bytes, Room, Shut, denied_by}
 use Rattle.srcp_core.proofs.Agreement.CallLaws.{calls_agree, calls_lead}
 use Rattle.srcp_serve.specs.Calls.{Call as DoorCall}
 use Rattle.srcp_serve.specs.Given.{Call, ReadCall, WriteCall, CloseCall, answers_of}
-use Rattle.srcp_serve.specs.Serving.{Seat, Question, Writes, Closes as ClosesQuestion, question, visit, exchange, rooms, lent_none_last, handed, is_closing, reads_of, writes_of, closes_of, visit_events, is_about, is_close, is_write, loses, loses_reading, loses_writing, falls_short, piece_of, count_of}
+use Rattle.srcp_serve.specs.Serving.{Seat, Question, Writes, Closes as ClosesQuestion, question, visit, exchange, rooms, lent_none_last}
+use Rattle.srcp_serve.specs.Serving.{handed, is_closing, reads_of, writes_of, closes_of, visit_events, is_about, is_close, is_write, loses}
+use Rattle.srcp_serve.specs.Serving.{loses_reading, loses_writing, falls_short, piece_of, count_of}
 use Rattle.srcp_serve.specs.Turns.{AsksPeers}
-use Rattle.srcp_serve.specs.Visits.{AreAbout, AreWritesTo, Closes, CountsAsked, Exchanges, IsExchanged, IsLetGo, IsReadFrom, IsVisited, IsWrittenTo, LetsGo, Reading, ReadsIn, Visits, WritesOut, read_calls}
+use Rattle.srcp_serve.specs.Visits.{AreAbout, AreWritesTo, Closes, CountsAsked, Exchanges, IsExchanged, IsLetGo, IsReadFrom, IsVisited}
+use Rattle.srcp_serve.specs.Visits.{IsWrittenTo, LetsGo, Reading, ReadsIn, Visits, WritesOut, read_calls}
 use Rattle.srcp_serve.proofs.AskedFor.{asked_one, asked_rooms, asked_then}
 use Rattle.srcp_serve.proofs.Telling.{given_then, refusals_then}
 use Rattle.srcp_serve.proofs.VisitLaws.{own_calls}
@@ -62,15 +66,18 @@ reads_about peer (Some read) = (same_peer peer, tt)
 
 writes_pieces : (peer : ℕ) (calls : List Call) → AreWritesTo peer calls → filter_map piece_of calls ≡ []
 writes_pieces peer [] own = refl
-writes_pieces peer (call ∷ calls) own = subst (λ (c : Call). filter_map piece_of (c ∷ calls) ≡ []) (sym own.0.is) (writes_pieces peer calls own.1)
+writes_pieces peer (call ∷ calls) own =
+    subst (λ (c : Call). filter_map piece_of (c ∷ calls) ≡ []) (sym own.0.is) (writes_pieces peer calls own.1)
 
 writes_reading : (peer : ℕ) (calls : List Call) → AreWritesTo peer calls → list_any loses_reading calls ≡ false
 writes_reading peer [] own = refl
-writes_reading peer (call ∷ calls) own = subst (λ (c : Call). list_any loses_reading (c ∷ calls) ≡ false) (sym own.0.is) (writes_reading peer calls own.1)
+writes_reading peer (call ∷ calls) own =
+    subst (λ (c : Call). list_any loses_reading (c ∷ calls) ≡ false) (sym own.0.is) (writes_reading peer calls own.1)
 
 writes_close : (peer : ℕ) (calls : List Call) → AreWritesTo peer calls → list_any is_close calls ≡ false
 writes_close peer [] own = refl
-writes_close peer (call ∷ calls) own = subst (λ (c : Call). list_any is_close (c ∷ calls) ≡ false) (sym own.0.is) (writes_close peer calls own.1)
+writes_close peer (call ∷ calls) own =
+    subst (λ (c : Call). list_any is_close (c ∷ calls) ≡ false) (sym own.0.is) (writes_close peer calls own.1)
 
 writes_loses : (peer : ℕ) (calls : List Call) → AreWritesTo peer calls → list_any loses calls ≡ list_any loses_writing calls
 writes_loses peer [] own = refl
@@ -105,7 +112,8 @@ any_first p xs ys e = list_any-append p xs ys ∙ ap (λ t. list_any p xs || t) 
 abbrev last_room : Bool → List ℕ
 last_room b = if b then 0 ∷ [] else []
 
-same_rooms : (xs ys : List Call) → filter_map count_of xs ≡ filter_map count_of ys → list_any loses xs ≡ list_any loses ys → list_any falls_short xs ≡ list_any falls_short ys → count_by is_write xs ≡ count_by is_write ys → rooms xs ≡ rooms ys
+same_rooms : (xs ys : List Call) → filter_map count_of xs ≡ filter_map count_of ys → list_any loses xs ≡ list_any loses ys
+    → list_any falls_short xs ≡ list_any falls_short ys → count_by is_write xs ≡ count_by is_write ys → rooms xs ≡ rooms ys
 same_rooms xs ys c l s k =
     ap (λ counts. counts ++ last_room (lent_none_last xs)) c
     ∙ ap (λ t. filter_map count_of ys ++ last_room (not t && (not (list_any falls_short xs) && nat_lt (count_by is_write xs) 300))) l
@@ -120,22 +128,32 @@ module _ (buses : List Bus) (events : List Event) (keys : List (Option ℕ)) (n 
   abbrev handed_by : Bool → List Piece → List ℕ → List Question
   handed_by lost pieces counts = if lost then [] else map (Writes peer) (take 300 (handed buses n (events ++ map (Bytes n) pieces) counts))
 
-  same_writes : (xs ys : List Call) → list_any loses_reading xs ≡ list_any loses_reading ys → filter_map piece_of xs ≡ filter_map piece_of ys → filter_map count_of xs ≡ filter_map count_of ys → writes_of buses events xs seat ≡ writes_of buses events ys seat
+  same_writes : (xs ys : List Call) → list_any loses_reading xs ≡ list_any loses_reading ys
+      → filter_map piece_of xs ≡ filter_map piece_of ys → filter_map count_of xs ≡ filter_map count_of ys
+      → writes_of buses events xs seat ≡ writes_of buses events ys seat
   same_writes xs ys l p c =
       ap (λ t. handed_by t (filter_map piece_of xs) (filter_map count_of xs)) l
       ∙ ap (λ pieces. handed_by (list_any loses_reading ys) pieces (filter_map count_of xs)) p
       ∙ ap (λ counts. handed_by (list_any loses_reading ys) (filter_map piece_of ys) counts) c
 
-  same_exchange : (xs ys : List Call) → filter_map piece_of xs ≡ filter_map piece_of ys → rooms xs ≡ rooms ys → exchange n xs ≡ exchange n ys
-  same_exchange xs ys p r = ap (λ pieces. map (Bytes n) pieces ++ map (Room n) (rooms xs)) p ∙ ap (λ counts. map (Bytes n) (filter_map piece_of ys) ++ map (Room n) counts) r
+  same_exchange : (xs ys : List Call) → filter_map piece_of xs ≡ filter_map piece_of ys → rooms xs ≡ rooms ys
+      → exchange n xs ≡ exchange n ys
+  same_exchange xs ys p r =
+      ap (λ pieces. map (Bytes n) pieces ++ map (Room n) (rooms xs)) p
+      ∙ ap (λ counts. map (Bytes n) (filter_map piece_of ys) ++ map (Room n) counts) r
 
   -- the peer was lost in reading
-  pub exchanged_lost : (old : Option (List DoorCall)) (told : List DoorCall) (new : Held) → IsReadFrom buses events keys n peer old told new core_old false → IsExchanged buses events keys n peer old told new core_old false
+  pub exchanged_lost : (old : Option (List DoorCall)) (told : List DoorCall) (new : Held)
+      → IsReadFrom buses events keys n peer old told new core_old false → IsExchanged buses events keys n peer old told new core_old false
   exchanged_lost old told new r =
       let calls : List Call = read_calls peer r.read in
       let lost : list_any loses calls ≡ true = reads_loses peer r.read ∙ r.stays_is in
-      let no_rooms : rooms calls ≡ [] = ap (λ counts. counts ++ last_room (lent_none_last calls)) (reads_count peer r.read) ∙ ap (λ t. last_room (not t && (not (list_any falls_short calls) && nat_lt (count_by is_write calls) 300))) lost in
-      let same : exchange n calls ≡ map (Bytes n) (filter_map piece_of calls) = ap (λ counts. map (Bytes n) (filter_map piece_of calls) ++ map (Room n) counts) no_rooms ∙ append-nil (map (Bytes n) (filter_map piece_of calls)) in
+      let no_rooms : rooms calls ≡ [] =
+      ap (λ counts. counts ++ last_room (lent_none_last calls)) (reads_count peer r.read)
+      ∙ ap (λ t. last_room (not t && (not (list_any falls_short calls) && nat_lt (count_by is_write calls) 300))) lost in
+      let same : exchange n calls ≡ map (Bytes n) (filter_map piece_of calls) =
+      ap (λ counts. map (Bytes n) (filter_map piece_of calls) ++ map (Room n) counts) no_rooms
+      ∙ append-nil (map (Bytes n) (filter_map piece_of calls)) in
       record {
         calls = calls;
         adds = r.adds;
@@ -143,41 +161,63 @@ module _ (buses : List Bus) (events : List Event) (keys : List (Option ℕ)) (n 
         asked_for = subst (λ (more : List Event). CountsAsked buses events (events ++ more) core_old new) (sym same) r.asked_for;
         own = reads_about peer r.read;
         quiet = reads_close peer r.read;
-        asked = r.asked ∙ sym (append-nil (reads_of buses events seat)) ∙ ap (λ t. reads_of buses events seat ++ handed_by t (filter_map piece_of calls) (filter_map count_of calls)) (sym r.stays_is);
+        asked =
+            r.asked ∙ sym (append-nil (reads_of buses events seat))
+            ∙ ap (λ t. reads_of buses events seat ++ handed_by t (filter_map piece_of calls) (filter_map count_of calls))
+            (sym r.stays_is);
         loses_is = lost;
         stands = subst (λ (more : List Event). StandsFor buses keys new (course buses (events ++ more))) (sym same) r.stands;
       }
 
   -- it was written to after the read
-  pub exchanged : (old told_mid : Option (List DoorCall)) (mid told : List DoorCall) (between new : Held) (stays : Bool) → told_mid ≡ Some mid → new.denied ≡ between.denied → (r : IsReadFrom buses events keys n peer old mid between core_old true)
-      → IsWrittenTo buses (events ++ map (Bytes n) (filter_map piece_of (read_calls peer r.read))) keys n peer told_mid told new stays → IsExchanged buses events keys n peer old told new core_old stays
+  pub exchanged : (old told_mid : Option (List DoorCall)) (mid told : List DoorCall) (between new : Held) (stays : Bool)
+      → told_mid ≡ Some mid → new.denied ≡ between.denied → (r : IsReadFrom buses events keys n peer old mid between core_old true)
+      → IsWrittenTo buses (events ++ map (Bytes n) (filter_map piece_of (read_calls peer r.read))) keys n peer told_mid told new stays
+      → IsExchanged buses events keys n peer old told new core_old stays
   exchanged old told_mid mid told between new stays is same r w =
       let reads : List Call = read_calls peer r.read in
       let calls : List Call = reads ++ w.calls in
-      let pieces : filter_map piece_of calls ≡ filter_map piece_of reads = filter_map-append piece_of reads w.calls ∙ ap (λ more. filter_map piece_of reads ++ more) (writes_pieces peer w.calls w.own) ∙ append-nil (filter_map piece_of reads) in
-      let counts : filter_map count_of calls ≡ filter_map count_of w.calls = filter_map-append count_of reads w.calls ∙ ap (λ front. front ++ filter_map count_of w.calls) (reads_count peer r.read) in
-      let reading : list_any loses_reading calls ≡ false = any_second loses_reading reads w.calls r.stays_is ∙ writes_reading peer w.calls w.own in
+      let pieces : filter_map piece_of calls ≡ filter_map piece_of reads =
+      filter_map-append piece_of reads w.calls ∙ ap (λ more. filter_map piece_of reads ++ more) (writes_pieces peer w.calls w.own)
+      ∙ append-nil (filter_map piece_of reads) in
+      let counts : filter_map count_of calls ≡ filter_map count_of w.calls =
+      filter_map-append count_of reads w.calls ∙ ap (λ front. front ++ filter_map count_of w.calls) (reads_count peer r.read) in
+      let reading : list_any loses_reading calls ≡ false =
+      any_second loses_reading reads w.calls r.stays_is ∙ writes_reading peer w.calls w.own in
       let losing : list_any loses calls ≡ list_any loses w.calls = any_second loses reads w.calls (reads_loses peer r.read ∙ r.stays_is) in
-      let short : list_any falls_short calls ≡ list_any falls_short w.calls = any_second falls_short reads w.calls (reads_short peer r.read) in
-      let many : count_by is_write calls ≡ count_by is_write w.calls = count_append reads w.calls ∙ ap (λ k. k + count_by is_write w.calls) (reads_writes peer r.read) ∙ none_more (count_by is_write w.calls) in
+      let short : list_any falls_short calls ≡ list_any falls_short w.calls =
+      any_second falls_short reads w.calls (reads_short peer r.read) in
+      let many : count_by is_write calls ≡ count_by is_write w.calls =
+      count_append reads w.calls ∙ ap (λ k. k + count_by is_write w.calls) (reads_writes peer r.read)
+      ∙ none_more (count_by is_write w.calls) in
       let rooms_same : rooms calls ≡ rooms w.calls = same_rooms calls w.calls counts losing short many in
       let read : List Event = map (Bytes n) (filter_map piece_of reads) in
-      let more : exchange n calls ≡ read ++ map (Room n) (rooms w.calls) = ap (λ ps. map (Bytes n) ps ++ map (Room n) (rooms calls)) pieces ∙ ap (λ counts. read ++ map (Room n) counts) rooms_same in
-      let asks : writes_of buses events calls seat ≡ map (Writes peer) (take 300 (handed buses n (events ++ read) (filter_map count_of w.calls))) =
-      ap (λ t. handed_by t (filter_map piece_of calls) (filter_map count_of calls)) reading ∙ ap (λ ps. handed_by false ps (filter_map count_of calls)) pieces ∙ ap (λ cs. handed_by false (filter_map piece_of reads) cs) counts in
+      let more : exchange n calls ≡ read ++ map (Room n) (rooms w.calls) =
+      ap (λ ps. map (Bytes n) ps ++ map (Room n) (rooms calls)) pieces ∙ ap (λ counts. read ++ map (Room n) counts) rooms_same in
+      let asks : writes_of buses events calls seat
+      ≡ map (Writes peer) (take 300 (handed buses n (events ++ read) (filter_map count_of w.calls))) =
+      ap (λ t. handed_by t (filter_map piece_of calls) (filter_map count_of calls)) reading
+      ∙ ap (λ ps. handed_by false ps (filter_map count_of calls)) pieces
+      ∙ ap (λ cs. handed_by false (filter_map piece_of reads) cs) counts in
       record {
         calls = calls;
         adds = given_then old told_mid mid told reads w.calls is r.adds w.adds;
-        counted = refusals_then core_old between new reads w.calls r.counted (same ∙ ap (denied_by between.denied) (sym (writes_answers peer w.calls w.own)));
+        counted =
+            refusals_then core_old between new reads w.calls r.counted
+            (same ∙ ap (denied_by between.denied) (sym (writes_answers peer w.calls w.own)));
         asked_for = subst (λ (all : List Event). CountsAsked buses events all core_old new)
             (append_assoc events read (map (Room n) (rooms w.calls)) ∙ ap (λ all. events ++ all) (sym more))
             (asked_then buses events (events ++ read) ((events ++ read) ++ map (Room n) (rooms w.calls)) core_old between new r.asked_for
             (asked_rooms buses n (rooms w.calls) (events ++ read) between new same));
         own = about_append peer reads w.calls (reads_about peer r.read) (writes_about peer w.calls w.own);
         quiet = any_second is_close reads w.calls (reads_close peer r.read) ∙ writes_close peer w.calls w.own;
-        asked = map-append question reads w.calls ∙ ap (λ qs. qs ++ map question w.calls) r.asked ∙ ap (λ qs. reads_of buses events seat ++ qs) (w.asked ∙ sym asks);
+        asked =
+            map-append question reads w.calls ∙ ap (λ qs. qs ++ map question w.calls) r.asked
+            ∙ ap (λ qs. reads_of buses events seat ++ qs) (w.asked ∙ sym asks);
         loses_is = losing ∙ writes_loses peer w.calls w.own ∙ w.stays_is;
-        stands = subst (λ (all : List Event). StandsFor buses keys new (course buses all)) (append_assoc events read (map (Room n) (rooms w.calls)) ∙ ap (λ all. events ++ all) (sym more)) w.stands;
+        stands =
+            subst (λ (all : List Event). StandsFor buses keys new (course buses all))
+            (append_assoc events read (map (Room n) (rooms w.calls)) ∙ ap (λ all. events ++ all) (sym more)) w.stands;
       }
     where
       none_more : (k : ℕ) → 0 + k ≡ k
@@ -190,44 +230,60 @@ module _ (buses : List Bus) (events : List Event) (keys : List (Option ℕ)) (n 
   shutting b = if b then Shut n ∷ [] else []
 
   -- it keeps its place
-  pub visited_stays : (old : Option (List DoorCall)) (told : List DoorCall) (new : Held) → (x : IsExchanged buses events keys n peer old told new core_old true) → is_closing buses n (events ++ exchange n x.calls) ≡ false → IsVisited buses events keys n peer old told new core_old true
+  pub visited_stays : (old : Option (List DoorCall)) (told : List DoorCall) (new : Held)
+      → (x : IsExchanged buses events keys n peer old told new core_old true) → is_closing buses n (events ++ exchange n x.calls) ≡ false
+      → IsVisited buses events keys n peer old told new core_old true
   visited_stays old told new x open_still =
       let mine : visit x.calls seat ≡ x.calls = own_calls peer x.calls x.own in
       let more : visit_events x.calls seat ≡ exchange n x.calls =
-      ap (λ calls. exchange n calls ++ shutting (list_any is_close calls)) mine ∙ ap (λ t. exchange n x.calls ++ shutting t) x.quiet ∙ append-nil (exchange n x.calls) in
-      let none : closes_of buses events x.calls seat ≡ [] = ap (λ t. ending (t || is_closing buses n (events ++ exchange n x.calls))) x.loses_is ∙ ap ending open_still in
+      ap (λ calls. exchange n calls ++ shutting (list_any is_close calls)) mine ∙ ap (λ t. exchange n x.calls ++ shutting t) x.quiet
+      ∙ append-nil (exchange n x.calls) in
+      let none : closes_of buses events x.calls seat ≡ [] =
+      ap (λ t. ending (t || is_closing buses n (events ++ exchange n x.calls))) x.loses_is ∙ ap ending open_still in
       record {
         calls = x.calls;
         adds = x.adds;
         counted = x.counted;
         asked_for = subst (λ (all : List Event). CountsAsked buses events (events ++ all) core_old new) (sym more) x.asked_for;
         own = x.own;
-        asked = x.asked ∙ sym (append-nil (reads_of buses events seat ++ writes_of buses events x.calls seat)) ∙ ap (λ qs. (reads_of buses events seat ++ writes_of buses events x.calls seat) ++ qs) (sym none);
+        asked =
+            x.asked ∙ sym (append-nil (reads_of buses events seat ++ writes_of buses events x.calls seat))
+            ∙ ap (λ qs. (reads_of buses events seat ++ writes_of buses events x.calls seat) ++ qs) (sym none);
         closes = x.quiet;
         stands = subst (λ (all : List Event). StandsFor buses keys new (course buses (events ++ all))) (sym more) x.stands;
       }
 
   -- it is let go
-  pub visited_goes : (old told_mid : Option (List DoorCall)) (mid told : List DoorCall) (between new : Held) (value : Bool) → told_mid ≡ Some mid → new.denied ≡ between.denied → (x : IsExchanged buses events keys n peer old mid between core_old value)
-      → list_any loses x.calls || is_closing buses n (events ++ exchange n x.calls) ≡ true → IsLetGo buses (events ++ exchange n x.calls) keys n peer told_mid told new → IsVisited buses events keys n peer old told new core_old false
+  pub visited_goes : (old told_mid : Option (List DoorCall)) (mid told : List DoorCall) (between new : Held) (value : Bool)
+      → told_mid ≡ Some mid → new.denied ≡ between.denied → (x : IsExchanged buses events keys n peer old mid between core_old value)
+      → list_any loses x.calls || is_closing buses n (events ++ exchange n x.calls) ≡ true
+      → IsLetGo buses (events ++ exchange n x.calls) keys n peer told_mid told new
+      → IsVisited buses events keys n peer old told new core_old false
   visited_goes old told_mid mid told between new value is same x ends g =
       let last : Call = CloseCall peer g.closed.answer in
       let calls : List Call = x.calls ++ last ∷ [] in
-      let pieces : filter_map piece_of calls ≡ filter_map piece_of x.calls = filter_map-append piece_of x.calls (last ∷ []) ∙ append-nil (filter_map piece_of x.calls) in
-      let counts : filter_map count_of calls ≡ filter_map count_of x.calls = filter_map-append count_of x.calls (last ∷ []) ∙ append-nil (filter_map count_of x.calls) in
+      let pieces : filter_map piece_of calls ≡ filter_map piece_of x.calls =
+      filter_map-append piece_of x.calls (last ∷ []) ∙ append-nil (filter_map piece_of x.calls) in
+      let counts : filter_map count_of calls ≡ filter_map count_of x.calls =
+      filter_map-append count_of x.calls (last ∷ []) ∙ append-nil (filter_map count_of x.calls) in
       let reading : list_any loses_reading calls ≡ list_any loses_reading x.calls = any_first loses_reading x.calls (last ∷ []) refl in
       let losing : list_any loses calls ≡ list_any loses x.calls = any_first loses x.calls (last ∷ []) refl in
       let short : list_any falls_short calls ≡ list_any falls_short x.calls = any_first falls_short x.calls (last ∷ []) refl in
-      let many : count_by is_write calls ≡ count_by is_write x.calls = count_append x.calls (last ∷ []) ∙ no_more (count_by is_write x.calls) in
-      let swap : exchange n calls ≡ exchange n x.calls = same_exchange calls x.calls pieces (same_rooms calls x.calls counts losing short many) in
-      let writes : writes_of buses events calls seat ≡ writes_of buses events x.calls seat = same_writes calls x.calls reading pieces counts in
+      let many : count_by is_write calls ≡ count_by is_write x.calls =
+      count_append x.calls (last ∷ []) ∙ no_more (count_by is_write x.calls) in
+      let swap : exchange n calls ≡ exchange n x.calls =
+      same_exchange calls x.calls pieces (same_rooms calls x.calls counts losing short many) in
+      let writes : writes_of buses events calls seat ≡ writes_of buses events x.calls seat =
+      same_writes calls x.calls reading pieces counts in
       let own : AreAbout peer calls = about_append peer x.calls (last ∷ []) x.own (same_peer peer, tt) in
       let closing : list_any is_close calls ≡ true = any_second is_close x.calls (last ∷ []) x.quiet in
       let mine : visit calls seat ≡ calls = own_calls peer calls own in
       let more : visit_events calls seat ≡ exchange n x.calls ++ Shut n ∷ [] =
-      ap (λ all. exchange n all ++ shutting (list_any is_close all)) mine ∙ ap (λ t. exchange n calls ++ shutting t) closing ∙ ap (λ all. all ++ Shut n ∷ []) swap in
+      ap (λ all. exchange n all ++ shutting (list_any is_close all)) mine ∙ ap (λ t. exchange n calls ++ shutting t) closing
+      ∙ ap (λ all. all ++ Shut n ∷ []) swap in
       let asks : closes_of buses events calls seat ≡ ClosesQuestion peer ∷ [] =
-      ap (λ t. ending (t || is_closing buses n (events ++ exchange n calls))) losing ∙ ap (λ all. ending (list_any loses x.calls || is_closing buses n (events ++ all))) swap ∙ ap ending ends in
+      ap (λ t. ending (t || is_closing buses n (events ++ exchange n calls))) losing
+      ∙ ap (λ all. ending (list_any loses x.calls || is_closing buses n (events ++ all))) swap ∙ ap ending ends in
       record {
         calls = calls;
         adds = given_then old told_mid mid told x.calls (last ∷ []) is x.adds g.closed.adds;
@@ -238,9 +294,14 @@ module _ (buses : List Bus) (events : List Event) (keys : List (Option ℕ)) (n 
             ((events ++ exchange n x.calls) ++ Shut n ∷ []) core_old between new x.asked_for
             (asked_one buses (events ++ exchange n x.calls) (Shut n) between new same));
         own = own;
-        asked = map-append question x.calls (last ∷ []) ∙ ap (λ qs. qs ++ ClosesQuestion peer ∷ []) (x.asked ∙ ap (λ qs. reads_of buses events seat ++ qs) (sym writes)) ∙ ap (λ qs. (reads_of buses events seat ++ writes_of buses events calls seat) ++ qs) (sym asks);
+        asked =
+            map-append question x.calls (last ∷ [])
+            ∙ ap (λ qs. qs ++ ClosesQuestion peer ∷ []) (x.asked ∙ ap (λ qs. reads_of buses events seat ++ qs) (sym writes))
+            ∙ ap (λ qs. (reads_of buses events seat ++ writes_of buses events calls seat) ++ qs) (sym asks);
         closes = closing;
-        stands = subst (λ (all : List Event). StandsFor buses (without_key n keys) new (course buses all)) (append_assoc events (exchange n x.calls) (Shut n ∷ []) ∙ ap (λ all. events ++ all) (sym more)) g.stands;
+        stands =
+            subst (λ (all : List Event). StandsFor buses (without_key n keys) new (course buses all))
+            (append_assoc events (exchange n x.calls) (Shut n ∷ []) ∙ ap (λ all. events ++ all) (sym more)) g.stands;
       }
     where
       no_more : (k : ℕ) → k + 0 ≡ k
@@ -250,37 +311,49 @@ module _ (buses : List Bus) (events : List Event) (keys : List (Option ℕ)) (n 
 
 module _ (peer key : ℕ) (old mid : Held) (told_old told_mid : Option (List DoorCall)) where
   pub exchanges_lost : ReadsIn peer key old told_old mid told_mid false → Exchanges peer key old told_old mid told_mid false
-  exchanges_lost reads buses events keys n told s is = exchanged_lost buses events keys n peer old told_old told mid (reads buses events keys n told s is)
+  exchanges_lost reads buses events keys n told s is =
+      exchanged_lost buses events keys n peer old told_old told mid (reads buses events keys n told s is)
 
-  pub visit_stays : (closing : Bool) → Exchanges peer key old told_old mid told_mid true → closing ≡ is_last (finish_at key mid) → closing ≡ false → Visits peer key old told_old mid told_mid true
+  pub visit_stays : (closing : Bool) → Exchanges peer key old told_old mid told_mid true → closing ≡ is_last (finish_at key mid)
+      → closing ≡ false → Visits peer key old told_old mid told_mid true
   visit_stays closing exchanges says open_still buses events keys n told s is =
       let x = exchanges buses events keys n told s is in
-      visited_stays buses events keys n peer old told_old told mid x (sym (says ∙ calls_agree.closes key mid buses (events ++ exchange n x.calls) keys n s.layout s.named x.stands) ∙ open_still)
+      visited_stays buses events keys n peer old told_old told mid x
+      (sym (says ∙ calls_agree.closes key mid buses (events ++ exchange n x.calls) keys n s.layout s.named x.stands) ∙ open_still)
 
   module _ (new : Held) (told_new : Option (List DoorCall)) (same : new.denied ≡ mid.denied) (asks : AsksPeers told_mid told_new) where
-    pub exchanges_on : (stays : Bool) → ReadsIn peer key old told_old mid told_mid true → WritesOut peer key mid told_mid new told_new stays → Exchanges peer key old told_old new told_new stays
+    pub exchanges_on : (stays : Bool) → ReadsIn peer key old told_old mid told_mid true → WritesOut peer key mid told_mid new told_new stays
+        → Exchanges peer key old told_old new told_new stays
     exchanges_on stays reads writes buses events keys n told s is =
         let w = (asks told is).adds in
         let r = reads buses events keys n w.before s w.was in
         exchanged buses events keys n peer old told_old told_mid w.before told mid new stays w.was same r
-        (writes buses (events ++ map (Bytes n) (filter_map piece_of (read_calls peer r.read))) keys n told (record { layout = s.layout; named = s.named; stands = r.stands }) is)
+        (writes buses (events ++ map (Bytes n) (filter_map piece_of (read_calls peer r.read))) keys n told
+        (record { layout = s.layout; named = s.named; stands = r.stands }) is)
 
     module _ (goes : LetsGo peer key mid told_mid new told_new) where
       pub visit_lost : Exchanges peer key old told_old mid told_mid false → Visits peer key old told_old new told_new false
       visit_lost exchanges buses events keys n told s is =
           let w = (asks told is).adds in
           let x = exchanges buses events keys n w.before s w.was in
-          visited_goes buses events keys n peer old told_old told_mid w.before told mid new false w.was same x (ap (λ t. t || is_closing buses n (events ++ exchange n x.calls)) x.loses_is)
+          visited_goes buses events keys n peer old told_old told_mid w.before told mid new false w.was same x
+          (ap (λ t. t || is_closing buses n (events ++ exchange n x.calls)) x.loses_is)
           (goes buses (events ++ exchange n x.calls) keys n told (record { layout = s.layout; named = s.named; stands = x.stands }) is)
 
-      pub visit_closed : (closing : Bool) → Exchanges peer key old told_old mid told_mid true → closing ≡ is_last (finish_at key mid) → closing ≡ true → Visits peer key old told_old new told_new false
+      pub visit_closed : (closing : Bool) → Exchanges peer key old told_old mid told_mid true → closing ≡ is_last (finish_at key mid)
+          → closing ≡ true → Visits peer key old told_old new told_new false
       visit_closed closing exchanges says ends buses events keys n told s is =
           let w = (asks told is).adds in
           let x = exchanges buses events keys n w.before s w.was in
           visited_goes buses events keys n peer old told_old told_mid w.before told mid new true w.was same x
-          (ap (λ t. t || is_closing buses n (events ++ exchange n x.calls)) x.loses_is ∙ sym (says ∙ calls_agree.closes key mid buses (events ++ exchange n x.calls) keys n s.layout s.named x.stands) ∙ ends)
+          (ap (λ t. t || is_closing buses n (events ++ exchange n x.calls)) x.loses_is
+          ∙ sym (says ∙ calls_agree.closes key mid buses (events ++ exchange n x.calls) keys n s.layout s.named x.stands) ∙ ends)
           (goes buses (events ++ exchange n x.calls) keys n told (record { layout = s.layout; named = s.named; stands = x.stands }) is)
 
 -- the connection is shut and the peer let go
-pub lets_go : (peer key : ℕ) (old new : Held) (told_old told_new : Option (List DoorCall)) → new ≡ hung_up key old → Closes peer told_old told_new → LetsGo peer key old told_old new told_new
-lets_go peer key old new told_old told_new hung closes buses events keys n told s is = record { closed = closes told is; stands = calls_lead.shut key old new hung buses events keys n s.layout s.named s.stands }
+pub lets_go : (peer key : ℕ) (old new : Held) (told_old told_new : Option (List DoorCall)) → new ≡ hung_up key old
+    → Closes peer told_old told_new → LetsGo peer key old told_old new told_new
+lets_go peer key old new told_old told_new hung closes buses events keys n told s is = record {
+  closed = closes told is;
+  stands = calls_lead.shut key old new hung buses events keys n s.layout s.named s.stands;
+}

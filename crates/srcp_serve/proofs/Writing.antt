@@ -1,5 +1,6 @@
 -- One write of a visit: what is lent, and what is taken of it.
-use Rattle.std.proofs.Common.{◌≡◌, ◌∙◌, ℕ, suc, ◌<◌, ◌≤◌, true, false, ◌==◌, List, [], ◌∷◌, length, Option, None, IsSome, Ok, Err, inl, inr, ap, sym, subst, arith, refl}
+use Rattle.std.proofs.Common.{◌≡◌, ◌∙◌, ℕ, suc, ◌<◌, ◌≤◌, true, false, ◌==◌, List, [], ◌∷◌, length, Option, None, IsSome, Ok, Err, inl, inr}
+use Rattle.std.proofs.Common.{ap, sym, subst, arith, refl}
 use Rattle.std.proofs.lemmas.Bool.Decides.{nat_tests}
 use Rattle.srcp_core.specs.Agrees.{OfConnection}
 use Rattle.srcp_core.specs.Held.{Held, Place, at}
@@ -42,9 +43,11 @@ module _ (peer key : ℕ) (old : Held) (told_old : Option (List Call)) where
   lent_is bytes lends buses events keys n layout named s = lends ∙ calls_agree.lends key old buses events keys n layout named s
 
   -- there is no connection at the key
-  pub wrote_absent : (new : Held) (told_new : Option (List Call)) (wrote : Wrote) → at old key ≡ None → WritesOnce peer key old told_old new told_new wrote
+  pub wrote_absent : (new : Held) (told_new : Option (List Call)) (wrote : Wrote) → at old key ≡ None
+      → WritesOnce peer key old told_old new told_new wrote
   wrote_absent new told_new wrote gone buses events keys n told s is =
-      absurd (none_there (subst (λ (o : Option Place). IsSome o) gone (calls_agree.there key old buses events keys n s.layout s.named s.stands)))
+      absurd (none_there
+      (subst (λ (o : Option Place). IsSome o) gone (calls_agree.there key old buses events keys n s.layout s.named s.stands)))
     where
       none_there : IsSome {T = Place} None → ⊥
       none_there e = cc
@@ -61,23 +64,30 @@ module _ (peer key : ℕ) (old : Held) (told_old : Option (List Call)) where
           stands = asked buses events keys n s.layout s.named s.stands;
         })
 
-    pub wrote_failed : (bytes : List ℕ) (fault : DoorFault) (told_new : Option (List Call)) → Lends bytes → Tells told_old (WriteCall peer bytes (Err fault)) told_new → (length bytes == 0) ≡ false → WritesOnce peer key old told_old mid told_new Failed
+    pub wrote_failed : (bytes : List ℕ) (fault : DoorFault) (told_new : Option (List Call)) → Lends bytes
+        → Tells told_old (WriteCall peer bytes (Err fault)) told_new → (length bytes == 0) ≡ false
+        → WritesOnce peer key old told_old mid told_new Failed
     wrote_failed bytes fault told_new lends tells some buses events keys n told s named =
         let lent_bytes = lent_is bytes lends buses events keys n s.layout s.named s.stands in
         record {
           fault = fault;
-          adds = subst (λ (xs : List ℕ). Adds told_old told (WriteCall peer xs (Err fault) ∷ [])) lent_bytes (adds_one (WriteCall peer bytes (Err fault)) told_old told_new told tells named);
+          adds =
+              subst (λ (xs : List ℕ). Adds told_old told (WriteCall peer xs (Err fault) ∷ [])) lent_bytes
+              (adds_one (WriteCall peer bytes (Err fault)) told_old told_new told tells named);
           some = subst (λ (xs : List ℕ). 0 < length xs) lent_bytes (some_of bytes some);
           stands = asked buses events keys n s.layout s.named s.stands;
         }
 
-  module _ (bytes : List ℕ) (count : ℕ) (new : Held) (told_new : Option (List Call)) (lends : Lends bytes) (sends : LeadsAt key (λ n. Room n count) old new) (tells : Tells told_old (WriteCall peer bytes (Ok count)) told_new) where
+  module _ (bytes : List ℕ) (count : ℕ) (new : Held) (told_new : Option (List Call)) (lends : Lends bytes)
+      (sends : LeadsAt key (λ n. Room n count) old new) (tells : Tells told_old (WriteCall peer bytes (Ok count)) told_new) where
     pub wrote_less : count < length bytes → WritesOnce peer key old told_old new told_new Less
     wrote_less few buses events keys n told s named =
         let lent_bytes = lent_is bytes lends buses events keys n s.layout s.named s.stands in
         inr (record {
           count = count;
-          adds = subst (λ (xs : List ℕ). Adds told_old told (WriteCall peer xs (Ok count) ∷ [])) lent_bytes (adds_one (WriteCall peer bytes (Ok count)) told_old told_new told tells named);
+          adds =
+              subst (λ (xs : List ℕ). Adds told_old told (WriteCall peer xs (Ok count) ∷ [])) lent_bytes
+              (adds_one (WriteCall peer bytes (Ok count)) told_old told_new told tells named);
           short = subst (λ (xs : List ℕ). count < length xs) lent_bytes few;
           stands = sends buses events keys n s.layout s.named s.stands;
         })
@@ -87,7 +97,9 @@ module _ (peer key : ℕ) (old : Held) (told_old : Option (List Call)) where
         let lent_bytes = lent_is bytes lends buses events keys n s.layout s.named s.stands in
         record {
           count = count;
-          adds = subst (λ (xs : List ℕ). Adds told_old told (WriteCall peer xs (Ok count) ∷ [])) lent_bytes (adds_one (WriteCall peer bytes (Ok count)) told_old told_new told tells named);
+          adds =
+              subst (λ (xs : List ℕ). Adds told_old told (WriteCall peer xs (Ok count) ∷ [])) lent_bytes
+              (adds_one (WriteCall peer bytes (Ok count)) told_old told_new told tells named);
           all = subst (λ (xs : List ℕ). count ≡ length xs) lent_bytes full;
           some = subst (λ (k : ℕ). 0 < k) (sym full) (some_of bytes some);
           stands = sends buses events keys n s.layout s.named s.stands;

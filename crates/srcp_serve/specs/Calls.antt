@@ -1,5 +1,6 @@
 -- What a door is asked, and what it answers.
-use Rattle.std.specs.Prelude.{⊤, ◌≡◌, ℕ, ◌+◌, ◌<◌, ◌≤◌, ◌==◌, Bool, true, false, not, if◌then◌else◌, min, List, [], ◌∷◌, ◌++◌, length, filter_map, Option, Some, None, IfSome, Result, Ok}
+use Rattle.std.specs.Prelude.{⊤, ◌≡◌, ℕ, ◌+◌, ◌<◌, ◌≤◌, ◌==◌, Bool, true, false, not, if◌then◌else◌, min, List, [], ◌∷◌}
+use Rattle.std.specs.Prelude.{◌++◌, length, filter_map, Option, Some, None, IfSome, Result, Ok}
 use Rattle.std.specs.List.{take_while, IsDistinct}
 use Rattle.srcp_serve.specs.declared.door.DoorFault.{DoorFault}
 use Rattle.srcp_serve.specs.declared.door.Got.{Got}
@@ -43,7 +44,8 @@ is_expect other = false
 -- the parts of a list, each from where one begins on
 abbrev pub parts : {X : Type 0} → (X → Bool) → List X → List (List X)
 parts begins [] = []
-parts begins (x ∷ xs) = if begins x then (x ∷ take_while (λ next. not (begins next)) xs) ∷ parts begins xs else parts begins xs
+parts begins (x ∷ xs) =
+    if begins x then (x ∷ take_while (λ next. not (begins next)) xs) ∷ parts begins xs else parts begins xs
 
 -- the calls of each turn, which begins where the door is told what to expect
 abbrev pub turns : List Call → List (List Call)

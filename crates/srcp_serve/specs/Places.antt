@@ -1,5 +1,7 @@
 -- How the places of a server stand for the course, and what a turn does to them, function by function.
-use Rattle.std.specs.Prelude.{Bool, ⊤, ◌≡◌, ◌⊎◌, ℕ, ◌+◌, ◌≤◌, drop, slice_set, true, false, ◌==◌, if◌then◌else◌, List, [], ◌∷◌, ◌++◌, map, length, filter_map, flat_map, fold, count_by, is_some, Option, Some, None, Result, Ok}
+use Rattle.std.specs.Prelude.{Bool, ⊤, ◌≡◌, ◌⊎◌, ℕ, ◌+◌, ◌≤◌, drop, slice_set, true, false, ◌==◌, if◌then◌else◌, List}
+use Rattle.std.specs.Prelude.{[], ◌∷◌, ◌++◌, map, length, filter_map, flat_map, fold, count_by, is_some, Option, Some}
+use Rattle.std.specs.Prelude.{None, Result, Ok}
 use Rattle.std.specs.List.{list_all, list_any, AllByRecursion}
 use Rattle.srcp_rules.specs.Layout.{IsLayout}
 use Rattle.srcp_rules.specs.declared.layout.Bus.{Bus}
@@ -10,7 +12,9 @@ use Rattle.srcp_core.specs.Stands.{StandsFor}
 use Rattle.srcp_core.specs.Under.{Event}
 use Rattle.srcp_serve.specs.Calls.{Call as DoorCall, Adds, PeersDiffer, peer_of}
 use Rattle.srcp_serve.specs.Given.{Guest, Call, ExpectCall, NowCall, AcceptCall, CountsRefusals, told_call}
-use Rattle.srcp_serve.specs.Serving.{Seat, Stand, Question, Expects, expects, IsServed, question, newcomer_of, is_about, is_close, visit_events, visit_asks, timed, turned, turn_asks, turns_away, welcomed, stand_after, events_of, SendsWhatIsTaken}
+use Rattle.srcp_serve.specs.Serving.{Seat, Stand, Question, Expects, expects, IsServed, question, newcomer_of, is_about}
+use Rattle.srcp_serve.specs.Serving.{is_close, visit_events, visit_asks, timed, turned, turn_asks, turns_away, welcomed}
+use Rattle.srcp_serve.specs.Serving.{stand_after, events_of, SendsWhatIsTaken}
 use Rattle.srcp_serve.specs.Turns.{is_of_peer}
 use Rattle.srcp_serve.specs.Visits.{AddsGiven, AreAbout, CountsAsked}
 use Rattle.srcp_serve.specs.declared.door.DoorFault.{DoorFault}
@@ -41,7 +45,8 @@ made_by visits = flat_map (λ v. visit_events v.1 v.0) visits
 -- what the visits ask, one after another
 abbrev pub asked_by : List Bus → List Event → List Visit → List Question
 asked_by buses events [] = []
-asked_by buses events (v ∷ visits) = visit_asks buses events v.1 v.0 ++ asked_by buses (events ++ visit_events v.1 v.0) visits
+asked_by buses events (v ∷ visits) =
+    visit_asks buses events v.1 v.0 ++ asked_by buses (events ++ visit_events v.1 v.0) visits
 
 -- each visit is about its own peer
 abbrev pub AreOwn : List Visit → Type 0
@@ -208,7 +213,8 @@ module _ (buses : List Bus) (stand : Stand) (old : Option (List DoorCall)) (told
       pub asked_for : CountsAsked buses stand.events (turned buses stand calls).events core_old held
       pub turn : IsTurnGiven calls
       pub asked : map question calls ≡ turn_asks buses stand calls
-      pub known : AllByRecursion (IsOneOf (peers ++ filter_map peer_of (map told_call calls))) (turned buses stand calls).places
+      pub known : AllByRecursion (IsOneOf (peers ++ filter_map peer_of (map told_call calls)))
+          (turned buses stand calls).places
       pub hosting : IsHosting buses (turned buses stand calls) keys held owns
       pub opened : length (turned buses stand calls).guests ≡ length stand.guests + one_if opens
 
@@ -236,7 +242,8 @@ SeatsPeer peer old told_old owns_old new told_new owns_new opens = HostsOn
 abbrev pub LetsIn : (old : Held) (told_old : Option (List DoorCall)) (owns_old : List (Option Own))
     (new : Held) (told_new : Option (List DoorCall)) (owns_new : List (Option Own)) (opens : Bool) → Type 0
 LetsIn old told_old owns_old new told_new owns_new opens = HostsOn
-    (λ buses stand keys told. (peers : List ℕ) (calls : List DoorCall) → Adds told_old told calls → PeersDiffer peers calls
+    (λ buses stand keys told. (peers : List ℕ) (calls : List DoorCall) → Adds told_old told calls
+    → PeersDiffer peers calls
     → AllByRecursion (IsOneOf peers) stand.places → IsBegun buses stand told_old told new owns_new old opens)
     old owns_old told_new
 
@@ -250,7 +257,8 @@ VisitsPlace place old told_old owns_old new told_new owns_new = HostsOn
     old owns_old told_new
 
 -- so many places were visited
-pub record AreVisitedSoFar (buses : List Bus) (stand : Stand) (old : Option (List DoorCall)) (told : List DoorCall) (held : Held)
+pub record AreVisitedSoFar (buses : List Bus) (stand : Stand) (old : Option (List DoorCall)) (told : List DoorCall)
+    (held : Held)
     (owns : List (Option Own)) (core_old : Held) (count : ℕ) : Type 0 where
   pub seats : List (Option Seat)
   pub ahead : List (Option Seat)
@@ -275,7 +283,8 @@ VisitsPlaces old told_old owns_old new told_new owns_new = HostsOn
 abbrev pub MakesTurn : (old : Held) (told_old : Option (List DoorCall)) (owns_old : List (Option Own))
     (new : Held) (told_new : Option (List DoorCall)) (owns_new : List (Option Own)) (opens : Bool) → Type 0
 MakesTurn old told_old owns_old new told_new owns_new opens = HostsOn
-    (λ buses stand keys told. (peers : List ℕ) (calls : List DoorCall) → Adds told_old told calls → PeersDiffer peers calls
+    (λ buses stand keys told. (peers : List ℕ) (calls : List DoorCall) → Adds told_old told calls
+    → PeersDiffer peers calls
     → AllByRecursion (IsOneOf peers) stand.places → IsTurnMade buses stand told_old told new owns_new old peers opens)
     old owns_old told_new
 
@@ -294,7 +303,7 @@ pub record IsServing (buses : List Bus) (count opens : ℕ) (told : List DoorCal
   pub hosting : IsHosting buses (stand_after buses calls) keys held owns
   pub opened : length (stand_after buses calls).guests ≡ opens
 
--- a core that stands for no events, over a door that told these calls after others, where no two of them let one peer in
+-- serving begins with a core without connections; the door keeps its calls, and accepts no peer twice
 abbrev pub Begins : (List Bus → List DoorCall → Type 0)
     → (old : Held) (told_old told_new : Option (List DoorCall)) → Type 0
 Begins So old told_old told_new = (buses : List Bus) (before calls : List DoorCall) → IsLayout buses
@@ -307,8 +316,8 @@ abbrev pub ServesSoFar : (count opens : ℕ) (old : Held) (told_old : Option (Li
 ServesSoFar count opens old told_old new told_new owns =
     Begins (λ buses calls. IsServing buses count opens calls old new owns) old told_old told_new
 
--- the calls are those of exactly so many turns, each write handed what the course leaves unsent; the core stands for the
--- events that the answers make; and what each connection was sent by them is to the byte what the door took of its peer
+-- the calls are exactly those of `count` turns, and each write is handed what the course leaves unsent; the core stands
+-- for the events of the calls; each connection was sent, to the byte, what its peer took
 pub record IsOfCourse (buses : List Bus) (count opens : ℕ) (told : List Call) (held : Held) : Type 0 where
   pub keys : List (Option ℕ)
   pub served : IsServed buses count told

@@ -2,7 +2,9 @@
 -- A turn asks for the moment, lets in one peer, and visits each peer that has a place, in the order of the places.
 -- What a reader gets: a peer is handed exactly what the course of these events leaves unsent of its connection. So
 -- what the door took of each peer is what that course says was sent: SentIsTaken, which `laws::sent_is_taken` ensures.
-use Rattle.std.specs.Prelude.{⊤, ◌≡◌, ℕ, ◌+◌, Bool, true, false, not, ◌&&◌, ◌||◌, ◌==◌, nat_lt, if◌then◌else◌, List, [], ◌∷◌, ◌++◌, map, take, length, filter, filter_map, flat_map, fold, count_by, replicate, Option, Some, None, is_none, option_map, Ok, Err}
+use Rattle.std.specs.Prelude.{⊤, ◌≡◌, ℕ, ◌+◌, Bool, true, false, not, ◌&&◌, ◌||◌, ◌==◌, nat_lt, if◌then◌else◌, List, []}
+use Rattle.std.specs.Prelude.{◌∷◌, ◌++◌, map, take, length, filter, filter_map, flat_map, fold, count_by, replicate}
+use Rattle.std.specs.Prelude.{Option, Some, None, is_none, option_map, Ok, Err}
 use Rattle.std.specs.List.{list_any, AllByRecursion}
 use Rattle.srcp_rules.specs.declared.layout.Bus.{Bus}
 use Rattle.srcp_core.specs.Agrees.{closes, lent as lent_in}
@@ -11,7 +13,8 @@ use Rattle.srcp_core.specs.Course.{course, fault}
 use Rattle.srcp_core.specs.Under.{Event, Piece, Open, Bytes, Room, At, Shut, giving}
 use Rattle.srcp_core.specs.Waits.{due_next, slack}
 use Rattle.srcp_serve.specs.Calls as door
-use Rattle.srcp_serve.specs.Given.{Guest, Call, told_call, ExpectCall, NowCall, AcceptCall, ReadCall, WriteCall, CloseCall}
+use Rattle.srcp_serve.specs.Given.{Guest, Call, told_call, ExpectCall, NowCall, AcceptCall, ReadCall, WriteCall}
+use Rattle.srcp_serve.specs.Given.{CloseCall}
 use Rattle.srcp_serve.specs.declared.door.Got.TheVariants as got
 
 -- ---- calls and their answers
@@ -28,7 +31,8 @@ newcomer_of other = None
 
 -- the bytes that were read
 abbrev pub piece_of : Call → Option Piece
-piece_of (ReadCall peer (Ok (got.Bytes count)) buffer grants) = Some (record { bytes = take count buffer; grants = grants })
+piece_of (ReadCall peer (Ok (got.Bytes count)) buffer grants) =
+    Some (record { bytes = take count buffer; grants = grants })
 piece_of other = None
 
 -- how many bytes a write took, none where it failed
@@ -152,7 +156,8 @@ kept calls (Some seat) = if list_any is_close (visit calls seat) then None else 
 
 -- the last time that the connection was asked for bytes it lent none: nothing had stopped the visit
 abbrev pub lent_none_last : List Call → Bool
-lent_none_last calls = not (list_any loses calls) && (not (list_any falls_short calls) && nat_lt (count_by is_write calls) 300)
+lent_none_last calls =
+    not (list_any loses calls) && (not (list_any falls_short calls) && nat_lt (count_by is_write calls) 300)
 
 -- room for what each write took, and for nothing where nothing was lent
 abbrev pub rooms : List Call → List ℕ
@@ -195,7 +200,9 @@ module _ (buses : List Bus) where
 
   -- after a peer that wants in
   abbrev pub welcomed : Stand → Guest → Stand
-  welcomed stand guest = if is_let_in stand.events guest.granted then let_in stand guest else record stand { events = stand.events ++ Open guest.granted ∷ [] }
+  welcomed stand guest = if is_let_in stand.events guest.granted then let_in stand guest else record stand {
+    events = stand.events ++ Open guest.granted ∷ [];
+  }
 
   -- after a moment
   abbrev pub with_moment : Stand → ℕ → Stand
@@ -255,12 +262,14 @@ module _ (buses : List Bus) where
   -- then what is handed over is written, at most 300 times
   abbrev pub writes_of : List Event → List Call → Seat → List Question
   writes_of events calls seat = if list_any loses_reading calls then [] else map (Writes seat.peer)
-      (take 300 (handed seat.conn (events ++ map (Bytes seat.conn) (filter_map piece_of calls)) (filter_map count_of calls)))
+      (take 300
+      (handed seat.conn (events ++ map (Bytes seat.conn) (filter_map piece_of calls)) (filter_map count_of calls)))
 
   -- then it is let go where it is lost or to be closed
   abbrev pub closes_of : List Event → List Call → Seat → List Question
   closes_of events calls seat =
-      if list_any loses calls || is_closing seat.conn (events ++ exchange seat.conn calls) then Closes seat.peer ∷ [] else []
+      if list_any loses calls || is_closing seat.conn (events ++ exchange seat.conn calls) then Closes seat.peer ∷ []
+      else []
 
   -- the whole visit
   abbrev pub visit_asks : List Event → List Call → Seat → List Question

@@ -1,5 +1,6 @@
 -- To be believed: how soon an information session whose peer takes all that it is handed has nothing more to get.
-use Rattle.std.specs.Prelude.{◌≡◌, ℕ, ◌+◌, ◌*◌, ◌≤◌, if◌then◌else◌, true, false, fold, List, [], ◌++◌, length, slice_get, Some}
+use Rattle.std.specs.Prelude.{◌≡◌, ℕ, ◌+◌, ◌*◌, ◌≤◌, if◌then◌else◌, true, false, fold, List, [], ◌++◌, length}
+use Rattle.std.specs.Prelude.{slice_get, Some}
 use Rattle.std.specs.List.{list_any, AllByRecursion}
 use Rattle.srcp_rules.specs.Layout.{IsLayout}
 use Rattle.srcp_rules.specs.declared.layout.Bus.{Bus}
@@ -9,7 +10,9 @@ use Rattle.srcp_core.specs.Under.{Event}
 use Rattle.srcp_core.specs.Waits.{IsPanel}
 use Rattle.srcp_serve.specs.Given.{Call}
 use Rattle.srcp_serve.specs.Pacing.{brought_in}
-use Rattle.srcp_serve.specs.Serving.{Seat, Stand, IsFair, IsServed, OfEachTurn, OfEachVisit, PeersDiffer, begun, empty_stand, events_of, falls_short, loses, seats, turned, turns, visit, visit_events}
+use Rattle.srcp_serve.specs.Serving.{Seat, Stand, IsFair, IsServed, OfEachTurn, OfEachVisit, PeersDiffer, begun}
+use Rattle.srcp_serve.specs.Serving.{empty_stand, events_of, falls_short, loses, seats, turned, turns, visit}
+use Rattle.srcp_serve.specs.Serving.{visit_events}
 
 -- the peer took all that it was handed in its visit of the turn, and was not lost
 pub record TakesAll (calls : List Call) (seat : Seat) : Type 0 where

@@ -2,7 +2,8 @@
 -- peers are asked.
 use Rattle.std.specs.Prelude.{◌≡◌, ℕ, Bool, true, false, List, [], ◌∷◌, length, flat_map, Option, Some, Result}
 use Rattle.std.specs.List.{list_all, AllByRecursion}
-use Rattle.srcp_serve.specs.Calls.{Call, ExpectCall, NowCall, AcceptCall, ReadCall, WriteCall, CloseCall, Adds, IsFair, turns}
+use Rattle.srcp_serve.specs.Calls.{Call, ExpectCall, NowCall, AcceptCall, ReadCall, WriteCall, CloseCall, Adds, IsFair}
+use Rattle.srcp_serve.specs.Calls.{turns}
 use Rattle.srcp_serve.specs.declared.door.DoorFault.{DoorFault}
 
 -- the call is about a peer

@@ -1,6 +1,7 @@
 -- What the calls of a visit tell and do, step by step: over a core that stands for the course of any events, with what
 -- memory answered.
-use Rattle.std.specs.Prelude.{◌≡◌, ℕ, ◌<◌, Bool, false, true, not, if◌then◌else◌, ◌⊎◌, List, [], ◌∷◌, ◌++◌, map, take, length, filter_map, Option, Some, None, Result, Ok, Err}
+use Rattle.std.specs.Prelude.{◌≡◌, ℕ, ◌<◌, Bool, false, true, not, if◌then◌else◌, ◌⊎◌, List, [], ◌∷◌, ◌++◌, map, take}
+use Rattle.std.specs.Prelude.{length, filter_map, Option, Some, None, Result, Ok, Err}
 use Rattle.std.specs.List.{list_any, AllByRecursion}
 use Rattle.srcp_rules.specs.Layout.{IsLayout}
 use Rattle.srcp_rules.specs.declared.layout.Bus.{Bus}
@@ -12,7 +13,9 @@ use Rattle.srcp_core.specs.Under.{Event, Bytes, Room, Shut}
 use Rattle.srcp_serve.specs.Calls.{Call as DoorCall, Adds}
 use Rattle.srcp_serve.specs.Calls as door
 use Rattle.srcp_serve.specs.Given.{Call, ReadCall, WriteCall, CountsRefusals, told_call}
-use Rattle.srcp_serve.specs.Serving.{Writes, question, piece_of, count_of, is_about, is_close, loses, loses_reading, loses_writing, rooms, exchange, lent, handed, reads_of, writes_of, visit_asks, visit_events}
+use Rattle.srcp_serve.specs.Serving.{Writes, question, piece_of, count_of, is_about, is_close, loses, loses_reading}
+use Rattle.srcp_serve.specs.Serving.{loses_writing, rooms, exchange, lent, handed, reads_of, writes_of, visit_asks}
+use Rattle.srcp_serve.specs.Serving.{visit_events}
 use Rattle.srcp_serve.specs.declared.door.DoorFault.{DoorFault}
 use Rattle.srcp_serve.specs.declared.door.Got.{Got}
 use Rattle.srcp_serve.specs.declared.serving.visit.Wrote.{Wrote}
@@ -36,7 +39,8 @@ Closes peer old new = (told : List DoorCall) → new ≡ Some told → IsClosed 
 -- ---- a peer that has a place
 
 -- the connection of that number is at that key of a core that stands for the course of the events
-pub record IsSeated (buses : List Bus) (events : List Event) (keys : List (Option ℕ)) (n key : ℕ) (held : Held) : Type 0 where
+pub record IsSeated (buses : List Bus) (events : List Event) (keys : List (Option ℕ)) (n key : ℕ)
+    (held : Held) : Type 0 where
   pub layout : IsLayout buses
   pub named : key_of n keys ≡ Some key
   pub stands : StandsFor buses keys held (course buses events)
@@ -82,7 +86,8 @@ module _ (buses : List Bus) (events : List Event) (keys : List (Option ℕ)) (n 
         (events ++ map (Bytes n) (filter_map piece_of (read_calls peer read))) core_old new
     pub asked : map question (read_calls peer read) ≡ reads_of buses events (record { peer = peer; conn = n })
     pub stays_is : list_any loses_reading (read_calls peer read) ≡ not stays
-    pub stands : StandsFor buses keys new (course buses (events ++ map (Bytes n) (filter_map piece_of (read_calls peer read))))
+    pub stands : StandsFor buses keys new
+        (course buses (events ++ map (Bytes n) (filter_map piece_of (read_calls peer read))))
 
   -- all that is lent was taken, and it was something
   pub record TookAll : Type 0 where
@@ -164,7 +169,8 @@ module _ (buses : List Bus) (events : List Event) (keys : List (Option ℕ)) (n 
 -- whatever the events were, so it is afterwards, where the door tells its calls
 abbrev pub Follows : (List Bus → List Event → List (Option ℕ) → ℕ → List DoorCall → Type 0)
     → (key : ℕ) (old : Held) (told_new : Option (List DoorCall)) → Type 0
-Follows So key old told_new = (buses : List Bus) (events : List Event) (keys : List (Option ℕ)) (n : ℕ) (told : List DoorCall)
+Follows So key old told_new =
+    (buses : List Bus) (events : List Event) (keys : List (Option ℕ)) (n : ℕ) (told : List DoorCall)
     → IsSeated buses events keys n key old → told_new ≡ Some told → So buses events keys n told
 
 -- it is read from, once at most

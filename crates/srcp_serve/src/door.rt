@@ -1,5 +1,6 @@
 ghost use Rattle.std.specs.Prelude.{◌≡◌, ℕ, ◌<◌, ◌≤◌, List, Option, None, length, OnOk, OnErr, IfOk, IfErr};
-ghost use Rattle.srcp_serve.specs.Calls.{Call, Tells, one_more, ExpectCall, NowCall, AcceptCall, ReadCall, WriteCall, CloseCall};
+ghost use Rattle.srcp_serve.specs.Calls.{Call, Tells, one_more, ExpectCall, NowCall, AcceptCall, ReadCall, WriteCall};
+ghost use Rattle.srcp_serve.specs.Calls.{CloseCall};
 
 /// Which call of a door failed.
 #[derive(Clone, Copy, Debug, PartialEq, Eq)]

@@ -6,7 +6,8 @@ ghost use Rattle.srcp_rules.specs.declared.layout.Bus.{Bus};
 ghost use Rattle.srcp_serve.specs.Given.{GivesUnlessCounted};
 ghost use Rattle.srcp_serve.specs.Serving.{SentIsTaken};
 ghost use Rattle.srcp_serve.specs.Settling.{SettlesSoon, WaitsAreGoneAfterAVisit};
-ghost use Rattle.srcp_serve.specs.Pacing.{LightServingSparesAll, LightTurnsSpare, PacedServingSparesAll, PacedTurnsSpare};
+ghost use Rattle.srcp_serve.specs.Pacing.{LightServingSparesAll, LightTurnsSpare, PacedServingSparesAll};
+ghost use Rattle.srcp_serve.specs.Pacing.{PacedTurnsSpare};
 
 /// What the door took of each peer is to the byte what the course of its answers says was sent to the
 /// peer's connection: wherever the calls are those of so many turns, no peer came in twice, and no

@@ -1,7 +1,7 @@
-//! Serving: what the server asks of the outside (`Door`), how it serves the peers of a door turn by turn (`serve`), and what
-//! holds of every list of calls of a door (`laws`).
+//! Serves the peers of a door: `Door` is what a server asks of the outside, `serve` serves its peers turn by turn, and
+//! `laws` says what holds of every list of calls of a door.
 //!
-//! It neither reads a configuration nor prints: `srcp_tool` does that. What the peers are answered is said in `srcp_core`.
+//! The crate reads no configuration and prints nothing: `srcp_tool` does. `srcp_core` says what the peers are answered.
 #![tactic(auto)]
 
 mod door;

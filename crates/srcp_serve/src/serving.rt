@@ -1,7 +1,8 @@
 //! Serving: what a server asks of its door in each turn, and what it makes of the answers.
 
 ghost use Rattle.std.specs.Prelude.{◌≡◌, ◌<◌, ◌≤◌, ◌+◌};
-ghost use Rattle.srcp_serve.specs.Places.{LetsIn, MakesTurn, MayFree, one_if, SeatsPeer, ServesCourse, TakesMoment, VisitsPlace, VisitsPlaces};
+ghost use Rattle.srcp_serve.specs.Places.{LetsIn, MakesTurn, MayFree, one_if, SeatsPeer, ServesCourse, TakesMoment};
+ghost use Rattle.srcp_serve.specs.Places.{VisitsPlace, VisitsPlaces};
 ghost use Rattle.srcp_serve.specs.Tally.{CountsFaults};
 ghost use Rattle.srcp_serve.specs.Turns.{AsksMoment, AsksNewcomer, AsksPeers, AsksTurn, AsksTurns};
 
@@ -112,8 +113,8 @@ fn visit_place<R: Rows, D: Door>(
     }
 }
 
-/// Takes the present moment; where the door fails to tell it, the core keeps the one before. The door is told first until
-/// when it may wait.
+/// Takes the present moment; where the door fails to tell it, the core keeps the one before. The door is told first
+/// until when it may wait.
 fn take_moment<R: Rows, D: Door>(core: &mut Core<'_, R>, door: &mut D, tally: &mut Tally)
     requires { tally.old.faults ≤ D.faults door.old }
     ensures faults { CountsFaults tally.old.faults (D.faults door.old) tally.new.faults (D.faults door.new) }

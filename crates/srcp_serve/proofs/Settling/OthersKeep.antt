@@ -11,7 +11,9 @@ use Rattle.srcp_rules.specs.declared.layout.Bus.{Bus}
 use Rattle.srcp_rules.specs.Effect.{Effect}
 use Rattle.srcp_core.specs.Under.{Event, Open, Bytes, Room, At, Shut, Obeyed, Began, Ended, Heard, Order, effect, greets, Piece}
 use Rattle.srcp_core.specs.Connection.{Connection, given_room}
-use Rattle.srcp_core.specs.Course.{World, fresh, numbered, at_connection, open_connection, did, replied, counted, state, rows, history, entered, goes, greeted, ended, obeyed, commanded, answered_as, answered, order_of, fault, new_lines, fed_to, shut_as, accepted, or_refused, happens}
+use Rattle.srcp_core.specs.Course.{World, fresh, numbered, at_connection, open_connection, did, replied, counted, state, rows, history}
+use Rattle.srcp_core.specs.Course.{entered, goes, greeted, ended, obeyed, commanded, answered_as, answered, order_of, fault, new_lines}
+use Rattle.srcp_core.specs.Course.{fed_to, shut_as, accepted, or_refused, happens}
 use Rattle.srcp_core.proofs.Agreement.MemoryAnswers.{line_law}
 use Rattle.srcp_core.proofs.CourseLaws.NothingAfterTheEnd.{numbered_other, numbered_push}
 

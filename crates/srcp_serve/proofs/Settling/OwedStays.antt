@@ -1,5 +1,6 @@
 -- While no step has a change, a connection stays owed the same, and does not overrun.
-use Rattle.std.proofs.Common.{◌≡◌, ◌∙◌, ℕ, ◌+◌, true, false, List, [], ◌∷◌, ◌++◌, map, length, drop, if◌then◌else◌, None, refl, ap, sym, arith, append-nil, append_assoc, length-append}
+use Rattle.std.proofs.Common.{◌≡◌, ◌∙◌, ℕ, ◌+◌, true, false, List, [], ◌∷◌, ◌++◌, map, length, drop, if◌then◌else◌, None, refl, ap, sym}
+use Rattle.std.proofs.Common.{arith, append-nil, append_assoc, length-append}
 use Rattle.std.specs.Prelude.{nat_le, nat_lt, ◌&&◌, flat_map, filter, filter_map}
 use Rattle.std.specs.List.{enumerate_from}
 use Rattle.std.proofs.lemmas.List.Concat.{flat_map-append}

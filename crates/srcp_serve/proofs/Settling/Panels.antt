@@ -1,5 +1,6 @@
 -- An information session that goes on: what is unsent of it and what it is owed, and what each event makes of that.
-use Rattle.std.proofs.Common.{◌≡◌, ◌∙◌, ℕ, ◌+◌, ◌-◌, ◌≤◌, min, Bool, true, false, List, [], ◌∷◌, ◌++◌, length, if◌then◌else◌, Option, Some, None, option_map, refl, ap, sym, subst, arith, append-nil, length-append, length-drop}
+use Rattle.std.proofs.Common.{◌≡◌, ◌∙◌, ℕ, ◌+◌, ◌-◌, ◌≤◌, min, Bool, true, false, List, [], ◌∷◌, ◌++◌, length, if◌then◌else◌, Option, Some}
+use Rattle.std.proofs.Common.{None, option_map, refl, ap, sym, subst, arith, append-nil, length-append, length-drop}
 use Rattle.std.specs.Prelude.{fold, flat_map, ◌||◌, ◌==◌, is_none}
 use Rattle.std.proofs.Math.Nat.{le_refl}
 use Rattle.std.proofs.lemmas.List.{drop_all}
@@ -8,8 +9,11 @@ use Rattle.srcp_feed.specs.declared.next.Next.{Next}
 use Rattle.srcp_rules.specs.declared.layout.Bus.{Bus}
 use Rattle.srcp_rules.specs.Layout.{IsLayout}
 use Rattle.srcp_rules.specs.State.{opening, shown_rows}
-use Rattle.srcp_core.specs.Connection.{Connection, History, available, fitting, given, given_room, is_open, line_of, overran, owed, took, unsent}
-use Rattle.srcp_core.specs.Course.{World, start, numbered, if_open, open_connection, at_connection, counted, history_from, state, state_after, or_refused, fault, answered, answered_as, greeted, commanded, order_of, new_lines, fed_to, happens, course, history, rows}
+use Rattle.srcp_core.specs.Connection.{Connection, History, available, fitting, given, given_room, is_open, line_of, overran, owed, took}
+use Rattle.srcp_core.specs.Connection.{unsent}
+use Rattle.srcp_core.specs.Course.{World, start, numbered, if_open, open_connection, at_connection, counted, history_from, state}
+use Rattle.srcp_core.specs.Course.{state_after, or_refused, fault, answered, answered_as, greeted, commanded, order_of, new_lines, fed_to}
+use Rattle.srcp_core.specs.Course.{happens, course, history, rows}
 use Rattle.srcp_core.specs.Under.{Event, Bytes, Room, Piece, Heard, greets}
 use Rattle.srcp_core.specs.Waits.{IsPanel, brought}
 use Rattle.srcp_core.specs.declared.record.CoreFault.{CoreFault}
@@ -25,7 +29,8 @@ use Rattle.srcp_serve.proofs.Sendings.{steady_at}
 use Rattle.srcp_serve.proofs.SentLaws.{after_room, lent_is, steady_course, there_after}
 use Rattle.srcp_serve.proofs.Settling.OthersKeep.{AreOfOthers, stays_all}
 use Rattle.srcp_serve.proofs.Settling.OwedStays.{overran_same, owed_same}
-use Rattle.srcp_serve.proofs.Settling.StepsFollow.{AreNone, brought_is, changes_of, history_follows, none_each, same_state, state_follows, steps_follow}
+use Rattle.srcp_serve.proofs.Settling.StepsFollow.{AreNone, brought_is, changes_of, history_follows, none_each, same_state, state_follows}
+use Rattle.srcp_serve.proofs.Settling.StepsFollow.{steps_follow}
 
 -- ---- what is handed over first
 

@@ -1,5 +1,6 @@
 -- Who has a place keeps it while others come in, and is one of those that are visited; the events of the others are of others.
-use Rattle.std.proofs.Common.{◌≡◌, ◌∙◌, ℕ, zero, suc, Bool, true, false, List, [], ◌∷◌, ◌++◌, map, if◌then◌else◌, Option, Some, None, refl, ap, sym, subst, arith, append-nil, append_assoc, ◌==◌}
+use Rattle.std.proofs.Common.{◌≡◌, ◌∙◌, ℕ, zero, suc, Bool, true, false, List, [], ◌∷◌, ◌++◌, map, if◌then◌else◌, Option, Some, None, refl}
+use Rattle.std.proofs.Common.{ap, sym, subst, arith, append-nil, append_assoc, ◌==◌}
 use Rattle.std.specs.Prelude.{filter_map, flat_map, fold, slice_get}
 use Rattle.std.specs.List.{list_any, AllByRecursion}
 use Rattle.std.proofs.lemmas.Bool.Decides.{nat_tests}
@@ -7,7 +8,8 @@ use Rattle.srcp_info.proofs.ClientLaws.{all_append}
 use Rattle.srcp_rules.specs.declared.layout.Bus.{Bus}
 use Rattle.srcp_core.specs.Under.{Event, Open, Bytes, Room, Shut}
 use Rattle.srcp_serve.specs.Given.{Guest, Call}
-use Rattle.srcp_serve.specs.Serving.{OfEachVisit, Seat, Stand, begun, exchange, is_close, is_let_in, let_in, moment_of, newcomer_of, piece_of, rooms, seated, seats, timed, visit, visit_events, welcomed, with_moment}
+use Rattle.srcp_serve.specs.Serving.{OfEachVisit, Seat, Stand, begun, exchange, is_close, is_let_in, let_in, moment_of, newcomer_of}
+use Rattle.srcp_serve.specs.Serving.{piece_of, rooms, seated, seats, timed, visit, visit_events, welcomed, with_moment}
 use Rattle.srcp_serve.proofs.Guests.{AreGuests, IsGuest, turned_round}
 use Rattle.srcp_serve.proofs.Partings.{IsNoneOf, PeersApart}
 use Rattle.srcp_serve.proofs.TurnEvents.{opening_events, opens}

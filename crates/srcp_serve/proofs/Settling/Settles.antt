@@ -1,5 +1,6 @@
 -- The laws of panels that take what they are handed.
-use Rattle.std.proofs.Common.{◌≡◌, ◌∙◌, ℕ, ◌+◌, ◌*◌, ◌≤◌, true, List, [], ◌∷◌, ◌++◌, map, length, if◌then◌else◌, Some, ◌⊎◌, inl, inr, refl, ap, sym, subst, arith}
+use Rattle.std.proofs.Common.{◌≡◌, ◌∙◌, ℕ, ◌+◌, ◌*◌, ◌≤◌, true, List, [], ◌∷◌, ◌++◌, map, length, if◌then◌else◌, Some, ◌⊎◌, inl, inr, refl}
+use Rattle.std.proofs.Common.{ap, sym, subst, arith}
 use Rattle.std.specs.Prelude.{fold, ◌&&◌}
 use Rattle.std.specs.List.{AllByRecursion}
 use Rattle.std.proofs.lemmas.Bool.{ltb-false}
@@ -16,7 +17,8 @@ use Rattle.srcp_core.specs.Course.{World, course, history, numbered, rows}
 use Rattle.srcp_core.specs.Under.{Event}
 use Rattle.srcp_core.proofs.CourseLaws.RoomGivesWhatIsOwed.{no_lists}
 use Rattle.srcp_serve.specs.Given.{Call}
-use Rattle.srcp_serve.specs.Serving.{IsFair, OfEachTurn, OfEachVisit, Seat, Stand, begun, empty_stand, question, seats, turned, turns, visit, visit_asks, visit_events}
+use Rattle.srcp_serve.specs.Serving.{IsFair, OfEachTurn, OfEachVisit, Seat, Stand, begun, empty_stand, question, seats, turned, turns}
+use Rattle.srcp_serve.specs.Serving.{visit, visit_asks, visit_events}
 use Rattle.srcp_serve.specs.Settling.{SettlesSoon, TakesWaits, WaitsAreGoneAfterAVisit}
 use Rattle.srcp_serve.proofs.Guests.{fair_visit}
 use Rattle.srcp_serve.proofs.Partings.{AreAsked}

@@ -1,5 +1,6 @@
 -- Steps only follow, and how many changes they bring adds up.
-use Rattle.std.proofs.Common.{◌≡◌, ◌∙◌, ◌+◌, List, [], ◌∷◌, ◌++◌, map, length, drop, refl, ap, sym, subst, append-nil, append_assoc, length-append}
+use Rattle.std.proofs.Common.{◌≡◌, ◌∙◌, ◌+◌, List, [], ◌∷◌, ◌++◌, map, length, drop, refl, ap, sym, subst, append-nil, append_assoc}
+use Rattle.std.proofs.Common.{length-append}
 use Rattle.std.specs.Prelude.{flat_map}
 use Rattle.std.specs.List.{AllByRecursion}
 use Rattle.std.proofs.lemmas.List.{drop_at}

@@ -1,5 +1,6 @@
 -- Turns without a change, in each of which the peer of an information session takes all, settle the session.
-use Rattle.std.proofs.Common.{◌≡◌, ◌∙◌, ℕ, suc, ◌+◌, ◌*◌, ◌≤◌, false, List, [], ◌∷◌, ◌++◌, map, length, if◌then◌else◌, Some, None, option_map, ◌⊎◌, inl, inr, ap, sym, subst, arith, append-nil, append_assoc, length-append}
+use Rattle.std.proofs.Common.{◌≡◌, ◌∙◌, ℕ, suc, ◌+◌, ◌*◌, ◌≤◌, false, List, [], ◌∷◌, ◌++◌, map, length, if◌then◌else◌, Some, None}
+use Rattle.std.proofs.Common.{option_map, ◌⊎◌, inl, inr, ap, sym, subst, arith, append-nil, append_assoc, length-append}
 use Rattle.std.specs.Prelude.{flat_map, fold}
 use Rattle.std.specs.List.{list_any}
 use Rattle.std.proofs.lemmas.List.Concat.{flat_map-append}
@@ -11,7 +12,8 @@ use Rattle.srcp_core.specs.Course.{course}
 use Rattle.srcp_core.specs.Under.{Event, Shut}
 use Rattle.srcp_core.specs.Waits.{brought, changes_since}
 use Rattle.srcp_serve.specs.Given.{Call}
-use Rattle.srcp_serve.specs.Serving.{OfEachTurn, Seat, Stand, begun, exchange, is_close, kept, question, turned, visit, visit_asks, visit_events}
+use Rattle.srcp_serve.specs.Serving.{OfEachTurn, Seat, Stand, begun, exchange, is_close, kept, question, turned, visit, visit_asks}
+use Rattle.srcp_serve.specs.Serving.{visit_events}
 use Rattle.srcp_serve.specs.Settling.{IsStill}
 use Rattle.srcp_serve.proofs.Guests.{AreGuests, fair_visit}
 use Rattle.srcp_serve.proofs.Partings.{AreAsked, PeersApart}

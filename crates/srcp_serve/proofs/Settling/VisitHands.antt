@@ -1,5 +1,7 @@
 -- What a visit hands over of an information session whose peer takes all: what was unsent first, and then line after line.
-use Rattle.std.proofs.Common.{◌≡◌, ◌∙◌, ℕ, zero, suc, ◌+◌, ◌<◌, Bool, true, false, not, List, [], ◌∷◌, ◌++◌, map, take, length, if◌then◌else◌, Ok, Err, ◌⊎◌, inl, inr, refl, ap, sym, subst, arith, append-nil, append_assoc, length-append, ◌==◌}
+use Rattle.std.proofs.Common.{◌≡◌, ◌∙◌, ℕ, zero, suc, ◌+◌, ◌<◌, Bool, true, false, not, List, [], ◌∷◌, ◌++◌, map, take, length}
+use Rattle.std.proofs.Common.{if◌then◌else◌, Ok, Err, ◌⊎◌, inl, inr, refl, ap, sym, subst, arith, append-nil, append_assoc, length-append}
+use Rattle.std.proofs.Common.{◌==◌}
 use Rattle.std.proofs.lemmas.List.Sums.{length-filter}
 use Rattle.std.specs.Prelude.{filter, filter_map, nat_lt, count_by, ◌&&◌, ◌||◌}
 use Rattle.std.specs.List.{list_any, AllByRecursion}
@@ -16,9 +18,12 @@ use Rattle.srcp_core.specs.Course.{World, course, history}
 use Rattle.srcp_core.specs.Under.{Event, Bytes, Room, Piece}
 use Rattle.srcp_core.specs.declared.record.Finish.TheVariants.{Closing, Live, Overrun, Shut as ShutFinish}
 use Rattle.srcp_serve.specs.Given.{Call, ExpectCall, NowCall, AcceptCall, ReadCall, WriteCall, CloseCall}
-use Rattle.srcp_serve.specs.Serving.{Question, Expects, Moments, Newcomers, Reads, Writes, Closes, Seat, IsFair, question, piece_of, count_of, is_close, is_write, loses, loses_reading, loses_writing, falls_short, lent_none_last, rooms, exchange, is_ready, is_closing, lent, handed, unless_nil, reads_of, writes_of, closes_of, visit_asks}
+use Rattle.srcp_serve.specs.Serving.{Question, Expects, Moments, Newcomers, Reads, Writes, Closes, Seat, IsFair, question, piece_of}
+use Rattle.srcp_serve.specs.Serving.{count_of, is_close, is_write, loses, loses_reading, loses_writing, falls_short, lent_none_last, rooms}
+use Rattle.srcp_serve.specs.Serving.{exchange, is_ready, is_closing, lent, handed, unless_nil, reads_of, writes_of, closes_of, visit_asks}
 use Rattle.srcp_serve.proofs.Takings.{first_of_writes, has_writes, no_write}
-use Rattle.srcp_serve.proofs.Settling.Panels.{Panel, first_text, owed_then, panel_bytes, panel_full, panel_goes_on, panel_lends, panel_open, panel_room}
+use Rattle.srcp_serve.proofs.Settling.Panels.{Panel, first_text, owed_then, panel_bytes, panel_full, panel_goes_on, panel_lends, panel_open}
+use Rattle.srcp_serve.proofs.Settling.Panels.{panel_room}
 
 -- the peer took all of it, where it is a write
 abbrev pub IsWhole : Call → Type 0

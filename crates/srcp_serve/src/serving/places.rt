@@ -1,6 +1,7 @@
 //! Who has which place.
 
-ghost use Rattle.std.specs.Prelude.{◌≡◌, ◌<◌, ◌≤◌, Some, None, is_none, length, option_copied, position, replicate, slice_set};
+ghost use Rattle.std.specs.Prelude.{◌≡◌, ◌<◌, ◌≤◌, Some, None, is_none, length, option_copied, position, replicate};
+ghost use Rattle.std.specs.Prelude.{slice_set};
 ghost use Rattle.std.specs.List.{slice_index_or};
 ghost use Rattle.srcp_serve.specs.Places.{AreFreeFrom};
 
@@ -26,7 +27,8 @@ impl Model for Places {
 
     ghost view = { λ p. p.seats };
 
-    ghost invariant = { λ p. (length p.seats ≡ MOST_CONNECTIONS) × (p.end ≤ MOST_CONNECTIONS) × AreFreeFrom p.end p.seats };
+    ghost invariant = { λ p.
+        (length p.seats ≡ MOST_CONNECTIONS) × (p.end ≤ MOST_CONNECTIONS) × AreFreeFrom p.end p.seats };
 }
 
 impl Places {

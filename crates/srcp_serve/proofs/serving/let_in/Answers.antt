@@ -7,7 +7,9 @@ use Rattle.srcp_serve.proofs.Turning.{asks_newcomer, asks_none}
 use Rattle.srcp_serve.proofs.serving.let_in.Goals as goal
 
 pub returns-in-Err-clause-faults : goal.returns-in-Err-clause-faults
-returns-in-Err-clause-faults g c = one_failed c.args.tally.now.faults (g.D.Door.faults c.args.door.now) _ _ c.requires (ap (λ (t : Tally). t.faults) c.fault.ensures) c.in-Err.ensures.err
+returns-in-Err-clause-faults g c =
+    one_failed c.args.tally.now.faults (g.D.Door.faults c.args.door.now) _ _ c.requires
+    (ap (λ (t : Tally). t.faults) c.fault.ensures) c.in-Err.ensures.err
 
 pub returns-in-Ok-None-clause-told : goal.returns-in-Ok-None-clause-told
 returns-in-Ok-None-clause-told g c = asks_newcomer _ _ _ _ c.accept.ensures.told (asks_none (g.D.Door.told c.accept.new.self))
@@ -19,10 +21,19 @@ pub returns-in-Err-clause-told : goal.returns-in-Err-clause-told
 returns-in-Err-clause-told g c = asks_newcomer _ _ _ _ c.accept.ensures.told (asks_none (g.D.Door.told c.accept.new.self))
 
 pub returns-in-Ok-None-clause-course : goal.returns-in-Ok-None-clause-course
-returns-in-Ok-None-clause-course g c = lets_nobody c.args.core.now (g.D.Door.told c.args.door.now) (g.D.Door.told c.accept.new.self) c.args.places.now (subst (λ (o : Option ℕ). Tells (g.D.Door.told c.args.door.now) (AcceptCall (Ok o)) (g.D.Door.told c.accept.new.self)) c.in-Ok-None.field-0-is c.in-Ok-None.ensures.told)
+returns-in-Ok-None-clause-course g c =
+    lets_nobody c.args.core.now (g.D.Door.told c.args.door.now) (g.D.Door.told c.accept.new.self) c.args.places.now
+    (subst (λ (o : Option ℕ). Tells (g.D.Door.told c.args.door.now) (AcceptCall (Ok o)) (g.D.Door.told c.accept.new.self))
+    c.in-Ok-None.field-0-is c.in-Ok-None.ensures.told)
 
 pub returns-in-Ok-Some-clause-course : goal.returns-in-Ok-Some-clause-course
-returns-in-Ok-Some-clause-course g c = lets_peer c.in-Ok-Some.peer c.seat.result c.args.core.now c.seat.new.core (g.D.Door.told c.args.door.now) (g.D.Door.told c.accept.new.self) (g.D.Door.told c.seat.new.door) c.args.places.now c.seat.new.places (subst (λ (o : Option ℕ). Tells (g.D.Door.told c.args.door.now) (AcceptCall (Ok o)) (g.D.Door.told c.accept.new.self)) c.in-Ok-Some.field-0-is c.in-Ok-Some.ensures.told) c.seat.ensures.told c.seat.ensures.course
+returns-in-Ok-Some-clause-course g c =
+    lets_peer c.in-Ok-Some.peer c.seat.result c.args.core.now c.seat.new.core (g.D.Door.told c.args.door.now)
+    (g.D.Door.told c.accept.new.self) (g.D.Door.told c.seat.new.door) c.args.places.now c.seat.new.places
+    (subst (λ (o : Option ℕ). Tells (g.D.Door.told c.args.door.now) (AcceptCall (Ok o)) (g.D.Door.told c.accept.new.self))
+    c.in-Ok-Some.field-0-is c.in-Ok-Some.ensures.told) c.seat.ensures.told c.seat.ensures.course
 
 pub returns-in-Err-clause-course : goal.returns-in-Err-clause-course
-returns-in-Err-clause-course g c = lets_none c.args.core.now (g.D.Door.told c.args.door.now) (g.D.Door.told c.accept.new.self) c.args.places.now c.in-Err.field-0 c.in-Err.ensures.told
+returns-in-Err-clause-course g c =
+    lets_none c.args.core.now (g.D.Door.told c.args.door.now)
+    (g.D.Door.told c.accept.new.self) c.args.places.now c.in-Err.field-0 c.in-Err.ensures.told

@@ -18,10 +18,12 @@ returns-in-Err-clause-told g c = asks_moment _ _ _ _ _ _ c.expect.ensures.told c
 
 pub returns-in-Ok-clause-course : goal.returns-in-Ok-clause-course
 returns-in-Ok-clause-course g c =
-    takes_moment c.earliest_due.result c.slack.result c.args.core.now c.earliest_due.ensures c.slack.ensures (g.D.Door.told c.args.door.now) (g.D.Door.told c.expect.new.self)
+    takes_moment c.earliest_due.result c.slack.result c.args.core.now c.earliest_due.ensures c.slack.ensures (g.D.Door.told c.args.door.now)
+    (g.D.Door.told c.expect.new.self)
     (g.D.Door.told c.now.new.self) c.expect.ensures.told c.in-Ok.moment c.advance.new.self c.in-Ok.ensures.told c.advance.ensures
 
 pub returns-in-Err-clause-course : goal.returns-in-Err-clause-course
 returns-in-Err-clause-course g c =
-    keeps_moment c.earliest_due.result c.slack.result c.args.core.now c.earliest_due.ensures c.slack.ensures (g.D.Door.told c.args.door.now) (g.D.Door.told c.expect.new.self)
+    keeps_moment c.earliest_due.result c.slack.result c.args.core.now c.earliest_due.ensures c.slack.ensures (g.D.Door.told c.args.door.now)
+    (g.D.Door.told c.expect.new.self)
     (g.D.Door.told c.now.new.self) c.expect.ensures.told c.in-Err.field-0 c.in-Err.ensures.told

@@ -10,7 +10,9 @@ pub returns-in-Ok-clause-told : goal.returns-in-Ok-clause-told
 returns-in-Ok-clause-told g c = closes_by _ _ _ _ c.close.ensures.told
 
 pub returns-in-Err-clause-faults : goal.returns-in-Err-clause-faults
-returns-in-Err-clause-faults g c = one_failed c.args.tally.now.faults (g.D.Door.faults c.args.door.now) _ _ c.requires (ap (λ (t : Tally). t.faults) c.fault.ensures) c.in-Err.ensures.err
+returns-in-Err-clause-faults g c =
+    one_failed c.args.tally.now.faults (g.D.Door.faults c.args.door.now) _ _ c.requires
+    (ap (λ (t : Tally). t.faults) c.fault.ensures) c.in-Err.ensures.err
 
 pub returns-in-Err-clause-told : goal.returns-in-Err-clause-told
 returns-in-Err-clause-told g c = closes_by _ _ _ _ c.close.ensures.told

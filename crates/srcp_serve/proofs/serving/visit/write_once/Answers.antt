@@ -9,24 +9,40 @@ use Rattle.srcp_serve.proofs.Turning.{asks_none, asks_one}
 use Rattle.srcp_serve.proofs.serving.visit.write_once.Goals as goal
 
 pub returns-in_default-clause-told : goal.returns-in_default-clause-told
-returns-in_default-clause-told g c = wrote_absent c.args.seat.now.peer c.args.seat.now.key c.args.core.now (g.D.Door.told c.args.door.now) c.outgoing.follows.lender-at-none (g.D.Door.told c.args.door.now) Less c.in_default.ensures.absent.1
+returns-in_default-clause-told g c =
+    wrote_absent c.args.seat.now.peer c.args.seat.now.key c.args.core.now (g.D.Door.told c.args.door.now) c.outgoing.follows.lender-at-none
+    (g.D.Door.told c.args.door.now) Less c.in_default.ensures.absent.1
 
 pub returns-then-is_empty-clause-told : goal.returns-then-is_empty-clause-told
-returns-then-is_empty-clause-told g c = wrote_none _ _ _ _ _ c.outgoing.follows.holds-at-none c.in-Ok.lent.now c.in-Ok.ensures.bytes (sym c.is_empty.ensures ∙ c.if-is_empty.true)
+returns-then-is_empty-clause-told g c =
+    wrote_none _ _ _ _ _ c.outgoing.follows.holds-at-none c.in-Ok.lent.now c.in-Ok.ensures.bytes
+    (sym c.is_empty.ensures ∙ c.if-is_empty.true)
 
 pub returns-then-count-handed-clause-told : goal.returns-then-count-handed-clause-told
-returns-then-count-handed-clause-told g c = wrote_less _ _ _ _ c.in-Ok.lent.now _ _ _ c.in-Ok.ensures.bytes (sends c.args.seat.now.key c.in-Ok-write.count c.args.core.now c.outgoing.follows.lender-at-none c.sent.new.self c.outgoing.follows.holds-at-none c.sent.ensures c.in-Ok.lent.now c.in-Ok.ensures.bytes c.in-Ok-write.ensures.count) c.in-Ok-write.ensures.told c.if-count-handed.true
+returns-then-count-handed-clause-told g c =
+    wrote_less _ _ _ _ c.in-Ok.lent.now _ _ _ c.in-Ok.ensures.bytes
+    (sends c.args.seat.now.key c.in-Ok-write.count c.args.core.now c.outgoing.follows.lender-at-none c.sent.new.self
+    c.outgoing.follows.holds-at-none c.sent.ensures c.in-Ok.lent.now c.in-Ok.ensures.bytes
+    c.in-Ok-write.ensures.count) c.in-Ok-write.ensures.told c.if-count-handed.true
 
 pub returns-else-count-handed-clause-told : goal.returns-else-count-handed-clause-told
 returns-else-count-handed-clause-told g c =
     let full : c.in-Ok-write.count ≡ length c.in-Ok.lent.now = omega (arith, c.in-Ok-write.ensures.count, c.if-count-handed.false) in
-    wrote_all _ _ _ _ c.in-Ok.lent.now _ _ _ c.in-Ok.ensures.bytes (sends c.args.seat.now.key c.in-Ok-write.count c.args.core.now c.outgoing.follows.lender-at-none c.sent.new.self c.outgoing.follows.holds-at-none c.sent.ensures c.in-Ok.lent.now c.in-Ok.ensures.bytes c.in-Ok-write.ensures.count) c.in-Ok-write.ensures.told full (sym c.is_empty.ensures ∙ c.if-is_empty.false)
+    wrote_all _ _ _ _ c.in-Ok.lent.now _ _ _ c.in-Ok.ensures.bytes
+    (sends c.args.seat.now.key c.in-Ok-write.count c.args.core.now c.outgoing.follows.lender-at-none c.sent.new.self
+    c.outgoing.follows.holds-at-none c.sent.ensures c.in-Ok.lent.now c.in-Ok.ensures.bytes
+    c.in-Ok-write.ensures.count) c.in-Ok-write.ensures.told full
+    (sym c.is_empty.ensures ∙ c.if-is_empty.false)
 
 pub returns-in_default-write-clause-faults : goal.returns-in_default-write-clause-faults
-returns-in_default-write-clause-faults g c = one_failed c.args.tally.now.faults (g.D.Door.faults c.args.door.now) _ _ c.requires (ap (λ (t : Tally). t.faults) c.fault.ensures) c.in_default-write.ensures.err
+returns-in_default-write-clause-faults g c =
+    one_failed c.args.tally.now.faults (g.D.Door.faults c.args.door.now) _ _ c.requires
+    (ap (λ (t : Tally). t.faults) c.fault.ensures) c.in_default-write.ensures.err
 
 pub returns-in_default-write-clause-told : goal.returns-in_default-write-clause-told
-returns-in_default-write-clause-told g c = wrote_failed _ _ _ _ _ c.outgoing.follows.holds-at-none c.in-Ok.lent.now _ _ c.in-Ok.ensures.bytes c.in_default-write.ensures.told (sym c.is_empty.ensures ∙ c.if-is_empty.false)
+returns-in_default-write-clause-told g c =
+    wrote_failed _ _ _ _ _ c.outgoing.follows.holds-at-none c.in-Ok.lent.now _ _ c.in-Ok.ensures.bytes c.in_default-write.ensures.told
+    (sym c.is_empty.ensures ∙ c.if-is_empty.false)
 
 pub returns-in_default-clause-asks : goal.returns-in_default-clause-asks
 returns-in_default-clause-asks g c = asks_none _
@@ -35,10 +51,13 @@ pub returns-then-is_empty-clause-asks : goal.returns-then-is_empty-clause-asks
 returns-then-is_empty-clause-asks g c = asks_none _
 
 pub returns-then-count-handed-clause-asks : goal.returns-then-count-handed-clause-asks
-returns-then-count-handed-clause-asks g c = asks_one _ _ _ refl (fair_write c.args.seat.now.peer c.in-Ok.lent.now c.write.result c.write.ensures.count) c.write.ensures.told
+returns-then-count-handed-clause-asks g c =
+    asks_one _ _ _ refl (fair_write c.args.seat.now.peer c.in-Ok.lent.now c.write.result c.write.ensures.count) c.write.ensures.told
 
 pub returns-else-count-handed-clause-asks : goal.returns-else-count-handed-clause-asks
-returns-else-count-handed-clause-asks g c = asks_one _ _ _ refl (fair_write c.args.seat.now.peer c.in-Ok.lent.now c.write.result c.write.ensures.count) c.write.ensures.told
+returns-else-count-handed-clause-asks g c =
+    asks_one _ _ _ refl (fair_write c.args.seat.now.peer c.in-Ok.lent.now c.write.result c.write.ensures.count) c.write.ensures.told
 
 pub returns-in_default-write-clause-asks : goal.returns-in_default-write-clause-asks
-returns-in_default-write-clause-asks g c = asks_one _ _ _ refl (fair_write c.args.seat.now.peer c.in-Ok.lent.now c.write.result c.write.ensures.count) c.write.ensures.told
+returns-in_default-write-clause-asks g c =
+    asks_one _ _ _ refl (fair_write c.args.seat.now.peer c.in-Ok.lent.now c.write.result c.write.ensures.count) c.write.ensures.told
