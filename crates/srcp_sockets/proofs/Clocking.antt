@@ -51,9 +51,9 @@ account_clock socket a (Told (AcceptCall answer)) = refl
 account_clock socket a (Told (ReadCall who (Ok (got.Bytes count)) buffer)) = if_same shown (who == socket) _ a refl
 account_clock socket a (Told (ReadCall who (Ok got.Ended) buffer)) = if_same shown (who == socket) _ a refl
 account_clock socket a (Told (ReadCall who (Ok got.Nothing) buffer)) = refl
-account_clock socket a (Told (ReadCall who (Err fault) buffer)) = refl
+account_clock socket a (Told (ReadCall who (Err fault) buffer)) = if_same shown (who == socket) _ a refl
 account_clock socket a (Told (WriteCall who bytes (Ok count))) = if_same shown (who == socket) _ a refl
-account_clock socket a (Told (WriteCall who bytes (Err fault))) = refl
+account_clock socket a (Told (WriteCall who bytes (Err fault))) = if_same shown (who == socket) _ a refl
 account_clock socket a (Told (CloseCall who answer)) = if_same shown (who == socket) (let_go a) a refl
 
 times_clock : (t : Times) (step : Step) → (times_step t step).clock ≡ clock_step t.clock step

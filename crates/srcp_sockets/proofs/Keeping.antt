@@ -1,6 +1,6 @@
 -- How what is known of a peer goes on from step to step.
 use Rattle.std.proofs.Common.{◌≡◌, ◌∙◌, ℕ, ◌≤◌, Bool, true, false, not, List, [], ◌∷◌, ◌++◌, take, drop, length, if◌then◌else◌, Ok, Err, refl, ap, sym, subst, arith, ◌==◌, Option, Some, None, append-nil}
-use Rattle.std.specs.Prelude.{◌≢◌, nat_lt, Result, ◌&&◌, ◌||◌, fold}
+use Rattle.std.specs.Prelude.{◌≢◌, nat_lt, OnErr, Result, ◌&&◌, ◌||◌, fold}
 use Rattle.std.proofs.lemmas.List.Elements.{filter_map-append}
 use Rattle.std.proofs.lemmas.List.Sums.{fold-append}
 use Rattle.std.proofs.lemmas.Bool.Decides.{nat_tests}
@@ -20,17 +20,17 @@ use Rattle.srcp_serve.specs.Calls.{Call, ReadCall, WriteCall, CloseCall}
 use Rattle.srcp_serve.specs.declared.door.DoorFault.{DoorFault}
 use Rattle.srcp_serve.specs.declared.door.Got.{Got}
 use Rattle.srcp_serve.specs.declared.door.Got.TheVariants as got
-use Rattle.srcp_sockets.specs.Accounts.{Account, Sent, Received, account, account_step, told_step, is_at_rest, is_short, may_end, refused_read, refused_write, shut_down, untouched, waited, read_in, wrote, woken, woken_sent, woken_came}
+use Rattle.srcp_sockets.specs.Accounts.{Account, Sent, Received, account, account_step, told_step, is_at_rest, is_short, may_end, may_fail, refused_read, refused_write, shut_down, untouched, waited, read_in, wrote, woken, woken_sent, woken_came}
 use Rattle.srcp_door.specs.Pacing.{line_after}
 use Rattle.srcp_sockets.specs.declared.ending.Ending.{Ending}
 use Rattle.srcp_door.specs.declared.pacing.Line.{Line}
 use Rattle.srcp_door.specs.declared.pacing.Line.TheVariants as line
 use Rattle.srcp_door.specs.declared.pacing.Share.{Share}
-use Rattle.srcp_sockets.specs.Peers.{Agrees, ComesAs, IsKept, MayEnd, ReadsAs, Spares, WritesAs, after_wake, queued_more, given, is_lost, is_resting, may_have, missed, refused, taken, woken_input, woken_output}
+use Rattle.srcp_sockets.specs.Peers.{Agrees, ComesAs, IsKept, MayEnd, MayFail, ReadsAs, Spares, WritesAs, after_wake, queued_more, given, is_lost, is_resting, may_have, missed, refused, taken, woken_input, woken_output}
 use Rattle.srcp_sockets.specs.Turns.{got_bytes}
 use Rattle.srcp_sockets.proofs.States.{again_writes, comes_here, handed_as, read_comes, reads_here, unread_comes, unwritten_as, woken_comes, woken_writes, written_as, wrote_as}
 use Rattle.srcp_sockets.proofs.Lined.{line_after-append}
-use Rattle.srcp_sockets.proofs.Staying.{may_end_then, shut_agrees, stays_drop, stays_here}
+use Rattle.srcp_sockets.proofs.Staying.{may_end_then, may_fail_then, shut_agrees, stays_drop, stays_here}
 use Rattle.srcp_sockets.proofs.Wanting.{noted_agrees, wants_less, wants_woken, was_read}
 use Rattle.srcp_sockets.proofs.Resting.{resting}
 
@@ -232,9 +232,9 @@ kept_taken old new p bytes count ending room here tells kept =
 got_agrees : (a : Account) (p : Peer) (answer : Result Got DoorFault) (buffer rest : List ℕ) (share : Share) (asked : Bool)
     → p.stay ≡ stay.Here → p.incoming ≡ got_bytes answer buffer ++ rest
     → share.line ≡ line_after p.share.line (got_bytes answer buffer)
-    → (answer ≡ Ok got.Ended → MayEnd p) → Agrees a p
+    → (answer ≡ Ok got.Ended → MayEnd p) → OnErr answer (MayFail p) → Agrees a p
     → Agrees (told_step p.number a (ReadCall p.number answer buffer)) (record p { incoming = rest; share = share; asked = asked })
-got_agrees a p (Ok (got.Bytes count)) buffer rest share asked here is lined ended h =
+got_agrees a p (Ok (got.Bytes count)) buffer rest share asked here is lined ended failed h =
     let q : Peer = record p { incoming = rest; share = share; asked = asked } in
     let r = reads_here a.received p.incoming p.input p.stay here h.reads in
     agrees_own (p.number == p.number) _ a q (own p.number) (record {
@@ -251,7 +251,7 @@ got_agrees a p (Ok (got.Bytes count)) buffer rest share asked here is lined ende
       honest = h.honest;
       rested = h.rested;
     })
-got_agrees a p (Ok got.Nothing) buffer rest share asked here is lined ended h = record {
+got_agrees a p (Ok got.Nothing) buffer rest share asked here is lined ended failed h = record {
   cut = h.cut;
   reads = subst (λ (b : List ℕ). ComesAs a.received b p.input p.stay) is h.reads;
   writes = h.writes;
@@ -263,7 +263,7 @@ got_agrees a p (Ok got.Nothing) buffer rest share asked here is lined ended h = 
   honest = h.honest;
   rested = h.rested;
 }
-got_agrees a p (Ok got.Ended) buffer rest share asked here is lined ended h =
+got_agrees a p (Ok got.Ended) buffer rest share asked here is lined ended failed h =
     let q : Peer = record p { incoming = rest; share = share; asked = asked } in
     let e = ended refl in
     let r : ReadsAs a.received p.incoming input.Ended = subst (ReadsAs a.received p.incoming) e.0
@@ -281,30 +281,32 @@ got_agrees a p (Ok got.Ended) buffer rest share asked here is lined ended h =
           ∙ may_end_then a p.incoming p.outgoing p.output r.0 r.2 e.1 e.3 e.4 h.writes;
       rested = h.rested;
     })
-got_agrees a p (Err fault) buffer rest share asked here is lined ended h = record {
-  cut = h.cut;
-  reads = subst (λ (b : List ℕ). ComesAs a.received b p.input p.stay) is h.reads;
-  writes = h.writes;
-  stays = h.stays;
-  rightly = h.rightly;
-  unread = λ e. wants_less p.input p.incoming (got_bytes (Err fault) buffer) rest is (h.unread e);
-  served = h.served;
-  line = lined ∙ h.line;
-  honest = h.honest;
-  rested = h.rested;
-}
+got_agrees a p (Err fault) buffer rest share asked here is lined ended failed h =
+    let q : Peer = record p { incoming = rest; share = share; asked = asked } in
+    agrees_own (p.number == p.number) _ a q (own p.number) (record {
+      cut = h.cut;
+      reads = subst (λ (b : List ℕ). ComesAs a.received b p.input p.stay) is h.reads;
+      writes = h.writes;
+      stays = h.stays;
+      rightly = h.rightly;
+      unread = λ e. wants_less p.input p.incoming (got_bytes (Err fault) buffer) rest is (h.unread e);
+      served = h.served;
+      line = lined ∙ h.line;
+      honest = ap (λ b. b && may_fail a) h.honest ∙ may_fail_then a p here failed h;
+      rested = h.rested;
+    })
 
 pub kept_got : (old new : Option (List Step)) (p q : Peer) (answer : Result Got DoorFault) (buffer : List ℕ)
     → p.stay ≡ stay.Here → q ≡ record p { incoming = q.incoming; share = q.share; asked = q.asked }
     → p.incoming ≡ got_bytes answer buffer ++ q.incoming
     → q.share.line ≡ line_after p.share.line (got_bytes answer buffer)
-    → (answer ≡ Ok got.Ended → MayEnd p)
+    → (answer ≡ Ok got.Ended → MayEnd p) → OnErr answer (MayFail p)
     → Tells old (Told (ReadCall p.number answer buffer)) new → IsKept old p → IsKept new q
-kept_got old new p q answer buffer here same is lined ended tells kept =
+kept_got old new p q answer buffer here same is lined ended failed tells kept =
     subst (IsKept new) (sym same)
     (kept_after old new (Told (ReadCall p.number answer buffer)) p
     (record p { incoming = q.incoming; share = q.share; asked = q.asked }) tells refl
-    (λ (a : Account) (h : Agrees a p). got_agrees a p answer buffer q.incoming q.share q.asked here is lined ended h) kept)
+    (λ (a : Account) (h : Agrees a p). got_agrees a p answer buffer q.incoming q.share q.asked here is lined ended failed h) kept)
 
 -- its socket is tried again
 pub kept_again : (told : Option (List Step)) (p : Peer) (again : Bool) → IsKept told p
@@ -508,7 +510,7 @@ told_other : (n other : ℕ) (a : Account) (answer : Result Got DoorFault) (buff
 told_other n other a (Ok (got.Bytes count)) buffer differ = skips (n == other) _ a (alien n other differ)
 told_other n other a (Ok got.Nothing) buffer differ = refl
 told_other n other a (Ok got.Ended) buffer differ = skips (n == other) _ a (alien n other differ)
-told_other n other a (Err fault) buffer differ = refl
+told_other n other a (Err fault) buffer differ = skips (n == other) _ a (alien n other differ)
 
 pub spares_got : (n other : ℕ) (old new : Option (List Step)) (answer : Result Got DoorFault) (buffer : List ℕ) → other ≢ n
     → Tells old (Told (ReadCall n answer buffer)) new → Spares other old new

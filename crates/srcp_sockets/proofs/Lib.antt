@@ -15,3 +15,4 @@ pub mod Pasts
 pub mod Followed
 pub mod Timing
 pub mod Clocking
+pub mod Delivered

@@ -1,16 +1,17 @@
 -- The numbers of the peers differ.
-use Rattle.std.proofs.Common.{◌≡◌, ◌∙◌, ℕ, zero, suc, ◌<◌, ◌≤◌, ◌+◌, Bool, true, false, List, [], ◌∷◌, ◌++◌, length, refl, ap, sym, subst, arith, ⊎_elim, get_or, ◌==◌, ◌⊎◌, Option, Some, None, Ok, Err, append-nil}
-use Rattle.std.specs.Prelude.{IfOk, IfSome, Result, filter_map, slice_index}
+use Rattle.std.proofs.Common.{◌≡◌, ◌∙◌, ℕ, zero, suc, ◌<◌, ◌≤◌, ◌+◌, Bool, true, false, List, [], ◌∷◌, ◌++◌, length, refl, ap, sym, subst, arith, ⊎_elim, get_or, ◌==◌, ◌⊎◌, Option, Some, None, Ok, append-nil}
+use Rattle.std.specs.Prelude.{filter_map, slice_index}
 use Rattle.std.specs.List.{AllByRecursion, IsDistinct}
 use Rattle.std.proofs.lemmas.Bool.{cases_lt}
 use Rattle.std.proofs.lemmas.Bool.Decides.{nat_tests}
 use Rattle.std.proofs.lemmas.List.{length-append, get_or_push, get_or_append_left}
 use Rattle.std.proofs.lemmas.List.Elements.{filter_map-append}
-use Rattle.srcp_serve.specs.declared.door.DoorFault.{DoorFault}
+use Rattle.srcp_sockets.specs.declared.system.Refusal.{Refusal}
+use Rattle.srcp_sockets.specs.declared.system.Refusal.TheVariants.{Later, Again, Fault}
 use Rattle.srcp_serve.specs.Calls.{AcceptCall, Call, peer_of}
 use Rattle.srcp_sockets.specs.Names.{IsNamed, Named}
-use Rattle.srcp_sockets.specs.Steps.{SaysNothing, SaysOne, Step, Tells, Told, calls}
-use Rattle.srcp_sockets.proofs.Keeping.{says_call}
+use Rattle.srcp_sockets.specs.Steps.{SaysNothing, SaysOne, Step, calls}
+use Rattle.srcp_sockets.specs.Times.{refused_newcomer}
 
 unequal_push : (x n : ℕ) (xs : List ℕ) → x < n → AllByRecursion (λ y. (x == y) ≡ false) xs → AllByRecursion (λ y. (x == y) ≡ false)
     (xs ++ n ∷ [])
@@ -56,7 +57,8 @@ named_call old new last call says none named later is =
     ∙ append-nil (filter_map peer_of (calls s.0)) in
     subst (λ (xs : List ℕ). Named xs last) (sym more) (named s.0 s.1)
 
-named_come : (old new : Option (List Step)) (last n : ℕ) → last < n → SaysOne old (AcceptCall (Ok (Some n))) new → IsNamed old last
+-- one came
+pub named_come : (old new : Option (List Step)) (last n : ℕ) → last < n → SaysOne old (AcceptCall (Ok (Some n))) new → IsNamed old last
     → IsNamed new n
 named_come old new last n below says named later is =
     let s = says later is in
@@ -64,17 +66,11 @@ named_come old new last n below says named later is =
     ap (filter_map peer_of) s.2 ∙ filter_map-append peer_of (calls s.0) (AcceptCall (Ok (Some n)) ∷ []) in
     subst (λ (xs : List ℕ). Named xs n) (sym more) (named_push (filter_map peer_of (calls s.0)) last n below (named s.0 s.1))
 
--- an accept that was told
-pub named_accept : (old mid new : Option (List Step)) (answer : Result (Option ℕ) DoorFault) (last later : ℕ) → SaysNothing old mid
-    → IsNamed old last → IsNamed mid later → Tells mid (Told (AcceptCall answer)) new
-    → IfOk answer (λ peer. IfSome peer (λ n. (last < n) × (later ≡ n))) → IsNamed new later
-named_accept old mid new (Ok (Some n)) last later silent named after tells numbered =
-    subst (IsNamed new) (sym numbered.1) (named_come mid new last n numbered.0 (says_call mid new (AcceptCall (Ok (Some n))) tells)
-    (named_silent old mid last silent named))
-named_accept old mid new (Ok None) last later silent named after tells numbered =
-    named_call mid new later (AcceptCall (Ok None)) (says_call mid new (AcceptCall (Ok None)) tells) refl after
-named_accept old mid new (Err fault) last later silent named after tells numbered =
-    named_call mid new later (AcceptCall (Err fault)) (says_call mid new (AcceptCall (Err fault)) tells) refl after
+-- nobody came
+pub nobody_named : (said : Refusal) → filter_map peer_of (AcceptCall (refused_newcomer said) ∷ []) ≡ []
+nobody_named Later = refl
+nobody_named Again = refl
+nobody_named Fault = refl
 
 named_nobody : (last : ℕ) → Named [] last
 unfolding IsDistinct

@@ -1,6 +1,6 @@
 -- A peer is let go, and its socket is closed.
-use Rattle.std.proofs.Common.{◌≡◌, ◌∙◌, ℕ, ◌<◌, ◌≤◌, ◌+◌, ◌-◌, Bool, true, false, List, length, refl, ap, sym, subst, arith, ⊎_elim, get_or, set, ◌==◌, if◌then◌else◌, Option, Some, true≢false}
-use Rattle.std.specs.Prelude.{⊤, ◌≢◌, ◌&&◌, nat_lt, slice_index_or, Result}
+use Rattle.std.proofs.Common.{◌≡◌, ◌∙◌, ℕ, ◌<◌, ◌≤◌, ◌+◌, ◌-◌, Bool, true, false, not, List, length, refl, ap, sym, subst, arith, ⊎_elim, get_or, set, ◌==◌, if◌then◌else◌, Option, Some, Ok, Err, ◌⊎◌, true≢false}
+use Rattle.std.specs.Prelude.{⊤, ◌≢◌, ◌&&◌, ◌||◌, nat_lt, slice_index_or, Result}
 use Rattle.std.proofs.lemmas.Bool.{cases_eq, cases_lt}
 use Rattle.std.proofs.lemmas.List.{get_or_default}
 use Rattle.std.proofs.lemmas.List.Edits.{length-remove, get_or-remove_below, get_or-remove_above}
@@ -11,26 +11,28 @@ use Rattle.srcp_sockets.specs.declared.peer.Peer.{Peer}
 use Rattle.srcp_sockets.specs.declared.stay.Stay.TheVariants as stay
 use Rattle.srcp_sockets.specs.declared.waiting.Listening.{Listening}
 use Rattle.srcp_sockets.specs.Steps.{Clocks, Closes, Step, Tells, Told}
-use Rattle.srcp_serve.specs.Calls.{CloseCall}
-use Rattle.srcp_sockets.specs.Accounts.{Account, account, account_step, closed, let_go, may_close}
+use Rattle.srcp_serve.specs.Calls.{Call, CloseCall, ReadCall, WriteCall}
+use Rattle.srcp_serve.specs.declared.door.Got.{Got}
+use Rattle.srcp_serve.specs.declared.door.Got.TheVariants as got
+use Rattle.srcp_sockets.specs.Accounts.{Account, account, account_step, closed, let_go, may_close, may_fail, told_step}
 use Rattle.srcp_sockets.specs.Peers.{Agrees, IsKept, is_closable}
-use Rattle.srcp_sockets.specs.Doors.{AreApart, Closed, Fresh, Hears, IsAbsent, IsMissing, Sound, Stands}
-use Rattle.srcp_sockets.proofs.Staying.{gone_agrees, let_go_agrees, may_close_then}
+use Rattle.srcp_sockets.specs.Doors.{AreApart, Closed, Fresh, Hears, IsAbsent, IsMissing, IsThere, Sound, Stands}
+use Rattle.srcp_sockets.proofs.Staying.{gone_agrees, gone_unwatched, let_go_agrees, may_close_then}
 use Rattle.srcp_sockets.proofs.Keeping.{account_more, alien, kept_after, own, picks, skips, spares_after}
 use Rattle.srcp_sockets.proofs.Lists.{clocked_all, kept_spared}
-use Rattle.srcp_sockets.proofs.Standing.{stands_one}
+use Rattle.srcp_sockets.proofs.Standing.{find, nobody, stands_one, stands_told}
 
 -- ---- a step that every account goes on with
 
 -- what a step makes of each account
-pub record Goes (Holds : Account → Type 0) (step : Step) (l : Listening) : Type 0 where
-  pub sound : (socket : ℕ) (a : Account) → Holds a → Sound a → Sound (account_step socket a step)
+pub record Goes (Holds : ℕ → Account → Type 0) (step : Step) (l : Listening) : Type 0 where
+  pub sound : (socket : ℕ) (a : Account) → Holds socket a → Sound a → Sound (account_step socket a step)
   pub fresh : (socket : ℕ) (a : Account) → Fresh a → Fresh (account_step socket a step)
   pub closed : (socket : ℕ) (a : Account) → Closed a → Closed (account_step socket a step)
   pub heard : (a : Account) → Hears a l → Hears (account_step 0 a step) l
 
-pub stands_goes : (Holds : Account → Type 0) (old new : Option (List Step)) (peers : List Peer) (l : Listening) (last : ℕ) (step : Step)
-    → Goes Holds step l → ((log : List Step) → old ≡ Some log → (socket : ℕ) → Holds (account socket log))
+pub stands_goes : (Holds : ℕ → Account → Type 0) (old new : Option (List Step)) (peers : List Peer) (l : Listening) (last : ℕ) (step : Step)
+    → Goes Holds step l → ((log : List Step) → old ≡ Some log → (socket : ℕ) → Holds socket (account socket log))
     → ((k : ℕ) (d : Peer) → k < length peers → IsKept new (slice_index_or peers k d)) → Tells old step new
     → Stands old peers l last → Stands new peers l last
 stands_goes Holds old new peers l last step goes holds kept tells stands = record {
@@ -53,7 +55,7 @@ stands_goes Holds old new peers l last step goes holds kept tells stands = recor
     more socket log is = ap (account socket) (tells log is).2 ∙ account_more socket (tells log is).0 step
 
 -- a clock was read
-clock_goes : (answer : Option ℕ) (l : Listening) → Goes (λ a. ⊤) (Clocks answer) l
+clock_goes : (answer : Option ℕ) (l : Listening) → Goes (λ socket a. ⊤) (Clocks answer) l
 clock_goes answer l = record {
   sound = λ socket a holds h. record {
     took = h.took;
@@ -77,12 +79,12 @@ clock_goes answer l = record {
 
 pub stands_clocked : (old new : Option (List Step)) (peers : List Peer) (l : Listening) (last : ℕ) (answer : Option ℕ)
     → Tells old (Clocks answer) new → Stands old peers l last → Stands new peers l last
-stands_clocked old new peers l last answer tells stands = stands_goes (λ a. ⊤) old new peers l last (Clocks answer) (clock_goes answer l)
+stands_clocked old new peers l last answer tells stands = stands_goes (λ socket a. ⊤) old new peers l last (Clocks answer) (clock_goes answer l)
     (λ log is socket. tt) (clocked_all old new peers answer tells stands.kept) tells stands
 
 -- ---- one that is let go
 
-let_go_goes : (number : ℕ) (answer : Result Unit DoorFault) (l : Listening) → Goes (λ a. ⊤) (Told (CloseCall number answer)) l
+let_go_goes : (number : ℕ) (answer : Result Unit DoorFault) (l : Listening) → Goes (λ socket a. ⊤) (Told (CloseCall number answer)) l
 let_go_goes number answer l = record {
   sound = λ socket a holds h. sound (number == socket) a h;
   fresh = λ socket a h. fresh (number == socket) a h;
@@ -124,7 +126,7 @@ let_go_goes number answer l = record {
 pub stands_missing : (old new : Option (List Step)) (peers : List Peer) (l : Listening) (last number : ℕ) (answer : Result Unit DoorFault)
     → IsMissing number peers → Tells old (Told (CloseCall number answer)) new → Stands old peers l last → Stands new peers l last
 stands_missing old new peers l last number answer missing tells stands =
-    stands_goes (λ a. ⊤) old new peers l last (Told (CloseCall number answer)) (let_go_goes number answer l) (λ log is socket. tt)
+    stands_goes (λ socket a. ⊤) old new peers l last (Told (CloseCall number answer)) (let_go_goes number answer l) (λ log is socket. tt)
     (λ k d lt. kept_after old new (Told (CloseCall number answer)) (slice_index_or peers k d) (slice_index_or peers k d) tells refl
     (λ a h. by k d lt a (number == (slice_index_or peers k d).number) (λ e. grind (arith, nat_tests)) h) (stands.kept k d lt)) tells stands
   where
@@ -132,6 +134,119 @@ stands_missing old new peers l last number answer missing tells stands =
         → Agrees a (slice_index_or peers k d) → Agrees (if b then let_go a else a) (slice_index_or peers k d)
     by k d lt a true same h = gone_agrees a (slice_index_or peers k d) (missing k d lt (same refl)) h
     by k d lt a false same h = h
+
+-- ---- a call that failed, since nobody was there
+
+abbrev judged : (Account → Bool) → Bool → Account → Account
+judged may b a = if b then record a { honest = a.honest && may a } else a
+
+judged_sound : (may : Account → Bool) (b : Bool) (a : Account) → (b ≡ true → may a ≡ true) → Sound a → Sound (judged may b a)
+judged_sound may true a right h = record {
+  took = h.took;
+  handed = h.handed;
+  honest = ap (λ x. x && may a) h.honest ∙ right refl;
+  rested = h.rested;
+  rightly = h.rightly;
+  served = h.served;
+}
+judged_sound may false a right h = h
+
+judged_fresh : (may : Account → Bool) (b : Bool) (a : Account) → Fresh a → Fresh (judged may b a)
+judged_fresh may true a h = record { written = h.written; took = h.took; gave = h.gave; handed = h.handed }
+judged_fresh may false a h = h
+
+judged_closed : (may : Account → Bool) (b : Bool) (a : Account) → Closed a → Closed (judged may b a)
+judged_closed may true a h = record { watched = h.watched; kept = h.kept }
+judged_closed may false a h = h
+
+judged_hears : (may : Account → Bool) (b : Bool) (a : Account) (l : Listening) → Hears a l → Hears (judged may b a) l
+judged_hears may true a l h = record {
+  fresh = record { written = h.fresh.written; took = h.fresh.took; gave = h.fresh.gave; handed = h.fresh.handed };
+  lost = h.lost;
+  cut = h.cut;
+  ended = h.ended;
+  failed = h.failed;
+  heard = h.heard;
+}
+judged_hears may false a l h = h
+
+judged_agrees : (may : Account → Bool) (b : Bool) (a : Account) (p : Peer) → (b ≡ true → may a ≡ true) → Agrees a p
+    → Agrees (judged may b a) p
+judged_agrees may true a p right h = record {
+  reads = h.reads;
+  writes = h.writes;
+  stays = h.stays;
+  rightly = h.rightly;
+  unread = h.unread;
+  served = h.served;
+  cut = h.cut;
+  line = h.line;
+  honest = ap (λ x. x && may a) h.honest ∙ right refl;
+  rested = h.rested;
+}
+judged_agrees may false a p right h = h
+
+same_number : (n m : ℕ) → (n == m) ≡ true → n ≡ m
+same_number n m e = grind (arith, nat_tests)
+
+-- nobody with that number is there by its account
+unwatched_is : (told : Option (List Step)) (peers : List Peer) (l : Listening) (last number : ℕ) (log : List Step) → told ≡ Some log
+    → IsMissing number peers → Stands told peers l last → (account number log).watched ≡ false
+unwatched_is told peers l last number log is missing stands = ⊎_elim
+    (λ (there : IsThere number peers).
+    let p : Peer = slice_index_or peers there.place nobody in
+    let h : Agrees (account p.number log) p = stands.kept there.place nobody there.within log is in
+    subst (λ (n : ℕ). (account n log).watched ≡ false) (there.same nobody)
+    (gone_unwatched (account p.number log) p.outgoing p.stay (missing there.place nobody there.within (there.same nobody)) h.stays))
+    (λ (absent : IsAbsent number peers). (stands.closed log is number absent).watched)
+    (find number peers)
+
+pub stands_judged : (old new : Option (List Step)) (peers : List Peer) (l : Listening) (last number : ℕ) (call : Call)
+    (may : Account → Bool) → ((socket : ℕ) (a : Account) → account_step socket a (Told call) ≡ judged may (number == socket) a)
+    → ((a : Account) → a.watched ≡ false → may a ≡ true) → IsMissing number peers → Tells old (Told call) new
+    → Stands old peers l last → Stands new peers l last
+stands_judged old new peers l last number call may is right missing tells stands =
+    stands_goes (λ socket a. (number == socket) ≡ true → may a ≡ true) old new peers l last (Told call) goes
+    (λ log told socket e. right (account socket log) (subst (λ (n : ℕ). (account n log).watched ≡ false) (same_number number socket e)
+    (unwatched_is old peers l last number log told missing stands)))
+    (λ k d lt. kept_after old new (Told call) (slice_index_or peers k d) (slice_index_or peers k d) tells refl
+    (λ a h. one k d lt a h) (stands.kept k d lt)) tells stands
+  where
+    goes : Goes (λ socket a. (number == socket) ≡ true → may a ≡ true) (Told call) l
+    goes = record {
+      sound = λ socket a holds h. subst Sound (sym (is socket a)) (judged_sound may (number == socket) a holds h);
+      fresh = λ socket a h. subst Fresh (sym (is socket a)) (judged_fresh may (number == socket) a h);
+      closed = λ socket a h. subst Closed (sym (is socket a)) (judged_closed may (number == socket) a h);
+      heard = λ a h. subst (λ (x : Account). Hears x l) (sym (is 0 a)) (judged_hears may (number == 0) a l h);
+    }
+
+    one : (k : ℕ) (d : Peer) → k < length peers → (a : Account) → Agrees a (slice_index_or peers k d)
+        → Agrees (account_step (slice_index_or peers k d).number a (Told call)) (slice_index_or peers k d)
+    one k d lt a h =
+        let p : Peer = slice_index_or peers k d in
+        subst (λ (x : Account). Agrees x p) (sym (is p.number a))
+        (judged_agrees may (number == p.number) a p
+        (λ e. right a (gone_unwatched a p.outgoing p.stay (missing k d lt (sym (same_number number p.number e))) h.stays)) h)
+
+-- a read of a peer that is not there
+pub stands_missed : (old new : Option (List Step)) (peers : List Peer) (l : Listening) (last number : ℕ) (answer : Result Got DoorFault)
+    (buffer : List ℕ) → (answer ≡ Ok got.Nothing ⊎ answer ≡ Err DoorFault.Read) → IsMissing number peers
+    → Tells old (Told (ReadCall number answer buffer)) new → Stands old peers l last → Stands new peers l last
+stands_missed old new peers l last number answer buffer told missing tells stands = ⊎_elim
+    (λ e. stands_told old new peers l last (ReadCall number answer buffer)
+    (λ socket a. ap (λ x. told_step socket a (ReadCall number x buffer)) e) tells stands)
+    (λ e. stands_judged old new peers l last number (ReadCall number answer buffer) may_fail
+    (λ socket a. ap (λ x. told_step socket a (ReadCall number x buffer)) e)
+    (λ a w. ap (λ x. not x || (a.received.failed || a.sent.lost)) w) missing tells stands)
+    told
+
+-- a write to a peer that is not there
+pub stands_unwritten : (old new : Option (List Step)) (peers : List Peer) (l : Listening) (last number : ℕ) (bytes : List ℕ)
+    (fault : DoorFault) → IsMissing number peers → Tells old (Told (WriteCall number bytes (Err fault))) new
+    → Stands old peers l last → Stands new peers l last
+stands_unwritten old new peers l last number bytes fault missing tells stands =
+    stands_judged old new peers l last number (WriteCall number bytes (Err fault)) (λ a. not a.watched) (λ socket a. refl)
+    (λ a w. ap not w) missing tells stands
 
 -- one that was there was let go
 pub stands_let_go : (old new : Option (List Step)) (peers : List Peer) (i : ℕ) (p q : Peer) (l : Listening) (last number since : ℕ)

@@ -10,7 +10,7 @@ use Rattle.srcp_serve.specs.declared.door.Got.TheVariants as got
 use Rattle.srcp_sockets.specs.declared.system.Ready.{Ready}
 use Rattle.srcp_serve.specs.Calls.{Call, ExpectCall, NowCall, AcceptCall, ReadCall, WriteCall, CloseCall}
 use Rattle.srcp_sockets.specs.Steps.{Accepts, Clocks, Closes, Reads, Shuts, Step, Told, Waits, Writes}
-use Rattle.srcp_sockets.specs.Accounts.{Account, accepted, account, account_step, closed, heard, is_at_rest, is_short, may_close, may_end, may_shut, shut_down, untouched, waited, woken, woken_came, woken_sent, wrote, read_of}
+use Rattle.srcp_sockets.specs.Accounts.{Account, accepted, account, account_step, closed, heard, is_at_rest, is_short, may_close, may_end, may_fail, may_shut, shut_down, untouched, waited, woken, woken_came, woken_sent, wrote, read_of}
 use Rattle.srcp_sockets.proofs.Keeping.{own}
 use Rattle.srcp_sockets.proofs.Resting.{and_left, and_right}
 use Rattle.srcp_sockets.proofs.Tellings.{if_same}
@@ -43,6 +43,11 @@ accept_marks socket number a (Err fault) = by (socket == 0)
     by false = if_same marks (number == socket) (accepted a (Err fault)) a refl
 
 -- a judgement that failed once fails for ever
+was_honest : (b : Bool) (a : Account) (may : Bool) → (if b then record a { honest = a.honest && may } else a).honest ≡ true
+    → a.honest ≡ true
+was_honest true a may h = and_left a.honest may h
+was_honest false a may h = h
+
 honest_before : (socket : ℕ) (a : Account) (step : Step) → (account_step socket a step).honest ≡ true → a.honest ≡ true
 honest_before socket a (Accepts number answer) h = sym (ap (λ m. m.0) (accept_marks socket number a answer)) ∙ h
 honest_before socket a (Reads who buffer answer) h = sym (if_same (λ (x : Account). x.honest) (who == socket)
@@ -58,15 +63,11 @@ honest_before socket a (Told (NowCall answer)) h = h
 honest_before socket a (Told (AcceptCall answer)) h = h
 honest_before socket a (Told (ReadCall who (Ok (got.Bytes count)) buffer)) h = sym
     (if_same (λ (x : Account). x.honest) (who == socket) _ a refl) ∙ h
-honest_before socket a (Told (ReadCall who (Ok got.Ended) buffer)) h = by (who == socket) h
-  where
-    by : (b : Bool) → (if b then record a { honest = a.honest && may_end a } else a).honest ≡ true → a.honest ≡ true
-    by true e = and_left a.honest (may_end a) e
-    by false e = e
+honest_before socket a (Told (ReadCall who (Ok got.Ended) buffer)) h = was_honest (who == socket) a (may_end a) h
 honest_before socket a (Told (ReadCall who (Ok got.Nothing) buffer)) h = h
-honest_before socket a (Told (ReadCall who (Err fault) buffer)) h = h
+honest_before socket a (Told (ReadCall who (Err fault) buffer)) h = was_honest (who == socket) a (may_fail a) h
 honest_before socket a (Told (WriteCall who bytes (Ok count))) h = sym (if_same (λ (x : Account). x.honest) (who == socket) _ a refl) ∙ h
-honest_before socket a (Told (WriteCall who bytes (Err fault))) h = h
+honest_before socket a (Told (WriteCall who bytes (Err fault))) h = was_honest (who == socket) a (not a.watched) h
 honest_before socket a (Told (CloseCall who answer)) h = sym (if_same (λ (x : Account). x.honest) (who == socket) _ a refl) ∙ h
 
 rested_before : (socket : ℕ) (a : Account) (step : Step) → (account_step socket a step).rested ≡ true → a.rested ≡ true
@@ -89,9 +90,11 @@ rested_before socket a (Told (ReadCall who (Ok (got.Bytes count)) buffer)) h = s
 rested_before socket a (Told (ReadCall who (Ok got.Ended) buffer)) h = sym (if_same (λ (x : Account). x.rested) (who == socket) _ a refl)
     ∙ h
 rested_before socket a (Told (ReadCall who (Ok got.Nothing) buffer)) h = h
-rested_before socket a (Told (ReadCall who (Err fault) buffer)) h = h
+rested_before socket a (Told (ReadCall who (Err fault) buffer)) h = sym
+    (if_same (λ (x : Account). x.rested) (who == socket) _ a refl) ∙ h
 rested_before socket a (Told (WriteCall who bytes (Ok count))) h = sym (if_same (λ (x : Account). x.rested) (who == socket) _ a refl) ∙ h
-rested_before socket a (Told (WriteCall who bytes (Err fault))) h = h
+rested_before socket a (Told (WriteCall who bytes (Err fault))) h = sym
+    (if_same (λ (x : Account). x.rested) (who == socket) _ a refl) ∙ h
 rested_before socket a (Told (CloseCall who answer)) h = sym (if_same (λ (x : Account). x.rested) (who == socket) _ a refl) ∙ h
 
 rightly_before : (socket : ℕ) (a : Account) (step : Step) → (account_step socket a step).leave.rightly ≡ true → a.leave.rightly ≡ true
@@ -122,10 +125,12 @@ rightly_before socket a (Told (ReadCall who (Ok got.Ended) buffer)) h = sym
     (if_same (λ (x : Account). x.leave.rightly) (who == socket) _ a refl)
     ∙ h
 rightly_before socket a (Told (ReadCall who (Ok got.Nothing) buffer)) h = h
-rightly_before socket a (Told (ReadCall who (Err fault) buffer)) h = h
+rightly_before socket a (Told (ReadCall who (Err fault) buffer)) h = sym
+    (if_same (λ (x : Account). x.leave.rightly) (who == socket) _ a refl) ∙ h
 rightly_before socket a (Told (WriteCall who bytes (Ok count))) h = sym
     (if_same (λ (x : Account). x.leave.rightly) (who == socket) _ a refl) ∙ h
-rightly_before socket a (Told (WriteCall who bytes (Err fault))) h = h
+rightly_before socket a (Told (WriteCall who bytes (Err fault))) h = sym
+    (if_same (λ (x : Account). x.leave.rightly) (who == socket) _ a refl) ∙ h
 rightly_before socket a (Told (CloseCall who answer)) h = sym (if_same (λ (x : Account). x.leave.rightly) (who == socket) _ a refl) ∙ h
 
 served_before : (socket : ℕ) (a : Account) (step : Step) → (account_step socket a step).served ≡ true → a.served ≡ true
@@ -147,9 +152,11 @@ served_before socket a (Told (ReadCall who (Ok (got.Bytes count)) buffer)) h = s
 served_before socket a (Told (ReadCall who (Ok got.Ended) buffer)) h = sym (if_same (λ (x : Account). x.served) (who == socket) _ a refl)
     ∙ h
 served_before socket a (Told (ReadCall who (Ok got.Nothing) buffer)) h = h
-served_before socket a (Told (ReadCall who (Err fault) buffer)) h = h
+served_before socket a (Told (ReadCall who (Err fault) buffer)) h = sym
+    (if_same (λ (x : Account). x.served) (who == socket) _ a refl) ∙ h
 served_before socket a (Told (WriteCall who bytes (Ok count))) h = sym (if_same (λ (x : Account). x.served) (who == socket) _ a refl) ∙ h
-served_before socket a (Told (WriteCall who bytes (Err fault))) h = h
+served_before socket a (Told (WriteCall who bytes (Err fault))) h = sym
+    (if_same (λ (x : Account). x.served) (who == socket) _ a refl) ∙ h
 served_before socket a (Told (CloseCall who answer)) h = sym (if_same (λ (x : Account). x.served) (who == socket) _ a refl) ∙ h
 
 at_first : (pr : Account → Bool) (socket : ℕ) → ((a : Account) (step : Step) → pr (account_step socket a step) ≡ true → pr a ≡ true)
@@ -163,20 +170,42 @@ at_step : (pr : Account → Bool) (socket : ℕ) → ((a : Account) (step : Step
 at_step pr socket back before after step h = at_first pr socket back (account_step socket (account socket before) step) after
     (sym (ap pr (fold-append (account_step socket) untouched before (step ∷ after))) ∙ h)
 
--- an end that was told had been found
+not_so : (b : Bool) → not b ≡ true → b ≡ false
+not_so true e = absurd (true≢false (sym e))
+not_so false e = refl
+
+-- what was told of it was told when it might be
+told_rightly : (b : Bool) (a : Account) (may : Bool) → b ≡ true
+    → (if b then record a { honest = a.honest && may } else a).honest ≡ true → may ≡ true
+told_rightly true a may e h = and_right a.honest may h
+told_rightly false a may e h = absurd (true≢false (sym e))
+
+honest_then : (socket : ℕ) (before after : List Step) (call : Call) → (account socket (before ++ Told call ∷ after)).honest ≡ true
+    → (account_step socket (account socket before) (Told call)).honest ≡ true
+honest_then socket before after call h =
+    at_step (λ (a : Account). a.honest) socket (honest_before socket) before after (Told call) h
+
 pub ended_before : (socket : ℕ) (before after : List Step) (buffer : List ℕ)
     → (account socket (before ++ Told (ReadCall socket (Ok got.Ended) buffer) ∷ after)).honest ≡ true
     → may_end (account socket before) ≡ true
 ended_before socket before after buffer h =
-    by (socket == socket) (own socket) (at_step (λ (a : Account). a.honest) socket (honest_before socket) before after
-    (Told (ReadCall socket (Ok got.Ended) buffer)) h)
-  where
-    by : (b : Bool) → b ≡ true
-        → (if b then record (account socket before) { honest = (account socket before).honest && may_end (account socket before) }
-        else account socket before).honest ≡ true
-        → may_end (account socket before) ≡ true
-    by true e t = and_right (account socket before).honest (may_end (account socket before)) t
-    by false e t = absurd (true≢false (sym e))
+    told_rightly (socket == socket) (account socket before) (may_end (account socket before)) (own socket)
+    (honest_then socket before after (ReadCall socket (Ok got.Ended) buffer) h)
+
+pub failed_before : (socket : ℕ) (before after : List Step) (fault : DoorFault) (buffer : List ℕ)
+    → (account socket (before ++ Told (ReadCall socket (Err fault) buffer) ∷ after)).honest ≡ true
+    → may_fail (account socket before) ≡ true
+failed_before socket before after fault buffer h =
+    told_rightly (socket == socket) (account socket before) (may_fail (account socket before)) (own socket)
+    (honest_then socket before after (ReadCall socket (Err fault) buffer) h)
+
+pub unwritten_before : (socket : ℕ) (before after : List Step) (bytes : List ℕ) (fault : DoorFault)
+    → (account socket (before ++ Told (WriteCall socket bytes (Err fault)) ∷ after)).honest ≡ true
+    → (account socket before).watched ≡ false
+unwritten_before socket before after bytes fault h =
+    not_so (account socket before).watched
+    (told_rightly (socket == socket) (account socket before) (not (account socket before).watched) (own socket)
+    (honest_then socket before after (WriteCall socket bytes (Err fault)) h))
 
 -- a long wait found at rest whom it was to find so
 long_rests : (watched listener short rests : Bool) → (watched || listener) ≡ true → short ≡ false
@@ -226,10 +255,6 @@ might_close socket before after h =
     ∙ at_step (λ (x : Account). x.leave.rightly) socket (rightly_before socket) before after (Closes socket) h)
 
 -- ---- no moment was told while one was unread
-
-not_so : (b : Bool) → not b ≡ true → b ≡ false
-not_so true e = absurd (true≢false (sym e))
-not_so false e = refl
 
 pub read_then : (socket : ℕ) (before after : List Step) (answer : Result ℕ DoorFault)
     → (account socket (before ++ Told (NowCall answer) ∷ after)).served ≡ true

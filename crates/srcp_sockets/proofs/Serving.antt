@@ -78,7 +78,7 @@ read_clocked old new answer tells read socket later is =
 serves : (served unread : Bool) → served ≡ true → unread ≡ false → (served && not unread) ≡ true
 serves served unread s u = both served (not unread) s (ap not u)
 
-now_goes : (answer : Result ℕ DoorFault) (l : Listening) → Goes (λ a. (a.watched && a.unread) ≡ false) (Told (NowCall answer)) l
+now_goes : (answer : Result ℕ DoorFault) (l : Listening) → Goes (λ socket a. (a.watched && a.unread) ≡ false) (Told (NowCall answer)) l
 now_goes answer l = record {
   sound = λ socket a holds h. record {
     took = h.took;
@@ -123,6 +123,6 @@ kept_now old new p answer read tells kept later is =
 pub stands_now : (old new : Option (List Step)) (peers : List Peer) (l : Listening) (last : ℕ) (answer : Result ℕ DoorFault)
     → AreRead old → Tells old (Told (NowCall answer)) new → Stands old peers l last → Stands new peers l last
 stands_now old new peers l last answer read tells stands =
-    stands_goes (λ a. (a.watched && a.unread) ≡ false) old new peers l last (Told (NowCall answer)) (now_goes answer l)
+    stands_goes (λ socket a. (a.watched && a.unread) ≡ false) old new peers l last (Told (NowCall answer)) (now_goes answer l)
     (λ log is socket. read socket log is)
     (λ k d lt. kept_now old new (slice_index_or peers k d) answer read tells (stands.kept k d lt)) tells stands

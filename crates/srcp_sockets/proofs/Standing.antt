@@ -18,10 +18,7 @@ use Rattle.srcp_sockets.specs.declared.waiting.Listening.{Listening}
 use Rattle.srcp_sockets.specs.declared.waiting.Listening.TheVariants as listening
 use Rattle.srcp_sockets.specs.declared.system.Ready.{Ready}
 use Rattle.srcp_sockets.specs.Steps.{Accepts, Step, Tells, Told, Waits, refusal_told}
-use Rattle.srcp_serve.specs.Calls.{Call, ReadCall}
-use Rattle.srcp_serve.specs.declared.door.DoorFault.{DoorFault}
-use Rattle.srcp_serve.specs.declared.door.Got.{Got}
-use Rattle.srcp_serve.specs.declared.door.Got.TheVariants as got
+use Rattle.srcp_serve.specs.Calls.{Call}
 use Rattle.srcp_sockets.specs.Accounts.{Account, accepted, account, account_step, heard, heard_refusal, is_at_rest, is_short, told_step, waited, woken, woken_came, woken_sent, noted}
 use Rattle.srcp_sockets.specs.Peers.{Agrees, IsKept, Spares, WritesAs, after_wake, is_resting}
 use Rattle.srcp_door.specs.Pacing.{line_after}
@@ -358,15 +355,6 @@ pub stands_told : (old new : Option (List Step)) (peers : List Peer) (l : Listen
     → Stands old peers l last → Stands new peers l last
 stands_told old new peers l last call nothing tells stands =
     stands_spared old new peers l last (λ other. spares_after other old new (Told call) tells (λ a. nothing other a)) stands
-
--- a read of a peer that is not there
-pub stands_missed : (old new : Option (List Step)) (peers : List Peer) (l : Listening) (last number : ℕ) (answer : Result Got DoorFault)
-    (buffer : List ℕ) → (answer ≡ Ok got.Nothing ⊎ answer ≡ Err DoorFault.Read)
-    → Tells old (Told (ReadCall number answer buffer)) new → Stands old peers l last → Stands new peers l last
-stands_missed old new peers l last number answer buffer told tells stands =
-    stands_told old new peers l last (ReadCall number answer buffer)
-    (λ socket a. ⊎_elim (λ e. ap (λ x. told_step socket a (ReadCall number x buffer)) e)
-    (λ e. ap (λ x. told_step socket a (ReadCall number x buffer)) e) told) tells stands
 
 -- ---- a newcomer
 

@@ -1,18 +1,19 @@
 -- How far a peer is let go, by its account.
-use Rattle.std.proofs.Common.{◌≡◌, ◌∙◌, ℕ, Bool, true, false, not, List, [], ◌++◌, drop, length, refl, ap, sym, subst, arith, ◌==◌, true≢false, Option, append-nil}
+use Rattle.std.proofs.Common.{◌≡◌, ◌∙◌, ℕ, Bool, true, false, not, List, [], ◌++◌, drop, length, refl, ap, sym, subst, arith, ◌==◌, true≢false, Option, append-nil, ⊎_elim, ◌⊎◌}
 use Rattle.std.specs.Prelude.{◌&&◌, ◌||◌, cond}
 use Rattle.std.proofs.lemmas.List.{drop_all}
 use Rattle.srcp_sockets.specs.Steps.{Step}
 use Rattle.srcp_sockets.specs.declared.peer.Peer.{Peer}
 use Rattle.srcp_sockets.specs.declared.readiness.Reading.{Reading}
+use Rattle.srcp_sockets.specs.declared.readiness.Reading.TheVariants as input
 use Rattle.srcp_sockets.specs.declared.readiness.Writing.{Writing}
 use Rattle.srcp_sockets.specs.declared.readiness.Writing.TheVariants as output
 use Rattle.srcp_sockets.specs.declared.stay.Stay.{Stay}
 use Rattle.srcp_sockets.specs.declared.stay.Stay.TheVariants as stay
-use Rattle.srcp_sockets.specs.Accounts.{Account, Leave, Received, Sent, account, clocked, clock_after, is_held, is_overdue, is_owed, let_go, may_close, may_end, shut_down}
-use Rattle.srcp_sockets.specs.Peers.{Agrees, ComesAs, IsKept, StaysAs, WritesAs, closable_as, is_closable, is_here, is_lost}
+use Rattle.srcp_sockets.specs.Accounts.{Account, Leave, Received, Sent, account, clocked, clock_after, is_held, is_overdue, is_owed, let_go, may_close, may_end, may_fail, shut_down}
+use Rattle.srcp_sockets.specs.Peers.{Agrees, ComesAs, IsKept, MayFail, ReadsAs, StaysAs, WritesAs, closable_as, is_closable, is_here, is_lost}
 use Rattle.srcp_sockets.proofs.Resting.{held_is, owed_is}
-use Rattle.srcp_sockets.proofs.States.{comes_starts}
+use Rattle.srcp_sockets.proofs.States.{comes_starts, reads_here}
 use Rattle.srcp_sockets.proofs.Wanting.{wants_less}
 
 -- one that is there stays so, whatever is queued for it
@@ -210,3 +211,32 @@ closable_then a outgoing state (stay.Shut since) clock is e w h = (by state w, h
 pub may_close_then : (a : Account) (p : Peer) (clock : ℕ) → a.leave.clock ≡ clock → is_closable clock p ≡ true → Agrees a p
     → (may_close a ≡ true) × (a.watched ≡ false)
 may_close_then a p clock is e h = closable_then a p.outgoing p.output p.stay clock is e h.writes h.stays
+
+-- ---- it is told to be lost
+
+fails_read : (gone failed lost : Bool) → failed ≡ true → (gone || (failed || lost)) ≡ true
+fails_read true failed lost e = refl
+fails_read false failed lost e = ap (λ f. f || lost) e
+
+fails_write : (gone failed lost : Bool) → lost ≡ true → (gone || (failed || lost)) ≡ true
+fails_write true failed lost e = refl
+fails_write false true lost e = refl
+fails_write false false lost e = e
+
+-- a peer that may be told to be lost may be so by its account
+pub may_fail_then : (a : Account) (p : Peer) → p.stay ≡ stay.Here → MayFail p → Agrees a p → may_fail a ≡ true
+may_fail_then a p here failed h = ⊎_elim
+    (λ (e : p.input ≡ input.Failed).
+    let r : ReadsAs a.received p.incoming input.Failed = subst (ReadsAs a.received p.incoming) e
+    (reads_here a.received p.incoming p.input p.stay here h.reads) in
+    fails_read (not a.watched) a.received.failed a.sent.lost r.1)
+    (λ (e : is_lost p.output ≡ true).
+    fails_write (not a.watched) a.received.failed a.sent.lost (lost_is a.sent p.outgoing p.output e h.writes))
+    failed
+
+-- one that was let go is not there by its account
+pub gone_unwatched : (a : Account) (outgoing : List ℕ) (here : Stay) → is_here here ≡ false
+    → StaysAs a.watched a.leave outgoing here → a.watched ≡ false
+gone_unwatched a outgoing stay.Here e h = absurd (true≢false e)
+gone_unwatched a outgoing (stay.Leaving since) e h = h.0
+gone_unwatched a outgoing (stay.Shut since) e h = h.0

@@ -119,10 +119,12 @@ took_step socket a (Told (ReadCall who (Ok (got.Bytes count)) buffer)) = same_mo
 took_step socket a (Told (ReadCall who (Ok got.Ended) buffer)) = same_more _ a.sent.took
     (if_same (λ (x : Account). x.sent.took) (who == socket) _ a refl)
 took_step socket a (Told (ReadCall who (Ok got.Nothing) buffer)) = sym (append-nil a.sent.took)
-took_step socket a (Told (ReadCall who (Err fault) buffer)) = sym (append-nil a.sent.took)
+took_step socket a (Told (ReadCall who (Err fault) buffer)) = same_more _ a.sent.took
+    (if_same (λ (x : Account). x.sent.took) (who == socket) _ a refl)
 took_step socket a (Told (WriteCall who bytes (Ok count))) = same_more _ a.sent.took
     (if_same (λ (x : Account). x.sent.took) (who == socket) _ a refl)
-took_step socket a (Told (WriteCall who bytes (Err fault))) = sym (append-nil a.sent.took)
+took_step socket a (Told (WriteCall who bytes (Err fault))) = same_more _ a.sent.took
+    (if_same (λ (x : Account). x.sent.took) (who == socket) _ a refl)
 took_step socket a (Told (CloseCall who answer)) = same_more _ a.sent.took (if_same (λ (x : Account). x.sent.took) (who == socket) _ a refl)
 
 gave_step : (socket : ℕ) (a : Account) (step : Step) → (account_step socket a step).received.gave ≡ a.received.gave ++ gave_in socket step
@@ -148,10 +150,12 @@ gave_step socket a (Told (ReadCall who (Ok (got.Bytes count)) buffer)) = same_mo
 gave_step socket a (Told (ReadCall who (Ok got.Ended) buffer)) = same_more _ a.received.gave
     (if_same (λ (x : Account). x.received.gave) (who == socket) _ a refl)
 gave_step socket a (Told (ReadCall who (Ok got.Nothing) buffer)) = sym (append-nil a.received.gave)
-gave_step socket a (Told (ReadCall who (Err fault) buffer)) = sym (append-nil a.received.gave)
+gave_step socket a (Told (ReadCall who (Err fault) buffer)) = same_more _ a.received.gave
+    (if_same (λ (x : Account). x.received.gave) (who == socket) _ a refl)
 gave_step socket a (Told (WriteCall who bytes (Ok count))) = same_more _ a.received.gave
     (if_same (λ (x : Account). x.received.gave) (who == socket) _ a refl)
-gave_step socket a (Told (WriteCall who bytes (Err fault))) = sym (append-nil a.received.gave)
+gave_step socket a (Told (WriteCall who bytes (Err fault))) = same_more _ a.received.gave
+    (if_same (λ (x : Account). x.received.gave) (who == socket) _ a refl)
 gave_step socket a (Told (CloseCall who answer)) = same_more _ a.received.gave
     (if_same (λ (x : Account). x.received.gave) (who == socket) _ a refl)
 
@@ -180,11 +184,13 @@ written_step socket a (Told (ReadCall who (Ok (got.Bytes count)) buffer)) = same
 written_step socket a (Told (ReadCall who (Ok got.Ended) buffer)) = same_more _ a.sent.written
     (if_same (λ (x : Account). x.sent.written) (who == socket) _ a refl)
 written_step socket a (Told (ReadCall who (Ok got.Nothing) buffer)) = sym (append-nil a.sent.written)
-written_step socket a (Told (ReadCall who (Err fault) buffer)) = sym (append-nil a.sent.written)
+written_step socket a (Told (ReadCall who (Err fault) buffer)) = same_more _ a.sent.written
+    (if_same (λ (x : Account). x.sent.written) (who == socket) _ a refl)
 written_step socket a (Told (WriteCall who bytes (Ok count))) = if_more (λ (x : Account). x.sent.written) (who == socket)
     (record a { sent = record a.sent { written = a.sent.written ++ take count bytes; cut = nat_lt count (length bytes) } }) a
     (take count bytes) refl
-written_step socket a (Told (WriteCall who bytes (Err fault))) = sym (append-nil a.sent.written)
+written_step socket a (Told (WriteCall who bytes (Err fault))) = same_more _ a.sent.written
+    (if_same (λ (x : Account). x.sent.written) (who == socket) _ a refl)
 written_step socket a (Told (CloseCall who answer)) = same_more _ a.sent.written
     (if_same (λ (x : Account). x.sent.written) (who == socket) _ a refl)
 
@@ -213,10 +219,12 @@ handed_step socket a (Told (ReadCall who (Ok (got.Bytes count)) buffer)) = if_mo
 handed_step socket a (Told (ReadCall who (Ok got.Ended) buffer)) = same_more _ a.received.handed
     (if_same (λ (x : Account). x.received.handed) (who == socket) _ a refl)
 handed_step socket a (Told (ReadCall who (Ok got.Nothing) buffer)) = sym (append-nil a.received.handed)
-handed_step socket a (Told (ReadCall who (Err fault) buffer)) = sym (append-nil a.received.handed)
+handed_step socket a (Told (ReadCall who (Err fault) buffer)) = same_more _ a.received.handed
+    (if_same (λ (x : Account). x.received.handed) (who == socket) _ a refl)
 handed_step socket a (Told (WriteCall who bytes (Ok count))) = same_more _ a.received.handed
     (if_same (λ (x : Account). x.received.handed) (who == socket) _ a refl)
-handed_step socket a (Told (WriteCall who bytes (Err fault))) = sym (append-nil a.received.handed)
+handed_step socket a (Told (WriteCall who bytes (Err fault))) = same_more _ a.received.handed
+    (if_same (λ (x : Account). x.received.handed) (who == socket) _ a refl)
 handed_step socket a (Told (CloseCall who answer)) = same_more _ a.received.handed
     (if_same (λ (x : Account). x.received.handed) (who == socket) _ a refl)
 

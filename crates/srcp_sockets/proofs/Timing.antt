@@ -4,6 +4,7 @@ use Rattle.std.specs.Prelude.{◌&&◌, ◌||◌, not, nat_le, fold, Result}
 use Rattle.std.specs.Option.{option_map_or}
 use Rattle.std.proofs.lemmas.List.Sums.{fold-append}
 use Rattle.std.proofs.lemmas.Bool.Decides.{nat_tests}
+use Rattle.std.specs.declared.io.ErrorKind.{ErrorKind}
 use Rattle.srcp_serve.specs.declared.door.DoorFault.{DoorFault}
 use Rattle.srcp_serve.specs.declared.door.Got.{Got}
 use Rattle.srcp_serve.specs.declared.door.Got.TheVariants as got
@@ -20,12 +21,12 @@ use Rattle.srcp_sockets.specs.declared.system.Ready.{Ready}
 use Rattle.srcp_sockets.specs.declared.turn.Turn.{Turn}
 use Rattle.srcp_serve.specs.Calls.{Call, ExpectCall, NowCall, AcceptCall, ReadCall, WriteCall, CloseCall}
 use Rattle.srcp_sockets.specs.Accounts.{is_short}
-use Rattle.srcp_sockets.specs.Steps.{Clocks, Step, Tells, Told, Waits}
-use Rattle.srcp_sockets.specs.Times.{AreKeptTimes, ArePaced, IsTimed, IsTimedFrom, KeepsTimes, Timed, Times, clocked, ends_by, first_times, in_time, times, times_step, told_moment, told_read, told_times}
+use Rattle.srcp_sockets.specs.Steps.{Accepts, Clocks, Step, Tells, Told, Waits}
+use Rattle.srcp_sockets.specs.Times.{AreKeptTimes, ArePaced, IsTimed, IsTimedFrom, KeepsTimes, Timed, Times, clocked, ends_by, first_times, in_time, is_told, newcomer_of, times, times_step, told_accept, told_moment, told_read, told_times}
 use Rattle.srcp_sockets.specs.Turns.{after_call, after_read, after_wait, begun, first_turn, got_bytes, hands_out, is_pending, moment_at, tells_end, time_left, told_at}
 use Rattle.srcp_sockets.specs.Waiting.{IsWithin}
 
-times_more : (wall start : ℕ) (log : List Step) (step : Step) → times wall start (log ++ step ∷ []) ≡ times_step (times wall start log) step
+pub times_more : (wall start : ℕ) (log : List Step) (step : Step) → times wall start (log ++ step ∷ []) ≡ times_step (times wall start log) step
 times_more wall start log step = fold-append times_step (first_times wall start) log (step ∷ [])
 
 pub keeps_none : (told : Option (List Step)) → KeepsTimes told told
@@ -57,6 +58,18 @@ timed_step wall start old new step before after tells follows timed later is =
     subst (λ (x : Times). Timed x after) (sym (ap (times wall start) t.2 ∙ times_more wall start t.0 step))
     (follows (times wall start t.0) (timed t.0 t.1))
 
+-- and two of them
+timed_two : (wall start : ℕ) (old mid new : Option (List Step)) (one two : Step) (before after : Turn)
+    → ((t : Times) → Timed t before → Timed (times_step (times_step t one) two) after) → Tells old one mid → Tells mid two new
+    → IsTimedFrom wall start old before → IsTimedFrom wall start new after
+timed_two wall start old mid new one two before after follows first second timed later is =
+    let t = second later is in
+    let k = first t.0 t.1 in
+    let same : times wall start later ≡ times_step (times_step (times wall start k.0) one) two =
+    ap (times wall start) t.2 ∙ times_more wall start t.0 two
+    ∙ ap (λ x. times_step x two) (ap (times wall start) k.2 ∙ times_more wall start k.0 one) in
+    subst (λ (x : Times). Timed x after) (sym same) (follows (times wall start k.0) (timed k.0 k.1))
+
 both : (a b : Bool) → a ≡ true → b ≡ true → (a && b) ≡ true
 both a b e f = ap (λ x. x && b) e ∙ f
 
@@ -83,6 +96,8 @@ called t before call h = record {
     prompt = h.kept.prompt;
   };
   paced = record { light = h.paced.light; once = h.paced.once };
+  heard = h.heard;
+  honest = h.honest;
 }
 
 pub timed_expect : (old new : Option (List Step)) (before after : Turn) (due slack : Option ℕ) → after ≡ after_call before
@@ -94,14 +109,43 @@ timed_expect old new before after due slack is tells timed =
     (after_call before call) tells
     (λ t h. called t before call h) timed)
 
-pub timed_accept : (old new : Option (List Step)) (before after : Turn) (answer : Result (Option ℕ) DoorFault) → after ≡ after_call before
-    (AcceptCall answer)
+-- what was told of who wants in
+accepted : (t : Times) (before : Turn) (answer : Result (Option ℕ) DoorFault) (heard : Option (Result (Option ℕ) DoorFault))
+    → is_told heard answer ≡ true → Timed t before
+    → Timed (told_accept (record t { heard = heard }) answer) (after_call before (AcceptCall answer))
+accepted t before answer heard told h = record {
+  same = ap (λ (u : Turn). after_call u (AcceptCall answer)) h.same;
+  clock = h.clock ∙ called_clock before (AcceptCall answer);
+  kept = record {
+    exact = h.kept.exact;
+    punctual = h.kept.punctual;
+    patient = h.kept.patient;
+    prompt = h.kept.prompt;
+  };
+  paced = record { light = h.paced.light; once = h.paced.once };
+  heard = refl;
+  honest = both t.honest (is_told heard answer) h.honest told;
+}
+
+-- the system was not asked
+pub timed_unasked : (old new : Option (List Step)) (before after : Turn) (answer : Result (Option ℕ) DoorFault)
+    → after ≡ after_call before (AcceptCall answer) → is_told None answer ≡ true
     → Tells old (Told (AcceptCall answer)) new → IsTimed old before → IsTimed new after
-timed_accept old new before after answer is tells timed =
-    let call : Call = AcceptCall answer in
-    subst (IsTimed new) (sym is) (timed_step before.timekeeper.wall before.timekeeper.start old new (Told call) before
-    (after_call before call) tells
-    (λ t h. called t before call h) timed)
+timed_unasked old new before after answer is told tells timed =
+    subst (IsTimed new) (sym is) (timed_step before.timekeeper.wall before.timekeeper.start old new (Told (AcceptCall answer)) before
+    (after_call before (AcceptCall answer)) tells
+    (λ t h. subst (λ (x : Option (Result (Option ℕ) DoorFault)). Timed (told_accept (record t { heard = x }) answer)
+    (after_call before (AcceptCall answer))) (sym h.heard) (accepted t before answer None told h)) timed)
+
+-- the system was asked
+pub timed_asked : (old mid new : Option (List Step)) (before after : Turn) (number : ℕ) (said : Result Unit ErrorKind)
+    (answer : Result (Option ℕ) DoorFault) → after ≡ after_call before (AcceptCall answer)
+    → is_told (Some (newcomer_of number said)) answer ≡ true → Tells old (Accepts number said) mid
+    → Tells mid (Told (AcceptCall answer)) new → IsTimed old before → IsTimed new after
+timed_asked old mid new before after number said answer is told asks tells timed =
+    subst (IsTimed new) (sym is) (timed_two before.timekeeper.wall before.timekeeper.start old mid new (Accepts number said)
+    (Told (AcceptCall answer)) before (after_call before (AcceptCall answer))
+    (λ t h. accepted t before answer (Some (newcomer_of number said)) told h) asks tells timed)
 
 pub timed_write : (old new : Option (List Step)) (before after : Turn) (peer : ℕ) (bytes : List ℕ) (answer : Result ℕ DoorFault)
     → ((p : ℕ) (xs : List ℕ) → after ≡ after_call before (WriteCall p xs answer))
@@ -166,6 +210,8 @@ read_rightly t before line who answer buffer lined allowed h = record {
     once = both t.single (not (tells_end answer) || t.turn.ends) h.paced.once
         (unless_ended (tells_end answer) t.turn.ends (λ e. ap (λ (u : Turn). u.ends) h.same ∙ allowed.single e));
   };
+  heard = h.heard;
+  honest = h.honest;
 }
 
 read_from : (wall start : ℕ) (old new : Option (List Step)) (before : Turn) (line : Line) (who : ℕ) (answer : Result Got DoorFault)
@@ -286,6 +332,8 @@ timed_wait old new turn most count ready ends quiet tells timed =
         prompt = h.kept.prompt;
       };
       paced = record { light = h.paced.light; once = h.paced.once };
+      heard = h.heard;
+      honest = h.honest;
     }
 
 -- ---- a moment
@@ -305,6 +353,8 @@ untold t turn h = record {
     prompt = h.kept.prompt;
   };
   paced = record { light = h.paced.light; once = h.paced.once };
+  heard = h.heard;
+  honest = h.honest;
 }
 
 -- the clock showed a time, and the moment that is to be told then was told
@@ -321,19 +371,9 @@ told_rightly t turn time h = record {
     prompt = h.kept.prompt;
   };
   paced = record { light = h.paced.light; once = h.paced.once };
+  heard = h.heard;
+  honest = h.honest;
 }
-
-clocks_then : (wall start : ℕ) (old mid new : Option (List Step)) (before after : Turn) (shown : Option ℕ) (answer : Result ℕ DoorFault)
-    → ((t : Times) → Timed t before → Timed (told_moment (clocked t shown) answer) after)
-    → Tells old (Clocks shown) mid → Tells mid (Told (NowCall answer)) new → IsTimedFrom wall start old before
-    → IsTimedFrom wall start new after
-clocks_then wall start old mid new before after shown answer follows clocks tells timed later e =
-    let t = tells later e in
-    let k = clocks t.0 t.1 in
-    let same : times wall start later ≡ told_moment (clocked (times wall start k.0) shown) answer =
-    ap (times wall start) t.2 ∙ times_more wall start t.0 (Told (NowCall answer))
-    ∙ ap (λ x. told_moment x answer) (ap (times wall start) k.2 ∙ times_more wall start k.0 (Clocks shown)) in
-    subst (λ (x : Times). Timed x after) (sym same) (follows (times wall start k.0) (timed k.0 k.1))
 
 pub timed_moment : (old mid new : Option (List Step)) (before after : Turn) (shown : Option ℕ) (answer : Result ℕ DoorFault)
     → (shown ≡ None → (answer ≡ Err DoorFault.Now) × (after ≡ begun before false))
@@ -342,14 +382,15 @@ pub timed_moment : (old mid new : Option (List Step)) (before after : Turn) (sho
 timed_moment old mid new before after None answer none some clocks tells timed =
     let n = none refl in
     subst (IsTimed new) (sym n.1)
-    (clocks_then before.timekeeper.wall before.timekeeper.start old mid new before (begun before false) None answer
+    (timed_two before.timekeeper.wall before.timekeeper.start old mid new (Clocks None) (Told (NowCall answer)) before
+    (begun before false)
     (λ t h. subst (λ (a : Result ℕ DoorFault). Timed (told_moment (clocked t None) a) (begun before false)) (sym n.0) (untold t before h))
     clocks tells timed)
 timed_moment old mid new before after (Some time) answer none some clocks tells timed =
     let s = some time refl in
     subst (IsTimed new) (sym s.1)
-    (clocks_then before.timekeeper.wall before.timekeeper.start old mid new before (told_at before time (moment_at before time))
-    (Some time) answer
+    (timed_two before.timekeeper.wall before.timekeeper.start old mid new (Clocks (Some time)) (Told (NowCall answer)) before
+    (told_at before time (moment_at before time))
     (λ t h. subst (λ (a : Result ℕ DoorFault). Timed (told_moment (clocked t (Some time)) a) (told_at before time (moment_at before time)))
     (sym s.0)
     (told_rightly t before time h)) clocks tells timed)
@@ -362,7 +403,7 @@ timed_first told turn is begins log e = ⊎_elim
     (λ (f : told ≡ Some []).
     let same : log ≡ [] = cc in
     subst (λ (l : List Step). Timed (times turn.timekeeper.wall turn.timekeeper.start l) turn) (sym same)
-    (record { same = sym is; clock = ap (λ (u : Turn). u.clock) (sym is); kept = record { exact = refl; punctual = refl; patient = refl; prompt = refl }; paced = record { light = refl; once = refl } }))
+    (record { same = sym is; clock = ap (λ (u : Turn). u.clock) (sym is); kept = record { exact = refl; punctual = refl; patient = refl; prompt = refl }; paced = record { light = refl; once = refl }; heard = refl; honest = refl }))
     (λ (f : told ≡ None). absurd (nothing (sym f ∙ e)))
     begins
   where

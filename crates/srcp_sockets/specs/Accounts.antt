@@ -38,7 +38,7 @@ pub record Account : Type 0 where
   pub received : Received
   pub leave : Leave
   pub watched : Bool  -- it was accepted, and was not let go
-  pub honest : Bool  -- its end was told only when it might be
+  pub honest : Bool  -- its end, and that it is lost, was told only when it might be
   pub unread : Bool  -- a read might find something when a wait was over, with less than a piece held, and none was made
   pub served : Bool  -- no moment was told while it was there and unread
   pub rested : Bool  -- each long wait found it at rest
@@ -85,6 +85,10 @@ is_at_rest sent received = not sent.lost && ((not (is_owed sent) || sent.full) &
 -- its end may be told: a read found it, all that came was handed out, and its socket took all that was taken for it
 abbrev pub may_end : Account → Bool
 may_end a = a.received.ended && (not (is_held a.received) && not (is_owed a.sent))
+
+-- a read of it may be told to have failed: a read or a write of its socket failed, or it is not there
+abbrev pub may_fail : Account → Bool
+may_fail a = not a.watched || (a.received.failed || a.sent.lost)
 
 -- a wait that ends by itself, and soon: in 8 milliseconds
 abbrev pub is_short : Option ℕ → Bool
@@ -224,12 +228,14 @@ told_step socket a (ReadCall who (Ok (got.Bytes count)) buffer) =
 told_step socket a (ReadCall who (Ok got.Ended) buffer) = if who == socket
     then record a { honest = a.honest && may_end a } else a
 told_step socket a (ReadCall who (Ok got.Nothing) buffer) = a
-told_step socket a (ReadCall who (Err fault) buffer) = a
+told_step socket a (ReadCall who (Err fault) buffer) = if who == socket
+    then record a { honest = a.honest && may_fail a } else a
 told_step socket a (WriteCall who bytes (Ok count)) =
     if who == socket then record a {
       sent = record a.sent { written = a.sent.written ++ take count bytes; cut = nat_lt count (length bytes) };
     } else a
-told_step socket a (WriteCall who bytes (Err fault)) = a
+told_step socket a (WriteCall who bytes (Err fault)) = if who == socket
+    then record a { honest = a.honest && not a.watched } else a
 told_step socket a (CloseCall who answer) = if who == socket then let_go a else a
 told_step socket a (ExpectCall due slack) = a
 told_step socket a (NowCall answer) = record a { served = a.served && not (a.watched && a.unread) }

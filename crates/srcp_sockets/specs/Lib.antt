@@ -1,4 +1,5 @@
 pub mod Accounts
+pub mod Delivery
 pub mod Doors
 pub mod Ends
 pub mod Facts

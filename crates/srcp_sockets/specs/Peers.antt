@@ -1,5 +1,5 @@
 -- What a peer's states mean.
-use Rattle.std.specs.Prelude.{◌≡◌, ℕ, ◌==◌, ◌&&◌, ◌||◌, nat_lt, Bool, true, false, not, if◌then◌else◌, cond, List, [], ◌++◌, length, take, drop, Option, Some, Result, Ok, Err}
+use Rattle.std.specs.Prelude.{◌≡◌, ◌⊎◌, ℕ, ◌==◌, ◌&&◌, ◌||◌, nat_lt, Bool, true, false, not, if◌then◌else◌, cond, List, [], ◌++◌, length, take, drop, Option, Some, Result, Ok, Err}
 use Rattle.std.specs.Io.{StartsWith}
 use Rattle.std.specs.declared.io.ErrorKind.{ErrorKind}
 use Rattle.srcp_sockets.specs.declared.system.Ready.{Ready}
@@ -182,6 +182,10 @@ abbrev pub is_due : Flush → Peer → Bool
 is_due what p = flushes_all what
     || (nat_lt 3160 (length p.outgoing) || (p.asked && (p.cut || (length p.incoming == 0))))
 
+-- something is queued for it that its socket may still take
+abbrev pub is_waiting : Peer → Bool
+is_waiting p = not (length p.outgoing == 0) && not (is_lost p.output)
+
 -- its input is over, and none of it held
 abbrev pub is_over : List ℕ → Reading → Bool
 is_over incoming input.Ready = false
@@ -194,6 +198,10 @@ is_over incoming input.Failed = false
 abbrev pub MayEnd : Peer → Type 0
 MayEnd p = (p.input ≡ input.Ended) × (p.incoming ≡ []) × (p.ending ≡ ending.Settled) × (p.outgoing ≡ [])
     × (is_lost p.output ≡ false)
+
+-- it may be told to be lost: a read or a write of its socket failed
+abbrev pub MayFail : Peer → Type 0
+MayFail p = (p.input ≡ input.Failed) ⊎ (is_lost p.output ≡ true)
 
 -- ---- what a peer may wait for
 

@@ -1,6 +1,9 @@
 //! What a door does at its end: it delivers what was taken.
 
+ghost use Rattle.std.specs.Prelude.{◌≡◌, All, true, false};
+ghost use Rattle.srcp_sockets.specs.Delivery.{HasEnded, is_over};
 ghost use Rattle.srcp_sockets.specs.Doors.{AreApart, AreKept};
+ghost use Rattle.srcp_sockets.specs.Peers.{is_waiting};
 
 use crate::peer::Peer;
 use crate::peers::{flush, wake};
@@ -20,18 +23,33 @@ pub(crate) fn deliver<S: System>(
 )
     requires kept { AreKept (S.told system.old) peers.old }
     requires apart { AreApart peers.old }
-    ensures { AreKept (S.told system.new) peers.new }
+    ensures kept { AreKept (S.told system.new) peers.new }
+    ensures ended { HasEnded until (S.told system.old) (S.told system.new) peers.new }
 {
-    for _ in 0..LAST_LOOKS {
+    for _look in 0..LAST_LOOKS {
         let _leaving = flush(system, peers, Flush::All);
-        if !peers.iter().any(|peer| peer.is_owed()) {
+        if are_delivered(peers) {
             return;
         }
-        let now = system.clock().unwrap_or(u64::MAX);
-        if until <= now {
+        let clock = system.clock();
+        if is_over(until, clock) {
             return;
         }
         let count = system.wait(Some(PAUSE), ready);
         wake(peers, &ready[..count]);
     }
+}
+
+/// Returns whether nothing is queued that a socket may still take.
+fn are_delivered(peers: &[Peer]) -> bool
+    ensures { result ≡ true → All (λ peer. is_waiting peer ≡ false) peers.now }
+{
+    peers.iter().all(|peer| !peer.is_owed())
+}
+
+/// Returns whether a clock shows that time or a later one, or cannot be read.
+fn is_over(until: u64, clock: Option<u64>) -> bool
+    ensures { result ≡ is_over until clock }
+{
+    clock.is_none_or(|now| until <= now)
 }

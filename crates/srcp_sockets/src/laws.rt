@@ -1,14 +1,14 @@
 //! What holds of every door over a system, whatever the system answered. Each function does nothing: what it ensures is
 //! a law.
 
-ghost use Rattle.std.specs.Prelude.{◌≡◌, ◌++◌, ◌∷◌, ◌==◌, ◌&&◌, ◌||◌, ◌*◌, ◌<◌, ◌≤◌, ◌⊎◌, ℕ, List, length, slice_index_or, Option, Some, Ok, Result, true, false};
+ghost use Rattle.std.specs.Prelude.{◌≡◌, ◌++◌, ◌∷◌, ◌==◌, ◌&&◌, ◌||◌, ◌*◌, ◌<◌, ◌≤◌, ◌⊎◌, ℕ, List, length, slice_index_or, Option, Some, Ok, Err, Result, true, false};
 ghost use Rattle.std.specs.Io.{StartsWith};
 ghost use Rattle.srcp_sockets.specs.declared.peer.Peer.{Peer};
 ghost use Rattle.srcp_serve.specs.declared.door.DoorFault.{DoorFault};
 ghost use Rattle.srcp_serve.specs.declared.door.Got.{Got};
 ghost use Rattle.srcp_sockets.specs.declared.system.Ready.{Ready};
-ghost use Rattle.srcp_serve.specs.Calls.{ReadCall, NowCall};
-ghost use Rattle.srcp_sockets.specs.Accounts.{account, is_at_rest, is_short, may_close, may_end, may_shut};
+ghost use Rattle.srcp_serve.specs.Calls.{ReadCall, NowCall, WriteCall};
+ghost use Rattle.srcp_sockets.specs.Accounts.{account, is_at_rest, is_short, may_close, may_end, may_fail, may_shut};
 ghost use Rattle.srcp_sockets.specs.Steps.{Closes, Shuts, Step, Told, Waits};
 ghost use Rattle.srcp_sockets.specs.Doors.{IsThere};
 ghost use Rattle.srcp_sockets.specs.Times.{AreKeptTimes, ArePaced, times};
@@ -49,6 +49,19 @@ pub fn ends_are_true<S: System + Drop>(door: &SocketDoor<S>)
     ensures { (before after : List Step) (socket : ℕ) (buffer : List ℕ)
         → S.told door.now.sockets.system ≡ Some (before ++ Told (ReadCall socket (Ok Got.Ended) buffer) ∷ after)
         → may_end (account socket before) ≡ true }
+{
+    let _sockets = &door.sockets;
+}
+
+/// A read was told to have failed only after a read or a write of that socket had failed, or if its peer was not there;
+/// and a write only if it was not.
+pub fn faults_are_true<S: System + Drop>(door: &SocketDoor<S>)
+    ensures read { (before after : List Step) (socket : ℕ) (fault : DoorFault) (buffer : List ℕ)
+        → S.told door.now.sockets.system ≡ Some (before ++ Told (ReadCall socket (Err fault) buffer) ∷ after)
+        → may_fail (account socket before) ≡ true }
+    ensures write { (before after : List Step) (socket : ℕ) (bytes : List ℕ) (fault : DoorFault)
+        → S.told door.now.sockets.system ≡ Some (before ++ Told (WriteCall socket bytes (Err fault)) ∷ after)
+        → (account socket before).watched ≡ false }
 {
     let _sockets = &door.sockets;
 }
@@ -96,6 +109,16 @@ pub fn closed_rightly<S: System + Drop>(door: &SocketDoor<S>)
 pub fn times_are_kept<S: System + Drop>(door: &SocketDoor<S>)
     ensures { (log : List Step) → S.told door.now.sockets.system ≡ Some log
         → AreKeptTimes (times door.now.sockets.turn.timekeeper.wall door.now.sockets.turn.timekeeper.start log) }
+{
+    let _sockets = &door.sockets;
+}
+
+/// What was told of who wants in was what the system had said: its number if the system accepted a peer under that, a
+/// fault if it failed, and nobody if it found nobody or was interrupted. If the system was not asked, it was nobody; or a
+/// fault, since memory or the numbers ran out.
+pub fn newcomers_are_true<S: System + Drop>(door: &SocketDoor<S>)
+    ensures { (log : List Step) → S.told door.now.sockets.system ≡ Some log
+        → (times door.now.sockets.turn.timekeeper.wall door.now.sockets.turn.timekeeper.start log).honest ≡ true }
 {
     let _sockets = &door.sockets;
 }

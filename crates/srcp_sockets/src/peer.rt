@@ -1,11 +1,11 @@
 //! A peer with its socket.
 
-ghost use Rattle.std.specs.Prelude.{◌≡◌, ◌≢◌, ◌<◌, ◌≤◌, ◌++◌, ◌==◌, ◌&&◌, true, false, not, ℕ, List, [], Option, Some, Ok, IfOk, IfErr, length, take, drop, min, fold};
+ghost use Rattle.std.specs.Prelude.{◌≡◌, ◌≢◌, ◌<◌, ◌≤◌, ◌++◌, ◌==◌, ◌&&◌, true, false, not, ℕ, List, [], Option, Some, Ok, IfErr, OnErr, length, take, drop, min, fold};
 ghost use Rattle.srcp_sockets.specs.Steps.{SaysNothing, Tells, Told};
 ghost use Rattle.srcp_serve.specs.Calls.{ReadCall, WriteCall};
 ghost use Rattle.srcp_sockets.specs.Times.{KeepsTimes};
-ghost use Rattle.srcp_sockets.specs.Peers.{Asks, IsKept, MayEnd, Offers, Spares, after_wake, has_rest, is_due, is_over};
-ghost use Rattle.srcp_sockets.specs.Peers.{is_resting, is_wanting, may_have, queued_more, tries_again, woken_output};
+ghost use Rattle.srcp_sockets.specs.Peers.{Asks, IsKept, MayEnd, MayFail, Offers, Spares, after_wake, has_rest, is_due, is_over};
+ghost use Rattle.srcp_sockets.specs.Peers.{is_resting, is_waiting, is_wanting, may_have, queued_more, tries_again, woken_output};
 ghost use Rattle.srcp_sockets.specs.declared.readiness.Reading.{Reading};
 ghost use Rattle.srcp_sockets.specs.declared.readiness.Writing.{Writing};
 ghost use Rattle.srcp_sockets.specs.Doors.{IsRead};
@@ -16,7 +16,7 @@ ghost use Rattle.srcp_sockets.specs.declared.ending.Ending.{Ending};
 ghost use Rattle.srcp_door.specs.declared.pacing.Line.{Line};
 
 use crate::ending::Ending;
-use crate::queue::{MOST_INCOMING, MOST_OUTGOING, Outgoing, Queue};
+use crate::queue::{MOST_INCOMING, MOST_OUTGOING, Outgoing, Queue, Queues};
 use crate::readiness::{Flush, Reading, Writing};
 use crate::stay::Stay;
 use crate::system::{Ready, System, refusal_of};
@@ -25,7 +25,6 @@ use srcp_core::MOST_IN_PIECE;
 use srcp_door::{Line, Share};
 use srcp_info::LONGEST_LINE;
 use srcp_serve::{DoorFault, Got, MOST_WRITES};
-use std::alloc::{AllocError, Global};
 
 /// How many bytes of a peer may wait until the clock goes on. What else may be queued holds the lines that a peer is
 /// written in a visit at most.
@@ -80,11 +79,8 @@ pub struct Handed {
 
 impl Peer {
     /// Returns a newcomer. It has its mark, so that newcomers don't keep the others from their lines.
-    ///
-    /// # Errors
-    /// Where memory is refused.
-    pub fn new(alloc: Global, number: u32) -> Result<Peer, AllocError>
-        ensures { IfOk result (λ peer. peer ≡ record {
+    pub(crate) fn new(number: u32, queues: Queues) -> Peer
+        ensures { result ≡ record {
           number = number;
           outgoing = [];
           incoming = [];
@@ -96,12 +92,13 @@ impl Peer {
           ending = Ending.Open;
           asked = true;
           room = MOST_WRITES;
-        }) }
+        } }
     {
-        Ok(Peer {
+        let Queues { outgoing, incoming } = queues;
+        Peer {
             number,
-            outgoing: Queue::new(alloc)?,
-            incoming: Queue::new(alloc)?,
+            outgoing,
+            incoming,
             input: Reading::Ready,
             output: Writing::Open,
             cut: false,
@@ -113,7 +110,7 @@ impl Peer {
             ending: Ending::Open,
             asked: true,
             room: MOST_WRITES,
-        })
+        }
     }
 
     /// Notes what its socket was found ready for.
@@ -266,6 +263,7 @@ impl Peer {
     fn take_out(&mut self, turn: &mut Turn, buffer: &mut [u8]) -> Handed
         ensures bytes { self.old.incoming ≡ got_bytes result.got buffer.new ++ self.new.incoming }
         ensures ended { result.got ≡ Ok Got.Ended → MayEnd self.old }
+        ensures failed { OnErr result.got (MayFail self.old) }
         ensures count { (n : ℕ) → result.got ≡ Ok (Got.Bytes n) → (0 < n) × (n ≤ length buffer.new) }
         ensures fault { IfErr result.got (λ fault. fault ≡ DoorFault.Read) }
         ensures line { self.new.share.line ≡ line_after self.old.share.line (got_bytes result.got buffer.new) }
@@ -326,6 +324,7 @@ impl Peer {
         ensures none { (n : ℕ) → result ≢ Ok (Got.Bytes n) }
         ensures bytes { (buffer : List ℕ) → got_bytes result buffer ≡ [] }
         ensures ended { result ≡ Ok Got.Ended → self.now.incoming ≡ [] → MayEnd self.now }
+        ensures failed { OnErr result (MayFail self.now) }
         ensures fault { IfErr result (λ fault. fault ≡ DoorFault.Read) }
         ensures turn { (line : Line) (buffer : List ℕ) → turn.new ≡ after_read turn.old line result buffer }
         ensures ends { tells_end result ≡ true → turn.old.ends ≡ true }
@@ -340,6 +339,7 @@ impl Peer {
     /// Returns what is to be told where nothing is held of it.
     fn due_end(&self) -> Due
         ensures end { result ≡ Due.End → self.now.incoming ≡ [] → MayEnd self.now }
+        ensures fault { result ≡ Due.Fault → MayFail self.now }
     {
         if self.output.is_lost() {
             return Due::Fault;
@@ -390,7 +390,9 @@ impl Peer {
     }
 
     /// Returns whether something is queued that its socket may still take.
-    pub(crate) fn is_owed(&self) -> bool {
+    pub(crate) fn is_owed(&self) -> bool
+        ensures { result ≡ is_waiting self.now }
+    {
         !self.outgoing.is_empty() && !self.output.is_lost()
     }
 

@@ -18,6 +18,28 @@ pub const MOST_INCOMING: usize = 4_096;
 /// What a peer was written that its socket did not take yet.
 pub type Outgoing = Queue<MOST_OUTGOING>;
 
+/// The queues of a peer that is still to come: nothing is held in them.
+#[derive(Drop)]
+pub(crate) struct Queues {
+    pub outgoing: Outgoing,
+    pub incoming: Queue<MOST_INCOMING>,
+    ghost sent: { outgoing ≡ [] },
+    ghost came: { incoming ≡ [] },
+}
+
+impl Queues {
+    /// Returns both.
+    ///
+    /// # Errors
+    /// Where memory is refused.
+    pub(crate) fn new(alloc: Global) -> Result<Queues, AllocError> {
+        Ok(Queues {
+            outgoing: Queue::new(alloc)?,
+            incoming: Queue::new(alloc)?,
+        })
+    }
+}
+
 /// Bytes in the order in which they came, at most so many. Seen as a list.
 #[derive(Drop)]
 pub struct Queue<const MOST: usize> {

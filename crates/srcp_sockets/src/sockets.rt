@@ -1,11 +1,11 @@
 //! The system's sockets, with their peers.
 
-ghost use Rattle.std.specs.Prelude.{not, All, false, true, ◌≡◌, ◌<◌, ◌≤◌, ◌-◌, max, ℕ, ◌⊎◌, Option, Some, None, Ok, Err, Result, IfErr, IfNone, IfOk, IfSome, List, [], length, slice_index_or, vec_capacity};
+ghost use Rattle.std.specs.Prelude.{not, All, false, true, ◌≡◌, ◌<◌, ◌≤◌, ◌+◌, ◌-◌, max, ℕ, ◌⊎◌, Option, Some, None, Ok, Err, Result, IfErr, IfNone, IfOk, IfSome, List, [], length, slice_index_or, vec_capacity};
 ghost use Rattle.srcp_sockets.specs.declared.peer.Peer.{Peer};
 ghost use Rattle.srcp_sockets.specs.Facts.{Stands-prop};
 ghost use Rattle.std.specs.Option.{option_map};
 ghost use Rattle.srcp_sockets.specs.Names.{IsNamed, IsNamed-prop};
-ghost use Rattle.srcp_sockets.specs.Times.{IsTimed, IsTimed-prop};
+ghost use Rattle.srcp_sockets.specs.Times.{IsTimed, IsTimed-prop, refused_newcomer};
 ghost use Rattle.srcp_sockets.specs.Accounts.{is_short};
 ghost use Rattle.srcp_sockets.specs.Peers.{is_resting};
 ghost use Rattle.srcp_sockets.specs.Turns.{first_turn, is_pending, time_left};
@@ -20,6 +20,7 @@ use crate::delivering::deliver;
 use crate::leaving::{MOST_LEAVING, count_leaving, first_gone, first_shut};
 use crate::peer::Peer;
 use crate::peers::{begin_visits, flush, listen, wake};
+use crate::queue::Queues;
 use crate::readiness::Flush;
 use crate::stay::PATIENCE;
 use crate::system::{Ready, Refusal, System, refusal_of};
@@ -46,6 +47,8 @@ pub(crate) struct Sockets<S: System + Drop> {
     flushed: u64,
     // Whether a peer was refused its first line since the turn began: the marks stay then.
     refused: bool,
+    // The queues that were taken for a newcomer who did not come: the next one has them.
+    spare: Option<Queues>,
     ghost stands: { Stands (S.told system) peers.items listening last } by { Stands-prop (S.told system) peers.items listening last },
     ghost named: { IsNamed (S.told system) last } by { IsNamed-prop (S.told system) last },
     ghost timed: { IsTimed (S.told system) turn } by { IsTimed-prop (S.told system) turn },
@@ -180,6 +183,7 @@ impl<S: System + Drop> Sockets<S> {
             most: _,
             flushed: _,
             refused: _,
+            spare: _,
         } = self;
         let until = turn.clock.saturating_add(PATIENCE);
         deliver(&mut system, peers.as_mut_slice(), until, ready);
@@ -209,52 +213,80 @@ impl<S: System + Drop> Sockets<S> {
             most: None,
             flushed: 0,
             refused: false,
+            spare: None,
         })
     }
 
     /// Lets in the next peer that wants in, if one does. Its number is above those of all peers before it.
+    ///
+    /// # Errors
+    /// `Accept` if the system failed to let it in, or if memory or the numbers ran out.
     pub(crate) fn accept(&mut self, alloc: Global) -> Result<Option<u32>, DoorFault>
         ensures told { SaysOne (S.told self.old.system) (AcceptCall result) (S.told self.new.system) }
         ensures fault { IfErr result (λ fault. fault ≡ DoorFault.Accept) }
     {
-        let answer = self.let_in(alloc);
+        if !self.may_let_in() {
+            return self.tell_nobody(Ok(None));
+        }
+        let Some(number) = self.last.checked_add(1) else {
+            return self.tell_nobody(Err(DoorFault::Accept));
+        };
+        let Ok(queues) = spare_or_new(&mut self.spare, alloc) else {
+            return self.tell_nobody(Err(DoorFault::Accept));
+        };
+        self.let_in(number, queues)
+    }
+
+    /// Returns whether the next peer that wants in may be let in now. If too many are kept that were let go, one of them
+    /// is closed first.
+    fn may_let_in(&mut self) -> bool
+        ensures calls { SaysNothing (S.told self.old.system) (S.told self.new.system) }
+        ensures room { result ≡ true → length self.new.peers.items < vec_capacity self.new.peers }
+    {
+        if self.listening.is_quiet() {
+            return false;
+        }
+        if self.is_crowded() {
+            self.make_room();
+            return false;
+        }
+        true
+    }
+
+    /// Tells that nobody came, or a fault, where the system was not asked.
+    fn tell_nobody(&mut self, answer: Result<Option<u32>, DoorFault>) -> Result<Option<u32>, DoorFault>
+        requires { (answer ≡ Ok None) ⊎ (answer ≡ Err DoorFault.Accept) }
+        ensures told { SaysOne (S.told self.old.system) (AcceptCall result) (S.told self.new.system) }
+        ensures same { result ≡ answer }
+    {
         self.system.told_accept(answer);
         self.turn.note_accept(answer);
         answer
     }
 
-    fn let_in(&mut self, alloc: Global) -> Result<Option<u32>, DoorFault>
-        ensures calls { SaysNothing (S.told self.old.system) (S.told self.new.system) }
-        ensures numbered { IfOk result (λ peer. IfSome peer
-            (λ number. (self.old.last < number) × (self.new.last ≡ number))) }
+    /// Lets in the next peer that wants in, under that number, if one does.
+    fn let_in(&mut self, number: u32, queues: Queues) -> Result<Option<u32>, DoorFault>
+        requires next { number ≡ self.old.last + 1 }
+        requires room { length self.old.peers.items < vec_capacity self.old.peers }
+        ensures told { SaysOne (S.told self.old.system) (AcceptCall result) (S.told self.new.system) }
         ensures fault { IfErr result (λ fault. fault ≡ DoorFault.Accept) }
     {
-        if self.listening.is_quiet() {
-            return Ok(None);
-        }
-        if self.is_crowded() {
-            self.make_room();
-            return Ok(None);
-        }
-        let Some(number) = self.last.checked_add(1) else {
-            return Err(DoorFault::Accept);
-        };
-        let Ok(peer) = Peer::new(alloc, number) else {
-            return Err(DoorFault::Accept);
-        };
         match self.system.accept(number) {
             Ok(()) => {
-                self.peers.push(peer).unwrap();
+                self.peers.push(Peer::new(number, queues)).unwrap();
                 self.last = number;
+                self.system.told_accept(Ok(Some(number)));
+                self.turn.note_accept(Ok(Some(number)));
                 Ok(Some(number))
             }
             Err(fault) => {
+                self.spare = Some(queues);
                 let said = refusal_of(fault);
                 self.listening = Listening::refused(said);
-                match said {
-                    Refusal::Later | Refusal::Again => Ok(None),
-                    Refusal::Fault => Err(DoorFault::Accept),
-                }
+                let answer = nobody(said);
+                self.system.told_accept(answer);
+                self.turn.note_accept(answer);
+                answer
             }
         }
     }
@@ -425,6 +457,7 @@ impl<S: System + Drop> Sockets<S> {
     /// # Errors
     /// `Read` if it did not.
     fn read_nobody(&mut self, number: u32, buffer: &[u8]) -> Result<Got, DoorFault>
+        requires { IsMissing number self.old.peers.items }
         ensures told { SaysOne (S.told self.old.system) (ReadCall number result buffer.now) (S.told self.new.system) }
         ensures nothing { (result ≡ Ok Got.Nothing) ⊎ (result ≡ Err DoorFault.Read) }
     {
@@ -448,5 +481,24 @@ impl<S: System + Drop> Sockets<S> {
         let count = self.peers[place].write(&mut self.system, bytes);
         self.turn.note_write(Ok(count));
         Ok(count)
+    }
+}
+
+/// Returns the queues that are spare, or new ones.
+fn spare_or_new(spare: &mut Option<Queues>, alloc: Global) -> Result<Queues, AllocError> {
+    match spare.take() {
+        Some(queues) => Ok(queues),
+        None => Queues::new(alloc),
+    }
+}
+
+/// Returns what is told of who wants in after an accept that failed.
+fn nobody(said: Refusal) -> Result<Option<u32>, DoorFault>
+    ensures told { result ≡ refused_newcomer said }
+    ensures fault { IfErr result (λ fault. fault ≡ DoorFault.Accept) }
+{
+    match said {
+        Refusal::Later | Refusal::Again => Ok(None),
+        Refusal::Fault => Err(DoorFault::Accept),
     }
 }

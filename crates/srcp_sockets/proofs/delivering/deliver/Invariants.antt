@@ -1,5 +1,10 @@
+use Rattle.srcp_sockets.specs.Delivery.{HasWaited}
 use Rattle.srcp_sockets.specs.Doors.{AreApart, AreKept}
 use Rattle.srcp_sockets.proofs.delivering.deliver.Given as goal
 
-abbrev pub invariant-loop : goal.invariant-loop
-invariant-loop g l = record { kept : AreKept (g.S.System.told l.system) l.peers; apart : AreApart l.peers }
+abbrev pub invariant-loop-look : goal.invariant-loop-look
+invariant-loop-look g l = record {
+  kept : AreKept (g.S.System.told l.system) l.peers;
+  apart : AreApart l.peers;
+  waited : HasWaited l._look (g.S.System.told l.fn.system) (g.S.System.told l.system);
+}

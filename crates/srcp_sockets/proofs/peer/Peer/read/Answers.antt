@@ -12,5 +12,5 @@ returns-clause-kept g c =
     let out = c.take_out-handed in
     let number : out.new.self.number ≡ c.args.self.now.number = ap (λ (p : Peer). p.number) out.ensures.same in
     kept_got old new c.args.self.now out.new.self out.result.got out.new.buffer c.requires.here out.ensures.same out.ensures.bytes out.ensures.line
-    out.ensures.ended
+    out.ensures.ended out.ensures.failed
     (subst (λ (n : ℕ). Tells old (Told (ReadCall n out.result.got out.new.buffer)) new) number c.told_read.ensures) c.requires.kept

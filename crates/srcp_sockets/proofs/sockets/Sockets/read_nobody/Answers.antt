@@ -3,7 +3,7 @@ use Rattle.srcp_serve.specs.Calls.{ReadCall}
 use Rattle.srcp_sockets.specs.Steps.{Told}
 use Rattle.srcp_sockets.proofs.Keeping.{says_call}
 use Rattle.srcp_sockets.proofs.Naming.{named_call}
-use Rattle.srcp_sockets.proofs.Standing.{stands_missed}
+use Rattle.srcp_sockets.proofs.Parting.{stands_missed}
 use Rattle.srcp_sockets.proofs.Timing.{timed_missed}
 use Rattle.srcp_sockets.proofs.sockets.Sockets.read_nobody.Goals as goal
 
@@ -15,7 +15,7 @@ invariant_of-self g c =
     let call = ReadCall c.args.number answer c.args.buffer.now in
     record {
       stands = stands_missed old new c.args.self.now.peers.items c.args.self.now.listening c.args.self.now.last c.args.number answer
-          c.args.buffer.now c.tell_fault-answer.ensures.told c.told_read.ensures c.args.self.now.stands;
+          c.args.buffer.now c.tell_fault-answer.ensures.told c.requires c.told_read.ensures c.args.self.now.stands;
       named = named_call old new c.args.self.now.last call (says_call old new call c.told_read.ensures) refl c.args.self.now.named;
       timed = timed_missed old new c.args.self.now.turn c.tell_fault-answer.new.self c.args.number answer c.args.buffer.now
           c.tell_fault-answer.ensures.told c.tell_fault-answer.ensures.new c.tell_fault-answer.ensures.ends c.told_read.ensures

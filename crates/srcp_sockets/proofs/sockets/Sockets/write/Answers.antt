@@ -5,6 +5,7 @@ use Rattle.srcp_serve.specs.Calls.{WriteCall}
 use Rattle.srcp_sockets.specs.Steps.{SaysOne, Tells, Told}
 use Rattle.srcp_sockets.proofs.Keeping.{says_call}
 use Rattle.srcp_sockets.proofs.Naming.{named_call}
+use Rattle.srcp_sockets.proofs.Parting.{stands_unwritten}
 use Rattle.srcp_sockets.proofs.Standing.{stands_one}
 use Rattle.srcp_sockets.proofs.Timing.{timed_write}
 use Rattle.srcp_sockets.proofs.sockets.Sockets.write.Goals as goal
@@ -51,3 +52,8 @@ pub invariant_of-self-clause-timed : goal.invariant_of-self-clause-timed
 invariant_of-self-clause-timed g c = timed_write (g.S.System.told c.args.self.now.system)
     (g.S.System.told c.told_write.new.self) c.args.self.now.turn
     c.note_write.new.self c.args.number c.args.bytes.now (Err Write) c.note_write.ensures c.told_write.ensures c.args.self.now.timed
+
+pub invariant_of-self-clause-stands : goal.invariant_of-self-clause-stands
+invariant_of-self-clause-stands g c = stands_unwritten (g.S.System.told c.args.self.now.system) (g.S.System.told c.told_write.new.self)
+    c.args.self.now.peers.items c.args.self.now.listening c.args.self.now.last c.args.number c.args.bytes.now Write
+    c.in_default.ensures.none c.told_write.ensures c.args.self.now.stands

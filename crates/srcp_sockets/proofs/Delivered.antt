@@ -1,0 +1,71 @@
+-- What a door has delivered when it ends.
+use Rattle.std.proofs.Common.{◌≡◌, ◌∙◌, ℕ, ◌+◌, Bool, true, false, not, List, [], ◌++◌, length, refl, ap, sym, arith, ◌==◌, ◌⊎◌, inl, inr, get_or, Option, Some, None, ◌∷◌}
+use Rattle.std.specs.Prelude.{All, ◌&&◌}
+use Rattle.srcp_sockets.specs.declared.peer.Peer.{Peer}
+use Rattle.srcp_sockets.specs.declared.readiness.Writing.{Writing}
+use Rattle.srcp_sockets.specs.declared.readiness.Writing.TheVariants as output
+use Rattle.srcp_sockets.specs.declared.system.Ready.{Ready}
+use Rattle.srcp_sockets.specs.Accounts.{Sent, account, is_owed}
+use Rattle.srcp_sockets.specs.Delivery.{AreDelivered, HasWaited}
+use Rattle.srcp_sockets.specs.Doors.{AreKept}
+use Rattle.srcp_sockets.specs.Peers.{WritesAs, is_lost, is_waiting}
+use Rattle.srcp_sockets.specs.Steps.{Clocks, Step, Tells, Waits}
+use Rattle.srcp_sockets.specs.Times.{KeepsTimes, Times, times, times_step}
+use Rattle.srcp_sockets.proofs.Resting.{owed_is}
+use Rattle.srcp_sockets.proofs.Timing.{times_more}
+
+-- nothing is queued that its socket may take
+delivered_as : (sent : Sent) (outgoing : List ℕ) (state : Writing) → (not (length outgoing == 0) && not (is_lost state)) ≡ false
+    → WritesAs sent outgoing state → (is_owed sent ≡ false) ⊎ (sent.lost ≡ true)
+delivered_as sent outgoing output.Open e h = inl (owed_is sent outgoing h.0 ∙ alone (not (length outgoing == 0)) e)
+  where
+    alone : (b : Bool) → (b && true) ≡ false → b ≡ false
+    alone true f = f
+    alone false f = refl
+delivered_as sent outgoing output.Full e h = inl (owed_is sent outgoing h.0 ∙ alone (not (length outgoing == 0)) e)
+  where
+    alone : (b : Bool) → (b && true) ≡ false → b ≡ false
+    alone true f = f
+    alone false f = refl
+delivered_as sent outgoing output.Lost e h = inr h.1
+
+pub are_delivered : (told : Option (List Step)) (peers : List Peer) → AreKept told peers → All (λ peer. is_waiting peer ≡ false) peers
+    → AreDelivered told peers
+are_delivered told peers kept none log is k d lt =
+    let p : Peer = get_or peers k d in
+    delivered_as (account p.number log).sent p.outgoing p.output (none k d lt) (kept k d lt log is).writes
+
+-- ---- how often it waited
+
+pub waited_none : (told : Option (List Step)) → HasWaited 0 told told
+waited_none told later is = (later, is, λ wall start. omega arith)
+
+pub waited_keeps : (count : ℕ) (old mid new : Option (List Step)) → HasWaited count old mid → KeepsTimes mid new
+    → HasWaited count old new
+waited_keeps count old mid new waited keeps later is =
+    let k = keeps later is in
+    let w = waited k.0 k.1 in
+    (w.0, w.1, λ wall start. ap (λ t. t.waits) (k.2 wall start) ∙ w.2 wall start)
+
+same : (t : Times) (answer : Option ℕ) → (times_step t (Clocks answer)).waits ≡ t.waits
+same t None = refl
+same t (Some time) = refl
+
+pub waited_clocked : (count : ℕ) (old mid new : Option (List Step)) (answer : Option ℕ) → Tells mid (Clocks answer) new
+    → HasWaited count old mid → HasWaited count old new
+waited_clocked count old mid new answer tells waited later is =
+    let t = tells later is in
+    let w = waited t.0 t.1 in
+    (w.0, w.1, λ wall start. ap (λ l. (times wall start l).waits) t.2
+    ∙ ap (λ x. x.waits) (times_more wall start t.0 (Clocks answer)) ∙ same (times wall start t.0) answer ∙ w.2 wall start)
+
+pub waited_more : (count : ℕ) (old mid new : Option (List Step)) (most : Option ℕ) (n : ℕ) (ready : List Ready)
+    → Tells mid (Waits most n ready) new → HasWaited count old mid → HasWaited (count + 1) old new
+waited_more count old mid new most n ready tells waited later is =
+    let t = tells later is in
+    let w = waited t.0 t.1 in
+    (w.0, w.1, λ wall start.
+    let one : (times wall start later).waits ≡ (times wall start t.0).waits + 1 =
+    ap (λ l. (times wall start l).waits) t.2 ∙ ap (λ x. x.waits) (times_more wall start t.0 (Waits most n ready)) in
+    let before = w.2 wall start in
+    omega (arith, one, before))
