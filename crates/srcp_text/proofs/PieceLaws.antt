@@ -74,7 +74,7 @@ finds_pieces (piece ∷ pieces) fed old (s ∷ later) new h stands =
     finds-append fed piece (concat pieces) (found s) (flat_map found later) h.0 new one
     (finds_pieces pieces (fed ++ piece) h.0 later new h.2 one.1)
 
--- there are such feeds of a piece, where there are of what the first one leaves
+-- there are such feeds of a piece, if there are of what the first one leaves
 feeds_next : (piece : List ℕ) (start : ℕ) (old reading : Reading) (result : Fed) → (result, reading) ≡ feed_of old piece start
     → IfSome (stop_of result) (λ stop. (start < stop) × (stop ≤ length piece))
     → ((stop : ℕ) → start < stop → stop ≤ length piece → (steps : List Step) × (new : Reading) × FeedsPiece piece stop reading steps new)

@@ -63,7 +63,7 @@ none_before (x ∷ xs) =
           ∙ or_from (is_lf x) (list_any is_lf (take (position_or_len is_lf xs) xs)) f (none_before xs)
     ]
 
--- where no LF is found there is none
+-- if no LF is found there is none
 pub lf_absent : (xs : List ℕ) → position is_lf xs ≡ None → list_any is_lf xs ≡ false
 lf_absent xs e =
     elim (cases_lt (position_or_len is_lf xs) (length xs)) [
@@ -71,7 +71,7 @@ lf_absent xs e =
       | inr outside ↦ sym (ap (list_any is_lf) (take_all (position_or_len is_lf xs) xs outside)) ∙ none_before xs
     ]
 
--- where one is found, the bytes up to it are a line and its LF
+-- if one is found, the bytes up to it are a line and its LF
 pub lf_found : (xs : List ℕ) (len : ℕ) → position is_lf xs ≡ Some len
     → (list_any is_lf (take len xs) ≡ false) × (take (len + 1) xs ≡ take len xs ++ 10 ∷ [])
 lf_found xs len e =
@@ -138,7 +138,7 @@ within-next_stop piece start = go (position is_lf (drop start piece)) refl
         let found = position_some is_lf (drop start piece) len e in
         (omega arith, omega (arith, found.1, length-drop start piece))
 
--- where it stops after an LF, that is the part of the line and its LF
+-- if it stops after an LF, that is the part of the line and its LF
 taken-fed_at : (piece : List ℕ) (start len : ℕ) (whole : Option (List ℕ)) → position is_lf (drop start piece) ≡ Some len
     → taken piece start (fed_at whole (start + len + 1)) ≡ take len (drop start piece) ++ 10 ∷ []
 taken-fed_at piece start len None e =
@@ -148,7 +148,7 @@ taken-fed_at piece start len (Some bytes) e =
     let n : start + len + 1 - start ≡ len + 1 = omega arith in
     ap (λ k. take k (drop start piece)) n ∙ (lf_found (drop start piece) len e).1
 
--- a feed finds the next mark, or none where no LF is left
+-- a feed finds the next mark, or none if no LF is left
 pub marks-feed_of : (fed : List ℕ) (reading : Reading) (piece : List ℕ) (start : ℕ) → StandsAt fed reading
     → marks (fed ++ taken piece start (feed_of reading piece start).0)
     ≡ marks fed ++ new_marks (feed_of reading piece start).0 (feed_of reading piece start).1.line
@@ -199,13 +199,13 @@ pub stands-fed : (fed : List ℕ) (old new : Reading) (piece : List ℕ) (start 
 stands-fed fed old new piece start result e stands =
     ap (λ r. r.1.begun) e ∙ stands-feed_of fed old piece start stands ∙ sym (ap (λ r. known (rest (fed ++ taken piece start r.0))) e)
 
--- a feed of what is left, where that has no LF
+-- a feed of what is left, if that has no LF
 pub feed_of-more : (old new : Reading) (piece left : List ℕ) (start : ℕ) → left ≡ drop start piece → None ≡ position is_lf left
     → new ≡ record { begun = extended old.begun left; line = [] } → (More, new) ≡ feed_of old piece start
 feed_of-more old new piece left start from none after =
     ap (λ r. (More, r)) after ∙ ap (feed_at old.begun start left) none ∙ ap (λ ys. feed_at old.begun start ys (position is_lf ys)) from
 
--- and where its first LF is so far on
+-- and if its first LF is so far on
 pub feed_of-line : (old mid new : Reading) (piece left : List ℕ) (start len : ℕ) (result : Fed) → left ≡ drop start piece
     → Some len ≡ position is_lf left → mid.begun ≡ extended old.begun (take len left) → result ≡ fed_at mid.begun (start + len + 1)
     → new ≡ after_lf mid.begun → (result, new) ≡ feed_of old piece start

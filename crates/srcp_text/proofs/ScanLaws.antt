@@ -17,7 +17,7 @@ use Rattle.srcp_text.proofs.WordLaws.{words_of_blank, words_of_word}
 pub position_or_len-le : (p : ℕ → Bool) (xs : List ℕ) → position_or_len p xs ≤ length xs
 position_or_len-le p xs = prefix_len-le-length (λ x. not (p x)) xs
 
--- where it is found
+-- if it is found
 pub position_some : (p : ℕ → Bool) (xs : List ℕ) (n : ℕ) → position p xs ≡ Some n → (position_or_len p xs ≡ n) × (n < length xs)
 position_some p xs n e =
     let is = cond_some (nat_lt (position_or_len p xs) (length xs)) (position_or_len p xs) n e in
@@ -77,7 +77,7 @@ words_of-first xs some =
     next : (n : ℕ) → n < length xs → drop n xs ≡ get_or xs n 0 ∷ drop (n + 1) xs
     next n inside = drop-cons xs n 0 inside ∙ ap (λ k. get_or xs n 0 ∷ drop k xs) (sym (add-one n))
 
--- where no word begins there is none
+-- if no word begins there is none
 pub words_of-none : (xs : List ℕ) → position is_filled xs ≡ None → words_of xs ≡ []
 words_of-none xs e =
     elim (cases_lt (position_or_len is_filled xs) (length xs)) [
@@ -97,7 +97,7 @@ begins_filled xs begun n found from =
       rw (from, drop-cons xs n 0 at.1) (sym (ap (λ k. is_blank (get_or xs k 0)) at.0) ∙ filled),
     )
 
--- and where one begins, it goes up to the next blank
+-- and if one begins, it goes up to the next blank
 pub words_of-cut : (xs begun word left : List ℕ) (n k : ℕ) → position is_filled xs ≡ Some n → begun ≡ drop n xs
     → k ≡ position_or_len is_blank begun → word ≡ take k begun → left ≡ drop k begun → words_of xs ≡ word ∷ words_of left
 words_of-cut xs begun word left n k found from at front back =

@@ -6,7 +6,7 @@ use Rattle.srcp_text.specs.Reading.{Reading, extended, after_lf}
 use Rattle.srcp_text.specs.declared.reader.Fed.{Fed}
 use Rattle.srcp_text.specs.declared.reader.Fed.TheVariants.{Line as FoundLine, TooLong as FoundTooLong, More}
 
--- where the feed stopped: after an LF, where it met one
+-- where the feed stopped: after an LF, if it met one
 abbrev pub stop_of : Fed → Option ℕ
 stop_of (FoundLine stop) = Some stop
 stop_of (FoundTooLong stop) = Some stop

@@ -2,7 +2,7 @@
 use Rattle.std.specs.Prelude.{◌≡◌, ℕ, List, [], ◌++◌, length, nat_lt, if◌then◌else◌, Option, Some, None}
 use Rattle.srcp_text.specs.Marks.{rest, without_cr}
 
--- the line that has begun, where it is not known as too long alone, and the line that was found last
+-- the line that has begun, if it is not known as too long alone, and the line that was found last
 pub record Reading : Type 0 where
   pub begun : Option (List ℕ)
   pub line : List ℕ

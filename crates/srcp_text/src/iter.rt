@@ -23,7 +23,7 @@ impl<'a> Model for Words<'a> {
 }
 
 impl<'a> Words<'a> {
-    // The words of a line, none of which was taken yet.
+    // Makes the iterator over all words of a line.
     pub(crate) fn of(line: &'a [u8]) -> Words<'a>
         ensures { result ≡ words_of line.now }
     {
@@ -31,7 +31,7 @@ impl<'a> Words<'a> {
     }
 
     /// Takes the next word if it is 0 or 1 between two single spaces, as most functions of a locomotive are written.
-    /// That is read in fewer steps than by `next`, which takes every word.
+    /// It takes fewer instructions than `next`, which takes any word.
     #[inline(always)]
     pub fn next_bit(&mut self) -> Option<bool>
         ensures { MatchOption result (self.new ≡ self.old) (λ bit. self.old ≡ bit_word bit ∷ self.new) }

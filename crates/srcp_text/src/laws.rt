@@ -1,9 +1,9 @@
-//! What holds of the lines of a whole stream.
+//! A law of the lines of a whole stream. The function does nothing: its `ensures` is the law.
 
 ghost use Rattle.srcp_text.specs.Pieces.{FindsMarks};
 
-/// In whatever pieces a stream comes, the feeds of `LineReader` find exactly its lines, and the
-/// reader then stands where the rest of the stream says.
+/// States that in whatever pieces a stream comes, the feeds of `LineReader` find exactly its lines, and
+/// the reader then holds the rest of the stream.
 pub fn finds_marks()
     ensures { FindsMarks }
 {}

@@ -12,8 +12,8 @@ pub fn read_number(word: &[u8], max: u32) -> Option<u32>
     Some(number as u32)
 }
 
-/// The number that a word writes without leading zeros, if it is at most `max`: each number has one
-/// such word alone, that of `put_number`. None for any other word.
+/// Returns the number that a word writes without leading zeros, if it is at most `max`: each number has
+/// one such word alone, that of `put_number`. Returns `None` for any other word.
 pub fn read_plain(word: &[u8], max: u64) -> Option<u64>
     ensures { result ≡ plain_number_of max word.now }
 {

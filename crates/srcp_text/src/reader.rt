@@ -5,24 +5,26 @@ ghost use Rattle.srcp_text.specs.Marks.{is_lf, marks, without_cr};
 ghost use Rattle.srcp_text.specs.Reading.{StandsAt, after_lf, extended, nothing_read};
 ghost use Rattle.srcp_text.specs.Feeding.{feed_of, fed_at, is_line, new_marks, next_stop, stop_of, taken};
 
-use arrayvec::ArrayVec;
 use memchr::memchr;
 use std::marker::Model;
+
+// How many bytes a line has at most, the CR counted.
+const LONGEST: usize = 1000;
 
 /// What a feed found.
 #[derive(Clone, Copy, Debug, PartialEq, Eq)]
 pub enum Fed {
     /// A line of at most 1,000 bytes, the CR counted. `LineReader::line` lends it.
     Line {
-        /// The place in the piece after its LF: the next feed goes on there.
+        /// The offset in the piece after its LF: the next feed goes on there.
         stop: usize,
     },
     /// A line of more than 1,000 bytes, which are not kept.
     TooLong {
-        /// The place in the piece after its LF: the next feed goes on there.
+        /// The offset in the piece after its LF: the next feed goes on there.
         stop: usize,
     },
-    /// No LF: what is left of the piece belongs to a line that a later piece ends.
+    /// No LF: the rest of the piece belongs to a line that a later piece ends.
     More,
 }
 
@@ -42,36 +44,41 @@ enum State {
 /// takes memory.
 #[derive(Debug, Drop)]
 pub struct LineReader {
-    bytes: ArrayVec<u8, 1000>,
+    // The first `len` bytes are those of the line.
+    bytes: [u8; LONGEST],
+    len: usize,
     state: State,
 }
 
 impl Model for LineReader {
+    ghost use Rattle.std.specs.Prelude.{◌≡◌, ◌≤◌, length, take};
     ghost use Rattle.srcp_text.specs.Reading.{Reading};
+    ghost use Rattle.srcp_text.specs.Reader.{reading_of};
 
     ghost Value = { Reading };
 
-    ghost use Rattle.srcp_text.specs.Reader.{reading_of};
+    ghost view = { λ reader. reading_of reader.state (take reader.len reader.bytes) };
 
-    ghost view = { λ reader. reading_of reader.state reader.bytes.items };
+    ghost invariant = { λ reader. (reader.len ≤ 1000) × (length reader.bytes ≡ 1000) };
 }
 
 impl LineReader {
-    /// A reader that was fed nothing.
+    /// Makes a reader that was fed nothing.
     pub fn new() -> LineReader
         ensures { result ≡ nothing_read }
     {
         LineReader {
-            bytes: ArrayVec::new(),
+            bytes: [0; LONGEST],
+            len: 0,
             state: State::Begun,
         }
     }
 
-    /// Takes the bytes of `piece` from the place `start` up to the first LF, or all of them where
-    /// there is none. After a line, or one too long, the next feed begins a new line.
+    /// Takes the bytes of `piece` from the offset `start` up to the first LF, or all of them if there
+    /// is none. After a line, or one too long, the next feed begins a new line.
     pub fn feed(&mut self, piece: &[u8], start: usize) -> Fed
         requires { start ≤ length piece.now }
-        // It stops after the first LF, where there is one.
+        // It stops after the first LF, if there is one.
         ensures stop { stop_of result ≡ next_stop piece.now start }
         // So the next feed may go on there, and comes nearer to the end of the piece.
         ensures within { IfSome (stop_of result)
@@ -96,13 +103,13 @@ impl LineReader {
         self.end(start + len + 1)
     }
 
-    /// The line that the last feed found, without its LF and a CR just before it. It is empty where
+    /// Lends the line that the last feed found, without its LF and a CR just before it. It is empty if
     /// the last feed found none.
     pub fn line(&self) -> &[u8]
         ensures { result.now ≡ self.now.line }
     {
         match self.state {
-            State::Found => without_cr(self.bytes.as_slice()),
+            State::Found => without_cr(&self.bytes[..self.len]),
             _ => &[],
         }
     }
@@ -111,20 +118,22 @@ impl LineReader {
     fn append(&mut self, more: &[u8])
         ensures { self.new ≡ record { begun = extended self.old.begun more.now; line = [] } }
     {
-        match self.state {
+        let kept = match self.state {
             State::TooLong => return,
-            State::Found => {
-                self.bytes.clear();
-                self.state = State::Begun;
-            }
-            State::Begun => {}
-        }
-        if self.bytes.try_extend_from_slice(more).is_err() {
+            State::Found => 0,
+            State::Begun => self.len,
+        };
+        let len = kept + more.len();
+        if len > LONGEST {
             self.state = State::TooLong;
+            return;
         }
+        self.bytes[kept..len].copy_from_slice(more);
+        self.len = len;
+        self.state = State::Begun;
     }
 
-    // Ends the begun line, `stop` being the place after its LF.
+    // Ends the begun line. `stop` is the offset after its LF.
     fn end(&mut self, stop: usize) -> Fed
         requires { self.old.line ≡ [] }
         ensures found { result ≡ fed_at self.old.begun stop }
@@ -132,7 +141,7 @@ impl LineReader {
     {
         match self.state {
             State::TooLong => {
-                self.bytes.clear();
+                self.len = 0;
                 self.state = State::Begun;
                 Fed::TooLong { stop }
             }

@@ -16,7 +16,7 @@ pub fn words(line: &[u8]) -> Words<'_>
     Words::of(line)
 }
 
-/// Whether the word is the keyword, in capital or small letters.
+/// Returns whether the word is the keyword, in capital or small letters.
 pub fn is_keyword(keyword: &[u8], word: &[u8]) -> bool
     ensures { result ≡ is_keyword keyword.now word.now }
 {
