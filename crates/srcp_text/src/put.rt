@@ -29,12 +29,16 @@ pub fn put_number<const N: usize>(number: u64, line: &mut ArrayVec<u8, N>)
     } else if number < 100 {
         line.push(b'0' + (number / 10) as u8);
         line.push(b'0' + (number % 10) as u8);
+    } else if number < 1000 {
+        line.push(b'0' + (number / 100) as u8);
+        line.push(b'0' + (number / 10 % 10) as u8);
+        line.push(b'0' + (number % 10) as u8);
     } else {
         put_long_number(number, line);
     }
 }
 
-/// Appends a number of three digits or more. It stands apart, so that a short number needs no scratch.
+/// Appends a number of four digits or more. It stands apart, so that a short number needs no scratch.
 #[inline(never)]
 fn put_long_number<const N: usize>(number: u64, line: &mut ArrayVec<u8, N>)
     requires { array_vec_len line.old + length (decimal number) ≤ N }
