@@ -1,3 +1,5 @@
+//! Carries out a command: goes by its group to one function, and from there by its operation.
+
 ghost use Rattle.std.specs.Prelude.{◌≡◌, ℕ, ◌≤◌, [], ◌∷◌, IsTrue, None, length};
 ghost use Rattle.std.specs.List.{AllByRecursion};
 ghost use Rattle.srcp_info.specs.Key.{first_key};

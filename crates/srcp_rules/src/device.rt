@@ -1,3 +1,5 @@
+//! The devices that a command names, and the keys of their rows.
+
 ghost use Rattle.std.specs.Prelude.{◌≡◌};
 ghost use Rattle.srcp_rules.specs.State.{device_in, fb_device, key_at, lock_on, power_device, session_device};
 

@@ -1,3 +1,5 @@
+//! SET and CHECK of a locomotive, and SET of an accessory.
+
 ghost use Rattle.std.specs.Prelude.{◌≡◌, ◌≤◌, [], length, is_some, IfOk, IfSome};
 ghost use Rattle.std.specs.Result.{result_err};
 ghost use Rattle.srcp_rules.specs.declared.command.Lockable.TheVariants as lockable;

@@ -1,3 +1,5 @@
+//! A keeper of rows in one vector.
+
 ghost use Rattle.std.specs.Prelude.{◌≡◌, ◌++◌, IfOk, OnOk};
 ghost use Rattle.srcp_rules.specs.State.{IsRising, opening, opening_on};
 

@@ -1,3 +1,5 @@
+//! INIT of a locomotive and of an accessory: the rows that each begins with.
+
 ghost use Rattle.std.specs.Prelude.{◌≡◌, ◌≤◌, [], ◌∷◌, false, map, replicate, None};
 ghost use Rattle.std.specs.List.{range_with_len};
 ghost use Rattle.srcp_info.specs.declared.value.Value.TheVariants as value;

@@ -1,3 +1,5 @@
+//! SET and TERM of a lock, and whether a lock keeps a session from a device.
+
 ghost use Rattle.std.specs.Prelude.{◌≡◌, []};
 ghost use Rattle.srcp_rules.specs.Effect.{accepted, first_refusal, is_locked, lock_end, lock_refusals, moment_after};
 ghost use Rattle.srcp_rules.specs.Effect.{refusals, refused_or_not, term_lock, done};

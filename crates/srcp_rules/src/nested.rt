@@ -1,3 +1,5 @@
+//! A keeper of rows by bus, group and address.
+
 ghost use Rattle.std.specs.Prelude.{◌≡◌, ◌<◌, [], ◌∷◌, ◌++◌, true, map, Some, IfOk, IfSome, OnOk, option_copied};
 ghost use Rattle.std.specs.List.{AllByRecursion};
 ghost use Rattle.std.specs.Map.{keys_of};

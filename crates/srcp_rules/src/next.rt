@@ -1,3 +1,5 @@
+//! The next change that a moment or the end of a session brings.
+
 ghost use Rattle.std.specs.Prelude.{◌≡◌, IfSome, option_map, slice_get};
 ghost use Rattle.srcp_info.specs.WellFormed.{IsWellFormed};
 ghost use Rattle.srcp_rules.specs.Due.{due_after, due_change, freed};

@@ -1,3 +1,5 @@
+//! Sets, shows and takes out rows of a registry, each with its change.
+
 ghost use Rattle.std.specs.Prelude.{◌≡◌, [], ◌∷◌, IsTrue};
 ghost use Rattle.srcp_info.specs.WellFormed.{can_go};
 ghost use Rattle.srcp_rules.specs.Effect.{accepted, gone_at, put_at, shown_at};

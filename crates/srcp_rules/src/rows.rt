@@ -1,3 +1,5 @@
+//! What a keeper of rows is asked.
+
 ghost use Rattle.std.specs.Prelude.{◌≡◌, List, IsTrue, IfOk, OnOk, OnErr, option_copied};
 ghost use Rattle.srcp_info.specs.declared.key.Device.{Device};
 ghost use Rattle.srcp_info.specs.WellFormed.{can_go};

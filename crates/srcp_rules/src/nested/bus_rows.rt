@@ -1,3 +1,5 @@
+//! The rows of one bus, by group.
+
 ghost use Rattle.std.specs.Prelude.{◌≡◌, ◌≤◌, ℕ, false, map, IsTrue, IfOk, OnOk, OnErr, length, option_copied};
 ghost use Rattle.std.specs.List.{range_with_len};
 ghost use Rattle.srcp_info.specs.declared.value.Value.TheVariants as value;

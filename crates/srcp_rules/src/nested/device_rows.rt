@@ -1,3 +1,5 @@
+//! The rows of one device, by port.
+
 ghost use Rattle.std.specs.Prelude.{◌≡◌, ◌≤◌, IsTrue, length, option_copied};
 ghost use Rattle.srcp_info.specs.declared.change.Cursor.TheVariants.{After};
 ghost use Rattle.srcp_rules.specs.Nested.{AreOfDevice};
