@@ -3,24 +3,23 @@ ghost use Rattle.std.specs.Prelude.{◌≡◌, ◌≤◌, ◌+◌, ◌++◌, ◌
 ghost use Rattle.std.specs.Prelude.{vec_capacity};
 ghost use Rattle.srcp_rules.specs.State.{shown_rows};
 ghost use Rattle.std.specs.List.{AllByRecursion};
-ghost use Rattle.srcp_info.specs.Line.{line as change_line, reply_line};
+ghost use Rattle.srcp_info.specs.Line.{reply_line};
 ghost use Rattle.srcp_info.specs.WellFormed.{IsWellFormed, IsWellFormedReply, IsWellFormedShown};
 ghost use Rattle.srcp_feed.specs.Feed.{next_of, after_next};
 ghost use Rattle.srcp_text.specs.Marks.{Line, TooLong};
 ghost use Rattle.srcp_core.specs.Connection.{is_nil, line_of};
 ghost use Rattle.srcp_core.specs.Machine.{queue_of, fresh_place, with_unsent, without_sent, entered_place, panel_for};
-ghost use Rattle.srcp_core.specs.Machine.{feed_in, has_overrun, is_panel, told_place, filled, item_from, IsTellable};
+ghost use Rattle.srcp_core.specs.Machine.{feed_in, has_overrun, is_panel, told_place, filled, item_from};
 ghost use Rattle.srcp_core.specs.Machine.{asked_of, heard, live_session_of, longest, slack_in};
 
 use crate::handshake::{Greeting, greet};
 use crate::limits::MOST_UNSENT;
 use crate::line::Asked;
+use crate::panel_line::PanelLine;
 use srcp_feed::{ChangeLine, InfoFeed, MOST_WAITING, Next, Told};
-use srcp_info::{
-    Code, InfoLine, LONGEST_LINE, Mode, Reply, write_change, write_reply, write_shown,
-};
+use srcp_info::{Code, InfoLine, LONGEST_LINE, Mode, Reply, write_reply};
 use srcp_rules::{Layout, Memory, Rows, parse_command};
-use srcp_text::{Fed, LineReader, put_bytes};
+use srcp_text::{Fed, LineReader};
 use std::alloc::Global;
 use std::marker::Model;
 
@@ -59,7 +58,7 @@ pub struct Connection {
     ended: bool,
     // The line of an information session, or else the replies: one of the two is
     // empty. The bytes from `start` on are unsent.
-    line: InfoLine,
+    line: PanelLine,
     reply: Vec<u8>,
     start: usize,
     panel: Panel,
@@ -81,12 +80,12 @@ impl Model for Connection {
           mode = c.mode;
           session = c.session;
           ended = c.ended;
-          unsent = drop c.start (c.line.items ++ c.reply.items);
+          unsent = drop c.start (c.line ++ c.reply.items);
           panel = c.panel;
         } };
 
-    ghost invariant = { λ c. ((c.line.items ≡ []) ⊎ (c.reply.items ≡ []))
-        × (c.start ≤ length (c.line.items ++ c.reply.items)) × (length (c.line.items ++ c.reply.items) ≤ MOST_UNSENT)
+    ghost invariant = { λ c. ((c.line ≡ []) ⊎ (c.reply.items ≡ []))
+        × (c.start ≤ length (c.line ++ c.reply.items)) × (length (c.line ++ c.reply.items) ≤ MOST_UNSENT)
         × (MOST_UNSENT ≤ vec_capacity c.reply) × AllByRecursion IsWellFormed (queue_of c.panel) };
 }
 
@@ -102,7 +101,7 @@ impl Connection {
             mode: Mode::Command,
             session: 0,
             ended: false,
-            line: InfoLine::new(),
+            line: PanelLine::new(),
             reply,
             start: 0,
             panel: Panel::Absent,
@@ -298,86 +297,65 @@ impl Connection {
         self.ended = true;
     }
 
-    /// Puts in the next line of an information session, where nothing is unsent, and answers what that is.
+    /// Puts in the next line of an information session, if nothing is unsent.
     #[inline(always)]
-    pub(crate) fn fill<R: Rows>(&mut self, rows: &R) -> Option<Next>
+    pub(crate) fn fill<R: Rows>(&mut self, rows: &R)
         requires { AllByRecursion IsWellFormedShown (shown_rows (R.state rows.now)) }
         ensures place { self.new ≡ filled (shown_rows (R.state rows.now)) self.old }
-        ensures item { result ≡ item_from (shown_rows (R.state rows.now)) self.old.unsent (feed_in self.old.panel) }
         ensures most { self.old.unsent ≡ [] → length self.new.unsent ≤ LONGEST_LINE }
+    {
+        if !self.unsent().is_empty() {
+            return;
+        }
+        let Panel::Listening(feed) = &mut self.panel else {
+            return;
+        };
+        self.reply.clear();
+        self.start = 0;
+        give(feed, rows, &mut self.line);
+    }
+
+    /// Returns what `fill` would put in, if anything.
+    pub(crate) fn item<R: Rows>(&self, rows: &R) -> Option<Next>
+        ensures { result ≡ item_from (shown_rows (R.state rows.now)) self.now.unsent (feed_in self.now.panel) }
     {
         if !self.unsent().is_empty() {
             return None;
         }
-        let Panel::Listening(feed) = &mut self.panel else {
-            return None;
-        };
-        self.line = InfoLine::new();
-        self.reply.clear();
-        self.start = 0;
-        Some(give(feed, rows, &mut self.line))
+        match &self.panel {
+            Panel::Listening(feed) => Some(feed.peek(rows)),
+            Panel::Absent | Panel::Overran => None,
+        }
     }
 }
 
-/// Writes the line of what the session is given next into an empty buffer, and returns what that is.
+/// Puts in the line of what the session is given next, or no bytes if nothing is left.
 #[inline(always)]
-fn give<R: Rows>(feed: &mut InfoFeed, rows: &R, line: &mut InfoLine) -> Next
+fn give<R: Rows>(feed: &mut InfoFeed, rows: &R, line: &mut PanelLine)
     requires well_formed { AllByRecursion IsWellFormed feed.old.queue }
     requires shown { AllByRecursion IsWellFormedShown (shown_rows (R.state rows.now)) }
-    requires empty { line.old.items ≡ [] }
-    ensures answer { result ≡ next_of (shown_rows (R.state rows.now)) feed.old }
     ensures feed { feed.new ≡ after_next (shown_rows (R.state rows.now)) feed.old }
-    ensures line { line.new.items ≡ line_of result }
-    ensures most { length line.new.items ≤ LONGEST_LINE }
+    ensures line { line.new ≡ line_of (next_of (shown_rows (R.state rows.now)) feed.old) }
+    ensures most { length line.new ≤ LONGEST_LINE }
 {
-    let Some(first) = feed.first() else {
-        let next = feed.next(rows);
-        write_next(&next, line);
-        return next;
-    };
-    let change = *first.change();
-    write_told(first, line);
-    feed.drop_first();
-    Next::Told(change)
-}
-
-/// Writes the line of a change into an empty buffer. It makes none if one stands beside the change.
-#[inline(always)]
-fn write_told(told: &ChangeLine, line: &mut InfoLine)
-    requires well_formed { IsWellFormed told.now }
-    requires empty { line.old.items ≡ [] }
-    ensures line { line.new.items ≡ change_line told.now }
-    ensures most { length line.new.items ≤ LONGEST_LINE }
-{
-    let made = told.line();
-    if made.is_empty() {
-        write_change(told.change(), line);
+    if let Some(first) = feed.first() {
+        line.put_change(first);
+        feed.drop_first();
         return;
     }
-    put_bytes(made, line);
-}
-
-/// Writes the line of what is given into an empty buffer.
-fn write_next(next: &Next, line: &mut InfoLine)
-    requires well_formed { IsTellable next.now }
-    requires empty { line.old.items ≡ [] }
-    ensures line { line.new.items ≡ line_of next.now }
-    ensures most { length line.new.items ≤ LONGEST_LINE }
-{
-    match next {
-        Next::Told(change) => write_change(change, line),
-        Next::Listed(row) => write_shown(row, line),
-        Next::Settled => (),
+    match feed.list(rows) {
+        Some(row) => line.put_row(&row.shown),
+        None => line.clear(),
     }
 }
 
 /// Moves what is unsent, which are the bytes from `start` on, to the front of the replies.
-fn compact(line: &mut InfoLine, reply: &mut Vec<u8>, start: usize)
-    requires one { (line.old.items ≡ []) ⊎ (reply.old.items ≡ []) }
-    requires within { start ≤ length (line.old.items ++ reply.old.items) }
+fn compact(line: &mut PanelLine, reply: &mut Vec<u8>, start: usize)
+    requires one { (line.old ≡ []) ⊎ (reply.old.items ≡ []) }
+    requires within { start ≤ length (line.old ++ reply.old.items) }
     requires room { MOST_UNSENT ≤ vec_capacity reply.old }
-    ensures line { line.new.items ≡ [] }
-    ensures items { reply.new.items ≡ drop start (line.old.items ++ reply.old.items) }
+    ensures line { line.new ≡ [] }
+    ensures items { reply.new.items ≡ drop start (line.old ++ reply.old.items) }
     ensures capacity { MOST_UNSENT ≤ vec_capacity reply.new }
 {
     if !line.is_empty() {

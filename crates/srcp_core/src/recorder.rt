@@ -3,7 +3,7 @@ ghost use Rattle.std.specs.Prelude.{◌≡◌, ◌∷◌, ◌++◌, [], OnOk, If
 ghost use Rattle.std.specs.List.{AllByRecursion};
 ghost use Rattle.srcp_info.specs.WellFormed.{IsWellFormedShown};
 ghost use Rattle.srcp_core.specs.Course.{is_info};
-ghost use Rattle.srcp_core.specs.Machine.{steps_in};
+ghost use Rattle.srcp_core.specs.Machine.{item_at, steps_in};
 ghost use Rattle.srcp_core.specs.Recording.{key_of, nothing_recorded, opened, shut, began, noted, stepped, gave, took};
 ghost use Rattle.srcp_core.specs.Recording.{with_item, with_refusal, without_key, changed_record, finished, Becomes};
 
@@ -174,14 +174,19 @@ impl<D: Detail> Recorder<D> {
         }
     }
 
-    /// An information session was given this, if anything. That nothing is left is no line.
-    pub(crate) fn gave(&mut self, conn: usize, item: Option<Next>) -> Result<(), Memory>
-        ensures { OnOk result (Becomes D.IN_FULL (gave conn item) self.old self.new) }
+    /// An information session is given what comes next, if anything. That nothing is left is no line.
+    pub(crate) fn gave<R: Rows>(
+        &mut self,
+        conn: usize,
+        core: &Core<'_, R>,
+        key: usize,
+    ) -> Result<(), Memory>
+        ensures { OnOk result (Becomes D.IN_FULL (gave conn (item_at key core.now)) self.old self.new) }
     {
         if !D::IN_FULL {
             return Ok(());
         }
-        match item {
+        match core.item(key) {
             None | Some(Next::Settled) => Ok(()),
             Some(what) => give(&mut self.connections, conn, self.steps.len(), what),
         }

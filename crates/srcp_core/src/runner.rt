@@ -207,10 +207,10 @@ fn take<R: Rows, D: Detail>(
     ensures core { OnOk result (core.new ≡ taken_at key most core.old) }
     ensures denied { core.new.denied ≡ core.old.denied }
 {
-    let Ok(item) = core.fill(key) else {
+    recorder.gave(conn, core, key)?;
+    if core.fill(key).is_err() {
         return Ok(0);
-    };
-    recorder.gave(conn, item)?;
+    }
     let count = match core.unsent(key) {
         Ok(bytes) => {
             let count = bytes.len().min(most);

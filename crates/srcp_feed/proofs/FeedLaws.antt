@@ -24,7 +24,18 @@ pub empty_of : {X : Type 0} (xs : List X) → slice_get xs 0 ≡ None → xs ≡
 empty_of [] e = refl
 empty_of (x ∷ xs) e = cc
 
--- ---- what is given where nothing waits
+-- ---- what is given
+
+pub next_of_told : (feed : Feed) (rows : List Shown) (change : Change) → slice_get feed.queue 0 ≡ Some change
+    → next_of rows feed ≡ next.Told change
+next_of_told feed rows change e = from feed.queue e
+  where
+    from : (queue : List Change) → slice_get queue 0 ≡ Some change
+        → next_of rows (record { cursor = feed.cursor; queue = queue }) ≡ next.Told change
+    from [] e = cc
+    from (first ∷ queue) e = ap next.Told (cc)
+
+-- ---- what is given if nothing waits
 
 -- a listing that is done has no row to come to
 pub no_row_after_done : (state : State) → row_after Done state ≡ None

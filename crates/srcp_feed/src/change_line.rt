@@ -1,9 +1,10 @@
 //! A change with the line that tells it.
 
-ghost use Rattle.std.specs.Prelude.{◌≡◌, ◌≤◌, length};
+ghost use Rattle.std.specs.Prelude.{◌≡◌, ◌≢◌, ◌≤◌, length};
 ghost use Rattle.srcp_info.specs.WellFormed.{IsWellFormed};
 ghost use Rattle.srcp_feed.specs.Feed.{IsLineOrNone};
 
+use crate::WrittenLine;
 use srcp_info::{Change, InfoLine, LONGEST_LINE, write_change};
 use std::marker::Model;
 
@@ -12,22 +13,18 @@ use std::marker::Model;
 #[derive(Drop)]
 pub struct ChangeLine {
     change: Change,
-    // The first `len` bytes are the line.
-    bytes: [u8; LONGEST_LINE],
-    len: usize,
+    line: WrittenLine,
 }
 
 impl Model for ChangeLine {
     ghost use Rattle.srcp_info.specs.declared.change.Change.{Change};
-    ghost use Rattle.std.specs.Prelude.{◌≤◌, take};
     ghost use Rattle.srcp_feed.specs.Feed.{IsLineOrNone};
-    ghost use Rattle.srcp_info.specs.declared.limits.TheConstants.{LONGEST_LINE};
 
     ghost Value = { Change };
 
     ghost view = { λ c. c.change };
 
-    ghost invariant = { λ c. (c.len ≤ LONGEST_LINE) × IsLineOrNone (take c.len c.bytes) c.change };
+    ghost invariant = { λ c. IsLineOrNone c.line c.change };
 }
 
 impl ChangeLine {
@@ -38,13 +35,9 @@ impl ChangeLine {
     {
         let mut line = InfoLine::new();
         write_change(change, &mut line);
-        let len = line.len();
-        let mut bytes = [0; LONGEST_LINE];
-        bytes[..len].copy_from_slice(line.as_slice());
         ChangeLine {
             change: *change,
-            bytes,
-            len,
+            line: WrittenLine::of(&line),
         }
     }
 
@@ -54,8 +47,7 @@ impl ChangeLine {
     {
         ChangeLine {
             change: *change,
-            bytes: [0; LONGEST_LINE],
-            len: 0,
+            line: WrittenLine::new(),
         }
     }
 
@@ -65,8 +57,7 @@ impl ChangeLine {
     {
         ChangeLine {
             change: self.change,
-            bytes: self.bytes,
-            len: self.len,
+            line: self.line.copied(),
         }
     }
 
@@ -78,10 +69,9 @@ impl ChangeLine {
     }
 
     /// Lends the line, which has no bytes if it was not made.
-    pub fn line(&self) -> &[u8]
-        ensures line { IsLineOrNone result.now self.now }
-        ensures most { length result.now ≤ LONGEST_LINE }
+    pub fn line(&self) -> &WrittenLine
+        ensures { IsLineOrNone result.now self.now }
     {
-        &self.bytes[..self.len]
+        &self.line
     }
 }

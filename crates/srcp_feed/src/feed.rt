@@ -1,6 +1,7 @@
 //! The feed of one information session.
 
-ghost use Rattle.std.specs.Prelude.{◌≡◌, ◌≢◌, ◌<◌, ◌≤◌, List, ◌++◌, drop, length, IfOk, option_copied, slice_get};
+ghost use Rattle.std.specs.Prelude.{◌≡◌, ◌≢◌, ◌<◌, ◌≤◌, List, [], ◌++◌, drop, length, IfOk, IfSome, IfNone};
+ghost use Rattle.std.specs.Prelude.{option_copied, slice_get};
 ghost use Rattle.srcp_info.specs.Client.{changed, IsRisingBy};
 ghost use Rattle.srcp_info.specs.declared.change.Change.{Change};
 ghost use Rattle.srcp_info.specs.declared.change.Shown.{Shown};
@@ -97,20 +98,48 @@ impl InfoFeed {
             → HoldsPassed given self.old (shown_rows (R.state rows.now))
             → HoldsPassed (given ++ said result) self.new (shown_rows (R.state rows.now)) }
     {
-        if let Some(told) = self.waiting.first() {
+        if let Some(told) = self.first() {
             let change = *told.change();
-            self.waiting.drop_first();
+            self.drop_first();
             return Next::Told(change);
         }
+        match self.list(rows) {
+            Some(row) => Next::Listed(row.shown),
+            None => Next::Settled,
+        }
+    }
+
+    /// Returns the row that the session is given next, if no change waits, and `None` if no row is left. It goes on as
+    /// `next` does.
+    pub fn list<'a, R: Rows>(&mut self, rows: &'a R) -> Option<&'a Row>
+        requires { self.old.queue ≡ [] }
+        ensures listed { IfSome result
+            (λ row. next_of (shown_rows (R.state rows.now)) self.old ≡ Next.Listed row.now.shown) }
+        ensures settled { IfNone result (next_of (shown_rows (R.state rows.now)) self.old ≡ Next.Settled) }
+        ensures feed { self.new ≡ after_next (shown_rows (R.state rows.now)) self.old }
+    {
         match row_beyond(rows, self.cursor) {
             Some(row) => {
                 self.cursor = Cursor::After(row.shown.key);
-                Next::Listed(row.shown)
+                Some(row)
             }
             None => {
                 self.cursor = Cursor::Done;
-                Next::Settled
+                None
             }
+        }
+    }
+
+    /// Returns what `next` would, and gives nothing.
+    pub fn peek<R: Rows>(&self, rows: &R) -> Next
+        ensures { result ≡ next_of (shown_rows (R.state rows.now)) self.now }
+    {
+        if let Some(told) = self.first() {
+            return Next::Told(*told.change());
+        }
+        match row_beyond(rows, self.cursor) {
+            Some(row) => Next::Listed(row.shown),
+            None => Next::Settled,
         }
     }
 

@@ -68,6 +68,13 @@ module _ {in_full : Bool} {P : Recording → Recording → Type 0} where
   pub keeps_same : (old : Recording) → ((r : Recording) → old.keys ≡ r.keys → P r r) → Keeps in_full P old old
   keeps_same old law = record { each = λ r e. (r, e, law r (keys_kept in_full old r e)) }
 
+-- a change that comes to the same
+pub becomes_as : {in_full : Bool} (change same : Recording → Recording) (old new : Recording)
+    → ((r : Recording) → change r ≡ same r) → Becomes in_full change old new → Becomes in_full same old new
+becomes_as change same old new law was = record {
+  each = λ r e. let next = was.each r e in (next.0, next.1, next.2 ∙ law r);
+}
+
 -- ---- each change
 
 set_kept : (tolds : List ConnRecord) (n : ℕ) (one : ConnRecord)

@@ -31,19 +31,26 @@ impl<'a, R: Rows> Core<'a, R> {
         self.unsent(conn)
     }
 
-    /// Puts in the next line of an information session, if nothing is unsent, and returns what that is.
+    /// Puts in the next line of an information session, if nothing is unsent.
     #[inline(always)]
-    pub(crate) fn fill(&mut self, conn: usize) -> Result<Option<Next>, CoreFault>
+    pub(crate) fn fill(&mut self, conn: usize) -> Result<(), CoreFault>
         ensures absent { IsErr result ↔ (at self.old conn ≡ None) }
         ensures fault { IfErr result (λ fault. fault ≡ CoreFault.NoSuch) }
         ensures core { self.new ≡ let_out conn self.old }
-        ensures item { IfOk result (λ item. item ≡ item_at conn self.old) }
         ensures most { unsent_at conn self.old ≡ [] → length (unsent_at conn self.new) ≤ LONGEST_LINE }
     {
         let Some(connection) = self.connections.get_mut(conn) else {
             return Err(CoreFault::NoSuch);
         };
-        Ok(connection.fill(&self.rows))
+        connection.fill(&self.rows);
+        Ok(())
+    }
+
+    /// Returns what `fill` would put in, if anything.
+    pub(crate) fn item(&self, conn: usize) -> Option<Next>
+        ensures { result ≡ item_at conn self.now }
+    {
+        self.connections.get(conn)?.item(&self.rows)
     }
 
     /// Returns the bytes that are to be sent of a connection.

@@ -1,8 +1,14 @@
+use Rattle.std.proofs.Common.{sym, subst}
 use Rattle.srcp_rules.specs.State.{shown_rows}
+use Rattle.srcp_feed.proofs.FeedLaws.{empty_of}
+use Rattle.srcp_core.specs.Machine.{IsTellable}
 use Rattle.srcp_core.proofs.Invariants.PlaceLaws.{next_tellable}
 use Rattle.srcp_core.proofs.connection.give.Goals as goal
 
-pub write_next-requires-clause-well_formed : goal.write_next-requires-clause-well_formed
-write_next-requires-clause-well_formed g c =
-    rw c.next-next.ensures.answer
+pub list-requires : goal.list-requires
+list-requires g c = empty_of _ (sym c.in_default.ensures)
+
+pub put_row-requires : goal.put_row-requires
+put_row-requires g c =
+    subst IsTellable c.in-Some-list.ensures.listed
     (next_tellable (shown_rows (g.R.Rows.state c.args.rows.now)) c.args.feed.now c.requires.well_formed c.requires.shown)

@@ -1,9 +1,18 @@
-use Rattle.std.proofs.Common.{sym, refl}
-use Rattle.srcp_core.proofs.Agreement.OutlinesAreKept.{keeps_same}
+use Rattle.std.proofs.Common.{◌≡◌, Option, sym, ap, ◌∙◌}
+use Rattle.srcp_rules.specs.State.{shown_rows}
+use Rattle.srcp_core.specs.Held.{Place}
+use Rattle.srcp_core.specs.Machine.{item_at, item_of}
+use Rattle.srcp_core.specs.Recording.{gave}
+use Rattle.srcp_core.specs.Run.{taking}
+use Rattle.srcp_core.proofs.Agreement.OutlinesAreKept.{becomes_as}
 use Rattle.srcp_core.proofs.Agreement.RunsAnEvent.{taking_none}
 use Rattle.srcp_core.proofs.runner.take.Goals as goal
 
-pub returns-in_default-clause-recorder : goal.returns-in_default-clause-recorder
-returns-in_default-clause-recorder g c =
-    keeps_same c.args.recorder.now (λ r e. sym (taking_none c.args.conn c.args.key c.args.most c.args.core.now r
-    (c.in_default.ensures.absent.0 refl)).0)
+pub returns-then-is_err-clause-recorder : goal.returns-then-is_err-clause-recorder
+returns-then-is_err-clause-recorder g c =
+    let held = c.args.core.now in
+    let absent = c.fill.ensures.absent.0 (rw (← c.is_err.ensures.value) c.if-is_err.true) in
+    becomes_as (gave c.args.conn (item_at c.args.key held)) (taking c.args.conn c.args.key c.args.most held) c.args.recorder.now _
+    (λ r. ap (λ (place : Option Place). gave c.args.conn (item_of (shown_rows held.rows) place) r) absent
+    ∙ sym (taking_none c.args.conn c.args.key c.args.most held r absent).0)
+    c.in_ok-gave.ensures

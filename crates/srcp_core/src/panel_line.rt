@@ -1,0 +1,94 @@
+//! The line that is sent to an information session.
+
+ghost use Rattle.std.specs.Prelude.{◌≡◌, ◌≤◌, ◌==◌, [], length};
+ghost use Rattle.srcp_info.specs.Line.{line};
+ghost use Rattle.srcp_info.specs.WellFormed.{IsWellFormed, IsWellFormedShown};
+ghost use Rattle.srcp_info.specs.declared.change.Change.{Change};
+
+use srcp_feed::{ChangeLine, WrittenLine};
+use srcp_info::{InfoLine, LONGEST_LINE, Shown, write_change, write_shown};
+use std::marker::Model;
+
+/// The line that is sent to an information session: that of a change, which is copied, or that of a row, which is
+/// written here. Contracts see it as the list of its bytes.
+#[derive(Drop)]
+pub(crate) struct PanelLine {
+    // One of the two is empty.
+    copied: WrittenLine,
+    written: InfoLine,
+}
+
+impl Model for PanelLine {
+    ghost use Rattle.std.specs.Prelude.{◌≡◌, ◌≤◌, ◌⊎◌, ◌++◌, ℕ, List, [], length};
+    ghost use Rattle.srcp_info.specs.declared.limits.TheConstants.{LONGEST_LINE};
+
+    ghost Value = { List ℕ };
+
+    ghost view = { λ l. l.copied ++ l.written.items };
+
+    ghost invariant = { λ l. ((l.copied ≡ []) ⊎ (l.written.items ≡ [])) };
+}
+
+impl PanelLine {
+    /// Returns the line of no bytes.
+    pub(crate) fn new() -> PanelLine
+        ensures { result ≡ [] }
+    {
+        PanelLine {
+            copied: WrittenLine::new(),
+            written: InfoLine::new(),
+        }
+    }
+
+    /// Returns its bytes.
+    pub(crate) fn as_slice(&self) -> &[u8]
+        ensures value { result.now ≡ self.now }
+        ensures most { length result.now ≤ LONGEST_LINE }
+    {
+        if self.copied.is_empty() {
+            self.written.as_slice()
+        } else {
+            self.copied.as_slice()
+        }
+    }
+
+    /// Returns whether it has no bytes.
+    pub(crate) fn is_empty(&self) -> bool
+        ensures { result ≡ (length self.now == 0) }
+    {
+        self.copied.is_empty() && self.written.is_empty()
+    }
+
+    /// Drops its bytes.
+    pub(crate) fn clear(&mut self)
+        ensures { self.new ≡ [] }
+    {
+        self.copied.clear();
+        if !self.written.is_empty() {
+            self.written = InfoLine::new();
+        }
+    }
+
+    /// Puts in the line of a change. It writes one only if none stands beside the change.
+    pub(crate) fn put_change(&mut self, change: &ChangeLine)
+        requires { IsWellFormed change.now }
+        ensures line { self.new ≡ line change.now }
+        ensures most { length self.new ≤ LONGEST_LINE }
+    {
+        self.clear();
+        self.copied = change.line().copied();
+        if self.copied.is_empty() {
+            write_change(change.change(), &mut self.written);
+        }
+    }
+
+    /// Writes the line of a row.
+    pub(crate) fn put_row(&mut self, row: &Shown)
+        requires { IsWellFormedShown row.now }
+        ensures line { self.new ≡ line (Change.Put row.now) }
+        ensures most { length self.new ≤ LONGEST_LINE }
+    {
+        self.clear();
+        write_shown(row, &mut self.written);
+    }
+}

@@ -1,0 +1,86 @@
+//! A line that was written.
+
+ghost use Rattle.std.specs.Prelude.{◌≡◌, ◌≤◌, ◌==◌, [], length};
+
+use srcp_info::{InfoLine, LONGEST_LINE};
+use std::marker::Model;
+
+/// How many bytes a line has in memory: a multiple of 16, so that a copy of them needs no call.
+const ROOM: usize = 128;
+
+/// A line that was written: at most `LONGEST_LINE` bytes, which stand in the value itself. It is copied at one cost
+/// however long it is, and cleared without a write to its bytes. Contracts see it as the list of its bytes.
+#[derive(Drop)]
+pub struct WrittenLine {
+    // The first `len` bytes are the line.
+    bytes: [u8; ROOM],
+    len: u8,
+}
+
+impl Model for WrittenLine {
+    ghost use Rattle.std.specs.Prelude.{◌≤◌, ℕ, List, take};
+    ghost use Rattle.srcp_info.specs.declared.limits.TheConstants.{LONGEST_LINE};
+
+    ghost Value = { List ℕ };
+
+    ghost view = { λ l. take l.len l.bytes };
+
+    ghost invariant = { λ l. l.len ≤ LONGEST_LINE };
+}
+
+impl WrittenLine {
+    /// Returns the line of no bytes.
+    pub fn new() -> WrittenLine
+        ensures { result ≡ [] }
+    {
+        WrittenLine {
+            bytes: [0; ROOM],
+            len: 0,
+        }
+    }
+
+    /// Returns a line of the same bytes.
+    pub fn of(line: &InfoLine) -> WrittenLine
+        ensures { result ≡ line.now.items }
+    {
+        let len = line.len();
+        let mut bytes = [0; ROOM];
+        bytes[..len].copy_from_slice(line.as_slice());
+        WrittenLine {
+            bytes,
+            len: len as u8,
+        }
+    }
+
+    /// Returns the same line once more.
+    pub fn copied(&self) -> WrittenLine
+        ensures { result ≡ self.now }
+    {
+        WrittenLine {
+            bytes: self.bytes,
+            len: self.len,
+        }
+    }
+
+    /// Drops its bytes.
+    pub fn clear(&mut self)
+        ensures { self.new ≡ [] }
+    {
+        self.len = 0;
+    }
+
+    /// Returns whether it has no bytes.
+    pub fn is_empty(&self) -> bool
+        ensures { result ≡ (length self.now == 0) }
+    {
+        self.len == 0
+    }
+
+    /// Returns its bytes.
+    pub fn as_slice(&self) -> &[u8]
+        ensures value { result.now ≡ self.now }
+        ensures most { length result.now ≤ LONGEST_LINE }
+    {
+        &self.bytes[..usize::from(self.len)]
+    }
+}
