@@ -12,6 +12,7 @@ ghost use Rattle.srcp_core.specs.Machine.{queue_of, fresh_place, with_unsent, wi
 ghost use Rattle.srcp_core.specs.Machine.{feed_in, has_overrun, is_panel, told_place, filled, item_from};
 ghost use Rattle.srcp_core.specs.Machine.{asked_of, heard, live_session_of, longest, slack_in};
 
+use crate::accepted::Accepted;
 use crate::handshake::{Greeting, greet};
 use crate::limits::MOST_UNSENT;
 use crate::line::Asked;
@@ -161,12 +162,19 @@ impl Connection {
         self.reply.extend_from_slice(line).unwrap();
     }
 
-    /// Puts a reply at the end of what is to be sent, stamped with the moment.
-    pub(crate) fn reply(&mut self, moment: u64, reply: &Reply)
+    /// Puts a reply at the end of what is to be sent, stamped with the moment. `accepted` keeps the line of `200 OK`.
+    pub(crate) fn reply(&mut self, moment: u64, reply: &Reply, accepted: &mut Accepted)
         requires well_formed { IsWellFormedReply reply.now }
         requires room { length self.old.unsent + longest reply.now ≤ MOST_UNSENT }
         ensures { self.new ≡ with_unsent (reply_line moment reply.now) self.old }
     {
+        if let Reply::Accepted = reply {
+            if accepted.moment() != moment {
+                *accepted = Accepted::at(moment);
+            }
+            self.put(accepted.line());
+            return;
+        }
         let mut line = InfoLine::new();
         write_reply(moment, reply, &mut line);
         self.put(line.as_slice());

@@ -11,6 +11,7 @@ mod receive;
 mod stamp;
 mod walk;
 
+use crate::accepted::Accepted;
 use crate::connection::Connection;
 use crate::limits::MOST_CONNECTIONS;
 use crate::record::{CoreFault, Finish};
@@ -52,6 +53,8 @@ pub struct Core<'a, R: Rows> {
     // Whether a connection has an information session.
     panels: bool,
     denied: u64,
+    /// The line of `200 OK` at the moment of the last one.
+    accepted: Accepted,
     /// What came of the last command, kept so that its room is made once.
     obeyed: Obeyed,
 }
@@ -117,6 +120,7 @@ impl<'a, R: Rows> Core<'a, R> {
             connections,
             panels: false,
             denied: 0,
+            accepted: Accepted::at(moment),
             obeyed: Obeyed::new(),
         })
     }

@@ -247,7 +247,7 @@ impl<'a, R: Rows> Core<'a, R> {
         let Some(connection) = self.connections.get_mut(conn) else {
             return;
         };
-        connection.reply(self.moment, reply);
+        connection.reply(self.moment, reply, &mut self.accepted);
     }
 
     /// Answers a line to which memory was refused.
