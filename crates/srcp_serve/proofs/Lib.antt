@@ -1,32 +1,35 @@
-mod ServingExamples
-mod Parts
-mod ServingLaws
-pub mod LentLaws
-mod Sendings
-mod SentLaws
-mod Takings
-mod Partings
-mod Guests
-mod Comings
-mod Evening
-mod Begins
-mod Evened
-pub mod TurnsTaken
-pub mod VisitLaws
-pub mod PlaceLaws
-mod HandedLaws
-pub mod Tallies
-pub mod Telling
-mod AskedFor
-pub mod Writing
-pub mod Rounds
-pub mod Reading
-pub mod Visiting
-pub mod Fairness
-pub mod Turning
-pub mod Hosting
-mod FreePlaces
-pub mod HostedTurns
-mod TurnEvents
-pub mod Paces
+mod ExamplesOfServing
+mod PartsAddUp
+mod ServedOneTurnMore
+pub mod LentAndTakenIsSent
+mod OnlyRoomSends
+mod RoomSendsWhatIsLent
+mod VisitsSendWhatIsTaken
+mod CallsByTurnAndPeer
+mod GuestsAreSentTheirVisits
+mod PlacesAreOfGuests
+mod SentIsTakenAfterVisits
+mod OneNewcomerATurn
+mod SentIsTakenAfterATurn
+pub mod SentIsTakenAfterAllTurns
+pub mod VisitsAreSeenAgain
+pub mod PlacesAreTakenAndFreed
+mod HandedWriteAfterWrite
+pub mod FaultsAreCounted
+pub mod CallsAreAdded
+mod RefusalsWereAskedFor
+pub mod OneWriteFollows
+pub mod WritesFollow
+pub mod OneReadFollows
+pub mod VisitsFollow
+pub mod AnswersAreFair
+pub mod TurnsAskInOrder
+pub mod MomentsFollow
+pub mod NewcomersAreSeated
+pub mod PlacesFollow
+mod PlacesBehindStayFree
+pub mod TurnsFollow
+pub mod ServingFollows
+mod EventsOfATurn
+pub mod PacedTurnsSparePanels
 pub mod Settling

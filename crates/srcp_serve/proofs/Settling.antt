@@ -2,8 +2,8 @@
 pub mod StepsFollow
 pub mod OthersKeep
 pub mod OwedStays
-pub mod Panels
-pub mod VisitHands
+pub mod PanelsTakeTheirLines
+pub mod VisitsWriteUntilNothingIsLeft
 pub mod SeatsStay
-pub mod TurnHands
-pub mod Settles
+pub mod TurnsTakeFromWhatIsOwed
+pub mod PanelsSettle

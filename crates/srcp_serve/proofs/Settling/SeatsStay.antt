@@ -10,9 +10,9 @@ use Rattle.srcp_core.specs.Under.{Event, Open, Bytes, Room, Shut}
 use Rattle.srcp_serve.specs.Given.{Guest, Call}
 use Rattle.srcp_serve.specs.Serving.{OfEachVisit, Seat, Stand, begun, exchange, is_close, is_let_in, let_in, moment_of, newcomer_of}
 use Rattle.srcp_serve.specs.Serving.{piece_of, rooms, seated, seats, timed, visit, visit_events, welcomed, with_moment}
-use Rattle.srcp_serve.proofs.Guests.{AreGuests, IsGuest, turned_round}
-use Rattle.srcp_serve.proofs.Partings.{IsNoneOf, PeersApart}
-use Rattle.srcp_serve.proofs.TurnEvents.{opening_events, opens}
+use Rattle.srcp_serve.proofs.GuestsAreSentTheirVisits.{AreGuests, IsGuest, turned_round}
+use Rattle.srcp_serve.proofs.CallsByTurnAndPeer.{IsNoneOf, PeersApart}
+use Rattle.srcp_serve.proofs.EventsOfATurn.{opening_events, opens}
 use Rattle.srcp_serve.proofs.Settling.OthersKeep.{AreOfOthers, is_of}
 
 -- ---- places

@@ -1,4 +1,4 @@
-use Rattle.srcp_serve.proofs.Paces.{light_spare, light_spares_all}
+use Rattle.srcp_serve.proofs.PacedTurnsSparePanels.{light_spare, light_spares_all}
 use Rattle.srcp_serve.proofs.laws.light_turns.Goals as goal
 
 pub returns-clause-each : goal.returns-clause-each

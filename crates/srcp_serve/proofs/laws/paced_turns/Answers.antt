@@ -1,4 +1,4 @@
-use Rattle.srcp_serve.proofs.Paces.{paced_spare, paced_spares_all}
+use Rattle.srcp_serve.proofs.PacedTurnsSparePanels.{paced_spare, paced_spares_all}
 use Rattle.srcp_serve.proofs.laws.paced_turns.Goals as goal
 
 pub returns-clause-each : goal.returns-clause-each

@@ -1,9 +1,9 @@
 use Rattle.std.proofs.Common.{ℕ, Ok, Option, ap, subst}
 use Rattle.srcp_serve.specs.Calls.{AcceptCall, Tells}
 use Rattle.srcp_serve.specs.declared.tally.Tally.{Tally}
-use Rattle.srcp_serve.proofs.HostedTurns.{lets_nobody, lets_none, lets_peer}
-use Rattle.srcp_serve.proofs.Tallies.{one_failed}
-use Rattle.srcp_serve.proofs.Turning.{asks_newcomer, asks_none}
+use Rattle.srcp_serve.proofs.TurnsFollow.{lets_nobody, lets_none, lets_peer}
+use Rattle.srcp_serve.proofs.FaultsAreCounted.{one_failed}
+use Rattle.srcp_serve.proofs.TurnsAskInOrder.{asks_newcomer, asks_none}
 use Rattle.srcp_serve.proofs.serving.let_in.Goals as goal
 
 pub returns-in-Err-clause-faults : goal.returns-in-Err-clause-faults

@@ -1,7 +1,7 @@
 use Rattle.std.proofs.Common.{true, false, List, Option, ◌∙◌, subst, sym}
 use Rattle.srcp_serve.specs.Places.{SeatsPeer}
 use Rattle.srcp_serve.specs.declared.serving.visit.Seat.{Seat as Own}
-use Rattle.srcp_serve.proofs.Hosting.{seats_full, seats_in, seats_none}
+use Rattle.srcp_serve.proofs.NewcomersAreSeated.{seats_full, seats_in, seats_none}
 use Rattle.srcp_serve.proofs.serving.seat.Goals as goal
 
 pub returns-in_default-clause-course : goal.returns-in_default-clause-course

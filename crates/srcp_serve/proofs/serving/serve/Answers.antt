@@ -3,9 +3,9 @@ use Rattle.srcp_serve.specs.Places.{ServesSoFar}
 use Rattle.srcp_serve.specs.Tally.{CountsFaults}
 use Rattle.srcp_serve.specs.Turns.{AsksTurns}
 use Rattle.srcp_serve.specs.declared.tally.Tally.{Tally}
-use Rattle.srcp_serve.proofs.HostedTurns.{fewer, serves_all, serves_first, serves_on}
-use Rattle.srcp_serve.proofs.Tallies.{counts_then, none_failed}
-use Rattle.srcp_serve.proofs.Turning.{turns_none, turns_on}
+use Rattle.srcp_serve.proofs.ServingFollows.{fewer, serves_all, serves_first, serves_on}
+use Rattle.srcp_serve.proofs.FaultsAreCounted.{counts_then, none_failed}
+use Rattle.srcp_serve.proofs.TurnsAskInOrder.{turns_none, turns_on}
 use Rattle.srcp_serve.proofs.serving.serve.Goals as goal
 
 pub loop-init : goal.loop-init

@@ -1,8 +1,8 @@
 use Rattle.std.proofs.Common.{ap, sym}
 use Rattle.srcp_serve.specs.declared.tally.Tally.{Tally}
-use Rattle.srcp_serve.proofs.Hosting.{keeps_moment, takes_moment}
-use Rattle.srcp_serve.proofs.Tallies.{one_failed}
-use Rattle.srcp_serve.proofs.Turning.{asks_moment}
+use Rattle.srcp_serve.proofs.MomentsFollow.{keeps_moment, takes_moment}
+use Rattle.srcp_serve.proofs.FaultsAreCounted.{one_failed}
+use Rattle.srcp_serve.proofs.TurnsAskInOrder.{asks_moment}
 use Rattle.srcp_serve.proofs.serving.take_moment.Goals as goal
 
 pub returns-in-Err-clause-faults : goal.returns-in-Err-clause-faults

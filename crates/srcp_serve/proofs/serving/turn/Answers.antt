@@ -1,6 +1,6 @@
-use Rattle.srcp_serve.proofs.HostedTurns.{makes_turn}
-use Rattle.srcp_serve.proofs.Tallies.{counts_then}
-use Rattle.srcp_serve.proofs.Turning.{turn_begins, turn_goes_on}
+use Rattle.srcp_serve.proofs.TurnsFollow.{makes_turn}
+use Rattle.srcp_serve.proofs.FaultsAreCounted.{counts_then}
+use Rattle.srcp_serve.proofs.TurnsAskInOrder.{turn_begins, turn_goes_on}
 use Rattle.srcp_serve.proofs.serving.turn.Goals as goal
 
 pub returns-clause-faults : goal.returns-clause-faults

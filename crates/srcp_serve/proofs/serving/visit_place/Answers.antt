@@ -2,7 +2,7 @@ use Rattle.std.proofs.Common.{None, List, Option, ap, subst, sym, ◌∙◌}
 use Rattle.std.specs.Option.{option_copied}
 use Rattle.srcp_serve.specs.Places.{VisitsPlace}
 use Rattle.srcp_serve.specs.declared.serving.visit.Seat.{Seat as Own}
-use Rattle.srcp_serve.proofs.Hosting.{place_free, place_goes, place_stays}
+use Rattle.srcp_serve.proofs.PlacesFollow.{place_free, place_goes, place_stays}
 use Rattle.srcp_serve.proofs.serving.visit_place.Goals as goal
 
 pub returns-in_default-clause-course : goal.returns-in_default-clause-course

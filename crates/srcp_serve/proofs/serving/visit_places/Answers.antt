@@ -1,9 +1,9 @@
 use Rattle.std.proofs.Common.{◌≡◌, ◌∙◌, ℕ, arith, subst, sym}
 use Rattle.srcp_serve.specs.Places.{AreFreeFrom}
-use Rattle.srcp_serve.proofs.FreePlaces.{length_kept, places_rest, still_free}
-use Rattle.srcp_serve.proofs.Hosting.{places_first, places_on}
-use Rattle.srcp_serve.proofs.Tallies.{counts_then, none_failed}
-use Rattle.srcp_serve.proofs.Turning.{asks_none, asks_then}
+use Rattle.srcp_serve.proofs.PlacesBehindStayFree.{length_kept, places_rest, still_free}
+use Rattle.srcp_serve.proofs.PlacesFollow.{places_first, places_on}
+use Rattle.srcp_serve.proofs.FaultsAreCounted.{counts_then, none_failed}
+use Rattle.srcp_serve.proofs.TurnsAskInOrder.{asks_none, asks_then}
 use Rattle.srcp_serve.proofs.serving.visit_places.Goals as goal
 
 pub loop-place-init : goal.loop-place-init

@@ -1,9 +1,9 @@
 use Rattle.std.proofs.Common.{ap}
 use Rattle.srcp_serve.specs.declared.tally.Tally.{Tally}
-use Rattle.srcp_serve.proofs.Tallies.{one_failed}
-use Rattle.srcp_serve.proofs.Telling.{closes_by}
+use Rattle.srcp_serve.proofs.FaultsAreCounted.{one_failed}
+use Rattle.srcp_serve.proofs.CallsAreAdded.{closes_by}
 use Rattle.std.proofs.Common.{refl}
-use Rattle.srcp_serve.proofs.Turning.{asks_one}
+use Rattle.srcp_serve.proofs.TurnsAskInOrder.{asks_one}
 use Rattle.srcp_serve.proofs.serving.visit.close.Goals as goal
 
 pub returns-in-Ok-clause-told : goal.returns-in-Ok-clause-told

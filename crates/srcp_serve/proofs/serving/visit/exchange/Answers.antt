@@ -1,5 +1,5 @@
-use Rattle.srcp_serve.proofs.Visiting.{exchanges_lost, exchanges_on}
-use Rattle.srcp_serve.proofs.Turning.{asks_then}
+use Rattle.srcp_serve.proofs.VisitsFollow.{exchanges_lost, exchanges_on}
+use Rattle.srcp_serve.proofs.TurnsAskInOrder.{asks_then}
 use Rattle.srcp_serve.proofs.serving.visit.exchange.Goals as goal
 
 pub returns-then-not-read_in-clause-told : goal.returns-then-not-read_in-clause-told

@@ -1,4 +1,4 @@
-use Rattle.srcp_serve.proofs.Visiting.{lets_go}
+use Rattle.srcp_serve.proofs.VisitsFollow.{lets_go}
 use Rattle.srcp_serve.proofs.serving.visit.let_go.Goals as goal
 
 pub returns-clause-told : goal.returns-clause-told

@@ -5,10 +5,10 @@ use Rattle.srcp_serve.specs.Calls as door
 use Rattle.srcp_serve.specs.Given.{ReadCall}
 use Rattle.srcp_serve.specs.Serving.{loses_reading, piece_of}
 use Rattle.srcp_serve.specs.declared.door.Got.{Got}
-use Rattle.srcp_serve.proofs.Fairness.{fair_read}
-use Rattle.srcp_serve.proofs.Reading.{read_not, read_other, read_bytes}
-use Rattle.srcp_serve.proofs.Tallies.{one_failed}
-use Rattle.srcp_serve.proofs.Turning.{asks_none, asks_one}
+use Rattle.srcp_serve.proofs.AnswersAreFair.{fair_read}
+use Rattle.srcp_serve.proofs.OneReadFollows.{read_not, read_other, read_bytes}
+use Rattle.srcp_serve.proofs.FaultsAreCounted.{one_failed}
+use Rattle.srcp_serve.proofs.TurnsAskInOrder.{asks_none, asks_one}
 use Rattle.srcp_serve.proofs.serving.visit.read_in.Goals as goal
 
 pub returns-then-not-ready-clause-told : goal.returns-then-not-ready-clause-told

@@ -1,5 +1,5 @@
-use Rattle.srcp_serve.proofs.Visiting.{visit_closed, visit_lost, visit_stays}
-use Rattle.srcp_serve.proofs.Turning.{asks_then}
+use Rattle.srcp_serve.proofs.VisitsFollow.{visit_closed, visit_lost, visit_stays}
+use Rattle.srcp_serve.proofs.TurnsAskInOrder.{asks_then}
 use Rattle.srcp_serve.proofs.serving.visit.visit.Goals as goal
 
 pub returns-then-not-exchange-clause-told : goal.returns-then-not-exchange-clause-told

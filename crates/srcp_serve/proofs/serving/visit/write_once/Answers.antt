@@ -1,11 +1,11 @@
 use Rattle.std.proofs.Common.{ap, sym, ◌∙◌, arith, ◌≡◌, length}
 use Rattle.srcp_serve.specs.declared.tally.Tally.{Tally}
 use Rattle.srcp_serve.specs.declared.serving.visit.Wrote.TheVariants.{Less}
-use Rattle.srcp_serve.proofs.Fairness.{fair_write}
-use Rattle.srcp_serve.proofs.Tallies.{one_failed}
-use Rattle.srcp_serve.proofs.Writing.{sends, wrote_absent, wrote_none, wrote_less, wrote_all, wrote_failed}
+use Rattle.srcp_serve.proofs.AnswersAreFair.{fair_write}
+use Rattle.srcp_serve.proofs.FaultsAreCounted.{one_failed}
+use Rattle.srcp_serve.proofs.OneWriteFollows.{sends, wrote_absent, wrote_none, wrote_less, wrote_all, wrote_failed}
 use Rattle.std.proofs.Common.{refl}
-use Rattle.srcp_serve.proofs.Turning.{asks_none, asks_one}
+use Rattle.srcp_serve.proofs.TurnsAskInOrder.{asks_none, asks_one}
 use Rattle.srcp_serve.proofs.serving.visit.write_once.Goals as goal
 
 pub returns-in_default-clause-told : goal.returns-in_default-clause-told

@@ -1,7 +1,7 @@
 use Rattle.std.proofs.Common.{◌≡◌, ◌∙◌, arith, refl}
-use Rattle.srcp_serve.proofs.Rounds.{ends_failed, ends_full, ends_less, takes_first, takes_on}
-use Rattle.srcp_serve.proofs.Tallies.{counts_then, none_failed}
-use Rattle.srcp_serve.proofs.Turning.{asks_none, asks_then}
+use Rattle.srcp_serve.proofs.WritesFollow.{ends_failed, ends_full, ends_less, takes_first, takes_on}
+use Rattle.srcp_serve.proofs.FaultsAreCounted.{counts_then, none_failed}
+use Rattle.srcp_serve.proofs.TurnsAskInOrder.{asks_none, asks_then}
 use Rattle.srcp_serve.proofs.serving.visit.write_out.Goals as goal
 
 pub loop-init : goal.loop-init

@@ -1,7 +1,7 @@
 use Rattle.std.specs.Prelude.{◌≡◌}
 use Rattle.srcp_serve.specs.Tally.{CountsFaults}
 use Rattle.srcp_serve.specs.Turns.{AsksPeers}
-use Rattle.srcp_serve.proofs.Rounds.{TakesSoFar}
+use Rattle.srcp_serve.proofs.WritesFollow.{TakesSoFar}
 use Rattle.srcp_serve.proofs.serving.visit.write_out.Given as goal
 
 abbrev pub invariant-loop : goal.invariant-loop

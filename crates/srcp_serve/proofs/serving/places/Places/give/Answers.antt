@@ -1,5 +1,5 @@
 use Rattle.std.proofs.Common.{Some, ◌∙◌, arith}
-use Rattle.srcp_serve.proofs.FreePlaces.{free_behind, length_set}
+use Rattle.srcp_serve.proofs.PlacesBehindStayFree.{free_behind, length_set}
 use Rattle.srcp_serve.proofs.serving.places.Places.give.Goals as goal
 
 pub invariant_of-self : goal.invariant_of-self

@@ -7,7 +7,7 @@ use Rattle.std.proofs.lemmas.List.Sums.{fold-append}
 use Rattle.srcp_rules.specs.declared.layout.Bus.{Bus}
 use Rattle.srcp_serve.specs.Given.{Call, ExpectCall}
 use Rattle.srcp_serve.specs.Serving.{Stand, empty_stand, is_expect, question, turns, turned, turn_asks, turns_ask, stand_after, IsServed}
-use Rattle.srcp_serve.proofs.Parts.{one_part, parts-append}
+use Rattle.srcp_serve.proofs.PartsAddUp.{one_part, parts-append}
 
 module _ (buses : List Bus) where
   -- so many turns and then more make what the first make, and then what the others make of that

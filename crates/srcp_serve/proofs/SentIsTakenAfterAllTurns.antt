@@ -17,13 +17,13 @@ use Rattle.srcp_serve.specs.Serving.{Question, Moments, expects, Newcomers, Clos
 use Rattle.srcp_serve.specs.Serving.{newcomer_of, taken, taken_in, seats, empty_stand, is_let_in, let_in, welcomed, timed, begun, turned}
 use Rattle.srcp_serve.specs.Serving.{turns, turns_away, turn_asks, stand_after, IsServed, OfEachTurn, PeersDiffer, SendsWhatIsTaken}
 use Rattle.srcp_serve.specs.Serving.{SentIsTaken}
-use Rattle.srcp_serve.proofs.Takings.{all_parts, no_writes}
-use Rattle.srcp_serve.proofs.Partings.{AreAsked, AreTurnsAsked, IsNoneOf, PeersApart, in_turn, turns_parted, visits_parted}
-use Rattle.srcp_serve.proofs.Guests.{AreGuests}
-use Rattle.srcp_serve.proofs.Comings.{IsEven, IsNew, even_welcomed, new_push, new_unseated}
-use Rattle.srcp_serve.proofs.Evening.{nothing_taken, same_each}
-use Rattle.srcp_serve.proofs.Begins.{even_timed}
-use Rattle.srcp_serve.proofs.Evened.{even_turned, turn_begins}
+use Rattle.srcp_serve.proofs.VisitsSendWhatIsTaken.{all_parts, no_writes}
+use Rattle.srcp_serve.proofs.CallsByTurnAndPeer.{AreAsked, AreTurnsAsked, IsNoneOf, PeersApart, in_turn, turns_parted, visits_parted}
+use Rattle.srcp_serve.proofs.GuestsAreSentTheirVisits.{AreGuests}
+use Rattle.srcp_serve.proofs.PlacesAreOfGuests.{IsSentAsTaken, IsNew, sent_after_newcomer, new_push, new_unseated}
+use Rattle.srcp_serve.proofs.SentIsTakenAfterVisits.{nothing_taken, same_each}
+use Rattle.srcp_serve.proofs.OneNewcomerATurn.{sent_after_moments}
+use Rattle.srcp_serve.proofs.SentIsTakenAfterATurn.{sent_after_turn, turn_begins}
 
 -- ---- newcomers
 
@@ -83,12 +83,12 @@ module _ (buses : List Bus) where
   was_new peer (other ∷ peers) stand h = was_new_welcomed peer other stand (was_new peer peers (welcomed buses stand other) h)
 
   even_begun : (before : ℕ → List ℕ) (peers more : List Guest) (stand : Stand) → AreNew stand.guests (peers ++ more)
-      → IsFresh before stand.guests → IsEven buses before stand → IsEven buses before (fold (welcomed buses) stand peers)
-  even_begun before [] more stand new fresh even = even
-  even_begun before (peer ∷ peers) more stand new fresh even =
+      → IsFresh before stand.guests → IsSentAsTaken buses before stand → IsSentAsTaken buses before (fold (welcomed buses) stand peers)
+  even_begun before [] more stand new fresh as_taken = as_taken
+  even_begun before (peer ∷ peers) more stand new fresh as_taken =
       even_begun before peers more (welcomed buses stand peer) (new_welcomed stand peer (peers ++ more) new)
       (λ other h. fresh other (was_new_welcomed other peer stand h))
-      (even_welcomed buses before stand peer new.new.0 (fresh peer.peer new.new.0) even)
+      (sent_after_newcomer buses before stand peer new.new.0 (fresh peer.peer new.new.0) as_taken)
 
   -- those that are turned away are written nothing
   away_no_writes : (events : List Event) (peers : List Guest) → no_writes (flat_map (turns_away buses events) peers) ≡ true
@@ -104,7 +104,7 @@ module _ (buses : List Bus) where
 
 module _ (buses : List Bus) (before : ℕ → List ℕ) (stand : Stand) (calls : List Call) (more : List Guest)
     (new : AreNew stand.guests (filter_map newcomer_of calls ++ more)) (fresh : IsFresh before stand.guests)
-    (even : IsEven buses before stand) where
+    (as_taken : IsSentAsTaken buses before stand) where
   abbrev peers : List Guest
   peers = filter_map newcomer_of calls
 
@@ -112,7 +112,7 @@ module _ (buses : List Bus) (before : ℕ → List ℕ) (stand : Stand) (calls :
   now = timed buses stand calls
 
   same_guests : now.guests ≡ stand.guests
-  same_guests = (even_timed buses before stand (filter_map moment_of calls) even).1
+  same_guests = (sent_after_moments buses before stand (filter_map moment_of calls) as_taken).1
 
   new_now : AreNew now.guests (peers ++ more)
   new_now = subst (λ (guests : List ℕ). AreNew guests (peers ++ more)) (sym same_guests) new
@@ -128,8 +128,8 @@ module _ (buses : List Bus) (before : ℕ → List ℕ) (stand : Stand) (calls :
       let none_now : IsNew peer now.guests = was_new buses peer peers now none in
       let none_before : IsNew peer stand.guests = subst (λ (guests : List ℕ). IsNew peer guests) same_guests none_now in
       let fresh_now : IsFresh before now.guests = λ other h. fresh other (subst (λ (guests : List ℕ). IsNew other guests) same_guests h) in
-      let even_after : IsEven buses before after =
-      even_begun buses before peers more now new_now fresh_now (even_timed buses before stand (filter_map moment_of calls) even).0 in
+      let even_after : IsSentAsTaken buses before after =
+      even_begun buses before peers more now new_now fresh_now (sent_after_moments buses before stand (filter_map moment_of calls) as_taken).0 in
       let unseated : IsNoneOf peer (seats after.places) = new_unseated peer after.guests (seats after.places) none even_after.known in
       ap (λ t. t ++ taken peer calls) (fresh peer none_before)
       ∙ nothing_taken buses before after calls first (away_no_writes buses now.events peers) asked peer unseated
@@ -179,11 +179,11 @@ module _ (buses : List Bus) where
 
   turns_taken : (all : List (List Call)) (before : ℕ → List ℕ) (stand : Stand) → AreTurnsAsked buses stand all
       → AllByRecursion IsFair (joined all) → AreNew stand.guests (filter_map newcomer_of (joined all)) → IsFresh before stand.guests
-      → IsEven buses before stand
+      → IsSentAsTaken buses before stand
       → OfEachTurn buses IsTurnOfGuests stand all × SentAfter all before stand
-  turns_taken [] before stand asked fair new fresh even =
-      (tt, even.sending.sends ∙ same_each before (λ peer. before peer ++ []) stand.guests (λ peer. sym (append-nil (before peer))))
-  turns_taken (calls ∷ all) before stand asked fair new fresh even =
+  turns_taken [] before stand asked fair new fresh as_taken =
+      (tt, as_taken.sending.sends ∙ same_each before (λ peer. before peer ++ []) stand.guests (λ peer. sym (append-nil (before peer))))
+  turns_taken (calls ∷ all) before stand asked fair new fresh as_taken =
       let parts = all_parts IsFair calls (joined all) fair in
       let peers : List Guest = filter_map newcomer_of calls in
       let more : List Guest = filter_map newcomer_of (joined all) in
@@ -191,20 +191,20 @@ module _ (buses : List Bus) where
       subst (λ (ps : List Guest). AreNew stand.guests ps) (filter_map-append newcomer_of calls (joined all)) new in
       let coming : AllByRecursion (λ peer. IsNew peer.peer stand.guests) peers =
       (all_parts (λ peer. IsNew peer.peer stand.guests) peers more apart.new).0 in
-      let b = turn_begins buses before stand calls parts.0 fresh even asked.0 coming in
+      let b = turn_begins buses before stand calls parts.0 fresh as_taken asked.0 coming in
       let now : Stand = begun buses stand calls in
       let here : IsTurnOfGuests stand calls =
       record {
-        known = b.begun_even.known;
-        apart = b.begun_even.apart;
+        known = b.sent_before_visits.known;
+        apart = b.sent_before_visits.apart;
         asked =
-            visits_parted buses b.first now.events calls (seats now.places) b.begun_even.apart b.none b.asked;
+            visits_parted buses b.first now.events calls (seats now.places) b.sent_before_visits.apart b.none b.asked;
         fair = parts.0;
       } in
       let rest = turns_taken all (λ peer. before peer ++ taken peer calls) (turned buses stand calls) asked.1 parts.1
-      (new_turned buses before stand calls more apart fresh even)
-      (fresh_turned buses before stand calls more apart fresh even asked.0)
-      (even_turned buses before stand calls parts.0 fresh even b) in (
+      (new_turned buses before stand calls more apart fresh as_taken)
+      (fresh_turned buses before stand calls more apart fresh as_taken asked.0)
+      (sent_after_turn buses before stand calls parts.0 fresh as_taken b) in (
         (here, rest.0),
         rest.1
             ∙ same_each (λ peer. (before peer ++ taken peer calls) ++ taken peer (joined all))
@@ -235,8 +235,8 @@ module _ (buses : List Bus) where
   no_calls [] e = refl
   no_calls (call ∷ calls) e = cc
 
-  nobody_even : IsEven buses (λ peer. []) empty_stand
-  nobody_even = record { sending = record { steady = tt; sends = refl }; known = tt; apart = tt }
+  sent_at_first : IsSentAsTaken buses (λ peer. []) empty_stand
+  sent_at_first = record { sending = record { steady = tt; sends = refl }; known = tt; apart = tt }
 
   module _ (count : ℕ) (told : List Call) (served : IsServed buses count told) (differ : PeersDiffer buses told)
       (fair : AllByRecursion IsFair told) where
@@ -255,7 +255,7 @@ module _ (buses : List Bus) where
         } in
         turns_taken (turns told) (λ peer. []) empty_stand (turns_parted buses empty_stand told [] tt served.asked).1
         (subst (λ (cs : List Call). AllByRecursion IsFair cs) (sym whole) fair)
-        (subst (λ (cs : List Call). AreNew [] (filter_map newcomer_of cs)) (sym whole) first) (λ peer h. refl) nobody_even
+        (subst (λ (cs : List Call). AreNew [] (filter_map newcomer_of cs)) (sym whole) first) (λ peer h. refl) sent_at_first
 
     pub turns_of_guests : OfEachTurn buses IsTurnOfGuests empty_stand (turns told)
     turns_of_guests = all_turns.0

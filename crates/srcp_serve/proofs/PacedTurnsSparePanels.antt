@@ -14,8 +14,8 @@ use Rattle.srcp_serve.specs.Given.{Call, ExpectCall, NowCall, AcceptCall, ReadCa
 use Rattle.srcp_serve.specs.Serving.{Expects, Stand, OfEachTurn, empty_stand, expects, question, turned, turn_asks, turns}
 use Rattle.srcp_serve.specs.Pacing.{IsLight, IsPaced, LightServingSparesAll, LightTurnsSpare, PacedServingSparesAll, PacedTurnsSpare}
 use Rattle.srcp_serve.specs.Pacing.{SparesPanels, besides_in, brought_in, events_in, told_room, weighs_in}
-use Rattle.srcp_serve.proofs.Partings.{AreTurnsAsked, turns_parted}
-use Rattle.srcp_serve.proofs.TurnEvents.{turn_events, turned_events}
+use Rattle.srcp_serve.proofs.CallsByTurnAndPeer.{AreTurnsAsked, turns_parted}
+use Rattle.srcp_serve.proofs.EventsOfATurn.{turn_events, turned_events}
 
 module _ (buses : List Bus) where
   -- what the door was told is how many changes may come

@@ -15,14 +15,14 @@ use Rattle.srcp_serve.specs.Given.{Call}
 use Rattle.srcp_serve.specs.Serving.{OfEachTurn, Seat, Stand, begun, exchange, is_close, kept, question, turned, visit, visit_asks}
 use Rattle.srcp_serve.specs.Serving.{visit_events}
 use Rattle.srcp_serve.specs.Settling.{IsStill}
-use Rattle.srcp_serve.proofs.Guests.{AreGuests, fair_visit}
-use Rattle.srcp_serve.proofs.Partings.{AreAsked, PeersApart}
-use Rattle.srcp_serve.proofs.TurnEvents.{begun_events, opening_events, turn_events, turned_events}
-use Rattle.srcp_serve.proofs.TurnsTaken.{IsTurnOfGuests}
-use Rattle.srcp_serve.proofs.Settling.Panels.{Panel, panel_others}
+use Rattle.srcp_serve.proofs.GuestsAreSentTheirVisits.{AreGuests, fair_visit}
+use Rattle.srcp_serve.proofs.CallsByTurnAndPeer.{AreAsked, PeersApart}
+use Rattle.srcp_serve.proofs.EventsOfATurn.{begun_events, opening_events, turn_events, turned_events}
+use Rattle.srcp_serve.proofs.SentIsTakenAfterAllTurns.{IsTurnOfGuests}
+use Rattle.srcp_serve.proofs.Settling.PanelsTakeTheirLines.{Panel, panel_others}
 use Rattle.srcp_serve.proofs.Settling.SeatsStay.{HasPlace, among_seats, begun_stays, opening_others, others_apart, visit_in, visits_others}
 use Rattle.srcp_serve.proofs.Settling.StepsFollow.{brought_adds}
-use Rattle.srcp_serve.proofs.Settling.VisitHands.{one_unless_nil, visited_whole}
+use Rattle.srcp_serve.proofs.Settling.VisitsWriteUntilNothingIsLeft.{one_unless_nil, visited_whole}
 
 -- a visit that lets nobody go
 pub stays_exchange : (calls : List Call) (seat : Seat) → list_any is_close (visit calls seat) ≡ false → visit_events calls seat

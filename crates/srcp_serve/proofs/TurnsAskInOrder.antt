@@ -10,8 +10,8 @@ use Rattle.srcp_serve.specs.Calls.{Call, Tells, ExpectCall, NowCall, AcceptCall,
 use Rattle.srcp_serve.specs.Turns.{AreTurns, AsksMoment, AsksNewcomer, AsksPeers, AsksTurn, AsksTurns, IsTurn, is_of_peer}
 use Rattle.srcp_serve.specs.Visits.{Closes}
 use Rattle.srcp_serve.specs.declared.door.DoorFault.{DoorFault}
-use Rattle.srcp_serve.proofs.Parts.{one_part, parts-append}
-use Rattle.srcp_serve.proofs.Telling.{adds_none, adds_one, adds_then}
+use Rattle.srcp_serve.proofs.PartsAddUp.{one_part, parts-append}
+use Rattle.srcp_serve.proofs.CallsAreAdded.{adds_none, adds_one, adds_then}
 
 both_of_peers : (xs ys : List Call) → list_all is_of_peer xs ≡ true → list_all is_of_peer ys ≡ true → list_all is_of_peer (xs ++ ys) ≡ true
 both_of_peers xs ys h k = list_all-append is_of_peer xs ys ∙ ap (λ t. t && list_all is_of_peer ys) h ∙ k

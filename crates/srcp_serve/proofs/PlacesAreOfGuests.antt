@@ -11,9 +11,9 @@ use Rattle.srcp_core.specs.Course.{World, start, happens, course, fault}
 use Rattle.srcp_core.specs.declared.record.CoreFault.{CoreFault}
 use Rattle.srcp_serve.specs.Given.{Guest, Call}
 use Rattle.srcp_serve.specs.Serving.{Seat, Stand, seats, seated, kept, visit, is_close, with_moment, welcomed, let_in}
-use Rattle.srcp_serve.proofs.Sendings.{IsSending, sending_moment, sending_opened, sending_refused}
-use Rattle.srcp_serve.proofs.Partings.{IsNoneOf, PeersApart}
-use Rattle.srcp_serve.proofs.Guests.{IsGuest, AreGuests, turned_round}
+use Rattle.srcp_serve.proofs.OnlyRoomSends.{IsSending, sending_moment, sending_opened, sending_refused}
+use Rattle.srcp_serve.proofs.CallsByTurnAndPeer.{IsNoneOf, PeersApart}
+use Rattle.srcp_serve.proofs.GuestsAreSentTheirVisits.{IsGuest, AreGuests, turned_round}
 
 -- ---- places
 
@@ -103,13 +103,13 @@ guests_before new guests (seat ∷ all) h k = (
 
 module _ (buses : List Bus) (before : ℕ → List ℕ) where
   -- each guest was sent what was taken before, and those that have a place are guests
-  pub record IsEven (stand : Stand) : Type 0 where
+  pub record IsSentAsTaken (stand : Stand) : Type 0 where
     pub sending : IsSending (map before stand.guests) (course buses stand.events).connections
     pub known : AreGuests stand.guests (seats stand.places)
     pub apart : PeersApart (seats stand.places)
 
-  pub even_moment : (stand : Stand) (moment : ℕ) → IsEven stand → IsEven (with_moment buses stand moment)
-  even_moment stand moment h = record {
+  pub sent_after_moment : (stand : Stand) (moment : ℕ) → IsSentAsTaken stand → IsSentAsTaken (with_moment buses stand moment)
+  sent_after_moment stand moment h = record {
     sending =
         subst (λ (v : World). IsSending (map before stand.guests) v.connections)
         (sym (fold-append (happens buses) start stand.events (At moment ∷ [])))
@@ -118,21 +118,21 @@ module _ (buses : List Bus) (before : ℕ → List ℕ) where
     apart = h.apart;
   }
 
-  pub even_welcomed : (stand : Stand) (guest : Guest) → IsNew guest.peer stand.guests → before guest.peer ≡ [] → IsEven stand
-      → IsEven (welcomed buses stand guest)
-  even_welcomed stand guest new none h = by (fault buses (course buses stand.events) (Open guest.granted)) refl
+  pub sent_after_newcomer : (stand : Stand) (guest : Guest) → IsNew guest.peer stand.guests → before guest.peer ≡ [] → IsSentAsTaken stand
+      → IsSentAsTaken (welcomed buses stand guest)
+  sent_after_newcomer stand guest new none h = by (fault buses (course buses stand.events) (Open guest.granted)) refl
     where
       next : course buses (stand.events ++ Open guest.granted ∷ []) ≡ happens buses (course buses stand.events) (Open guest.granted)
       next = fold-append (happens buses) start stand.events (Open guest.granted ∷ [])
 
-      by : (o : Option CoreFault) → fault buses (course buses stand.events) (Open guest.granted) ≡ o → IsEven (welcomed buses stand guest)
+      by : (o : Option CoreFault) → fault buses (course buses stand.events) (Open guest.granted) ≡ o → IsSentAsTaken (welcomed buses stand guest)
       by None e =
           let yes : welcomed buses stand guest ≡ let_in buses stand guest =
           ap (λ o. if is_none o then let_in buses stand guest else record stand { events = stand.events ++ Open guest.granted ∷ [] })
           e in
           let texts : map before stand.guests ++ [] ∷ [] ≡ map before (stand.guests ++ guest.peer ∷ []) =
           ap (λ t. map before stand.guests ++ t ∷ []) (sym none) ∙ sym (map-append before stand.guests (guest.peer ∷ [])) in
-          subst IsEven (sym yes) (record {
+          subst IsSentAsTaken (sym yes) (record {
             sending =
                 subst (λ (ts : List (List ℕ)). IsSending ts (course buses (stand.events ++ Open guest.granted ∷ [])).connections) texts
                 (subst (λ (v : World). IsSending (map before stand.guests ++ [] ∷ []) v.connections) (sym next)
@@ -149,7 +149,7 @@ module _ (buses : List Bus) (before : ℕ → List ℕ) where
           let no : welcomed buses stand guest ≡ record stand { events = stand.events ++ Open guest.granted ∷ [] } =
           ap (λ o. if is_none o then let_in buses stand guest else record stand { events = stand.events ++ Open guest.granted ∷ [] })
           e in
-          subst IsEven (sym no) (record {
+          subst IsSentAsTaken (sym no) (record {
             sending =
                 subst (λ (v : World). IsSending (map before stand.guests) v.connections) (sym next)
                 (sending_refused buses (map before stand.guests) guest.granted (course buses stand.events) cause h.sending e);

@@ -14,7 +14,7 @@ use Rattle.srcp_serve.specs.Visits.{WritesOnce}
 use Rattle.srcp_serve.specs.declared.door.DoorFault.{DoorFault}
 use Rattle.srcp_serve.specs.declared.serving.visit.Wrote.{Wrote}
 use Rattle.srcp_serve.specs.declared.serving.visit.Wrote.TheVariants.{All, Less, Failed}
-use Rattle.srcp_serve.proofs.Telling.{adds_none, adds_one}
+use Rattle.srcp_serve.proofs.CallsAreAdded.{adds_none, adds_one}
 
 nil_of : (xs : List ℕ) → (length xs == 0) ≡ true → xs ≡ []
 nil_of [] e = refl

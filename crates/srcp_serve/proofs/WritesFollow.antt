@@ -20,8 +20,8 @@ use Rattle.srcp_serve.specs.Turns.{AsksPeers}
 use Rattle.srcp_serve.specs.Visits.{AddsGiven, AreWritesTo, Follows, IsWrittenTo, TookAll, TookLess, TookNone, WasLentNone, WritesOnce}
 use Rattle.srcp_serve.specs.Visits.{WritesOut}
 use Rattle.srcp_serve.specs.declared.serving.visit.Wrote.TheVariants.{All, Less, Failed}
-use Rattle.srcp_serve.proofs.HandedLaws.{AreFull, texts, handed-append, full-more, unless_some}
-use Rattle.srcp_serve.proofs.Telling.{adds_none, given_then}
+use Rattle.srcp_serve.proofs.HandedWriteAfterWrite.{AreFull, texts, handed-append, full-more, unless_some}
+use Rattle.srcp_serve.proofs.CallsAreAdded.{adds_none, given_then}
 
 -- room for nothing, or no more room
 abbrev last_room : Bool → List ℕ

@@ -20,13 +20,13 @@ use Rattle.srcp_serve.specs.Given.{Call}
 use Rattle.srcp_serve.specs.Serving.{IsFair, OfEachTurn, OfEachVisit, Seat, Stand, begun, empty_stand, question, seats, turned, turns}
 use Rattle.srcp_serve.specs.Serving.{visit, visit_asks, visit_events}
 use Rattle.srcp_serve.specs.Settling.{SettlesSoon, TakesWaits, WaitsAreGoneAfterAVisit}
-use Rattle.srcp_serve.proofs.Guests.{fair_visit}
-use Rattle.srcp_serve.proofs.Partings.{AreAsked}
-use Rattle.srcp_serve.proofs.TurnsTaken.{IsTurnOfGuests, turns_of_guests}
-use Rattle.srcp_serve.proofs.Settling.Panels.{Panel}
+use Rattle.srcp_serve.proofs.GuestsAreSentTheirVisits.{fair_visit}
+use Rattle.srcp_serve.proofs.CallsByTurnAndPeer.{AreAsked}
+use Rattle.srcp_serve.proofs.SentIsTakenAfterAllTurns.{IsTurnOfGuests, turns_of_guests}
+use Rattle.srcp_serve.proofs.Settling.PanelsTakeTheirLines.{Panel}
 use Rattle.srcp_serve.proofs.Settling.StepsFollow.{no_map}
-use Rattle.srcp_serve.proofs.Settling.TurnHands.{stays_exchange, turns_settle}
-use Rattle.srcp_serve.proofs.Settling.VisitHands.{one_unless_nil, visited_whole}
+use Rattle.srcp_serve.proofs.Settling.TurnsTakeFromWhatIsOwed.{stays_exchange, turns_settle}
+use Rattle.srcp_serve.proofs.Settling.VisitsWriteUntilNothingIsLeft.{one_unless_nil, visited_whole}
 
 module _ (buses : List Bus) where
   -- the later turns

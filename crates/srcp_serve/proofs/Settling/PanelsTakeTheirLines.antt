@@ -24,9 +24,9 @@ use Rattle.srcp_core.proofs.CourseLaws.RoomSettles.{OwesAfter, owes_after}
 use Rattle.srcp_core.proofs.CourseLaws.RoomsAddUp.{left_after, takes_within, took_overran}
 use Rattle.srcp_core.proofs.CourseLaws.SessionsOfACourse.{anything, fits_open, open_shut, stands}
 use Rattle.srcp_serve.specs.Serving.{lent}
-use Rattle.srcp_serve.proofs.LentLaws.{first_some, fits_left, given_more}
-use Rattle.srcp_serve.proofs.Sendings.{steady_at}
-use Rattle.srcp_serve.proofs.SentLaws.{after_room, lent_is, steady_course, there_after}
+use Rattle.srcp_serve.proofs.LentAndTakenIsSent.{first_some, fits_left, given_more}
+use Rattle.srcp_serve.proofs.OnlyRoomSends.{steady_at}
+use Rattle.srcp_serve.proofs.RoomSendsWhatIsLent.{after_room, lent_is, steady_course, there_after}
 use Rattle.srcp_serve.proofs.Settling.OthersKeep.{AreOfOthers, stays_all}
 use Rattle.srcp_serve.proofs.Settling.OwedStays.{overran_same, owed_same}
 use Rattle.srcp_serve.proofs.Settling.StepsFollow.{AreNone, brought_is, changes_of, history_follows, none_each, same_state, state_follows}

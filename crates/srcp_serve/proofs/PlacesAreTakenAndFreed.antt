@@ -13,7 +13,7 @@ use Rattle.srcp_serve.specs.Places.{Visit, calls_of, visits_of, seat_of, left_by
 use Rattle.srcp_serve.specs.Places.{IsOneOf, IsOther, IsLeftOut}
 use Rattle.srcp_serve.specs.Visits.{AreAbout}
 use Rattle.srcp_serve.specs.declared.serving.visit.Seat.{Seat as Own}
-use Rattle.srcp_serve.proofs.VisitLaws.{AreApart, one_visit}
+use Rattle.srcp_serve.proofs.VisitsAreSeenAgain.{AreApart, one_visit}
 
 same_no : (a b : ℕ) → (a == b) ≡ false → (b == a) ≡ false
 same_no a b e = grind (arith, nat_tests)

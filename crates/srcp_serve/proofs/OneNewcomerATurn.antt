@@ -9,15 +9,15 @@ use Rattle.srcp_rules.specs.declared.layout.Bus.{Bus}
 use Rattle.srcp_serve.specs.Given.{Guest, Call, ExpectCall, NowCall, AcceptCall, ReadCall, WriteCall, CloseCall}
 use Rattle.srcp_serve.specs.Serving.{Question, Expects, Moments, Newcomers, Closes, Seat, Stand, question, newcomer_of, with_moment}
 use Rattle.srcp_serve.specs.Serving.{is_let_in, turns_away}
-use Rattle.srcp_serve.proofs.Partings.{IsNoneOf, IsOfNone, AreOfPeers, asks_of}
-use Rattle.srcp_serve.proofs.Comings.{IsEven, even_moment}
+use Rattle.srcp_serve.proofs.CallsByTurnAndPeer.{IsNoneOf, IsOfNone, AreOfPeers, asks_of}
+use Rattle.srcp_serve.proofs.PlacesAreOfGuests.{IsSentAsTaken, sent_after_moment}
 
 -- after the moments of a turn
-pub even_timed : (buses : List Bus) (before : ℕ → List ℕ) (stand : Stand) (moments : List ℕ) → IsEven buses before stand
-    → IsEven buses before (fold (with_moment buses) stand moments) × ((fold (with_moment buses) stand moments).guests ≡ stand.guests)
-even_timed buses before stand [] h = (h, refl)
-even_timed buses before stand (moment ∷ moments) h =
-    even_timed buses before (with_moment buses stand moment) moments (even_moment buses before stand moment h)
+pub sent_after_moments : (buses : List Bus) (before : ℕ → List ℕ) (stand : Stand) (moments : List ℕ) → IsSentAsTaken buses before stand
+    → IsSentAsTaken buses before (fold (with_moment buses) stand moments) × ((fold (with_moment buses) stand moments).guests ≡ stand.guests)
+sent_after_moments buses before stand [] h = (h, refl)
+sent_after_moments buses before stand (moment ∷ moments) h =
+    sent_after_moments buses before (with_moment buses stand moment) moments (sent_after_moment buses before stand moment h)
 
 no_newcomer_first : (due slack : Option ℕ) (call : Call) → question call ≡ Expects due slack → newcomer_of call ≡ None
 no_newcomer_first due slack (ExpectCall d s) e = refl

@@ -1,4 +1,4 @@
--- Turns over a core that stands for a course: the newcomer, the whole turn, and turn after turn.
+-- A turn follows the course: its newcomer, and its visits.
 use Rattle.std.proofs.Common.{◌≡◌, ◌∙◌, ℕ, zero, suc, ◌+◌, ◌≤◌, Bool, true, false, ◌==◌, List, [], ◌∷◌, ◌++◌, map, drop, fold, replicate}
 use Rattle.std.proofs.Common.{length, if◌then◌else◌, Option, Some, None, Ok, Err, Result, refl, ap, sym, subst, arith, append_assoc}
 use Rattle.std.proofs.Common.{append-nil}
@@ -28,15 +28,13 @@ use Rattle.srcp_serve.specs.Turns.{AsksNewcomer, AsksPeers, AsksTurn, AsksTurns,
 use Rattle.srcp_serve.specs.Visits.{AddsGiven, CountsAsked}
 use Rattle.srcp_serve.specs.declared.door.DoorFault.{DoorFault}
 use Rattle.srcp_serve.specs.declared.serving.visit.Seat.{Seat as Own}
-use Rattle.srcp_serve.proofs.Hosting.{none_left_out}
-use Rattle.srcp_serve.proofs.PlaceLaws.{all_here, all_seated, kept_by, known_left, round_seats, visits_apart}
-use Rattle.srcp_serve.proofs.ServingLaws.{served-more}
-use Rattle.srcp_serve.proofs.AskedFor.{asked_moment, asked_then}
-use Rattle.srcp_serve.proofs.Telling.{adds_one, adds_then, given_then, refusals_then, same_calls}
-use Rattle.srcp_serve.proofs.TurnsTaken.{peers_told, sent_taken}
-use Rattle.srcp_serve.proofs.VisitLaws.{AreApart, visits_asked, visits_make}
-
--- ---- peers that came in
+use Rattle.srcp_serve.proofs.NewcomersAreSeated.{none_left_out}
+use Rattle.srcp_serve.proofs.PlacesAreTakenAndFreed.{all_here, all_seated, kept_by, known_left, round_seats, visits_apart}
+use Rattle.srcp_serve.proofs.ServedOneTurnMore.{served-more}
+use Rattle.srcp_serve.proofs.RefusalsWereAskedFor.{asked_moment, asked_then}
+use Rattle.srcp_serve.proofs.CallsAreAdded.{adds_one, adds_then, given_then, refusals_then, same_calls}
+use Rattle.srcp_serve.proofs.SentIsTakenAfterAllTurns.{peers_told, sent_taken}
+use Rattle.srcp_serve.proofs.VisitsAreSeenAgain.{AreApart, visits_asked, visits_make}
 
 no_newcomers : (calls : List Call) → list_all is_of_peer (map told_call calls) ≡ true → filter_map newcomer_of calls ≡ []
 no_newcomers [] h = refl
@@ -56,7 +54,7 @@ no_moments (ReadCall peer answer buffer grants ∷ calls) h = no_moments calls h
 no_moments (WriteCall peer bytes answer ∷ calls) h = no_moments calls h
 no_moments (CloseCall peer answer ∷ calls) h = no_moments calls h
 
-not_now : (calls : List Call) → list_all is_of_peer (map told_call calls) ≡ true → list_all (λ call. not (is_expect call)) calls ≡ true
+pub not_now : (calls : List Call) → list_all is_of_peer (map told_call calls) ≡ true → list_all (λ call. not (is_expect call)) calls ≡ true
 not_now [] h = refl
 not_now (ExpectCall due slack ∷ calls) h = cc
 not_now (NowCall answer ∷ calls) h = cc
@@ -65,7 +63,7 @@ not_now (ReadCall peer answer buffer grants ∷ calls) h = not_now calls h
 not_now (WriteCall peer bytes answer ∷ calls) h = not_now calls h
 not_now (CloseCall peer answer ∷ calls) h = not_now calls h
 
-fair_given : (calls : List Call) → AllByRecursion door.IsFair (map told_call calls) → AllByRecursion IsFair calls
+pub fair_given : (calls : List Call) → AllByRecursion door.IsFair (map told_call calls) → AllByRecursion IsFair calls
 fair_given [] h = tt
 fair_given (call ∷ calls) h = (h.0, fair_given calls h.1)
 
@@ -79,7 +77,7 @@ unfolding IsDistinct
 differ_last [] y ys h = tt
 differ_last (x ∷ xs) y ys h = (all_here (λ z. (x == z) ≡ false) xs y ys h.0, differ_last xs y ys h.1)
 
-peers_front : (peers : List ℕ) (xs ys : List DoorCall) → PeersDiffer peers (xs ++ ys) → PeersDiffer peers xs
+pub peers_front : (peers : List ℕ) (xs ys : List DoorCall) → PeersDiffer peers (xs ++ ys) → PeersDiffer peers xs
 peers_front peers xs ys h =
     let first : List ℕ = filter_map peer_of xs in
     let rest : List ℕ = filter_map peer_of ys in
@@ -439,119 +437,3 @@ makes_turn opens old mid between new told_old told_mid told_between told_new own
       hosting = subst (λ (s : Stand). IsHosting buses s x.keys new owns_new) (sym ends) x.hosting;
       opened = ap (λ (s : Stand). length s.guests) ends ∙ b.opened ∙ ap (λ n. n + one_if opens) (guests_timed buses t.answer stand);
     }
-
--- ---- turn after turn
-
-sit_none : (n : ℕ) → Sit [] (replicate n None) (replicate n None)
-sit_none zero = tt
-sit_none (suc n) = (tt, sit_none n)
-
-known_none : (n : ℕ) → AllByRecursion (IsOneOf []) (replicate n None)
-known_none zero = tt
-known_none (suc n) = (tt, known_none n)
-
-differ_none : (n : ℕ) → SeatsDiffer (replicate n None)
-differ_none zero = tt
-differ_none (suc n) = differ_none n
-
-pub serves_first : (old : Held) (told_old : Option (List DoorCall)) → ServesSoFar 0 0 old told_old old told_old (replicate 64 None)
-serves_first old told_old buses before calls layout stands was is differ =
-    let none : [] ≡ calls = append_cancel_left before [] calls (append-nil before ∙ same_Some before (before ++ calls) (sym was ∙ is)) in
-    subst (λ (c : List DoorCall). IsServing buses 0 0 c old old (replicate 64 None)) none (record {
-      calls = [];
-      keys = [];
-      are = refl;
-      counted = refl;
-      asked_for = λ first e. e;
-      served = record { turns_are = refl; asked = refl };
-      known = known_none 64;
-      hosting = record { layout = layout; sit = sit_none 64; few = omega arith; differ = differ_none 64; long = refl; stands = stands };
-      opened = refl;
-    })
-
--- one turn more of what is served
-served_then : (buses : List Bus) (count : ℕ) (told later : List Call) → IsServed buses count told → IsTurnGiven later
-    → map question later ≡ turn_asks buses (stand_after buses told) later
-    → IsServed buses (count + 1) (told ++ later) × (stand_after buses (told ++ later) ≡ turned buses (stand_after buses told) later)
-served_then buses count told later so t asked =
-    let rest : List Call = NowCall t.now ∷ AcceptCall t.newcomer t.granted ∷ t.rest in
-    let asked_now : map question (ExpectCall t.due t.slack ∷ rest)
-    ≡ turn_asks buses (stand_after buses told) (ExpectCall t.due t.slack ∷ rest) =
-    subst (λ (c : List Call). map question c ≡ turn_asks buses (stand_after buses told) c) t.is asked in
-    subst (λ (c : List Call). IsServed buses (count + 1) (told ++ c)
-    × (stand_after buses (told ++ c) ≡ turned buses (stand_after buses told) c))
-    (sym t.is)
-    (served-more buses count told t.due t.slack rest so (not_now t.rest t.peers) asked_now)
-
-pub serves_on : (count opened : ℕ) (opens : Bool) (old mid new : Held) (told_old told_mid told_new : Option (List DoorCall))
-    (owns owns_new : List (Option Own))
-    → ServesSoFar count opened old told_old mid told_mid owns → AsksTurns count told_old told_mid → AsksTurn told_mid told_new
-    → MakesTurn mid told_mid owns new told_new owns_new opens
-    → ServesSoFar (count + 1) (opened + one_if opens) old told_old new told_new owns_new
-serves_on count opened opens old mid new told_old told_mid told_new owns owns_new so asks_before asks turn buses before calls layout stands
-    was is differ =
-    let told : List DoorCall = before ++ calls in
-    let later = asks told is in
-    let w = later.adds in
-    let earlier = asks_before w.before w.was in
-    let first : List DoorCall = earlier.calls in
-    let mid_is : w.before ≡ before ++ first =
-    earlier.adds.is ∙ ap (λ b. b ++ first) (same_Some earlier.adds.before before (sym earlier.adds.was ∙ was)) in
-    let whole : calls ≡ first ++ later.calls =
-    same_calls told_old told calls (first ++ later.calls) (record { before = before; was = was; is = refl })
-    (adds_then told_old told_mid w.before told first later.calls w.was earlier.adds w) in
-    let differ_all : PeersDiffer [] (first ++ later.calls) = subst (λ (c : List DoorCall). PeersDiffer [] c) whole differ in
-    let s = so buses before first layout stands was (w.was ∙ ap (λ b. Some b) mid_is) (peers_front [] first later.calls differ_all) in
-    let peers : List ℕ = filter_map peer_of first in
-    let stood : Stand = stand_after buses s.calls in
-    let x =
-    turn buses stood s.keys told s.hosting is peers later.calls w
-    (subst (λ (ps : List ℕ). IsDistinct (λ a b. a == b) ps) (filter_map-append peer_of first later.calls) differ_all) s.known in
-    let same : later.calls ≡ map told_call x.calls = same_calls told_mid told later.calls (map told_call x.calls) w x.adds in
-    let more = served_then buses count s.calls x.calls s.served x.turn x.asked in
-    let known : AllByRecursion (IsOneOf (filter_map peer_of calls)) (turned buses stood x.calls).places =
-    subst (λ (ps : List ℕ). AllByRecursion (IsOneOf ps) (turned buses stood x.calls).places)
-    (ap (λ c. peers ++ filter_map peer_of c) (sym same) ∙ sym (filter_map-append peer_of first later.calls)
-    ∙ ap (filter_map peer_of) (sym whole)) x.known in
-    record {
-      calls = s.calls ++ x.calls;
-      keys = x.keys;
-      are = map-append told_call s.calls x.calls ∙ ap (λ c. c ++ map told_call x.calls) s.are ∙ ap (λ c. first ++ c) (sym same) ∙ sym whole;
-      counted = refusals_then old mid new s.calls x.calls s.counted x.counted;
-      asked_for = subst (λ (v : Stand). CountsAsked buses [] v.events old new) (sym more.1)
-          (asked_then buses [] stood.events (turned buses stood x.calls).events old mid new s.asked_for x.asked_for);
-      served = more.0;
-      known = subst (λ (v : Stand). AllByRecursion (IsOneOf (filter_map peer_of calls)) v.places) (sym more.1) known;
-      hosting = subst (λ (v : Stand). IsHosting buses v x.keys new owns_new) (sym more.1) x.hosting;
-      opened = ap (λ (v : Stand). length v.guests) more.1 ∙ x.opened ∙ ap (λ n. n + one_if opens) s.opened;
-    }
-
-pub serves_all : (count turns opened : ℕ) (old now : Held) (told_old told_now : Option (List DoorCall)) (owns : List (Option Own))
-    → count ≡ turns → AsksTurns turns told_old told_now → ServesSoFar count opened old told_old now told_now owns
-    → ServesCourse turns opened old told_old now told_now
-serves_all count turns opened old now told_old told_now owns e asks so buses before calls layout stands was is differ =
-    let s = so buses before calls layout stands was is differ in
-    let a = asks (before ++ calls) is in
-    let same : a.calls ≡ map told_call s.calls =
-    same_calls told_old (before ++ calls) a.calls calls a.adds (record { before = before; was = was; is = refl }) ∙ sym s.are in
-    let fair : AllByRecursion IsFair s.calls =
-    fair_given s.calls (subst (λ (c : List DoorCall). AllByRecursion door.IsFair c) same a.turns_are.fair) in
-    let served : IsServed buses turns s.calls = subst (λ (n : ℕ). IsServed buses n s.calls) e s.served in
-    record {
-      calls = s.calls;
-      are = s.are;
-      counted = s.counted;
-      asked = s.asked_for old.denied refl;
-      course = record {
-        keys = s.keys;
-        served = served;
-        stands = s.hosting.stands;
-        opened = sym s.opened ∙ sym s.hosting.long ∙ s.hosting.stands.long;
-        taken = sent_taken buses turns s.calls served (subst (λ (c : List DoorCall). PeersDiffer [] c) (sym s.are) differ) fair;
-      };
-    }
-
--- no more were let in than there were turns
-pub fewer : (opens : Bool) (opened count after : ℕ) → opened ≤ count → after ≡ opened + one_if opens → after ≤ count + 1
-fewer true opened count after h e = omega (arith, h, e)
-fewer false opened count after h e = omega (arith, h, e)

@@ -10,14 +10,14 @@ use Rattle.srcp_rules.specs.declared.layout.Bus.{Bus}
 use Rattle.srcp_serve.specs.Given.{Guest, Call}
 use Rattle.srcp_serve.specs.Serving.{Question, Moments, expects, Newcomers, Closes, Seat, Stand, IsFair, question, moment_of, newcomer_of}
 use Rattle.srcp_serve.specs.Serving.{seats, taken, timed, turned, visits_ask, welcomed, let_in, is_let_in, turns_away, turn_asks}
-use Rattle.srcp_serve.proofs.Takings.{no_writes}
-use Rattle.srcp_serve.proofs.Partings.{IsOfNone, AreOfPeers, asks_peer, away_peers, visits_peers}
-use Rattle.srcp_serve.proofs.Comings.{IsEven, IsNew, even_welcomed, new_unseated}
-use Rattle.srcp_serve.proofs.Evening.{even_visited}
-use Rattle.srcp_serve.proofs.Begins.{even_timed, one_newcomer, away_of_none}
+use Rattle.srcp_serve.proofs.VisitsSendWhatIsTaken.{no_writes}
+use Rattle.srcp_serve.proofs.CallsByTurnAndPeer.{IsOfNone, AreOfPeers, asks_peer, away_peers, visits_peers}
+use Rattle.srcp_serve.proofs.PlacesAreOfGuests.{IsSentAsTaken, IsNew, sent_after_newcomer, new_unseated}
+use Rattle.srcp_serve.proofs.SentIsTakenAfterVisits.{sent_after_visits}
+use Rattle.srcp_serve.proofs.OneNewcomerATurn.{sent_after_moments, one_newcomer, away_of_none}
 
 module _ (buses : List Bus) (before : ℕ → List ℕ) (stand : Stand) (calls : List Call) (fair : AllByRecursion IsFair calls)
-    (fresh : (peer : ℕ) → IsNew peer stand.guests → before peer ≡ []) (even : IsEven buses before stand) where
+    (fresh : (peer : ℕ) → IsNew peer stand.guests → before peer ≡ []) (as_taken : IsSentAsTaken buses before stand) where
   abbrev now : Stand
   now = timed buses stand calls
 
@@ -35,7 +35,7 @@ module _ (buses : List Bus) (before : ℕ → List ℕ) (stand : Stand) (calls :
     pub still : no_writes first ≡ true
     pub asked : map question calls ≡ first ++ visits_ask buses (after peers).events calls (seats (after peers).places)
     pub none : IsOfNone buses first (seats (after peers).places)
-    pub begun_even : IsEven buses before (after peers)
+    pub sent_before_visits : IsSentAsTaken buses before (after peers)
 
   none_first : (all : List Seat) → IsOfNone buses (expects buses stand.events ∷ Moments ∷ Newcomers ∷ []) all
   none_first [] = tt
@@ -43,14 +43,14 @@ module _ (buses : List Bus) (before : ℕ → List ℕ) (stand : Stand) (calls :
 
   begins_one : (peer : Guest) → Asks (peer ∷ []) → AllByRecursion (λ peer. IsNew peer.peer stand.guests) (peer ∷ []) → Begins (peer ∷ [])
   begins_one peer asked new =
-      let t = even_timed buses before stand (filter_map moment_of calls) even in
+      let t = sent_after_moments buses before stand (filter_map moment_of calls) as_taken in
       let here : IsNew peer.peer now.guests = subst (λ (guests : List ℕ). IsNew peer.peer guests) (sym t.1) new.0 in
       record {
         first = expects buses stand.events ∷ Moments ∷ Newcomers ∷ (turns_away buses now.events peer ++ []);
         still = still (is_let_in buses now.events peer.granted);
         asked = asked;
         none = none here (is_let_in buses now.events peer.granted) refl;
-        begun_even = even_welcomed buses before now peer here (fresh peer.peer new.0) t.0;
+        sent_before_visits = sent_after_newcomer buses before now peer here (fresh peer.peer new.0) t.0;
       }
     where
       still : (b : Bool)
@@ -69,7 +69,7 @@ module _ (buses : List Bus) (before : ℕ → List ℕ) (stand : Stand) (calls :
       none here false e =
           let same : welcomed buses now peer ≡ record now { events = now.events ++ Open peer.granted ∷ [] } =
           ap (λ b. if b then let_in buses now peer else record now { events = now.events ++ Open peer.granted ∷ [] }) e in
-          let t = even_timed buses before stand (filter_map moment_of calls) even in
+          let t = sent_after_moments buses before stand (filter_map moment_of calls) as_taken in
           subst (λ (v : Stand).
           IsOfNone buses (expects buses stand.events ∷ Moments ∷ Newcomers ∷ (turns_away buses now.events peer ++ []))
           (seats v.places))
@@ -84,7 +84,7 @@ module _ (buses : List Bus) (before : ℕ → List ℕ) (stand : Stand) (calls :
     still = refl;
     asked = asked;
     none = none_first (seats now.places);
-    begun_even = (even_timed buses before stand (filter_map moment_of calls) even).0;
+    sent_before_visits = (sent_after_moments buses before stand (filter_map moment_of calls) as_taken).0;
   }
   begins (peer ∷ []) few asked new = begins_one peer asked new
   begins (peer ∷ other ∷ more) few asked new =
@@ -102,6 +102,6 @@ module _ (buses : List Bus) (before : ℕ → List ℕ) (stand : Stand) (calls :
       begins peers (one_newcomer _ _ calls (away ++ visits) asked of_peers) asked new
 
   -- the step of an induction over turns
-  pub even_turned : Begins (filter_map newcomer_of calls)
-      → IsEven buses (λ peer. before peer ++ taken peer calls) (turned buses stand calls)
-  even_turned b = even_visited buses before (after (filter_map newcomer_of calls)) calls b.first b.still b.asked fair b.none b.begun_even
+  pub sent_after_turn : Begins (filter_map newcomer_of calls)
+      → IsSentAsTaken buses (λ peer. before peer ++ taken peer calls) (turned buses stand calls)
+  sent_after_turn b = sent_after_visits buses before (after (filter_map newcomer_of calls)) calls b.first b.still b.asked fair b.none b.sent_before_visits

@@ -7,8 +7,8 @@ use Rattle.srcp_core.specs.Held.{Held}
 use Rattle.srcp_serve.specs.Calls.{Call as DoorCall}
 use Rattle.srcp_serve.specs.Places.{AreFreeFrom, MayFree, VisitsPlaces, VisitsSoFar}
 use Rattle.srcp_serve.specs.declared.serving.visit.Seat.{Seat as Own}
-use Rattle.srcp_serve.proofs.Hosting.{place_free, places_all, places_on}
-use Rattle.srcp_serve.proofs.Turning.{asks_none}
+use Rattle.srcp_serve.proofs.PlacesFollow.{place_free, places_all, places_on}
+use Rattle.srcp_serve.proofs.TurnsAskInOrder.{asks_none}
 
 pub length_set : (owns : List (Option Own)) (place : ℕ) (own : Option Own) → length (slice_set owns place own) ≡ length owns
 length_set [] place own = refl

@@ -15,8 +15,8 @@ use Rattle.srcp_serve.specs.Given.{Call, ExpectCall, NowCall, AcceptCall, ReadCa
 use Rattle.srcp_serve.specs.Serving.{Question, Expects, Moments, Newcomers, Reads, Writes, Closes, Seat, question, IsFair, taken, taken_in}
 use Rattle.srcp_serve.specs.Serving.{piece_of, count_of, is_close, loses, loses_reading, lent_none_last, exchange, is_ready, is_closing}
 use Rattle.srcp_serve.specs.Serving.{lent, handed, unless_nil, reads_of, writes_of, closes_of, visit_asks}
-use Rattle.srcp_serve.proofs.Sendings.{IsSending, sending_bytes, sending_shut}
-use Rattle.srcp_serve.proofs.SentLaws.{put, put_none, put_put, sending_room}
+use Rattle.srcp_serve.proofs.OnlyRoomSends.{IsSending, sending_bytes, sending_shut}
+use Rattle.srcp_serve.proofs.RoomSendsWhatIsLent.{put, put_none, put_put, sending_room}
 
 -- ---- calls by their questions
 

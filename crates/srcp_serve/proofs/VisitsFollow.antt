@@ -26,9 +26,9 @@ use Rattle.srcp_serve.specs.Serving.{loses_reading, loses_writing, falls_short, 
 use Rattle.srcp_serve.specs.Turns.{AsksPeers}
 use Rattle.srcp_serve.specs.Visits.{AreAbout, AreWritesTo, Closes, CountsAsked, Exchanges, IsExchanged, IsLetGo, IsReadFrom, IsVisited}
 use Rattle.srcp_serve.specs.Visits.{IsWrittenTo, LetsGo, Reading, ReadsIn, Visits, WritesOut, read_calls}
-use Rattle.srcp_serve.proofs.AskedFor.{asked_one, asked_rooms, asked_then}
-use Rattle.srcp_serve.proofs.Telling.{given_then, refusals_then}
-use Rattle.srcp_serve.proofs.VisitLaws.{own_calls}
+use Rattle.srcp_serve.proofs.RefusalsWereAskedFor.{asked_one, asked_rooms, asked_then}
+use Rattle.srcp_serve.proofs.CallsAreAdded.{given_then, refusals_then}
+use Rattle.srcp_serve.proofs.VisitsAreSeenAgain.{own_calls}
 
 same_peer : (peer : ℕ) → (peer == peer) ≡ true
 same_peer peer = grind (arith, nat_tests)

@@ -8,11 +8,11 @@ use Rattle.srcp_rules.specs.declared.layout.Bus.{Bus}
 use Rattle.srcp_core.specs.Course.{course}
 use Rattle.srcp_serve.specs.Given.{Call}
 use Rattle.srcp_serve.specs.Serving.{Question, Seat, Stand, IsFair, is_about, question, seats, taken, visited, visits_ask}
-use Rattle.srcp_serve.proofs.Sendings.{IsSending}
-use Rattle.srcp_serve.proofs.Takings.{asks_write, no_writes, none_taken}
-use Rattle.srcp_serve.proofs.Partings.{IsNoneOf, IsOfNone, about_question, asks_of, none_asked, visits_parted}
-use Rattle.srcp_serve.proofs.Guests.{IsGuest, sending_visits, so_far, taken_visit}
-use Rattle.srcp_serve.proofs.Comings.{IsEven, kept_all, kept_apart}
+use Rattle.srcp_serve.proofs.OnlyRoomSends.{IsSending}
+use Rattle.srcp_serve.proofs.VisitsSendWhatIsTaken.{asks_write, no_writes, none_taken}
+use Rattle.srcp_serve.proofs.CallsByTurnAndPeer.{IsNoneOf, IsOfNone, about_question, asks_of, none_asked, visits_parted}
+use Rattle.srcp_serve.proofs.GuestsAreSentTheirVisits.{IsGuest, sending_visits, so_far, taken_visit}
+use Rattle.srcp_serve.proofs.PlacesAreOfGuests.{IsSentAsTaken, kept_all, kept_apart}
 
 both : (a b : Bool) → a && b ≡ true → (a ≡ true) × (b ≡ true)
 both true b e = (refl, e)
@@ -68,9 +68,9 @@ module _ (buses : List Bus) (before : ℕ → List ℕ) (stand : Stand) (calls :
           ∙ ap (λ t. before peer ++ t) (sym (nothing_taken peer (any_none peer (seats stand.places) e)))
           ∙ ap (λ b. before peer ++ (if b then [] else taken peer calls)) (sym e)
 
-  pub even_visited : AllByRecursion IsFair calls → IsOfNone buses first (seats stand.places) → IsEven buses before stand
-      → IsEven buses (λ peer. before peer ++ taken peer calls) (visited buses stand calls)
-  even_visited fair none h =
+  pub sent_after_visits : AllByRecursion IsFair calls → IsOfNone buses first (seats stand.places) → IsSentAsTaken buses before stand
+      → IsSentAsTaken buses (λ peer. before peer ++ taken peer calls) (visited buses stand calls)
+  sent_after_visits fair none h =
       let parted = visits_parted buses first stand.events calls (seats stand.places) h.apart none asked in
       let begun : IsSending (map (so_far before calls (seats stand.places)) stand.guests) (course buses stand.events).connections =
       subst (λ (ts : List (List ℕ)). IsSending ts (course buses stand.events).connections)

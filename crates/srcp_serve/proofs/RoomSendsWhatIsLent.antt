@@ -20,8 +20,8 @@ use Rattle.srcp_core.proofs.Agreement.NumbersAndKeys.{numbered_with}
 use Rattle.srcp_core.proofs.CourseLaws.RoomGivesWhatIsOwed.{fitting_none, took_within}
 use Rattle.srcp_core.proofs.CourseLaws.SessionsAreKept.{all_numbered, all_push}
 use Rattle.srcp_serve.specs.Serving.{lent}
-use Rattle.srcp_serve.proofs.LentLaws.{IsWithin, sends_lent}
-use Rattle.srcp_serve.proofs.Sendings.{IsSteady, IsSending, sending_bytes, sending_shut, steady_at}
+use Rattle.srcp_serve.proofs.LentAndTakenIsSent.{IsWithin, sends_lent}
+use Rattle.srcp_serve.proofs.OnlyRoomSends.{IsSteady, IsSending, sending_bytes, sending_shut, steady_at}
 
 -- the connection that was changed
 opened : (o : Option Connection) (conn : Connection) → if_open o ≡ Some conn → (o ≡ Some conn) × (is_open conn ≡ true)

@@ -22,8 +22,8 @@ use Rattle.srcp_serve.specs.Visits.{CountsAsked, ReadsIn}
 use Rattle.srcp_serve.specs.declared.door.DoorFault.{DoorFault}
 use Rattle.srcp_serve.specs.declared.door.Got.{Got}
 use Rattle.srcp_serve.specs.declared.door.Got.TheVariants as got
-use Rattle.srcp_serve.proofs.AskedFor.{asked_none, asked_one}
-use Rattle.srcp_serve.proofs.Telling.{adds_none, adds_one}
+use Rattle.srcp_serve.proofs.RefusalsWereAskedFor.{asked_none, asked_one}
+use Rattle.srcp_serve.proofs.CallsAreAdded.{adds_none, adds_one}
 
 module _ (peer key : ℕ) (old : Held) (told_old : Option (List DoorCall)) (ready : Bool)
     (ready_is : ready ≡ is_none (bytes_fault key [] old)) where

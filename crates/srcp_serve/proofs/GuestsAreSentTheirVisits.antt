@@ -10,10 +10,10 @@ use Rattle.srcp_core.specs.Course.{course}
 use Rattle.srcp_serve.specs.Given.{Call, ExpectCall, NowCall, AcceptCall, ReadCall, WriteCall, CloseCall}
 use Rattle.srcp_serve.specs.Serving.{Seat, IsFair, is_about, visit, visit_events, taken, taken_in}
 use Rattle.srcp_serve.specs.declared.door.DoorFault.{DoorFault}
-use Rattle.srcp_serve.proofs.Sendings.{IsSending}
-use Rattle.srcp_serve.proofs.SentLaws.{put}
-use Rattle.srcp_serve.proofs.Takings.{sending_visit}
-use Rattle.srcp_serve.proofs.Partings.{IsNoneOf, PeersApart, AreAsked}
+use Rattle.srcp_serve.proofs.OnlyRoomSends.{IsSending}
+use Rattle.srcp_serve.proofs.RoomSendsWhatIsLent.{put}
+use Rattle.srcp_serve.proofs.VisitsSendWhatIsTaken.{sending_visit}
+use Rattle.srcp_serve.proofs.CallsByTurnAndPeer.{IsNoneOf, PeersApart, AreAsked}
 
 -- the guest of that number is the peer, and no other is
 abbrev pub IsGuest : ℕ → ℕ → List ℕ → Type 0

@@ -1,0 +1,194 @@
+-- A newcomer gets the first free place, or is closed.
+use Rattle.std.proofs.Common.{◌≡◌, ◌∙◌, ℕ, suc, ◌+◌, ◌<◌, Bool, true, false, List, [], ◌∷◌, ◌++◌, map, length, if◌then◌else◌, Option, Some}
+use Rattle.std.proofs.Common.{None, Ok, Err, Result, refl, ap, sym, subst, arith, append_assoc, append-nil, length-append}
+use Rattle.std.proofs.lemmas.Grind.{flat_map-append}
+use Rattle.std.proofs.lemmas.List.{map-append, length-map}
+use Rattle.std.specs.List.{filter, slice_index_or, slice_set, AllByRecursion}
+use Rattle.std.specs.Prelude.{is_none, not, position, nat_lt}
+use Rattle.std.proofs.lemmas.List.Sums.{fold-append}
+use Rattle.srcp_rules.specs.declared.layout.Bus.{Bus}
+use Rattle.srcp_core.specs.Connection.{is_open}
+use Rattle.srcp_core.specs.Course.{World, start, counted, course, denied_in, fault, happens, or_refused}
+use Rattle.srcp_core.specs.Held.{Held, open_count}
+use Rattle.srcp_core.specs.Machine.{IsAdmitted, IsNotAdmitted, advanced, slack_at}
+use Rattle.srcp_core.specs.Waits.{due_next, least}
+use Rattle.srcp_index.specs.Earliest.{IsEarliestDue}
+use Rattle.srcp_rules.specs.Layout.{IsLayout}
+use Rattle.srcp_core.specs.Recording.{key_of, without_key}
+use Rattle.srcp_core.specs.Under.{Event, Open, denied_by}
+use Rattle.srcp_core.specs.Stands.{StandsFor}
+use Rattle.srcp_core.specs.declared.record.CoreFault.{CoreFault}
+use Rattle.srcp_core.specs.declared.record.CoreFault.TheVariants.{Full, Memory as MemoryFault}
+use Rattle.srcp_core.proofs.Agreement.CallLaws.{calls_agree, calls_lead}
+use Rattle.srcp_core.proofs.Agreement.NumbersAndKeys.{key_push_last, length_without}
+use Rattle.srcp_serve.specs.Calls.{Call as DoorCall, Tells, Adds}
+use Rattle.srcp_serve.specs.Calls as door
+use Rattle.srcp_serve.specs.Given.{Guest, Call, CloseCall, CountsRefusals}
+use Rattle.srcp_serve.specs.Serving.{Seat, Stand, Expects, expects, Closes as ClosesQuestion, question, is_let_in, let_in, welcomed}
+use Rattle.srcp_serve.specs.Serving.{visit_events}
+use Rattle.srcp_serve.specs.Places.{AreOwn, Visit, calls_of, made_by, asked_by, visits_of, seat_of, left_by, Sit, SitsAt, IsNotOf}
+use Rattle.srcp_serve.specs.Places.{IsLeftOut, IsHosting, WelcomesPeer, AreVisited, AreVisitedSoFar, SeatsPeer, TakesMoment, VisitsPlace}
+use Rattle.srcp_serve.specs.Places.{VisitsPlaces, VisitsSoFar}
+use Rattle.srcp_serve.specs.Turns.{AsksPeers}
+use Rattle.srcp_serve.specs.Visits.{AddsGiven, Closes, CountsAsked, Visits}
+use Rattle.srcp_serve.specs.declared.door.DoorFault.{DoorFault}
+use Rattle.srcp_serve.specs.declared.serving.visit.Seat.{Seat as Own}
+use Rattle.srcp_serve.proofs.PlacesAreTakenAndFreed.{count_append, count_cleared, count_cons, count_seated, count_without, differ_cleared, differ_seated}
+use Rattle.srcp_serve.proofs.PlacesAreTakenAndFreed.{free_in, free_is, length-sit, new_apart, none_free, own_append, sit_pushed, sit_seated, sit_without}
+use Rattle.srcp_serve.proofs.PlacesAreTakenAndFreed.{sits_here, visits-append}
+use Rattle.srcp_serve.proofs.RefusalsWereAskedFor.{asked_none, asked_one, asked_then}
+use Rattle.srcp_serve.proofs.CallsAreAdded.{adds_none, adds_one, adds_then, given_then, refusals_then}
+use Rattle.srcp_serve.proofs.VisitsAreSeenAgain.{asked_by-append}
+
+pub none_left_out : (places : List (Option Seat)) → AllByRecursion (IsLeftOut []) places
+none_left_out [] = tt
+none_left_out (None ∷ places) = (tt, none_left_out places)
+none_left_out (Some seat ∷ places) = (tt, none_left_out places)
+
+close_left_out : (peer : ℕ) (answer : Result Unit DoorFault) (places : List (Option Seat)) → AllByRecursion (IsNotOf peer) places
+    → AllByRecursion (IsLeftOut (CloseCall peer answer ∷ [])) places
+close_left_out peer answer [] h = tt
+close_left_out peer answer (None ∷ places) h = (tt, close_left_out peer answer places h.1)
+close_left_out peer answer (Some seat ∷ places) h = ((h.0, tt), close_left_out peer answer places h.1)
+
+module _ (buses : List Bus) where
+  -- a connection that is refused since there are too many is refused whatever memory answers
+  full_open : (w : World) → fault buses w (Open false) ≡ Some Full → fault buses w (Open true) ≡ Some Full
+  full_open w e = by (nat_lt (length (filter is_open w.connections)) 64) e
+    where
+      by : (b : Bool) → (if b then Some MemoryFault else Some Full) ≡ Some Full → (if b then None else Some Full) ≡ Some Full
+      by true e = cc
+      by false e = refl
+
+  -- and where memory is what is refused, there are not too many
+  few_open : (w : World) → fault buses w (Open false) ≡ Some MemoryFault → not (nat_lt (length (filter is_open w.connections)) 64) ≡ false
+  few_open w e = by (nat_lt (length (filter is_open w.connections)) 64) e
+    where
+      by : (b : Bool) → (if b then Some MemoryFault else Some Full) ≡ Some MemoryFault → not b ≡ false
+      by true e = refl
+      by false e = cc
+
+  full_course : (events : List Event) → fault buses (course buses events) (Open false) ≡ Some Full
+      → course buses (events ++ Open false ∷ []) ≡ course buses (events ++ Open true ∷ [])
+  full_course events e =
+      let w : World = course buses events in
+      fold-append (happens buses) start events (Open false ∷ [])
+      ∙ ap (λ o. or_refused buses o (Open false) (counted w)) e
+      ∙ sym (ap (λ o. or_refused buses o (Open true) (counted w)) (full_open w e))
+      ∙ sym (fold-append (happens buses) start events (Open true ∷ []))
+
+pub seats_full : (peer : ℕ) (old mid : Held) (cause : CoreFault) (told_old told_new : Option (List DoorCall)) (owns : List (Option Own))
+    → Closes peer told_old told_new
+    → IsNotAdmitted cause old mid → SeatsPeer peer old told_old owns mid told_new owns false
+seats_full peer old mid cause told_old told_new owns closes turned_away buses stand keys told hosting is new =
+    by cause turned_away (calls_agree.refuses cause old mid turned_away buses stand.events keys hosting.layout hosting.stands)
+  where
+    no_more : (n : ℕ) → n ≡ n + 0
+    no_more n = omega arith
+
+    stands : StandsFor buses keys mid (course buses (stand.events ++ Open false ∷ []))
+    stands = calls_lead.not_opened cause old mid turned_away buses stand.events keys hosting.layout hosting.stands
+
+    away : (cause : CoreFault) (granted : Bool) → fault buses (course buses stand.events) (Open granted) ≡ Some cause
+        → StandsFor buses keys mid (course buses (stand.events ++ Open granted ∷ [])) → mid.denied ≡ denied_by old.denied (granted ∷ [])
+        → mid.denied ≡ denied_in buses old.denied (counted (course buses stand.events)) (Open granted)
+        → WelcomesPeer buses stand told_old told mid owns old peer false
+    away cause granted denies after_open counts asks =
+        let guest : Guest = record { peer = peer; granted = granted } in
+        let shut : is_let_in buses stand.events granted ≡ false = ap is_none denies in
+        let after : Stand = record { events = stand.events ++ Open granted ∷ []; guests = stand.guests; places = stand.places } in
+        let w : welcomed buses stand guest ≡ after = ap (λ b. if b then let_in buses stand guest else after) shut in
+        let c = closes told is in
+        record {
+          granted = granted;
+          welcomes = record {
+            early = CloseCall peer c.answer ∷ [];
+            keys = keys;
+            adds = c.adds;
+            counted = counts;
+            asked_for = subst (λ (s : Stand). CountsAsked buses stand.events s.events old mid) (sym w)
+                (asked_one buses stand.events (Open granted) old mid asks);
+            asked = sym (ap (λ b. if b then [] else ClosesQuestion peer ∷ []) shut);
+            others =
+                subst (λ (s : Stand). AllByRecursion (IsLeftOut (CloseCall peer c.answer ∷ [])) s.places) (sym w)
+                (close_left_out peer c.answer stand.places new);
+            hosting = subst (λ (s : Stand). IsHosting buses s keys mid owns) (sym w) (record {
+              layout = hosting.layout;
+              sit = hosting.sit;
+              few = hosting.few;
+              differ = hosting.differ;
+              long = hosting.long;
+              stands = after_open;
+            });
+            opened = ap (λ (s : Stand). length s.guests) w ∙ no_more (length stand.guests);
+          };
+        }
+
+    by : (cause : CoreFault) → IsNotAdmitted cause old mid → fault buses (course buses stand.events) (Open false) ≡ Some cause
+        → WelcomesPeer buses stand told_old told mid owns old peer false
+    by Full a out =
+        away Full true (full_open buses (course buses stand.events) out)
+        (subst (λ (w : World). StandsFor buses keys mid w) (full_course buses stand.events out) stands) (ap (λ (h : Held). h.denied) a.1)
+        (ap (λ (h : Held). h.denied) a.1)
+    by MemoryFault a out =
+        let e : mid.denied ≡ denied_by old.denied (false ∷ []) = ap (λ (h : Held). h.denied) a.1 in
+        away MemoryFault false out stands e
+        (e ∙ ap (λ b. denied_by old.denied (b ∷ [])) (sym (few_open buses (course buses stand.events) out)))
+    by other a out = absurd a
+
+pub seats_in : (peer key free : ℕ) (old mid : Held) (told_old : Option (List DoorCall)) (owns : List (Option Own)) → IsAdmitted key old mid
+    → position is_none owns ≡ Some free
+    → SeatsPeer peer old told_old owns mid told_old (slice_set owns free (Some (record { peer = peer; key = key }))) true
+seats_in peer key free old mid told_old owns admitted place buses stand keys told hosting is new =
+    let own : Own = record { peer = peer; key = key } in
+    let guest : Guest = record { peer = peer; granted = true } in
+    let seat : Seat = record { peer = peer; conn = length stand.guests + 1 } in
+    let pushed : List (Option ℕ) = keys ++ Some key ∷ [] in
+    let let_in_is : is_let_in buses stand.events true ≡ true =
+    ap is_none (calls_agree.accepts key old mid admitted buses stand.events keys hosting.layout hosting.stands) in
+    let after : Stand = record { events = stand.events ++ Open true ∷ []; guests = stand.guests; places = stand.places } in
+    let w : welcomed buses stand guest ≡ let_in buses stand guest = ap (λ b. if b then let_in buses stand guest else after) let_in_is in
+    let conn : seat.conn ≡ length keys + 1 = ap (λ n. n + 1) (sym hosting.long) in
+    let number : seat.conn ≡ suc (length keys) = omega (arith, conn) in
+    let named : key_of seat.conn pushed ≡ Some key = ap (λ n. key_of n pushed) number ∙ key_push_last keys (Some key) in
+    let sitting : Sit pushed (slice_set owns (free_in owns) (Some own)) (let_in buses stand guest).places =
+    sit_seated pushed own seat owns stand.places (refl, named) (sit_pushed keys key owns stand.places hosting.sit) in
+    let c = count_append keys (Some key ∷ []) in
+    let none : List (Option ℕ) = [] in
+    let one = count_cons (Some key) none in
+    let more = count_seated seat stand.places in
+    let before = hosting.few in
+    record {
+      granted = true;
+      welcomes = record {
+        early = [];
+        keys = pushed;
+        adds = adds_none told_old told is;
+        counted = ap (λ (h : Held). h.denied) admitted.rest;
+        asked_for = subst (λ (s : Stand). CountsAsked buses stand.events s.events old mid) (sym w)
+            (asked_one buses stand.events (Open true) old mid (ap (λ (h : Held). h.denied) admitted.rest));
+        asked = sym (ap (λ b. if b then [] else ClosesQuestion peer ∷ []) let_in_is);
+        others = none_left_out (welcomed buses stand guest).places;
+        hosting = subst (λ (s : Stand). IsHosting buses s pushed mid (slice_set owns free (Some own))) (sym w) (record {
+          layout = hosting.layout;
+          sit =
+              subst (λ (i : ℕ). Sit pushed (slice_set owns i (Some own)) (let_in buses stand guest).places)
+              (sym (free_is owns free place)) sitting;
+          few = omega (arith, c, one, more, before);
+          differ = differ_seated seat stand.places (new_apart keys seat owns stand.places hosting.sit conn new) hosting.differ;
+          long = length-append keys (Some key ∷ []) ∙ ap (λ n. n + 1) hosting.long ∙ sym (length-append stand.guests (peer ∷ []));
+          stands = calls_lead.opened key old mid admitted buses stand.events keys hosting.layout hosting.stands;
+        });
+        opened = ap (λ (s : Stand). length s.guests) w ∙ length-append stand.guests (peer ∷ []);
+      };
+    }
+
+-- a place is free where one is let in
+pub seats_none : (peer : ℕ) (opens : Bool) (old new : Held) (told_old told_new : Option (List DoorCall)) (owns : List (Option Own))
+    → open_count old < 64 → length owns ≡ 64
+    → position is_none owns ≡ None → SeatsPeer peer old told_old owns new told_new owns opens
+seats_none peer opens old new told_old told_new owns below long none buses stand keys told hosting is fresh =
+    let taken = none_free keys owns stand.places hosting.sit none in
+    let few = hosting.few in
+    let opened = calls_agree.counted old buses stand.events keys hosting.stands in
+    absurd (omega (arith, taken, few, opened, below, long))

@@ -1,0 +1,151 @@
+-- Turn after turn, serving follows the course.
+use Rattle.std.proofs.Common.{◌≡◌, ◌∙◌, ℕ, zero, suc, ◌+◌, ◌≤◌, Bool, true, false, ◌==◌, List, [], ◌∷◌, ◌++◌, map, drop, fold, replicate}
+use Rattle.std.proofs.Common.{length, if◌then◌else◌, Option, Some, None, Ok, Err, Result, refl, ap, sym, subst, arith, append_assoc}
+use Rattle.std.proofs.Common.{append-nil}
+use Rattle.std.proofs.lemmas.Bool.Decides.{nat_tests}
+use Rattle.std.proofs.lemmas.List.{append_cancel_left, map-append}
+use Rattle.std.proofs.lemmas.List.Elements.{filter_map-append}
+use Rattle.std.proofs.lemmas.List.Folds.{list_any-append}
+use Rattle.std.proofs.lemmas.Option.{same_Some}
+use Rattle.std.specs.List.{list_all, list_any, filter_map, AllByRecursion, IsDistinct}
+use Rattle.std.specs.Prelude.{◌||◌, not, flat_map}
+use Rattle.srcp_rules.specs.declared.layout.Bus.{Bus}
+use Rattle.srcp_core.specs.Course.{course}
+use Rattle.srcp_core.specs.Held.{Held}
+use Rattle.srcp_core.specs.Stands.{StandsFor}
+use Rattle.srcp_core.specs.Under.{Open, denied_by}
+use Rattle.srcp_core.proofs.CourseLaws.SentLinesAreOneList.{all_front}
+use Rattle.srcp_serve.specs.Calls.{Call as DoorCall, Tells, Adds, PeersDiffer, peer_of}
+use Rattle.srcp_serve.specs.Calls as door
+use Rattle.srcp_serve.specs.Given.{Guest, Call, ExpectCall, NowCall, AcceptCall, ReadCall, WriteCall, CloseCall, answers_of, told_call}
+use Rattle.srcp_serve.specs.Serving.{Seat, Stand, Expects, Moments, expects, Newcomers, IsFair, IsServed, question, is_expect, moment_of}
+use Rattle.srcp_serve.specs.Serving.{newcomer_of, seats, visits_ask, visit_events, kept, is_let_in, let_in, welcomed, with_moment, timed}
+use Rattle.srcp_serve.specs.Serving.{begun, visited, turned, turn_asks, turns_away, stand_after}
+use Rattle.srcp_serve.specs.Places.{IsHosting, IsServing, IsLeftOut, IsNotOf, IsOneOf, IsTurnGiven, one_if, LetsIn, MakesTurn, SeatsPeer}
+use Rattle.srcp_serve.specs.Places.{SeatsDiffer, ServesCourse, ServesSoFar, Sit, TakesMoment, Visit, VisitsPlaces, AreOwn, asked_by}
+use Rattle.srcp_serve.specs.Places.{calls_of, left_by, made_by, seat_of, visits_of}
+use Rattle.srcp_serve.specs.Turns.{AsksNewcomer, AsksPeers, AsksTurn, AsksTurns, IsTurn, is_of_peer}
+use Rattle.srcp_serve.specs.Visits.{AddsGiven, CountsAsked}
+use Rattle.srcp_serve.specs.declared.door.DoorFault.{DoorFault}
+use Rattle.srcp_serve.specs.declared.serving.visit.Seat.{Seat as Own}
+use Rattle.srcp_serve.proofs.PlacesAreTakenAndFreed.{all_here, all_seated, kept_by, known_left, round_seats, visits_apart}
+use Rattle.srcp_serve.proofs.ServedOneTurnMore.{served-more}
+use Rattle.srcp_serve.proofs.RefusalsWereAskedFor.{asked_moment, asked_then}
+use Rattle.srcp_serve.proofs.CallsAreAdded.{adds_one, adds_then, given_then, refusals_then, same_calls}
+use Rattle.srcp_serve.proofs.SentIsTakenAfterAllTurns.{peers_told, sent_taken}
+use Rattle.srcp_serve.proofs.VisitsAreSeenAgain.{AreApart, visits_asked, visits_make}
+use Rattle.srcp_serve.proofs.TurnsFollow.{fair_given, not_now, peers_front}
+
+sit_none : (n : ℕ) → Sit [] (replicate n None) (replicate n None)
+sit_none zero = tt
+sit_none (suc n) = (tt, sit_none n)
+
+known_none : (n : ℕ) → AllByRecursion (IsOneOf []) (replicate n None)
+known_none zero = tt
+known_none (suc n) = (tt, known_none n)
+
+differ_none : (n : ℕ) → SeatsDiffer (replicate n None)
+differ_none zero = tt
+differ_none (suc n) = differ_none n
+
+pub serves_first : (old : Held) (told_old : Option (List DoorCall)) → ServesSoFar 0 0 old told_old old told_old (replicate 64 None)
+serves_first old told_old buses before calls layout stands was is differ =
+    let none : [] ≡ calls = append_cancel_left before [] calls (append-nil before ∙ same_Some before (before ++ calls) (sym was ∙ is)) in
+    subst (λ (c : List DoorCall). IsServing buses 0 0 c old old (replicate 64 None)) none (record {
+      calls = [];
+      keys = [];
+      are = refl;
+      counted = refl;
+      asked_for = λ first e. e;
+      served = record { turns_are = refl; asked = refl };
+      known = known_none 64;
+      hosting = record { layout = layout; sit = sit_none 64; few = omega arith; differ = differ_none 64; long = refl; stands = stands };
+      opened = refl;
+    })
+
+-- one turn more of what is served
+served_then : (buses : List Bus) (count : ℕ) (told later : List Call) → IsServed buses count told → IsTurnGiven later
+    → map question later ≡ turn_asks buses (stand_after buses told) later
+    → IsServed buses (count + 1) (told ++ later) × (stand_after buses (told ++ later) ≡ turned buses (stand_after buses told) later)
+served_then buses count told later so t asked =
+    let rest : List Call = NowCall t.now ∷ AcceptCall t.newcomer t.granted ∷ t.rest in
+    let asked_now : map question (ExpectCall t.due t.slack ∷ rest)
+    ≡ turn_asks buses (stand_after buses told) (ExpectCall t.due t.slack ∷ rest) =
+    subst (λ (c : List Call). map question c ≡ turn_asks buses (stand_after buses told) c) t.is asked in
+    subst (λ (c : List Call). IsServed buses (count + 1) (told ++ c)
+    × (stand_after buses (told ++ c) ≡ turned buses (stand_after buses told) c))
+    (sym t.is)
+    (served-more buses count told t.due t.slack rest so (not_now t.rest t.peers) asked_now)
+
+pub serves_on : (count opened : ℕ) (opens : Bool) (old mid new : Held) (told_old told_mid told_new : Option (List DoorCall))
+    (owns owns_new : List (Option Own))
+    → ServesSoFar count opened old told_old mid told_mid owns → AsksTurns count told_old told_mid → AsksTurn told_mid told_new
+    → MakesTurn mid told_mid owns new told_new owns_new opens
+    → ServesSoFar (count + 1) (opened + one_if opens) old told_old new told_new owns_new
+serves_on count opened opens old mid new told_old told_mid told_new owns owns_new so asks_before asks turn buses before calls layout stands
+    was is differ =
+    let told : List DoorCall = before ++ calls in
+    let later = asks told is in
+    let w = later.adds in
+    let earlier = asks_before w.before w.was in
+    let first : List DoorCall = earlier.calls in
+    let mid_is : w.before ≡ before ++ first =
+    earlier.adds.is ∙ ap (λ b. b ++ first) (same_Some earlier.adds.before before (sym earlier.adds.was ∙ was)) in
+    let whole : calls ≡ first ++ later.calls =
+    same_calls told_old told calls (first ++ later.calls) (record { before = before; was = was; is = refl })
+    (adds_then told_old told_mid w.before told first later.calls w.was earlier.adds w) in
+    let differ_all : PeersDiffer [] (first ++ later.calls) = subst (λ (c : List DoorCall). PeersDiffer [] c) whole differ in
+    let s = so buses before first layout stands was (w.was ∙ ap (λ b. Some b) mid_is) (peers_front [] first later.calls differ_all) in
+    let peers : List ℕ = filter_map peer_of first in
+    let stood : Stand = stand_after buses s.calls in
+    let x =
+    turn buses stood s.keys told s.hosting is peers later.calls w
+    (subst (λ (ps : List ℕ). IsDistinct (λ a b. a == b) ps) (filter_map-append peer_of first later.calls) differ_all) s.known in
+    let same : later.calls ≡ map told_call x.calls = same_calls told_mid told later.calls (map told_call x.calls) w x.adds in
+    let more = served_then buses count s.calls x.calls s.served x.turn x.asked in
+    let known : AllByRecursion (IsOneOf (filter_map peer_of calls)) (turned buses stood x.calls).places =
+    subst (λ (ps : List ℕ). AllByRecursion (IsOneOf ps) (turned buses stood x.calls).places)
+    (ap (λ c. peers ++ filter_map peer_of c) (sym same) ∙ sym (filter_map-append peer_of first later.calls)
+    ∙ ap (filter_map peer_of) (sym whole)) x.known in
+    record {
+      calls = s.calls ++ x.calls;
+      keys = x.keys;
+      are = map-append told_call s.calls x.calls ∙ ap (λ c. c ++ map told_call x.calls) s.are ∙ ap (λ c. first ++ c) (sym same) ∙ sym whole;
+      counted = refusals_then old mid new s.calls x.calls s.counted x.counted;
+      asked_for = subst (λ (v : Stand). CountsAsked buses [] v.events old new) (sym more.1)
+          (asked_then buses [] stood.events (turned buses stood x.calls).events old mid new s.asked_for x.asked_for);
+      served = more.0;
+      known = subst (λ (v : Stand). AllByRecursion (IsOneOf (filter_map peer_of calls)) v.places) (sym more.1) known;
+      hosting = subst (λ (v : Stand). IsHosting buses v x.keys new owns_new) (sym more.1) x.hosting;
+      opened = ap (λ (v : Stand). length v.guests) more.1 ∙ x.opened ∙ ap (λ n. n + one_if opens) s.opened;
+    }
+
+pub serves_all : (count turns opened : ℕ) (old now : Held) (told_old told_now : Option (List DoorCall)) (owns : List (Option Own))
+    → count ≡ turns → AsksTurns turns told_old told_now → ServesSoFar count opened old told_old now told_now owns
+    → ServesCourse turns opened old told_old now told_now
+serves_all count turns opened old now told_old told_now owns e asks so buses before calls layout stands was is differ =
+    let s = so buses before calls layout stands was is differ in
+    let a = asks (before ++ calls) is in
+    let same : a.calls ≡ map told_call s.calls =
+    same_calls told_old (before ++ calls) a.calls calls a.adds (record { before = before; was = was; is = refl }) ∙ sym s.are in
+    let fair : AllByRecursion IsFair s.calls =
+    fair_given s.calls (subst (λ (c : List DoorCall). AllByRecursion door.IsFair c) same a.turns_are.fair) in
+    let served : IsServed buses turns s.calls = subst (λ (n : ℕ). IsServed buses n s.calls) e s.served in
+    record {
+      calls = s.calls;
+      are = s.are;
+      counted = s.counted;
+      asked = s.asked_for old.denied refl;
+      course = record {
+        keys = s.keys;
+        served = served;
+        stands = s.hosting.stands;
+        opened = sym s.opened ∙ sym s.hosting.long ∙ s.hosting.stands.long;
+        taken = sent_taken buses turns s.calls served (subst (λ (c : List DoorCall). PeersDiffer [] c) (sym s.are) differ) fair;
+      };
+    }
+
+-- no more were let in than there were turns
+pub fewer : (opens : Bool) (opened count after : ℕ) → opened ≤ count → after ≡ opened + one_if opens → after ≤ count + 1
+fewer true opened count after h e = omega (arith, h, e)
+fewer false opened count after h e = omega (arith, h, e)
