@@ -6,7 +6,7 @@ use Rattle.srcp_serve.specs.declared.door.DoorFault.{DoorFault}
 use Rattle.srcp_serve.specs.declared.door.Got.{Got}
 use Rattle.srcp_serve.specs.declared.door.Got.TheVariants as got
 
--- a call of a door with its answer, and the bytes that were handed over or that the buffer holds after it
+-- a call of a door with its answer; a write has the bytes that it was handed, a read the buffer as it is afterwards
 pub data Call : Type 0 where
   ExpectCall : (due slack : Option ℕ) → Call
   NowCall : (answer : Result ℕ DoorFault) → Call
@@ -19,43 +19,43 @@ pub data Call : Type 0 where
 abbrev pub one_more : ℕ → ℕ
 one_more n = min (n + 1) 18446744073709551615
 
--- what is told gains this call, or ceases to be told
+-- the door keeps this call behind those that it kept, or keeps none from now on
 abbrev pub Tells : Option (List Call) → Call → Option (List Call) → Type 0
 Tells None call new = new ≡ None
 Tells (Some calls) call new = IfSome new (λ told. told ≡ calls ++ call ∷ [])
 
--- the door told these calls after what it had told
+-- the door had kept some calls, and has added these
 pub record Adds (old : Option (List Call)) (told calls : List Call) : Type 0 where
   pub before : List Call
   pub was : old ≡ Some before
   pub is : told ≡ before ++ calls
 
--- the answer is within what was asked: no more bytes than the buffer holds, or than were handed over
+-- a read returned at least one byte and no more than the buffer holds; a write took no more than it was handed
 abbrev pub IsFair : Call → Type 0
 IsFair (ReadCall peer (Ok (got.Bytes count)) buffer) = (0 < count) × (count ≤ length buffer)
 IsFair (WriteCall peer bytes (Ok count)) = count ≤ length bytes
 IsFair other = ⊤
 
--- the door was told when something falls due next, and how many more changes may come upon each information session
+-- the call tells the door what to expect
 abbrev pub is_expect : Call → Bool
 is_expect (ExpectCall due slack) = true
 is_expect other = false
 
--- the parts of a list, each from where one begins on
+-- a list cut into parts; `begins` says which elements begin one
 abbrev pub parts : {X : Type 0} → (X → Bool) → List X → List (List X)
 parts begins [] = []
 parts begins (x ∷ xs) =
     if begins x then (x ∷ take_while (λ next. not (begins next)) xs) ∷ parts begins xs else parts begins xs
 
--- the calls of each turn, which begins where the door is told what to expect
+-- the calls of each turn; a turn begins with the call that tells the door what to expect
 abbrev pub turns : List Call → List (List Call)
 turns calls = parts is_expect calls
 
--- the peer that came in
+-- the peer that the door accepted, if it accepted one
 abbrev pub peer_of : Call → Option ℕ
 peer_of (AcceptCall (Ok peer)) = peer
 peer_of other = None
 
--- no two answers name one peer, nor one of those that came in before
+-- the door accepted no peer twice, and none of those before
 abbrev pub PeersDiffer : List ℕ → List Call → Type 0
 PeersDiffer before calls = IsDistinct (λ a b. a == b) (before ++ filter_map peer_of calls)

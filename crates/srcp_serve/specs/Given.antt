@@ -1,4 +1,4 @@
--- The calls of a door, with what memory answered in the event that each makes.
+-- The calls of a door, each with the answers of memory in the event that it makes.
 use Rattle.std.specs.Prelude.{◌≡◌, ℕ, Bool, IsTrue, List, [], ◌∷◌, flat_map, Option, Some, Result, Ok}
 use Rattle.std.specs.List.{AllByRecursion}
 use Rattle.srcp_core.specs.Held.{Held}
@@ -8,8 +8,8 @@ use Rattle.srcp_serve.specs.Calls as door
 use Rattle.srcp_serve.specs.declared.door.DoorFault.{DoorFault}
 use Rattle.srcp_serve.specs.declared.door.Got.{Got}
 
--- a call of a door with its answer: where a peer came in, whether memory was given to its connection; where bytes were
--- read, what memory answered to each line that ends in them
+-- a call of a door with its answer: if a peer was accepted, whether its connection was given memory; if bytes were
+-- read, for each line that ends in them whether it was given memory
 pub data Call : Type 0 where
   ExpectCall : (due slack : Option ℕ) → Call
   NowCall : (answer : Result ℕ DoorFault) → Call
@@ -18,7 +18,7 @@ pub data Call : Type 0 where
   WriteCall : (peer : ℕ) (bytes : List ℕ) (answer : Result ℕ DoorFault) → Call
   CloseCall : (peer : ℕ) (answer : Result Unit DoorFault) → Call
 
--- the call as the door tells it
+-- the call as the door keeps it
 abbrev pub told_call : Call → DoorCall
 told_call (ExpectCall due slack) = door.ExpectCall due slack
 told_call (NowCall answer) = door.NowCall answer
@@ -27,7 +27,7 @@ told_call (ReadCall peer answer buffer grants) = door.ReadCall peer answer buffe
 told_call (WriteCall peer bytes answer) = door.WriteCall peer bytes answer
 told_call (CloseCall peer answer) = door.CloseCall peer answer
 
--- what memory answered in the call, in turn
+-- the answers of memory in the call, in order
 abbrev pub answers_in : Call → List Bool
 answers_in (AcceptCall (Ok (Some peer)) granted) = granted ∷ []
 answers_in (ReadCall peer answer buffer grants) = grants
@@ -37,16 +37,16 @@ answers_in other = []
 abbrev pub answers_of : List Call → List Bool
 answers_of calls = flat_map answers_in calls
 
--- from the one to the other, the core counted exactly the answers of these calls that refused
+-- from `old` to `new`, the core counted exactly the refusals of memory in these calls
 abbrev pub CountsRefusals : (old : Held) → List Call → (new : Held) → Type 0
 CountsRefusals old calls new = new.denied ≡ denied_by old.denied (answers_of calls)
 
--- so memory gave in all these calls where the core counts no refusal
+-- if the core counted no refusal, memory was given in all of these calls
 abbrev pub GivesUnlessCounted : Type 0
 GivesUnlessCounted = (old : Held) (calls : List Call) (new : Held) → CountsRefusals old calls new → new.denied ≡ 0
     → AllByRecursion IsTrue (answers_of calls)
 
--- a peer that came in, and whether memory was given to its connection
+-- a peer that was accepted, and whether its connection was given memory
 pub record Guest : Type 0 where
   pub peer : ℕ
   pub granted : Bool

@@ -1,4 +1,4 @@
--- To be believed: which turns close no panel, by what they brought and what the door was told.
+-- To be believed: which turns make no panel overrun, by how many changes they bring and what the door was told.
 use Rattle.std.specs.Prelude.{ℕ, ◌+◌, ◌≤◌, List, [], ◌∷◌, drop, length}
 use Rattle.srcp_rules.specs.Layout.{IsLayout}
 use Rattle.srcp_rules.specs.declared.layout.Bus.{Bus}
@@ -22,34 +22,34 @@ module _ (buses : List Bus) where
   brought_in stand calls = changes_since buses (length (course buses stand.events).steps)
       (course buses (turned buses stand calls).events)
 
-  -- only those overran after the turn that overran before it
+  -- each session that has overrun after the turn had overrun before it
   abbrev pub SparesPanels : Stand → List Call → Type 0
   SparesPanels stand calls = (number : ℕ) (later : Connection)
       → IsOverrun buses (course buses (turned buses stand calls).events) number later
       → (conn : Connection) × IsOverrun buses (course buses stand.events) number conn
 
-  -- the turn brings no more than the door was told
+  -- the turn brings no more changes than the door was told
   abbrev pub IsPaced : Stand → List Call → Type 0
   IsPaced stand calls = brought_in stand calls ≤ told_room calls
 
-  -- a turn that brings no more than that makes no panel overrun
+  -- such a turn makes no panel overrun
   abbrev pub PacedTurnsSpare : Type 0
   PacedTurnsSpare = (count : ℕ) (told : List Call) → IsServed buses count told
       → OfEachTurn buses (λ stand calls. IsPaced stand calls → SparesPanels stand calls) empty_stand (turns told)
 
-  -- so none ever overran if each turn is so
+  -- if each turn is so, no panel ever overran
   abbrev pub PacedServingSparesAll : Type 0
   PacedServingSparesAll = (count : ℕ) (told : List Call) → IsServed buses count told
       → OfEachTurn buses IsPaced empty_stand (turns told)
       → (number : ℕ) (later : Connection) → IsOverrun buses (course buses (events_of buses told)) number later → ⊥
 
-  -- ---- by the lines that were handed out
+  -- ---- by the lines that the door handed out
 
   -- the events of the turn
   abbrev pub events_in : Stand → List Call → List Event
   events_in stand calls = drop (length stand.events) (turned buses stand calls).events
 
-  -- how much the lines weigh that end in the bytes handed out in the turn
+  -- the weight of the lines that end in the bytes of the turn
   abbrev pub weighs_in : Stand → List Call → ℕ
   weighs_in stand calls = weighs buses (course buses stand.events) (events_in stand calls)
 
@@ -58,16 +58,16 @@ module _ (buses : List Bus) where
   besides_in stand calls = brought_besides buses (course buses stand.events)
       (course buses (turned buses stand calls).events)
 
-  -- both together are no more than the door was told
+  -- the two together are no more than the door was told
   abbrev pub IsLight : Stand → List Call → Type 0
   IsLight stand calls = weighs_in stand calls + besides_in stand calls ≤ told_room calls
 
-  -- over any layout, a turn in which they are makes no panel overrun
+  -- over any layout, such a turn makes no panel overrun
   abbrev pub LightTurnsSpare : Type 0
   LightTurnsSpare = IsLayout buses → (count : ℕ) (told : List Call) → IsServed buses count told
       → OfEachTurn buses (λ stand calls. IsLight stand calls → SparesPanels stand calls) empty_stand (turns told)
 
-  -- so none ever overran if each turn is so
+  -- if each turn is so, no panel ever overran
   abbrev pub LightServingSparesAll : Type 0
   LightServingSparesAll = IsLayout buses → (count : ℕ) (told : List Call) → IsServed buses count told
       → OfEachTurn buses IsLight empty_stand (turns told)

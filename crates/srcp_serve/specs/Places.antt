@@ -1,6 +1,6 @@
--- How the places of a server stand for the course, and what a turn does to them, function by function.
+-- How the places of a server follow the course, and what each function of a turn does to them.
 use Rattle.std.specs.Prelude.{Bool, ⊤, ◌≡◌, ◌⊎◌, ℕ, ◌+◌, ◌≤◌, drop, slice_set, true, false, ◌==◌, if◌then◌else◌, List}
-use Rattle.std.specs.Prelude.{[], ◌∷◌, ◌++◌, map, length, filter_map, flat_map, fold, count_by, is_some, Option, Some}
+use Rattle.std.specs.Prelude.{[], ◌∷◌, ◌++◌, map, length, filter_map, flat_map, count_by, is_some, Option, Some}
 use Rattle.std.specs.Prelude.{None, Result, Ok}
 use Rattle.std.specs.List.{list_all, list_any, AllByRecursion}
 use Rattle.srcp_rules.specs.Layout.{IsLayout}
@@ -14,7 +14,7 @@ use Rattle.srcp_serve.specs.Calls.{Call as DoorCall, Adds, PeersDiffer, peer_of}
 use Rattle.srcp_serve.specs.Given.{Guest, Call, ExpectCall, NowCall, AcceptCall, CountsRefusals, told_call}
 use Rattle.srcp_serve.specs.Serving.{Seat, Stand, Question, Expects, expects, IsServed, question, newcomer_of, is_about}
 use Rattle.srcp_serve.specs.Serving.{is_close, visit_events, visit_asks, timed, turned, turn_asks, turns_away, welcomed}
-use Rattle.srcp_serve.specs.Serving.{stand_after, events_of, SendsWhatIsTaken}
+use Rattle.srcp_serve.specs.Serving.{accepted, stand_after, events_of, SendsWhatIsTaken}
 use Rattle.srcp_serve.specs.Turns.{is_of_peer}
 use Rattle.srcp_serve.specs.Visits.{AddsGiven, AreAbout, CountsAsked}
 use Rattle.srcp_serve.specs.declared.door.DoorFault.{DoorFault}
@@ -24,13 +24,13 @@ use Rattle.srcp_serve.specs.declared.serving.visit.Seat.{Seat as Own}
 abbrev pub AreFreeFrom : ℕ → List (Option Own) → Type 0
 AreFreeFrom place owns = AllByRecursion (λ own. own ≡ None) (drop place owns)
 
--- the place is as it was, or it was freed; the others are as they were
+-- at most this place was freed, and no other changed
 abbrev pub MayFree : ℕ → (old new : List (Option Own)) → Type 0
 MayFree place old new = (new ≡ old) ⊎ (new ≡ slice_set old place None)
 
 -- ---- visits
 
--- a visit: who has the place, and the calls
+-- a visit: whose it is, and its calls
 abbrev pub Visit : Type 0
 Visit = Seat × List Call
 
@@ -38,7 +38,7 @@ Visit = Seat × List Call
 abbrev pub calls_of : List Visit → List Call
 calls_of visits = flat_map (λ v. v.1) visits
 
--- what the visits make happen
+-- the events of the visits
 abbrev pub made_by : List Visit → List Event
 made_by visits = flat_map (λ v. visit_events v.1 v.0) visits
 
@@ -48,11 +48,11 @@ asked_by buses events [] = []
 asked_by buses events (v ∷ visits) =
     visit_asks buses events v.1 v.0 ++ asked_by buses (events ++ visit_events v.1 v.0) visits
 
--- each visit is about its own peer
+-- the calls of each visit are about its own peer
 abbrev pub AreOwn : List Visit → Type 0
 AreOwn visits = AllByRecursion (λ v. AreAbout v.0.peer v.1) visits
 
--- a round of the places has a visit where somebody has the place
+-- the visits of a round; a round has one entry for each place, `None` if nobody has it
 abbrev pub visits_of : List (Option Visit) → List Visit
 visits_of round = filter_map (λ place. place) round
 
@@ -61,33 +61,33 @@ abbrev pub seat_of : Option Visit → Option Seat
 seat_of None = None
 seat_of (Some v) = Some v.0
 
--- who has it after the visit: nobody where it closes
+-- who has it after the visit: nobody if the visit closes the peer
 abbrev pub left_by : Option Visit → Option Seat
 left_by None = None
 left_by (Some v) = if list_any is_close v.1 then None else Some v.0
 
 -- ---- places
 
--- the server's own place is that of the stand: it names the peer, and the key of its connection
+-- a place of the server is that of the state: it has the same peer, and the key of its connection
 abbrev pub SitsAt : List (Option ℕ) → Option Own → Option Seat → Type 0
 SitsAt keys None None = ⊤
 SitsAt keys (Some own) (Some seat) = (own.peer ≡ seat.peer) × (key_of seat.conn keys ≡ Some own.key)
 SitsAt keys None (Some seat) = ⊥
 SitsAt keys (Some own) None = ⊥
 
--- so it is of all places, in their order
+-- so it is of all places
 abbrev pub Sit : List (Option ℕ) → List (Option Own) → List (Option Seat) → Type 0
 Sit keys [] [] = ⊤
 Sit keys (own ∷ owns) (place ∷ places) = SitsAt keys own place × Sit keys owns places
 Sit keys [] (place ∷ places) = ⊥
 Sit keys (own ∷ owns) [] = ⊥
 
--- another has the place, if one does
+-- the place is free, or another peer on another connection has it
 abbrev pub IsApartFrom : Seat → Option Seat → Type 0
 IsApartFrom seat None = ⊤
 IsApartFrom seat (Some other) = ((seat.conn == other.conn) ≡ false) × ((seat.peer == other.peer) ≡ false)
 
--- no number and no peer has two places
+-- no connection and no peer has two places
 abbrev pub SeatsDiffer : List (Option Seat) → Type 0
 SeatsDiffer [] = ⊤
 SeatsDiffer (None ∷ places) = SeatsDiffer places
@@ -98,7 +98,7 @@ abbrev pub IsNotOf : ℕ → Option Seat → Type 0
 IsNotOf peer None = ⊤
 IsNotOf peer (Some seat) = (peer == seat.peer) ≡ false
 
--- who has the place is one of these peers
+-- the place is free, or one of these peers has it
 abbrev pub IsOneOf : List ℕ → Option Seat → Type 0
 IsOneOf peers None = ⊤
 IsOneOf peers (Some seat) = list_any (λ peer. peer == seat.peer) peers ≡ true
@@ -107,12 +107,12 @@ IsOneOf peers (Some seat) = list_any (λ peer. peer == seat.peer) peers ≡ true
 abbrev pub IsOther : ℕ → List Call → Type 0
 IsOther peer calls = AllByRecursion (λ call. is_about peer call ≡ false) calls
 
--- no call is about who has the place, if one does
+-- the place is free, or no call is about who has it
 abbrev pub IsLeftOut : List Call → Option Seat → Type 0
 IsLeftOut calls None = ⊤
 IsLeftOut calls (Some seat) = IsOther seat.peer calls
 
--- the core, with the keys of its connections, and the server's places are as the stand says
+-- the core and the server's places are as the state says; `keys` are the keys of the core's connections
 pub record IsHosting (buses : List Bus) (stand : Stand) (keys : List (Option ℕ)) (held : Held)
     (owns : List (Option Own)) : Type 0 where
   pub layout : IsLayout buses
@@ -122,13 +122,13 @@ pub record IsHosting (buses : List Bus) (stand : Stand) (keys : List (Option ℕ
   pub long : length keys ≡ length stand.guests
   pub stands : StandsFor buses keys held (course buses stand.events)
 
--- one where it is so
+-- 1 for `true`, 0 for `false`
 abbrev pub one_if : Bool → ℕ
 one_if b = if b then 1 else 0
 
 -- ---- what the functions of a turn do
 
--- the calls of a turn: for the moment, for one newcomer, and then about peers
+-- the calls of a turn: what to expect, the time, one newcomer, and then calls about peers
 pub record IsTurnGiven (calls : List Call) : Type 0 where
   pub due : Option ℕ
   pub slack : Option ℕ
@@ -140,7 +140,7 @@ pub record IsTurnGiven (calls : List Call) : Type 0 where
   pub peers : list_all is_of_peer (map told_call rest) ≡ true
 
 module _ (buses : List Bus) (stand : Stand) (old : Option (List DoorCall)) (told : List DoorCall) (held : Held) where
-  -- the moment was asked for, and taken where it was told
+  -- the time was asked for, and the core advanced to it if it was told
   pub record IsTimed (keys : List (Option ℕ)) : Type 0 where
     pub due : Option ℕ
     pub slack : Option ℕ
@@ -150,7 +150,7 @@ module _ (buses : List Bus) (stand : Stand) (old : Option (List DoorCall)) (told
     pub stands : StandsFor buses keys held (course buses (timed buses stand (NowCall answer ∷ [])).events)
 
   module _ (owns : List (Option Own)) (core_old : Held) where
-    -- the newcomer has its place, or was turned away
+    -- the newcomer has a place, or was closed
     pub record IsWelcomed (guest : Guest) (opens : Bool) : Type 0 where
       pub early : List Call
       pub keys : List (Option ℕ)
@@ -162,12 +162,12 @@ module _ (buses : List Bus) (stand : Stand) (old : Option (List DoorCall)) (told
       pub hosting : IsHosting buses (welcomed buses stand guest) keys held owns
       pub opened : length (welcomed buses stand guest).guests ≡ length stand.guests + one_if opens
 
-    -- so it is of that peer, with what memory answered
+    -- so it is of that peer, whatever memory answered
     pub record WelcomesPeer (peer : ℕ) (opens : Bool) : Type 0 where
       pub granted : Bool
       pub welcomes : IsWelcomed (record { peer = peer; granted = granted }) opens
 
-    -- so it is of the newcomer, if there was one
+    -- the door was asked for a newcomer; if there was one, it has a place or was closed
     pub record IsBegun (opens : Bool) : Type 0 where
       pub answer : Result (Option ℕ) DoorFault
       pub granted : Bool
@@ -175,18 +175,14 @@ module _ (buses : List Bus) (stand : Stand) (old : Option (List DoorCall)) (told
       pub keys : List (Option ℕ)
       pub adds : AddsGiven old told (AcceptCall answer granted ∷ early)
       pub counted : CountsRefusals core_old (AcceptCall answer granted ∷ early) held
-      pub asked_for : CountsAsked buses stand.events
-          (fold (welcomed buses) stand (filter_map newcomer_of (AcceptCall answer granted ∷ []))).events core_old held
+      pub asked_for : CountsAsked buses stand.events (accepted buses stand (AcceptCall answer granted)).events core_old held
       pub asked : map question early
           ≡ flat_map (turns_away buses stand.events) (filter_map newcomer_of (AcceptCall answer granted ∷ []))
-      pub others : AllByRecursion (IsLeftOut early)
-          (fold (welcomed buses) stand (filter_map newcomer_of (AcceptCall answer granted ∷ []))).places
-      pub hosting : IsHosting buses
-          (fold (welcomed buses) stand (filter_map newcomer_of (AcceptCall answer granted ∷ []))) keys held owns
-      pub opened : length (fold (welcomed buses) stand (filter_map newcomer_of (AcceptCall answer granted ∷ []))).guests
-          ≡ length stand.guests + one_if opens
+      pub others : AllByRecursion (IsLeftOut early) (accepted buses stand (AcceptCall answer granted)).places
+      pub hosting : IsHosting buses (accepted buses stand (AcceptCall answer granted)) keys held owns
+      pub opened : length (accepted buses stand (AcceptCall answer granted)).guests ≡ length stand.guests + one_if opens
 
-    -- those that have these places, between the others, were visited in their order
+    -- the peers at `seats` were visited in the order of the places; `front` and `ahead` are the places around them
     pub record AreVisited (front seats ahead : List (Option Seat)) : Type 0 where
       pub round : List (Option Visit)
       pub keys : List (Option ℕ)
@@ -204,7 +200,7 @@ module _ (buses : List Bus) (stand : Stand) (old : Option (List DoorCall)) (told
           })
           keys held owns
 
-    -- a turn was made, and all that have a place are of these peers and of those that came in
+    -- a turn was made; each place is free, or has one of these peers or one that came in since
     pub record IsTurnMade (peers : List ℕ) (opens : Bool) : Type 0 where
       pub calls : List Call
       pub keys : List (Option ℕ)
@@ -218,19 +214,19 @@ module _ (buses : List Bus) (stand : Stand) (old : Option (List DoorCall)) (told
       pub hosting : IsHosting buses (turned buses stand calls) keys held owns
       pub opened : length (turned buses stand calls).guests ≡ length stand.guests + one_if opens
 
--- whatever the stand was, so it is afterwards, where the door tells its calls
+-- if the door keeps its calls, `After` holds of every state that the core and the places had before
 abbrev pub HostsOn : (List Bus → Stand → List (Option ℕ) → List DoorCall → Type 0)
     → (old : Held) (owns : List (Option Own)) (told_new : Option (List DoorCall)) → Type 0
-HostsOn So old owns told_new = (buses : List Bus) (stand : Stand) (keys : List (Option ℕ)) (told : List DoorCall)
-    → IsHosting buses stand keys old owns → told_new ≡ Some told → So buses stand keys told
+HostsOn After old owns told_new = (buses : List Bus) (stand : Stand) (keys : List (Option ℕ)) (told : List DoorCall)
+    → IsHosting buses stand keys old owns → told_new ≡ Some told → After buses stand keys told
 
--- the moment is asked for
+-- the time is asked for
 abbrev pub TakesMoment : (old : Held) (told_old : Option (List DoorCall))
     (new : Held) (told_new : Option (List DoorCall)) → Type 0
 TakesMoment old told_old new told_new = (owns : List (Option Own))
     → HostsOn (λ buses stand keys told. IsTimed buses stand told_old told new keys) old owns told_new
 
--- a newcomer that has no place yet is seated, or turned away
+-- a newcomer that has no place gets one, or is closed
 abbrev pub SeatsPeer : (peer : ℕ) (old : Held) (told_old : Option (List DoorCall)) (owns_old : List (Option Own))
     (new : Held) (told_new : Option (List DoorCall)) (owns_new : List (Option Own)) (opens : Bool) → Type 0
 SeatsPeer peer old told_old owns_old new told_new owns_new opens = HostsOn
@@ -238,7 +234,7 @@ SeatsPeer peer old told_old owns_old new told_new owns_new opens = HostsOn
     → WelcomesPeer buses stand told_old told new owns_new old peer opens)
     old owns_old told_new
 
--- one newcomer is asked for, where all that have a place are of some peers, and it is none of them
+-- the door is asked for a newcomer, which is none of the peers so far
 abbrev pub LetsIn : (old : Held) (told_old : Option (List DoorCall)) (owns_old : List (Option Own))
     (new : Held) (told_new : Option (List DoorCall)) (owns_new : List (Option Own)) (opens : Bool) → Type 0
 LetsIn old told_old owns_old new told_new owns_new opens = HostsOn
@@ -247,7 +243,7 @@ LetsIn old told_old owns_old new told_new owns_new opens = HostsOn
     → AllByRecursion (IsOneOf peers) stand.places → IsBegun buses stand told_old told new owns_new old opens)
     old owns_old told_new
 
--- who has that place is visited
+-- whoever has that place is visited
 abbrev pub VisitsPlace : (place : ℕ) (old : Held) (told_old : Option (List DoorCall)) (owns_old : List (Option Own))
     (new : Held) (told_new : Option (List DoorCall)) (owns_new : List (Option Own)) → Type 0
 VisitsPlace place old told_old owns_old new told_new owns_new = HostsOn
@@ -256,7 +252,7 @@ VisitsPlace place old told_old owns_old new told_new owns_new = HostsOn
     → AreVisited buses stand told_old told new owns_new old front (seat ∷ []) ahead)
     old owns_old told_new
 
--- so many places were visited
+-- this many places were visited
 pub record AreVisitedSoFar (buses : List Bus) (stand : Stand) (old : Option (List DoorCall)) (told : List DoorCall)
     (held : Held)
     (owns : List (Option Own)) (core_old : Held) (count : ℕ) : Type 0 where
@@ -266,7 +262,7 @@ pub record AreVisitedSoFar (buses : List Bus) (stand : Stand) (old : Option (Lis
   pub many : length seats ≡ count
   pub visited : AreVisited buses stand old told held owns core_old [] seats ahead
 
--- so many places are visited, in their order
+-- this many places are visited, in their order
 abbrev pub VisitsSoFar : (count : ℕ) (old : Held) (told_old : Option (List DoorCall)) (owns_old : List (Option Own))
     (now : Held) (told_now : Option (List DoorCall)) (owns_now : List (Option Own)) → Type 0
 VisitsSoFar count old told_old owns_old now told_now owns_now = HostsOn
@@ -279,7 +275,7 @@ VisitsPlaces old told_old owns_old new told_new owns_new = HostsOn
     (λ buses stand keys told. AreVisited buses stand told_old told new owns_new old [] stand.places [])
     old owns_old told_new
 
--- a turn is made, where all that have a place are of some peers, and no newcomer is one of them
+-- a turn is made, in which no newcomer is one of the peers so far
 abbrev pub MakesTurn : (old : Held) (told_old : Option (List DoorCall)) (owns_old : List (Option Own))
     (new : Held) (told_new : Option (List DoorCall)) (owns_new : List (Option Own)) (opens : Bool) → Type 0
 MakesTurn old told_old owns_old new told_new owns_new opens = HostsOn
@@ -290,7 +286,7 @@ MakesTurn old told_old owns_old new told_new owns_new opens = HostsOn
 
 -- ---- serving
 
--- the calls are those of so many turns, and the core and the places stand as their answers say
+-- the calls are those of this many turns, and the core and the places are as the answers say
 pub record IsServing (buses : List Bus) (count opens : ℕ) (told : List DoorCall) (old held : Held)
     (owns : List (Option Own)) : Type 0 where
   pub calls : List Call
@@ -306,11 +302,11 @@ pub record IsServing (buses : List Bus) (count opens : ℕ) (told : List DoorCal
 -- serving begins with a core without connections; the door keeps its calls, and accepts no peer twice
 abbrev pub Begins : (List Bus → List DoorCall → Type 0)
     → (old : Held) (told_old told_new : Option (List DoorCall)) → Type 0
-Begins So old told_old told_new = (buses : List Bus) (before calls : List DoorCall) → IsLayout buses
+Begins After old told_old told_new = (buses : List Bus) (before calls : List DoorCall) → IsLayout buses
     → StandsFor buses [] old (course buses []) → told_old ≡ Some before → told_new ≡ Some (before ++ calls)
-    → PeersDiffer [] calls → So buses calls
+    → PeersDiffer [] calls → After buses calls
 
--- so many turns are made, and so many peers were let in
+-- `count` turns were made, and `opens` peers were let in
 abbrev pub ServesSoFar : (count opens : ℕ) (old : Held) (told_old : Option (List DoorCall)) (new : Held)
     (told_new : Option (List DoorCall)) (owns : List (Option Own)) → Type 0
 ServesSoFar count opens old told_old new told_new owns =
@@ -325,8 +321,8 @@ pub record IsOfCourse (buses : List Bus) (count opens : ℕ) (told : List Call) 
   pub opened : opens ≡ length (course buses (events_of buses told)).connections  -- one for each Open that is accepted
   pub taken : SendsWhatIsTaken buses told
 
--- memory answered something in the calls that the door told, by which they are of the course; and the core counted
--- exactly the answers that refused, which are all asked for in that course
+-- there are answers of memory by which the kept calls are those of the course; the core counted exactly the refusals
+-- among them, and each of these was asked for in that course
 pub record IsOfGiven (buses : List Bus) (count opens : ℕ) (told : List DoorCall) (old held : Held) : Type 0 where
   pub calls : List Call
   pub are : map told_call calls ≡ told
@@ -334,7 +330,7 @@ pub record IsOfGiven (buses : List Bus) (count opens : ℕ) (told : List DoorCal
   pub asked : held.denied ≡ denied_over buses old.denied start (events_of buses calls)
   pub course : IsOfCourse buses count opens calls held
 
--- what serving so many turns is, where so many peers were let in
+-- serving makes `count` turns, and lets `opens` peers in
 abbrev pub ServesCourse : (count opens : ℕ) (old : Held) (told_old : Option (List DoorCall)) (new : Held)
     (told_new : Option (List DoorCall)) → Type 0
 ServesCourse count opens old told_old new told_new =

@@ -1,7 +1,7 @@
--- What a server asks of its door in so many turns, and what the answers make happen, with what memory answered.
--- A turn asks for the moment, lets in one peer, and visits each peer that has a place, in the order of the places.
--- What a reader gets: a peer is handed exactly what the course of these events leaves unsent of its connection. So
--- what the door took of each peer is what that course says was sent: SentIsTaken, which `laws::sent_is_taken` ensures.
+-- What a server asks of its door, turn by turn, and which events the answers make.
+-- A turn tells the door what to expect, asks for the time, accepts one peer, and visits each peer that has a place.
+-- A peer is handed exactly what the course of these events leaves unsent of its connection. So each peer took what the
+-- course says that it was sent: that is SentIsTaken, which `laws::sent_is_taken` ensures.
 use Rattle.std.specs.Prelude.{⊤, ◌≡◌, ℕ, ◌+◌, Bool, true, false, not, ◌&&◌, ◌||◌, ◌==◌, nat_lt, if◌then◌else◌, List, []}
 use Rattle.std.specs.Prelude.{◌∷◌, ◌++◌, map, take, length, filter, filter_map, flat_map, fold, count_by, replicate}
 use Rattle.std.specs.Prelude.{Option, Some, None, is_none, option_map, Ok, Err}
@@ -19,59 +19,59 @@ use Rattle.srcp_serve.specs.declared.door.Got.TheVariants as got
 
 -- ---- calls and their answers
 
--- the moment that was told
+-- the time that the door answered, if it did
 abbrev pub moment_of : Call → Option ℕ
 moment_of (NowCall (Ok moment)) = Some moment
 moment_of other = None
 
--- the peer that came in
+-- the peer that the door accepted, if it accepted one
 abbrev pub newcomer_of : Call → Option Guest
 newcomer_of (AcceptCall (Ok peer) granted) = option_map (λ peer. record { peer = peer; granted = granted }) peer
 newcomer_of other = None
 
--- the bytes that were read
+-- the bytes that were read, if some were
 abbrev pub piece_of : Call → Option Piece
 piece_of (ReadCall peer (Ok (got.Bytes count)) buffer grants) =
     Some (record { bytes = take count buffer; grants = grants })
 piece_of other = None
 
--- how many bytes a write took, none where it failed
+-- how many bytes a write took: none if it failed
 abbrev pub count_of : Call → Option ℕ
 count_of (WriteCall peer bytes (Ok count)) = Some count
 count_of (WriteCall peer bytes (Err failed)) = Some 0
 count_of other = None
 
--- the door was told what to expect
+-- the call tells the door what to expect
 abbrev pub is_expect : Call → Bool
 is_expect (ExpectCall due slack) = true
 is_expect other = false
 
--- a peer was written to
+-- the call is a write
 abbrev pub is_write : Call → Bool
 is_write (WriteCall peer bytes answer) = true
 is_write other = false
 
--- a peer was let go
+-- the call closes a peer
 abbrev pub is_close : Call → Bool
 is_close (CloseCall peer answer) = true
 is_close other = false
 
--- the peer is at its end, or could not be read
+-- the read found the end of the input, or failed
 abbrev pub loses_reading : Call → Bool
 loses_reading (ReadCall peer (Ok got.Ended) buffer grants) = true
 loses_reading (ReadCall peer (Err failed) buffer grants) = true
 loses_reading other = false
 
--- the peer could not be written to
+-- the write failed
 abbrev pub loses_writing : Call → Bool
 loses_writing (WriteCall peer bytes (Err failed)) = true
 loses_writing other = false
 
--- the peer is lost
+-- the peer is lost by this call
 abbrev pub loses : Call → Bool
 loses call = loses_reading call || loses_writing call
 
--- the peer took less than it was handed
+-- the write took fewer bytes than it was handed
 abbrev pub falls_short : Call → Bool
 falls_short (WriteCall peer bytes (Ok count)) = nat_lt count (length bytes)
 falls_short other = false
@@ -85,7 +85,7 @@ is_about peer (ReadCall who answer buffer grants) = who == peer
 is_about peer (WriteCall who bytes answer) = who == peer
 is_about peer (CloseCall who answer) = who == peer
 
--- what a door is asked
+-- what a call asks
 pub data Question : Type 0 where
   Expects : (due slack : Option ℕ) → Question
   Moments : Question
@@ -103,7 +103,7 @@ question (ReadCall peer answer buffer grants) = Reads peer (length buffer)
 question (WriteCall peer bytes answer) = Writes peer bytes
 question (CloseCall peer answer) = Closes peer
 
--- the answer is within what was asked
+-- the answer is one that the door may give
 abbrev pub IsFair : Call → Type 0
 IsFair call = door.IsFair (told_call call)
 
@@ -118,18 +118,18 @@ taken peer told = flat_map (taken_in peer) told
 
 -- ---- peers and places
 
--- a peer that was let in, and the number of its connection
+-- a peer that has a connection, and the number of that connection
 pub record Seat : Type 0 where
   pub peer : ℕ
   pub conn : ℕ
 
--- how a server stands
+-- the state of a server
 pub record Stand : Type 0 where
-  pub events : List Event  -- what has happened
-  pub guests : List ℕ  -- the peers that were let in: the first has connection 1, and so on
+  pub events : List Event  -- the events so far
+  pub guests : List ℕ  -- the peers that were let in: the first has connection 1, the next 2, and so on
   pub places : List (Option Seat)  -- who has which place
 
--- before the first turn nothing has happened, and no place is taken
+-- the state before the first turn: no event, no guest, all 64 places free
 abbrev pub empty_stand : Stand
 empty_stand = record { events = []; guests = []; places = replicate 64 None }
 
@@ -147,38 +147,38 @@ seated seat (Some other ∷ places) = Some other ∷ seated seat places
 abbrev pub visit : List Call → Seat → List Call
 visit calls seat = filter (is_about seat.peer) calls
 
--- a place is free after a visit that closes
+-- a place is free after a visit that closes its peer
 abbrev pub kept : List Call → Option Seat → Option Seat
 kept calls None = None
 kept calls (Some seat) = if list_any is_close (visit calls seat) then None else Some seat
 
 -- ---- what a visit makes happen
 
--- the last time that the connection was asked for bytes it lent none: nothing had stopped the visit
+-- at last the connection lent no bytes: the peer was not lost, took all, and was written to fewer than 300 times
 abbrev pub lent_none_last : List Call → Bool
 lent_none_last calls =
     not (list_any loses calls) && (not (list_any falls_short calls) && nat_lt (count_by is_write calls) 300)
 
--- room for what each write took, and for nothing where nothing was lent
+-- the room that the visit made: what each write took, and 0 if at last no bytes were lent
 abbrev pub rooms : List Call → List ℕ
 rooms calls = filter_map count_of calls ++ (if lent_none_last calls then 0 ∷ [] else [])
 
--- what was read, and then room for what was taken
+-- the events of the read, and then those of the writes
 abbrev pub exchange : ℕ → List Call → List Event
 exchange conn calls = map (Bytes conn) (filter_map piece_of calls) ++ map (Room conn) (rooms calls)
 
--- the whole visit: a connection is shut where its peer is let go
+-- the events of the whole visit; if the peer is closed, its connection is shut
 abbrev pub visit_events : List Call → Seat → List Event
 visit_events calls seat = exchange seat.conn (visit calls seat)
     ++ (if list_any is_close (visit calls seat) then Shut seat.conn ∷ [] else [])
 
 -- ---- turns
 
--- the calls of each turn, which begins where the door is told what to expect
+-- the calls of each turn; a turn begins with the call that tells the door what to expect
 abbrev pub turns : List Call → List (List Call)
 turns calls = door.parts is_expect calls
 
--- these bytes and then the rest, or nothing where there are none
+-- these bytes and then the others; nothing if there are no bytes
 abbrev pub unless_nil : List ℕ → List (List ℕ) → List (List ℕ)
 unless_nil [] more = []
 unless_nil (byte ∷ bytes) more = (byte ∷ bytes) ∷ more
@@ -186,11 +186,11 @@ unless_nil (byte ∷ bytes) more = (byte ∷ bytes) ∷ more
 module _ (buses : List Bus) where
   -- ---- what the turns make happen
 
-  -- a newcomer is let in where the core accepts it
+  -- the core accepts a connection
   abbrev pub is_let_in : List Event → Bool → Bool
   is_let_in events granted = is_none (fault buses (course buses events) (Open granted))
 
-  -- the next connection is its
+  -- the state after a newcomer was let in: it has the next connection and the first free place
   abbrev pub let_in : Stand → Guest → Stand
   let_in stand guest = record {
     events = stand.events ++ Open guest.granted ∷ [];
@@ -198,17 +198,21 @@ module _ (buses : List Bus) where
     places = seated (record { peer = guest.peer; conn = length stand.guests + 1 }) stand.places;
   }
 
-  -- after a peer that wants in
+  -- the state after a newcomer, let in or not
   abbrev pub welcomed : Stand → Guest → Stand
   welcomed stand guest = if is_let_in stand.events guest.granted then let_in stand guest else record stand {
     events = stand.events ++ Open guest.granted ∷ [];
   }
 
-  -- after a moment
+  -- the state after the answer to whether a peer wants in
+  abbrev pub accepted : Stand → Call → Stand
+  accepted stand call = fold welcomed stand (filter_map newcomer_of (call ∷ []))
+
+  -- the state after a moment
   abbrev pub with_moment : Stand → ℕ → Stand
   with_moment stand moment = record stand { events = stand.events ++ At moment ∷ [] }
 
-  -- after the moment of a turn
+  -- the state after the moment of a turn
   abbrev pub timed : Stand → List Call → Stand
   timed stand calls = fold with_moment stand (filter_map moment_of calls)
 
@@ -216,119 +220,118 @@ module _ (buses : List Bus) where
   abbrev pub begun : Stand → List Call → Stand
   begun stand calls = fold welcomed (timed stand calls) (filter_map newcomer_of calls)
 
-  -- after the visits
+  -- the state after the visits of a turn
   abbrev pub visited : Stand → List Call → Stand
   visited stand calls = record stand {
     events = stand.events ++ flat_map (visit_events calls) (seats stand.places);
     places = map (kept calls) stand.places;
   }
 
-  -- after the whole turn
+  -- the state after a turn
   abbrev pub turned : Stand → List Call → Stand
   turned stand calls = visited (begun stand calls) calls
 
-  -- how the server stands after all that its door told
+  -- the state after all calls
   abbrev pub stand_after : List Call → Stand
   stand_after told = fold turned empty_stand (turns told)
 
-  -- the events that the answers of a door make
+  -- the events that all calls make
   abbrev pub events_of : List Call → List Event
   events_of told = (stand_after told).events
 
   -- ---- what is asked, by what was answered before
 
-  -- what the connection lends: what is unsent after a room for nothing, and nothing where it overran
+  -- the bytes that the connection lends: what is unsent after a room of 0, and nothing if it overran
   abbrev pub lent : ℕ → List Event → List ℕ
   lent conn events = lent_in buses (course buses (events ++ Room conn 0 ∷ [])) conn
 
-  -- bytes would be accepted of it
+  -- the connection accepts bytes
   abbrev pub is_ready : ℕ → List Event → Bool
   is_ready conn events = is_none (fault buses (course buses events) (Bytes conn (giving [])))
 
-  -- it is to be closed: it overran, or it ended and all its replies are taken
+  -- the connection is to be closed: it overran, or it ended and all its replies are taken
   abbrev pub is_closing : ℕ → List Event → Bool
   is_closing conn events = closes buses (course buses events) conn
 
-  -- what is handed over, given how much was taken each time: what is lent, again and again while all of it is taken
+  -- the bytes of each write, by how many the writes before took: what is lent, as long as all of it is taken
   abbrev pub handed : ℕ → List Event → List ℕ → List (List ℕ)
   handed conn events [] = unless_nil (lent conn events) []
   handed conn events (count ∷ counts) = unless_nil (lent conn events)
       (if count == length (lent conn events) then handed conn (events ++ Room conn count ∷ []) counts else [])
 
-  -- a visit asks first for one read, where bytes would be accepted
+  -- a visit begins with one read of at most 256 bytes, if the connection accepts bytes
   abbrev pub reads_of : List Event → Seat → List Question
   reads_of events seat = if is_ready seat.conn events then Reads seat.peer 256 ∷ [] else []
 
-  -- then what is handed over is written, at most 300 times
+  -- then it writes, at most 300 times; not at all if the read lost the peer
   abbrev pub writes_of : List Event → List Call → Seat → List Question
   writes_of events calls seat = if list_any loses_reading calls then [] else map (Writes seat.peer)
       (take 300
       (handed seat.conn (events ++ map (Bytes seat.conn) (filter_map piece_of calls)) (filter_map count_of calls)))
 
-  -- then it is let go where it is lost or to be closed
+  -- then it closes the peer, if that is lost or its connection is to be closed
   abbrev pub closes_of : List Event → List Call → Seat → List Question
   closes_of events calls seat =
       if list_any loses calls || is_closing seat.conn (events ++ exchange seat.conn calls) then Closes seat.peer ∷ []
       else []
 
-  -- the whole visit
+  -- what the whole visit asks
   abbrev pub visit_asks : List Event → List Call → Seat → List Question
   visit_asks events calls seat = reads_of events seat ++ writes_of events calls seat ++ closes_of events calls seat
 
-  -- the visits of a turn, one after another
+  -- what the visits of a turn ask, one after another
   abbrev pub visits_ask : List Event → List Call → List Seat → List Question
   visits_ask events calls [] = []
   visits_ask events calls (seat ∷ more) =
       visit_asks events (visit calls seat) seat ++ visits_ask (events ++ visit_events calls seat) calls more
 
-  -- a newcomer that is not let in is let go
+  -- a newcomer that is not let in is closed
   abbrev pub turns_away : List Event → Guest → List Question
   turns_away events guest = if is_let_in events guest.granted then [] else Closes guest.peer ∷ []
 
-  -- what the door is told: the moment at which something falls due next, and how many more changes may come upon each
-  -- information session
+  -- what the door is told: when the next row falls due, and how many more changes each information session can take
   abbrev pub expects : List Event → Question
   expects events = Expects (due_next buses (course buses events)) (slack buses (course buses events))
 
-  -- the whole turn
+  -- what a turn asks
   abbrev pub turn_asks : Stand → List Call → List Question
   turn_asks stand calls = expects stand.events ∷ Moments ∷ Newcomers
       ∷ (flat_map (turns_away (timed stand calls).events) (filter_map newcomer_of calls)
       ++ visits_ask (begun stand calls).events calls (seats (begun stand calls).places))
 
-  -- the turns, one after another
+  -- what the turns ask, one after another
   abbrev pub turns_ask : Stand → List (List Call) → List Question
   turns_ask stand [] = []
   turns_ask stand (calls ∷ more) = turn_asks stand calls ++ turns_ask (turned stand calls) more
 
-  -- this holds of each of the turns, by how the server stood before it
+  -- the law holds of each turn, by the state before it
   abbrev pub OfEachTurn : (Stand → List Call → Type 0) → Stand → List (List Call) → Type 0
   OfEachTurn Law stand [] = ⊤
   OfEachTurn Law stand (calls ∷ more) = Law stand calls × OfEachTurn Law (turned stand calls) more
 
-  -- this holds of each of the visits of a turn, by what had happened before it
+  -- the law holds of each visit of a turn, by the events before it
   abbrev pub OfEachVisit : (List Event → List Call → Seat → Type 0) → List Event → List Call → List Seat → Type 0
   OfEachVisit Law events calls [] = ⊤
   OfEachVisit Law events calls (seat ∷ more) = Law events calls seat
       × OfEachVisit Law (events ++ visit_events calls seat) calls more
 
-  -- the calls are those of so many turns, none more and none fewer
+  -- the calls are exactly those that this many turns ask
   pub record IsServed (count : ℕ) (told : List Call) : Type 0 where
     pub turns_are : length (turns told) ≡ count
     pub asked : map question told ≡ turns_ask empty_stand (turns told)
 
   -- ---- what the peers took
 
-  -- no peer came in twice
+  -- the door accepted no peer twice
   abbrev pub PeersDiffer : List Call → Type 0
   PeersDiffer told = door.PeersDiffer [] (map told_call told)
 
-  -- what each connection was sent is what its peer took, in the order in which they were let in
+  -- each connection was sent exactly what its peer took
   abbrev pub SendsWhatIsTaken : List Call → Type 0
   SendsWhatIsTaken told = map sent (course buses (events_of told)).connections
       ≡ map (λ peer. taken peer told) (stand_after told).guests
 
-  -- so it is wherever the calls are served
+  -- so it is in every list of calls that is served
   abbrev pub SentIsTaken : Type 0
   SentIsTaken = (count : ℕ) (told : List Call) → IsServed count told → PeersDiffer told → AllByRecursion IsFair told
       → SendsWhatIsTaken told

@@ -1,4 +1,4 @@
--- To be believed: how soon an information session whose peer takes all that it is handed has nothing more to get.
+-- To be believed: how soon an information session has nothing more to get, if its peer takes all that it is handed.
 use Rattle.std.specs.Prelude.{◌≡◌, ℕ, ◌+◌, ◌*◌, ◌≤◌, if◌then◌else◌, true, false, fold, List, [], ◌++◌, length}
 use Rattle.std.specs.Prelude.{slice_get, Some}
 use Rattle.std.specs.List.{list_any, AllByRecursion}
@@ -22,7 +22,7 @@ pub record TakesAll (calls : List Call) (seat : Seat) : Type 0 where
 module _ (buses : List Bus) where
   -- ---- the changes that wait
 
-  -- they are gone right after a visit in which the peer took all
+  -- no change waits for the session right after a visit in which the peer took all
   abbrev pub TakesWaits : List Event → List Call → Seat → Type 0
   TakesWaits events calls seat = (conn later : Connection) → IsPanel buses (course buses events) seat.conn conn
       → TakesAll calls seat

@@ -1,7 +1,7 @@
 -- How the failures of a door are counted.
 use Rattle.std.specs.Prelude.{◌≡◌, ℕ, ◌+◌, ◌<◌, ◌≤◌}
 
--- a tally goes on with the door's own count, as long as that is not at its greatest
+-- the tally grew as the door's own count did, as long as that stayed below the greatest u64
 pub record CountsFaults (tally count tally_later count_later : ℕ) : Type 0 where
   pub within : tally_later ≤ count_later
   pub onward : count_later < 18446744073709551615 → count ≤ count_later

@@ -1,5 +1,4 @@
--- What the calls of a visit tell and do, step by step: over a core that stands for the course of any events, with what
--- memory answered.
+-- What each function of a visit asks and does, over a core that stands for the course of some events.
 use Rattle.std.specs.Prelude.{◌≡◌, ℕ, ◌<◌, Bool, false, true, not, if◌then◌else◌, ◌⊎◌, List, [], ◌∷◌, ◌++◌, map, take}
 use Rattle.std.specs.Prelude.{length, filter_map, Option, Some, None, Result, Ok, Err}
 use Rattle.std.specs.List.{list_any, AllByRecursion}
@@ -21,24 +20,24 @@ use Rattle.srcp_serve.specs.declared.door.Got.{Got}
 use Rattle.srcp_serve.specs.declared.serving.visit.Wrote.{Wrote}
 use Rattle.srcp_serve.specs.declared.serving.visit.Wrote.TheVariants.{All, Less, Failed}
 
--- the door told these calls after what it had told, as which memory answered
+-- the door added these calls, leaving out the answers of memory
 abbrev pub AddsGiven : (old : Option (List DoorCall)) (told : List DoorCall) (calls : List Call) → Type 0
 AddsGiven old told calls = Adds old told (map told_call calls)
 
--- ---- a peer is let go
+-- ---- a peer is closed
 
--- it was let go, or that failed
+-- the door was asked to close it
 pub record IsClosed (peer : ℕ) (old : Option (List DoorCall)) (told : List DoorCall) : Type 0 where
   pub answer : Result Unit DoorFault
   pub adds : Adds old told (door.CloseCall peer answer ∷ [])
 
--- so it is where the door tells its calls
+-- so it is if the door keeps its calls
 abbrev pub Closes : (peer : ℕ) (old new : Option (List DoorCall)) → Type 0
 Closes peer old new = (told : List DoorCall) → new ≡ Some told → IsClosed peer old told
 
 -- ---- a peer that has a place
 
--- the connection of that number is at that key of a core that stands for the course of the events
+-- the core stands for the course of the events, and has connection `n` at this key
 pub record IsSeated (buses : List Bus) (events : List Event) (keys : List (Option ℕ)) (n key : ℕ)
     (held : Held) : Type 0 where
   pub layout : IsLayout buses
@@ -59,25 +58,25 @@ AreWritesTo peer calls = AllByRecursion (IsWriteTo peer) calls
 abbrev pub AreAbout : ℕ → List Call → Type 0
 AreAbout peer calls = AllByRecursion (λ call. is_about peer call ≡ true) calls
 
--- a read: its answer, what the buffer held after it, and what memory answered to the lines that ended in that
+-- a read: its answer, the buffer after it, and for each line that ends in the bytes whether it was given memory
 pub record Reading : Type 0 where
   pub answer : Result Got DoorFault
   pub buffer : List ℕ
   pub grants : List Bool
 
--- the calls of the one read of a visit, if there was one
+-- the read of a visit, if there was one, as a list of calls
 abbrev pub read_calls : (peer : ℕ) → Option Reading → List Call
 read_calls peer None = []
 read_calls peer (Some read) = ReadCall peer read.answer read.buffer read.grants ∷ []
 
--- what the core counted more than before is what was asked of memory and refused in the events since
+-- the core counted exactly the refusals of memory in the events from `before` to `after`
 abbrev pub CountsAsked : List Bus → (before after : List Event) → (old new : Held) → Type 0
 CountsAsked buses before after old new = (first : ℕ) → old.denied ≡ denied_over buses first start before
     → new.denied ≡ denied_over buses first start after
 
 module _ (buses : List Bus) (events : List Event) (keys : List (Option ℕ)) (n peer : ℕ)
     (old : Option (List DoorCall)) (told : List DoorCall) (new : Held) where
-  -- it was read from, where bytes would be taken
+  -- the peer was read, if its connection accepts bytes
   pub record IsReadFrom (core_old : Held) (stays : Bool) : Type 0 where
     pub read : Option Reading
     pub adds : AddsGiven old told (read_calls peer read)
@@ -89,7 +88,7 @@ module _ (buses : List Bus) (events : List Event) (keys : List (Option ℕ)) (n 
     pub stands : StandsFor buses keys new
         (course buses (events ++ map (Bytes n) (filter_map piece_of (read_calls peer read))))
 
-  -- all that is lent was taken, and it was something
+  -- the peer took all that was lent, and that was something
   pub record TookAll : Type 0 where
     pub count : ℕ
     pub adds : AddsGiven old told (WriteCall peer (lent buses n events) (Ok count) ∷ [])
@@ -97,33 +96,33 @@ module _ (buses : List Bus) (events : List Event) (keys : List (Option ℕ)) (n 
     pub some : 0 < count
     pub stands : StandsFor buses keys new (course buses (events ++ Room n count ∷ []))
 
-  -- nothing was lent, and nothing told
+  -- nothing was lent, and the door was not called
   pub record WasLentNone : Type 0 where
     pub none : lent buses n events ≡ []
     pub adds : AddsGiven old told []
     pub stands : StandsFor buses keys new (course buses (events ++ Room n 0 ∷ []))
 
-  -- less was taken than is lent
+  -- the peer took less than was lent
   pub record TookLess : Type 0 where
     pub count : ℕ
     pub adds : AddsGiven old told (WriteCall peer (lent buses n events) (Ok count) ∷ [])
     pub short : count < length (lent buses n events)
     pub stands : StandsFor buses keys new (course buses (events ++ Room n count ∷ []))
 
-  -- the write of what is lent failed
+  -- the write of what was lent failed
   pub record TookNone : Type 0 where
     pub fault : DoorFault
     pub adds : AddsGiven old told (WriteCall peer (lent buses n events) (Err fault) ∷ [])
     pub some : 0 < length (lent buses n events)
     pub stands : StandsFor buses keys new (course buses (events ++ Room n 0 ∷ []))
 
-  -- what a write, or none, did
+  -- what one step of writing did
   abbrev pub HasWritten : Wrote → Type 0
   HasWritten All = TookAll
   HasWritten Less = WasLentNone ⊎ TookLess
   HasWritten Failed = TookNone
 
-  -- it was written to, again and again while it took all
+  -- the peer was written to as long as it took all, at most 300 times
   pub record IsWrittenTo (stays : Bool) : Type 0 where
     pub calls : List Call
     pub adds : AddsGiven old told calls
@@ -132,7 +131,7 @@ module _ (buses : List Bus) (events : List Event) (keys : List (Option ℕ)) (n 
     pub stays_is : list_any loses_writing calls ≡ not stays
     pub stands : StandsFor buses keys new (course buses (events ++ map (Room n) (rooms calls)))
 
-  -- it was read from and written to
+  -- the peer was read and then written to
   pub record IsExchanged (core_old : Held) (stays : Bool) : Type 0 where
     pub calls : List Call
     pub adds : AddsGiven old told calls
@@ -146,12 +145,12 @@ module _ (buses : List Bus) (events : List Event) (keys : List (Option ℕ)) (n 
     pub loses_is : list_any loses calls ≡ not stays
     pub stands : StandsFor buses keys new (course buses (events ++ exchange n calls))
 
-  -- its connection was shut, and it was let go
+  -- its connection was shut, and the peer was closed
   pub record IsLetGo : Type 0 where
     pub closed : IsClosed peer old told
     pub stands : StandsFor buses (without_key n keys) new (course buses (events ++ Shut n ∷ []))
 
-  -- it was visited, and has its place still or was let go
+  -- the peer was visited, and has its place still or was closed
   pub record IsVisited (core_old : Held) (stays : Bool) : Type 0 where
     pub calls : List Call
     pub adds : AddsGiven old told calls
@@ -166,44 +165,44 @@ module _ (buses : List Bus) (events : List Event) (keys : List (Option ℕ)) (n 
 
 -- ---- the functions of a visit
 
--- whatever the events were, so it is afterwards, where the door tells its calls
+-- if the door keeps its calls, `After` holds of every course that the core stood for before
 abbrev pub Follows : (List Bus → List Event → List (Option ℕ) → ℕ → List DoorCall → Type 0)
     → (key : ℕ) (old : Held) (told_new : Option (List DoorCall)) → Type 0
-Follows So key old told_new =
+Follows After key old told_new =
     (buses : List Bus) (events : List Event) (keys : List (Option ℕ)) (n : ℕ) (told : List DoorCall)
-    → IsSeated buses events keys n key old → told_new ≡ Some told → So buses events keys n told
+    → IsSeated buses events keys n key old → told_new ≡ Some told → After buses events keys n told
 
--- it is read from, once at most
+-- the peer is read at most once
 abbrev pub ReadsIn : (peer key : ℕ) (old : Held) (told_old : Option (List DoorCall))
     (new : Held) (told_new : Option (List DoorCall)) (stays : Bool) → Type 0
 ReadsIn peer key old told_old new told_new stays = Follows
     (λ buses events keys n told. IsReadFrom buses events keys n peer told_old told new old stays) key old told_new
 
--- it is written to, once at most
+-- the peer is written to at most once
 abbrev pub WritesOnce : (peer key : ℕ) (old : Held) (told_old : Option (List DoorCall))
     (new : Held) (told_new : Option (List DoorCall)) (wrote : Wrote) → Type 0
 WritesOnce peer key old told_old new told_new wrote = Follows
     (λ buses events keys n told. HasWritten buses events keys n peer told_old told new wrote) key old told_new
 
--- it is written to, again and again while it takes all
+-- the peer is written to as long as it takes all
 abbrev pub WritesOut : (peer key : ℕ) (old : Held) (told_old : Option (List DoorCall))
     (new : Held) (told_new : Option (List DoorCall)) (stays : Bool) → Type 0
 WritesOut peer key old told_old new told_new stays = Follows
     (λ buses events keys n told. IsWrittenTo buses events keys n peer told_old told new stays) key old told_new
 
--- it is read from and written to
+-- the peer is read and written to
 abbrev pub Exchanges : (peer key : ℕ) (old : Held) (told_old : Option (List DoorCall))
     (new : Held) (told_new : Option (List DoorCall)) (stays : Bool) → Type 0
 Exchanges peer key old told_old new told_new stays = Follows
     (λ buses events keys n told. IsExchanged buses events keys n peer told_old told new old stays) key old told_new
 
--- its connection is shut, and it is let go
+-- its connection is shut, and the peer is closed
 abbrev pub LetsGo : (peer key : ℕ) (old : Held) (told_old : Option (List DoorCall))
     (new : Held) (told_new : Option (List DoorCall)) → Type 0
 LetsGo peer key old told_old new told_new = Follows
     (λ buses events keys n told. IsLetGo buses events keys n peer told_old told new) key old told_new
 
--- it is visited
+-- the peer is visited
 abbrev pub Visits : (peer key : ℕ) (old : Held) (told_old : Option (List DoorCall))
     (new : Held) (told_new : Option (List DoorCall)) (stays : Bool) → Type 0
 Visits peer key old told_old new told_new stays = Follows

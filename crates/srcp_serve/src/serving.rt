@@ -1,4 +1,4 @@
-//! Serving: what a server asks of its door in each turn, and what it makes of the answers.
+//! The turns of a server: what it asks of its door in each, and what it does with the answers.
 
 ghost use Rattle.std.specs.Prelude.{◌≡◌, ◌<◌, ◌≤◌, ◌+◌};
 ghost use Rattle.srcp_serve.specs.Places.{LetsIn, MakesTurn, MayFree, one_if, SeatsPeer, ServesCourse, TakesMoment};
@@ -17,11 +17,13 @@ use srcp_rules::Rows;
 pub use visit::MOST_WRITES;
 use visit::{PieceBuffer, Seat, close, let_go, visit};
 
-/// Serves the peers of a door for so many turns, over a core that has no connection. In each turn the door is asked for
-/// the moment and for one peer that wants in, and then every peer that has a place is visited, in the order of the
-/// places: it is read from where the core would take bytes, written to what the core lends, and let go where it is lost
-/// or its connection is to be closed. A call of the door that fails is counted, and serving goes on.
-/// It goes on in the same way where memory is refused: a connection is turned away then, or a line is answered by 500.
+/// Serves the peers of a door for this many turns, over a core that has no connection. Returns how many connections were
+/// opened, and how many calls of the door failed.
+///
+/// Each turn advances the core to the time that the door tells, accepts one peer, and visits each peer that has a place.
+/// A visit reads the peer if its connection accepts bytes, and writes what the core lends. It closes the peer if that is
+/// lost or its connection is to be closed. Serving goes on after a call that fails. It goes on if memory is refused, too:
+/// a newcomer is closed then, or a line is answered by 500.
 pub fn serve<R: Rows, D: Door>(core: &mut Core<'_, R>, door: &mut D, turns: u64) -> Served
     ensures turns { result.turns ≡ turns }
     ensures faults { D.faults door.new < 18446744073709551615 → D.faults door.old + result.faults ≡ D.faults door.new }
@@ -43,7 +45,7 @@ pub fn serve<R: Rows, D: Door>(core: &mut Core<'_, R>, door: &mut D, turns: u64)
     }
 }
 
-/// A count after one more, where there was one.
+/// Returns the count, and one more if `counts` says so.
 fn one_more_if(counts: bool, count: u64) -> u64
     requires { count < 18446744073709551615 }
     ensures { result ≡ count + one_if counts }
@@ -51,7 +53,7 @@ fn one_more_if(counts: bool, count: u64) -> u64
     if counts { count + 1 } else { count }
 }
 
-/// Makes a turn. Answers whether a newcomer was let in.
+/// Makes a turn. Returns whether a newcomer was let in.
 fn turn<R: Rows, D: Door>(
     core: &mut Core<'_, R>,
     door: &mut D,
@@ -89,7 +91,7 @@ fn visit_places<R: Rows, D: Door>(
     }
 }
 
-/// Visits the peer that has the place, if one does. The place is free where it is let go.
+/// Visits the peer that has the place, if one does. Frees the place if the visit closed the peer.
 fn visit_place<R: Rows, D: Door>(
     core: &mut Core<'_, R>,
     door: &mut D,
@@ -113,8 +115,8 @@ fn visit_place<R: Rows, D: Door>(
     }
 }
 
-/// Takes the present moment; where the door fails to tell it, the core keeps the one before. The door is told first
-/// until when it may wait.
+/// Tells the door what to expect, asks it for the time, and advances the core to that. If the door fails, the core keeps
+/// its moment.
 fn take_moment<R: Rows, D: Door>(core: &mut Core<'_, R>, door: &mut D, tally: &mut Tally)
     requires { tally.old.faults ≤ D.faults door.old }
     ensures faults { CountsFaults tally.old.faults (D.faults door.old) tally.new.faults (D.faults door.new) }
@@ -129,7 +131,7 @@ fn take_moment<R: Rows, D: Door>(core: &mut Core<'_, R>, door: &mut D, tally: &m
     }
 }
 
-/// Lets one peer in, to the first free place; it is let go where the core refuses it. Answers whether one was let in.
+/// Accepts one peer, if one wants in. Returns whether it got a place.
 fn let_in<R: Rows, D: Door>(
     core: &mut Core<'_, R>,
     door: &mut D,
@@ -151,7 +153,8 @@ fn let_in<R: Rows, D: Door>(
     }
 }
 
-/// Seats a peer in the first free place; it is let go where the core refuses it. Answers whether it was seated.
+/// Gives a peer a connection and the first free place. Closes the peer if the core refuses the connection. Returns
+/// whether the peer got a place.
 fn seat<R: Rows, D: Door>(
     core: &mut Core<'_, R>,
     door: &mut D,
@@ -169,7 +172,7 @@ fn seat<R: Rows, D: Door>(
         return false;
     };
     let seat = Seat { peer, key };
-    // A core that lets one in has fewer connections than there are places.
+    // The core had fewer connections than there are places, so one is free.
     let Some(free) = places.first_free() else {
         let_go(core, door, &seat, tally);
         return false;

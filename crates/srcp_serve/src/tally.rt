@@ -1,22 +1,24 @@
+//! The count of calls of a door that failed.
+
 ghost use Rattle.std.specs.Prelude.{◌≡◌};
 ghost use Rattle.srcp_serve.specs.Calls.{one_more};
 
-/// How many calls of a door failed. The count stays at the greatest u64.
+/// The number of calls of a door that failed. It stops at the greatest u64.
 #[derive(Drop)]
 pub(crate) struct Tally {
-    /// The calls that failed.
+    /// The number of calls that failed.
     pub faults: u64,
 }
 
 impl Tally {
-    /// No call failed.
+    /// Returns a tally of 0.
     pub(crate) fn new() -> Tally
         ensures { result ≡ record { faults = 0 } }
     {
         Tally { faults: 0 }
     }
 
-    /// One more call of the door failed.
+    /// Counts one more call that failed.
     pub(crate) fn fault(&mut self)
         ensures { self.new ≡ record self.old { faults = one_more self.old.faults } }
     {

@@ -1,4 +1,4 @@
-//! Who has which place.
+//! Which peer has which place.
 
 ghost use Rattle.std.specs.Prelude.{◌≡◌, ◌<◌, ◌≤◌, Some, None, is_none, length, option_copied, position, replicate};
 ghost use Rattle.std.specs.Prelude.{slice_set};
@@ -9,11 +9,11 @@ use super::visit::Seat;
 use srcp_core::MOST_CONNECTIONS;
 use std::marker::Model;
 
-/// The places, each with the peer that has it. Contracts see it as the list of all places.
+/// The places, each with the peer that has it. Contracts see them as a list.
 #[derive(Drop)]
 pub(super) struct Places {
     seats: [Option<Seat>; MOST_CONNECTIONS],
-    // The places from here on are free, so that a turn need not look at them.
+    // All places from here on are free, so a turn need not look at them.
     end: usize,
 }
 
@@ -42,7 +42,7 @@ impl Places {
         }
     }
 
-    /// Returns how many places may be taken: those behind them are free.
+    /// Returns an end of the places that may be taken: all from it on are free.
     pub(super) fn end(&self) -> usize
         ensures free { AreFreeFrom result self.now }
         ensures most { result ≤ MOST_CONNECTIONS }
@@ -51,7 +51,7 @@ impl Places {
         self.end
     }
 
-    /// Lends the peer that has the place, if one does.
+    /// Returns the peer that has the place, if one does.
     pub(super) fn seat(&self, place: usize) -> Option<&Seat>
         requires { place < MOST_CONNECTIONS }
         ensures { option_copied result ≡ slice_index_or self.now place None }
@@ -59,7 +59,7 @@ impl Places {
         self.seats[place].as_ref()
     }
 
-    /// Returns the first place that is free.
+    /// Returns the first free place, if there is one.
     pub(super) fn first_free(&self) -> Option<usize>
         ensures first { result ≡ position is_none self.now }
         ensures all { length self.now ≡ MOST_CONNECTIONS }

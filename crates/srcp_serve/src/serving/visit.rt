@@ -10,13 +10,13 @@ use crate::tally::Tally;
 use srcp_core::{Core, MOST_IN_PIECE};
 use srcp_rules::Rows;
 
-/// How many times a peer is written to in a visit, at most.
+/// The most writes of a visit.
 pub const MOST_WRITES: u32 = 300;
 
-/// The room for what is read of a peer at once. One is kept for all, since it would be cleared for each visit.
+/// The buffer of a read. One serves all peers, since a new one would be cleared for each visit.
 pub(super) type PieceBuffer = [u8; MOST_IN_PIECE];
 
-/// A peer that was let in, and the key of its connection.
+/// A peer that has a connection, and the key of that connection.
 #[derive(Clone, Copy)]
 pub(super) struct Seat {
     pub peer: u32,
@@ -28,14 +28,14 @@ pub(super) struct Seat {
 enum Wrote {
     /// The peer took all that it was handed.
     All,
-    /// There was nothing to hand over, or the peer took less.
+    /// Nothing was lent, or the peer took less.
     Less,
     /// The peer is lost.
     Failed,
 }
 
-/// Reads from the peer and writes to it. Answers whether it keeps its place: it is let go where it is lost, or where
-/// its connection is to be closed.
+/// Reads from the peer and writes to it. Closes it if it is lost or its connection is to be closed. Returns whether it
+/// keeps its place.
 pub(super) fn visit<R: Rows, D: Door>(
     core: &mut Core<'_, R>,
     door: &mut D,
@@ -59,7 +59,7 @@ pub(super) fn visit<R: Rows, D: Door>(
     true
 }
 
-/// Reads from the peer and writes to it. False where it is lost.
+/// Reads from the peer and writes to it. Returns false if it is lost.
 fn exchange<R: Rows, D: Door>(
     core: &mut Core<'_, R>,
     door: &mut D,
@@ -78,7 +78,7 @@ fn exchange<R: Rows, D: Door>(
     write_out(core, door, seat, tally)
 }
 
-/// Shuts the connection of a peer and lets the peer go.
+/// Shuts the connection of a peer and closes the peer.
 pub(super) fn let_go<R: Rows, D: Door>(
     core: &mut Core<'_, R>,
     door: &mut D,
@@ -95,7 +95,7 @@ pub(super) fn let_go<R: Rows, D: Door>(
     close(door, seat.peer, tally);
 }
 
-/// Lets a peer go. One whose closing fails is given up.
+/// Closes a peer. A failure is counted, and the peer is closed all the same.
 pub(super) fn close<D: Door>(door: &mut D, peer: u32, tally: &mut Tally)
     requires { tally.old.faults ≤ D.faults door.old }
     ensures faults { CountsFaults tally.old.faults (D.faults door.old) tally.new.faults (D.faults door.new) }
@@ -108,7 +108,7 @@ pub(super) fn close<D: Door>(door: &mut D, peer: u32, tally: &mut Tally)
     }
 }
 
-/// Reads once where the core would take bytes. False where the peer is lost.
+/// Reads once, if the connection accepts bytes. Returns false if the peer is lost.
 fn read_in<R: Rows, D: Door>(
     core: &mut Core<'_, R>,
     door: &mut D,
@@ -135,7 +135,7 @@ fn read_in<R: Rows, D: Door>(
     }
 }
 
-/// Writes what the core lends, again and again while the peer takes all of it. False where the peer is lost.
+/// Writes what the core lends, as long as the peer takes all of it. Returns false if the peer is lost.
 fn write_out<R: Rows, D: Door>(
     core: &mut Core<'_, R>,
     door: &mut D,
@@ -158,6 +158,7 @@ fn write_out<R: Rows, D: Door>(
     true
 }
 
+/// Writes what the core lends, once, and drops of it what the peer took.
 fn write_once<R: Rows, D: Door>(
     core: &mut Core<'_, R>,
     door: &mut D,
