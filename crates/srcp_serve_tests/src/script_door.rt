@@ -1,6 +1,7 @@
 //! A door in memory.
 
-ghost use Rattle.std.specs.Prelude.{◌≡◌, ◌<◌, ◌≤◌, ◌∷◌, ◌++◌, [], ℕ, None, Ok, IfErr, IfOk, IfSome, MatchOption, OnOk, OnErr, length};
+ghost use Rattle.std.specs.Prelude.{◌≡◌, ◌<◌, ◌≤◌, ◌∷◌, ◌++◌, [], ℕ, None, Ok, IfErr, IfOk, IfSome, MatchOption};
+ghost use Rattle.std.specs.Prelude.{OnOk, OnErr, length};
 ghost use Rattle.srcp_serve.specs.declared.door.Got.{Got};
 ghost use Rattle.srcp_serve.specs.Calls.{one_more};
 
@@ -10,17 +11,17 @@ use srcp_serve::{Door, DoorFault, Got};
 use std::alloc::{AllocError, Global};
 use std::vec::Vec;
 
-/// A peer that comes, what it sends, and what it was written.
+/// A peer, with what it sends and what was written to it.
 #[derive(Drop)]
 pub(crate) struct ScriptPeer<'a> {
-    /// What the reads find, one after another: an empty piece is the end, and after the last there is nothing.
+    /// What the reads return, one after another. An empty piece is the end; after the last one there is nothing.
     pieces: &'a [&'a [u8]],
-    /// How many bytes a write takes at most.
+    /// The most bytes that a write takes.
     at_once: usize,
-    /// How many pieces are read.
+    /// How many pieces were read.
     reads: usize,
     written: Vec<u8>,
-    /// How many times the peer was let go.
+    /// How many times the peer was closed.
     closes: u32,
 }
 
@@ -63,15 +64,15 @@ impl<'a> ScriptPeer<'a> {
     }
 }
 
-/// A door to peers that come in their order, one a call. One call of the door may fail. It tells its calls, up to the
-/// first for which memory is refused.
+/// A door to peers that come in their order, one a call. One call of the door may fail. The door keeps its calls, up to
+/// the first one for which memory is refused.
 #[derive(Drop)]
 pub(crate) struct ScriptDoor<'a> {
     alloc: Global,
     /// The moments of the turns; 0 after them.
     moments: &'a [u64],
     peers: Vec<ScriptPeer<'a>>,
-    /// Which call fails, counted from 1; none does where it is 0.
+    /// Which call fails, counted from 1; 0 if none does.
     failing: u32,
     /// How many peers have come.
     arrived: u32,
@@ -104,7 +105,7 @@ impl<'a> ScriptDoor<'a> {
         Ok(())
     }
 
-    /// Returns what was written to the peer of this place, and no bytes if it has none.
+    /// Returns what was written to the peer that came in this place; no bytes if there is none.
     pub(crate) fn written(&self, place: usize) -> &[u8] {
         match self.peers.get(place) {
             Some(peer) => peer.written.as_slice(),
@@ -112,7 +113,7 @@ impl<'a> ScriptDoor<'a> {
         }
     }
 
-    /// How many times the peer that came in this place was let go.
+    /// Returns how many times the peer that came in this place was closed.
     pub(crate) fn closes(&self, place: usize) -> u32 {
         match self.peers.get(place) {
             Some(peer) => peer.closes,
@@ -120,10 +121,10 @@ impl<'a> ScriptDoor<'a> {
         }
     }
 
-    /// The events that the answers so far make.
+    /// Returns the events that the calls so far make.
     ///
     /// # Errors
-    /// Where memory is refused, or was for a call.
+    /// If memory is refused, or was refused to a call.
     pub(crate) fn events(&self) -> Result<Vec<Event>, AllocError> {
         match &self.told {
             Some(calls) => events_of(self.alloc, calls),
@@ -131,7 +132,7 @@ impl<'a> ScriptDoor<'a> {
         }
     }
 
-    /// One more call; it fails where that is the one to fail.
+    /// Counts one more call. It fails if it is the one that is to fail.
     fn call(&mut self, fault: DoorFault) -> Result<(), DoorFault>
         ensures ok { OnOk result (self.new.faults ≡ self.old.faults) }
         ensures err { OnErr result (self.new.faults ≡ one_more self.old.faults) }
@@ -147,7 +148,7 @@ impl<'a> ScriptDoor<'a> {
         }
     }
 
-    /// Tells a call with its answer.
+    /// Keeps a call with its answer.
     fn tell(&mut self, asked: Asked)
         ensures faults { self.new.faults ≡ self.old.faults }
         ensures told { MatchOption self.old.told (self.new.told ≡ None) (λ old.

@@ -31,7 +31,7 @@ const MANY_PORTS: Bus = Bus {
 /// What a panel sends.
 const PANEL: [&[u8]; 1] = [b"SET CONNECTIONMODE SRCP INFO\nGO\n"];
 
-/// Serves the peers of a door for so many turns, and runs the events that its answers make.
+/// Serves the peers of a door for this many turns, and runs the events that its calls make.
 fn serve_and_run(
     alloc: Global,
     layout: &Layout,
@@ -45,7 +45,7 @@ fn serve_and_run(
     Ok((served, told))
 }
 
-/// Returns what a connection of a run was sent, and no bytes if there is no such connection.
+/// Returns what a connection of a run was sent; no bytes if there is no such connection.
 fn sent(told: &Record, place: usize) -> &[u8] {
     match told.connections.as_slice().get(place) {
         Some(conn) => conn.sent.as_slice(),

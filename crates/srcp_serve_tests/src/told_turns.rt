@@ -1,11 +1,11 @@
-//! What a door in memory was asked and answered, and the events that its answers make.
+//! The calls of a door in memory, and the events that they make.
 
 use srcp_core::{Event, Piece};
 use srcp_serve::{DoorFault, Got};
 use std::alloc::{AllocError, Global};
 use std::vec::Vec;
 
-/// How many times a peer is written to in a turn.
+/// The most writes of a visit.
 const MOST_WRITES: usize = 300;
 
 /// A call of the door, with its answer.
@@ -36,7 +36,7 @@ pub(crate) enum Asked {
 }
 
 impl Asked {
-    /// Whether the call is about that peer.
+    /// Returns whether the call is about that peer.
     fn is_about(&self, who: u32) -> bool {
         match self {
             Asked::Expect { .. } | Asked::Now(_) | Asked::Accept(_) => false,
@@ -46,7 +46,7 @@ impl Asked {
         }
     }
 
-    /// Whether the peer is lost, or took less than it was handed.
+    /// Returns whether the peer is lost by the call, or took less than it was handed.
     fn stops_writing(&self) -> bool {
         match self {
             Asked::Read { answer, .. } => matches!(answer, Ok(Got::Ended) | Err(_)),
@@ -55,7 +55,7 @@ impl Asked {
         }
     }
 
-    /// What the call about the peer of a connection makes happen by itself.
+    /// Returns the event that the call makes, if it makes one; `conn` is the connection of its peer.
     fn event(&self, alloc: Global, conn: usize) -> Result<Option<Event>, AllocError> {
         Ok(match self {
             Asked::Read {
@@ -83,7 +83,7 @@ struct Seat {
     conn: usize,
 }
 
-/// The events that the answers to these calls make.
+/// Returns the events that these calls make.
 pub(crate) fn events_of(alloc: Global, calls: &[Asked]) -> Result<Vec<Event>, AllocError> {
     let mut events = Vec::new(alloc);
     let mut places = Vec::new(alloc);
@@ -104,7 +104,7 @@ pub(crate) fn events_of(alloc: Global, calls: &[Asked]) -> Result<Vec<Event>, Al
     Ok(events)
 }
 
-/// A newcomer is turned away where nothing is asked of it before it is let go.
+/// Returns whether the newcomer is closed before anything else is asked of it.
 fn turns_away(turn: &[Asked], newcomer: u32) -> bool {
     let first = turn.iter().find(|call| call.is_about(newcomer));
     first.is_some_and(|call| matches!(call, Asked::Close { .. }))
@@ -133,7 +133,7 @@ fn push_visits(
     Ok(())
 }
 
-/// Appends the events of the visit of a peer that has a place, which is free where the peer is let go.
+/// Appends the events of the visit of the peer that has the place, if one does. Frees the place if the visit closes it.
 fn push_visit(
     alloc: Global,
     turn: &[Asked],
