@@ -28,6 +28,7 @@ impl Peer {
     }
 
     /// Flushes a peer that is there, and goes on with one that was let go.
+    #[inline(always)]
     pub(crate) fn hand_over<S: System>(&mut self, system: &mut S, what: Flush)
         requires { IsKept (S.told system.old) self.old }
         ensures kept { IsKept (S.told system.new) self.new }
@@ -44,6 +45,7 @@ impl Peer {
     }
 
     /// Goes on with a peer that was let go.
+    #[inline(never)]
     fn part<S: System>(&mut self, system: &mut S)
         requires { IsKept (S.told system.old) self.old }
         ensures kept { IsKept (S.told system.new) self.new }

@@ -46,6 +46,8 @@ enum Due {
 pub struct Peer {
     /// The number of its socket.
     pub number: u32,
+    /// How many lines may still be queued for it in this visit while its socket refuses more.
+    pub room: u32,
     /// What it was written that its socket did not take yet.
     pub outgoing: Outgoing,
     /// What was read of it and not handed out.
@@ -64,8 +66,6 @@ pub struct Peer {
     pub ending: Ending,
     /// Whether input of it was handed out since it was flushed: what it is written then is an answer.
     pub asked: bool,
-    /// How many lines may still be queued for it in this visit while its socket refuses more.
-    pub room: u32,
 }
 
 /// What a read of a peer gave.
@@ -126,6 +126,7 @@ impl Peer {
     }
 
     /// Writes once what is queued, if its socket may take something, and what is flushed says that it is to.
+    #[inline(always)]
     pub fn flush<S: System>(&mut self, system: &mut S, what: Flush)
         requires { IsKept (S.told system.old) self.old }
         ensures kept { IsKept (S.told system.new) self.new }
@@ -142,6 +143,7 @@ impl Peer {
         self.write_out(system, what);
     }
 
+    #[inline(always)]
     fn write_out<S: System>(&mut self, system: &mut S, what: Flush)
         requires { IsKept (S.told system.old) self.old }
         ensures kept { IsKept (S.told system.new) self.new }
@@ -216,6 +218,7 @@ impl Peer {
     }
 
     /// Reads its socket once, if a read may find something and less than a piece is held.
+    #[inline(always)]
     pub(crate) fn fill<S: System>(&mut self, system: &mut S)
         requires { IsKept (S.told system.old) self.old }
         ensures kept { IsKept (S.told system.new) self.new }
@@ -380,13 +383,12 @@ impl Peer {
         } }
     {
         match self.output {
-            Writing::Lost => bytes.len(),
-            Writing::Full if self.room == 0 => 0,
-            Writing::Open | Writing::Full => {
-                self.room = self.room.saturating_sub(1);
-                self.outgoing.take(bytes)
-            }
+            Writing::Open => (),
+            Writing::Full if self.room > 0 => self.room -= 1,
+            Writing::Full => return 0,
+            Writing::Lost => return bytes.len(),
         }
+        self.outgoing.take(bytes)
     }
 
     /// Returns whether something is queued that its socket may still take.
