@@ -40,7 +40,7 @@ above_values : (k : Key) (es : Entries) → AreAtKeys es → AllByRecursion (λ 
 above_values k [] h a = tt
 above_values k (e ∷ es) h a = (subst (λ (q : Key). key_cmp k q ≡ Less) h.0 a.0, above_values k es h.1 a.1)
 
--- where the keys rise, so do the rows
+-- if the keys rise, so do the rows
 pub rising_values : (es : Entries) → AreAtKeys es → IsStrictlySortedBy key_cmp (keys_of es) → IsRisingBy key_at (values_of es)
 rising_values [] h s = tt
 rising_values (e ∷ es) h s = (
@@ -85,7 +85,7 @@ values-insert x (e ∷ es) h r = by_order (values-insert x es h.1 r.1) (key_cmp 
         let before : is_after e.1.key x.key ≡ false = after_one_way x.key e.1.key after in
         rw (gt, after, before) (ap (λ (rows : List Shown). e.1 ∷ rows) more)
 
--- it is one more where its key is not there
+-- it is one more if its key is not there
 pub length-insert : (k : Key) (v : Shown) (es : Entries) → lookup (is_at (key_cmp k)) es ≡ None
     → length (values_of (insert_entry key_cmp es k v)) ≡ length (values_of es) + 1
 length-insert k v [] none = refl
@@ -203,7 +203,7 @@ module _ (device : Device) where
       by_order more Equal eq = from_here (ap is_gt eq) (rw eq at h)
       by_order more Greater gt = (ap not (below_first e.0 (ap is_gt gt)), more (rw gt at h))
 
-  -- where the first entry from the device's first key on is not the device's, the device has none
+  -- if the first entry from the device's first key on is not the device's, the device has none
   none_owned : (es : Entries) → IsStrictlySortedBy key_cmp (keys_of es) → IsOfAnother device (from_first es)
       → es ≡ filter (λ e. not (owns device e.0)) es
   none_owned es s h = sym (filter_every (λ e. not (owns device e.0)) es (all_others es s h))

@@ -25,14 +25,14 @@ use Rattle.srcp_info.proofs.LineLaws.{join-cons}
 
 -- ---- a text cut at the first byte that passes
 
--- where one does
+-- if one does
 pub cut_some : (p : ℕ → Bool) (xs : List ℕ) (n : ℕ) → position p xs ≡ Some n
     → (take n xs ≡ before_first p xs) × (drop (n + 1) xs ≡ after_first p xs)
 cut_some p xs n e =
     let at = (position_some p xs n e).0 in
     (ap (λ k. take k xs) (sym at), ap (λ k. drop (k + 1) xs) (sym at))
 
--- where none does
+-- if none does
 pub cut_none : (p : ℕ → Bool) (xs : List ℕ) → position p xs ≡ None → (xs ≡ before_first p xs) × ([] ≡ after_first p xs)
 cut_none p xs e =
     elim (cases_lt (position_or_len p xs) (length xs)) [
@@ -64,7 +64,7 @@ pub after_first-append : (p : ℕ → Bool) (w : List ℕ) (y : ℕ) (ys : List 
     → after_first p (w ++ y ∷ ys) ≡ ys
 after_first-append p w y ys e h = rw (position_or_len-append p w y ys e h) (drop-append-add w (y ∷ ys) 1)
 
--- and where none passes, all of it and nothing
+-- and if none passes, all of it and nothing
 pub before_first-none : (p : ℕ → Bool) (w : List ℕ) → list_any p w ≡ false → before_first p w ≡ w
 before_first-none p w e = take_all (position_or_len p w) w (omega (arith, position_or_len-none p w e))
 
@@ -139,7 +139,7 @@ bits_none (b ∷ bs) rest is e =
     length_bit true = refl
     length_bit false = refl
 
--- and where there is a text there is a first
+-- and if there is a text there is a first
 pub bits_some : (bits : List Bool) (rest : List ℕ) → rest ≡ join_with_byte 32 (map bit_word bits) → (length rest == 0) ≡ false
     → (b : Bool) × (bs : List Bool) × (bits ≡ b ∷ bs)
 bits_some [] rest is e = absurd (both_ways (length rest == 0) e (rw is refl))

@@ -20,7 +20,7 @@ use Rattle.srcp_info.specs.Line.{line, change_words, value_code, value_words, sw
 use Rattle.srcp_info.specs.Read.{kind_code, IsLineOf}
 use Rattle.srcp_info.specs.WellFormed.{IsWellFormed, IsAddress}
 
--- what was taken where it fits, or another value, is it where it fits
+-- what was taken if it fits, or another value, is it if it fits
 pub taken_fits : {E : Type 0} (r : Result ℕ E) (P : Type 0) (v d : ℕ) → OkIff r P v → P → result_unwrap_or r d ≡ v
 taken_fits (Ok x) P v d h p = h.1
 taken_fits (Err e) P v d h p = absurd (h p)
@@ -95,7 +95,7 @@ without_lf change items rest whole front =
     front ∙ ap (λ (ys : List ℕ). take (length ys - 1) ys) whole ∙ ap (λ k. take k (text ++ codes "\n")) shorter
     ∙ take-append_seam text (codes "\n")
 
--- where that is the text, the text is the line of the change
+-- if that is the text, the text is the line of the change
 pub is_line : (text rest : List ℕ) (change : Change) → IsWellFormed change → rest ≡ join_with_byte 32 (change_words change) → rest ≡ text
     → IsLineOf text change
 is_line text rest change ok words same = record { well_formed = ok; same = ap (λ (ys : List ℕ). ys ++ codes "\n") (sym words ∙ same) }

@@ -50,7 +50,7 @@ impl Model for Mirror {
 }
 
 impl Mirror {
-    /// A mirror of no rows. It takes no memory yet.
+    /// Makes a mirror of no rows. Takes no memory.
     pub fn new(alloc: Global) -> Mirror
         ensures { result ≡ [] }
     {
@@ -60,7 +60,7 @@ impl Mirror {
     }
 
     /// Applies a line, without its LF: its row is put at its key, or all rows of its device are
-    /// taken out. `NotInfo` where it is not the line of a well-formed change, and `Memory` where
+    /// taken out. `NotInfo` if it is not the line of a well-formed change, and `Memory` if
     /// its row is one more and memory for it is refused. Both leave the mirror as it was.
     pub fn apply(&mut self, line: &[u8]) -> Result<(), MirrorFault>
         ensures ok { OnOk result ((change : Change)
@@ -87,7 +87,7 @@ impl Mirror {
         }
     }
 
-    /// The rows, by rising key.
+    /// Returns the rows, by rising key.
     pub fn rows(&self) -> Values<'_, Key, Shown>
         ensures rows { result ≡ self.now }
         ensures rising { IsRisingBy (λ row. row.key) result }

@@ -237,7 +237,7 @@ fn next_head(line: &[u8]) -> (Head, &[u8])
 }
 
 /// The change whose line this is, if it is the line of a well-formed change. Otherwise any.
-fn told_by(line: &[u8]) -> Change
+fn change_of(line: &[u8]) -> Change
     ensures { (change : Change) → IsLineOf line.now change → result ≡ change }
 {
     let (head, rest) = next_head(line);
@@ -281,7 +281,7 @@ fn told_by(line: &[u8]) -> Change
 pub fn read_change(line: &[u8]) -> Option<Change>
     ensures { Reads line.now result }
 {
-    let change = told_by(line);
+    let change = change_of(line);
     if !is_well_formed(change) {
         return None;
     }

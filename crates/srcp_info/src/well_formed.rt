@@ -1,4 +1,4 @@
-//! Which rows and changes can be told.
+//! Which rows and changes have a line.
 
 ghost use Rattle.std.specs.Prelude.{◌≡◌, ◌≤◌, ◌↔◌, IsTrue};
 ghost use Rattle.std.specs.List.{list_all, slice_split};
@@ -47,8 +47,8 @@ fn are_text_words(text: &[u8]) -> bool
         .all(|word| is_text_word(word))
 }
 
-/// Whether a power row can show the text: at most 80 bytes, with no control bytes and no DEL, and
-/// each space between two words.
+/// Returns whether a power row can show the text: at most 80 bytes, with no control bytes and no DEL,
+/// and each space between two words.
 pub fn is_text(text: &[u8]) -> bool
     ensures { result ≡ is_text text.now }
 {
@@ -148,7 +148,7 @@ fn is_value_at(group: Group, port: u8, value: &Value) -> bool
     }
 }
 
-/// Whether the change can be told: its numbers are in the ranges of their group, and its value is
+/// Whether the change has a line: its numbers are in the ranges of their group, and its value is
 /// one that the row at its key can have.
 pub(crate) fn is_well_formed(change: Change) -> bool
     ensures { IsTrue result ↔ IsWellFormed change }

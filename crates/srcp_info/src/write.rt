@@ -41,7 +41,7 @@ fn put_word<const N: usize>(word: &[u8], buffer: &mut ArrayVec<u8, N>)
     put_bytes(word, buffer);
 }
 
-/// Appends a space and a bit: 1 where it is on, else 0.
+/// Appends a space and a bit: 1 if it is on, else 0.
 fn put_bit<const N: usize>(on: bool, buffer: &mut ArrayVec<u8, N>)
     requires { array_vec_len buffer.old + 1 + length (bit_word on) ≤ N }
     ensures { buffer.new.items ≡ buffer.old.items ++ 32 ∷ bit_word on }
@@ -89,7 +89,7 @@ fn put_group<const N: usize>(group: Group, buffer: &mut ArrayVec<u8, N>)
     }
 }
 
-/// Appends what a POWER line says: ON or OFF, and the text where there is one.
+/// Appends what a POWER line says: ON or OFF, and the text if there is one.
 fn put_power<const N: usize>(on: bool, text: &Text, buffer: &mut ArrayVec<u8, N>)
     requires { array_vec_len buffer.old
         + length (after_spaces (value_words 0 0 (Value.Power on text.now))) ≤ N }
@@ -266,9 +266,9 @@ fn write_go<const N: usize>(stamp: u64, id: u32, buffer: &mut ArrayVec<u8, N>)
     buffer.push(b'\n');
 }
 
-/// Writes the line of a reply at a moment of `stamp` milliseconds, with its LF, into an empty
-/// buffer. A row that is shown keeps its own stamp. The line has at most 126 bytes, and at most 64
-/// where it shows no row. It takes no memory.
+/// Writes the line of a reply at a moment of `stamp` milliseconds, with its LF, into an empty buffer.
+/// A row that is shown keeps its own stamp. The line has at most 126 bytes, and at most 64 if it shows
+/// no row. Takes no memory.
 pub fn write_reply<const N: usize>(stamp: u64, reply: &Reply, buffer: &mut ArrayVec<u8, N>)
     requires well_formed { IsWellFormedReply reply.now }
     requires fits { LONGEST_LINE ≤ N }

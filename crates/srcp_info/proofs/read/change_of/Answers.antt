@@ -7,7 +7,7 @@ use Rattle.srcp_info.specs.declared.change.Change.TheVariants.{Put, Gone}
 use Rattle.srcp_info.specs.Line.{info_words, value_words}
 use Rattle.srcp_info.specs.Read.{IsLineOf, kind_code}
 use Rattle.srcp_info.proofs.TellsLaws.{kind_of_value, value_kind, value_not_term, device_fits, text_of_line}
-use Rattle.srcp_info.proofs.read.told_by.Goals as goal
+use Rattle.srcp_info.proofs.read.change_of.Goals as goal
 
 pub returns-in-Term : goal.returns-in-Term
 returns-in-Term c = each
