@@ -47,12 +47,12 @@ required_in of (Some value) = Ok value
 abbrev pub required : Field → Members → Reading Data
 required of members = required_in of (get_member (field_key of) members)
 
--- the integer, or the default where there is no value
+-- the integer, or the default if there is no value
 abbrev pub or_default : (default low high : ℕ) → Field → Option Data → Reading ℕ
 or_default default low high of None = Ok default
 or_default default low high of (Some value) = ranged low high of value
 
--- the integer at the key, or the default where it is not given
+-- the integer at the key, or the default if it is not given
 abbrev pub given_or : (default low high : ℕ) → Field → Members → Reading ℕ
 given_or default low high of members = or_default default low high of (get_member (field_key of) members)
 
@@ -96,9 +96,9 @@ groups_in before (value ∷ values) = do
   text ← group_in value
   groups_in (with_group before text) values
 
--- what is read only where the bus has the group
-abbrev pub where_named : {A : Type 0} → Bool → (otherwise : A) → Reading A → Reading A
-where_named is_there otherwise reading = if is_there then reading else Ok otherwise
+-- what is read only if the bus has the group
+abbrev pub if_named : {A : Type 0} → Bool → (otherwise : A) → Reading A → Reading A
+if_named is_there otherwise reading = if is_there then reading else Ok otherwise
 
 -- ---- buses
 
@@ -115,10 +115,10 @@ abbrev pub bus_of : List Bus → Members → Reading Bus
 bus_of before members = do
   number ← number_beside before members
   groups ← required field.Groups members >>= (λ value. array_in field.Groups value >>= groups_in no_groups)
-  gl_max ← where_named groups.gl 0 (number_in 1 10239 field.GlMax members)
-  ga_max ← where_named groups.ga 0 (number_in 1 2044 field.GaMax members)
-  ga_ports ← where_named groups.ga 2 (given_or 2 2 8 field.GaPorts members)
-  fb_ports ← where_named groups.fb 0 (number_in 1 4096 field.FbPorts members)
+  gl_max ← if_named groups.gl 0 (number_in 1 10239 field.GlMax members)
+  ga_max ← if_named groups.ga 0 (number_in 1 2044 field.GaMax members)
+  ga_ports ← if_named groups.ga 2 (given_or 2 2 8 field.GaPorts members)
+  fb_ports ← if_named groups.fb 0 (number_in 1 4096 field.FbPorts members)
   Ok (record {
     number = number;
     power = groups.power;
@@ -149,7 +149,7 @@ config_in members = do
   buses ← required field.Bus members >>= (λ value. array_in field.Bus value >>= buses_in [])
   Ok (record { port = port; layout = buses })
 
--- the members of a document, where the bytes are one
+-- the members of a document, if the bytes are one
 abbrev pub parsed : Option Members → Reading Members
 parsed None = Err fault.NotToml
 parsed (Some members) = Ok members

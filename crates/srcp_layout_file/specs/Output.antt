@@ -4,11 +4,11 @@ use Rattle.srcp_info.specs.Line.{spaced}
 use Rattle.srcp_rules.specs.declared.layout.Bus.{Bus}
 use Rattle.srcp_layout_file.specs.declared.config.Config.{Config}
 
--- a group's name and how many devices it has, where it has any
+-- a group's name and how many devices it has, if it has any
 abbrev pub group_words : (name : List ℕ) → ℕ → List (List ℕ)
 group_words name count = if count == 0 then [] else name ∷ decimal count ∷ []
 
--- the ports of an accessory are told where there are more than two
+-- the ports of an accessory are printed if there are more than two
 abbrev pub port_words : Bus → List (List ℕ)
 port_words bus = if nat_lt 0 bus.ga_max && nat_lt 2 bus.ga_ports then codes "PORTS" ∷ decimal bus.ga_ports ∷ [] else []
 

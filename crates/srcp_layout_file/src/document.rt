@@ -6,27 +6,27 @@ ghost use Rattle.srcp_rules.specs.Layout.{IsBus, has_number};
 ghost use Rattle.srcp_layout_file.specs.Gives.{Gives};
 ghost use Rattle.srcp_layout_file.specs.declared.config.Field.TheVariants as field;
 ghost use Rattle.srcp_layout_file.specs.Document.{config_of, config_in, buses_in, bus_in, bus_of, number_beside};
-ghost use Rattle.srcp_layout_file.specs.Document.{given_or, where_named};
+ghost use Rattle.srcp_layout_file.specs.Document.{given_or, if_named};
 
 mod groups;
 mod member;
 
 use crate::config::{Config, ConfigFault, Field};
 use groups::groups_in;
-use member::{array_in, given_or, number_in, number_where, required};
+use member::{array_in, given_or, number_if, number_in, required};
 use srcp_info::{GREATEST_FB, GREATEST_GA, GREATEST_GL};
 use srcp_rules::{Bus, Layout, LayoutFault};
 use std::alloc::Global;
 use toml::{Table, Value};
 
-/// What the bytes of a configuration say: a TOML document with a port and buses. Keys that are not
-/// named here are not read.
+/// Reads a configuration: a TOML document with a port and buses. Keys that are not named here are not
+/// read.
 ///
 /// # Errors
 /// The first fault, in this order: the document (`NotToml`); the port; the buses; and then bus by bus
 /// in the order of the document its number, whether a bus before it has that number (`Twice`), its
-/// groups from left to right, and what these need: gl_max, ga_max, ga_ports, fb_ports. `Memory` where
-/// a growth was refused.
+/// groups from left to right, and what these need: gl_max, ga_max, ga_ports, fb_ports. `Memory` if
+/// memory is refused.
 pub fn read_layout(alloc: Global, bytes: &[u8]) -> Result<Config, ConfigFault>
     ensures { Gives (λ config. config) ConfigFault.Memory result (config_of bytes.now) }
 {
@@ -66,7 +66,7 @@ fn read_buses(alloc: Global, values: &[Value]) -> Result<Layout, ConfigFault>
     Ok(layout)
 }
 
-/// A bus beside those before it.
+/// A bus, which differs from those before it.
 fn bus_in(before: &Layout, value: &Value) -> Result<Bus, ConfigFault>
     ensures bus { result ≡ bus_in before.now (data_of value.now) }
     ensures new { IfOk result (λ bus. IsBus bus × (has_number before.now bus.number ≡ false)) }
@@ -77,17 +77,17 @@ fn bus_in(before: &Layout, value: &Value) -> Result<Bus, ConfigFault>
     }
 }
 
-/// Its number, its groups, and what these need.
+/// The number of a bus, its groups, and what these need.
 fn bus_of(before: &Layout, members: &Table) -> Result<Bus, ConfigFault>
     ensures bus { result ≡ bus_of before.now (table_view members.now) }
     ensures new { IfOk result (λ bus. IsBus bus × (has_number before.now bus.number ≡ false)) }
 {
     let number = number_beside(before, members)?;
     let groups = groups_in(array_in(required(members, Field::Groups)?, Field::Groups)?)?;
-    let gl_max = number_where(groups.gl, members, Field::GlMax, 1, GREATEST_GL)?;
-    let ga_max = number_where(groups.ga, members, Field::GaMax, 1, GREATEST_GA)?;
-    let ga_ports = ports_where(groups.ga, members)?;
-    let fb_ports = number_where(groups.fb, members, Field::FbPorts, 1, GREATEST_FB)?;
+    let gl_max = number_if(groups.gl, members, Field::GlMax, 1, GREATEST_GL)?;
+    let ga_max = number_if(groups.ga, members, Field::GaMax, 1, GREATEST_GA)?;
+    let ga_ports = ports_if(groups.ga, members)?;
+    let fb_ports = number_if(groups.fb, members, Field::FbPorts, 1, GREATEST_FB)?;
     Ok(Bus {
         number,
         power: groups.power,
@@ -98,7 +98,7 @@ fn bus_of(before: &Layout, members: &Table) -> Result<Bus, ConfigFault>
     })
 }
 
-/// The number of a bus that is not there yet.
+/// The number of a bus, which no bus before it has.
 fn number_beside(before: &Layout, members: &Table) -> Result<u8, ConfigFault>
     ensures number { result ≡ number_beside before.now (table_view members.now) }
     ensures new { IfOk result (λ number.
@@ -112,10 +112,10 @@ fn number_beside(before: &Layout, members: &Table) -> Result<u8, ConfigFault>
     }
 }
 
-/// How many ports an accessory has, which is read only where the bus has accessories.
-fn ports_where(is_there: bool, members: &Table) -> Result<u8, ConfigFault>
+/// How many ports an accessory has, which is read only if the bus has accessories.
+fn ports_if(is_there: bool, members: &Table) -> Result<u8, ConfigFault>
     ensures ports { result
-        ≡ where_named is_there 2 (given_or 2 2 8 field.GaPorts (table_view members.now)) }
+        ≡ if_named is_there 2 (given_or 2 2 8 field.GaPorts (table_view members.now)) }
     ensures within { IfOk result (λ ports. (2 ≤ ports) × (ports ≤ 8)) }
 {
     if is_there {

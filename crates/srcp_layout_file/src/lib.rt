@@ -1,5 +1,5 @@
 //! The file that says which layout is served: it reads a TOML document into the port and the buses (`read_layout`),
-//! tells its first fault (`ConfigFault`), and prints what it says (`print_config`).
+//! names its first fault (`ConfigFault`), and prints what it says (`print_config`).
 //!
 //! It opens no file; its callers hand it bytes. It makes no registry of the layout, and knows
 //! no script, no connection and none of the program's words.

@@ -12,7 +12,7 @@ use std::string::String;
 use std::vec::Vec;
 
 /// Prints what a configuration says: the port, and for each bus, by rising number, its groups with how much there is of
-/// each. The ports of an accessory are printed where there are more than two.
+/// each. The ports of an accessory are printed if there are more than two.
 pub fn print_config(alloc: Global, config: &Config) -> Result<Vec<u8>, AllocError>
     ensures { IfOk result (λ text. text.items ≡ checked config.now) }
 {
@@ -62,7 +62,7 @@ fn print_power(power: bool, text: &mut Vec<u8>) -> Result<(), AllocError>
     Ok(())
 }
 
-/// A group's name and how much there is of it, where there is any.
+/// Prints a group's name and how much there is of it, if there is any.
 fn print_group(alloc: Global, name: &str, count: u32, text: &mut Vec<u8>) -> Result<(), AllocError>
     ensures { OnOk result (text.new.items
         ≡ text.old.items ++ after_spaces (group_words name.now count)) }
@@ -73,7 +73,7 @@ fn print_group(alloc: Global, name: &str, count: u32, text: &mut Vec<u8>) -> Res
     print_count(alloc, name, count, text)
 }
 
-/// How many ports an accessory of the bus has, where there are more than two.
+/// Prints how many ports an accessory of the bus has, if there are more than two.
 fn print_ports(alloc: Global, bus: &Bus, text: &mut Vec<u8>) -> Result<(), AllocError>
     ensures { OnOk result (text.new.items ≡ text.old.items ++ after_spaces (port_words bus.now)) }
 {

@@ -5,7 +5,7 @@ ghost use Rattle.toml.specs.Data.{get_member};
 ghost use Rattle.toml.specs.View.{table_view, view as data_of};
 ghost use Rattle.srcp_layout_file.specs.Faults.{field_key};
 ghost use Rattle.srcp_layout_file.specs.Gives.{Shows};
-ghost use Rattle.srcp_layout_file.specs.Document.{ranged, array_in, required, given_or, number_in, where_named};
+ghost use Rattle.srcp_layout_file.specs.Document.{ranged, array_in, required, given_or, number_in, if_named};
 
 use crate::config::{ConfigFault, Field};
 use crate::fault::key_of;
@@ -66,7 +66,7 @@ pub(super) fn number_in(
     ranged(required(members, field)?, field, low, high)
 }
 
-/// The integer at the key, or the default where it is not given.
+/// The integer at the key, or the default if it is not given.
 pub(super) fn given_or(
     members: &Table,
     field: Field,
@@ -84,8 +84,8 @@ pub(super) fn given_or(
     }
 }
 
-/// The integer at the key, which is read only where the bus has the group: 0 where it does not.
-pub(super) fn number_where(
+/// The integer at the key, which is read only if the bus has the group: 0 if it does not.
+pub(super) fn number_if(
     is_there: bool,
     members: &Table,
     field: Field,
@@ -93,7 +93,7 @@ pub(super) fn number_where(
     high: u32,
 ) -> Result<u32, ConfigFault>
     ensures value { result
-        ≡ where_named is_there 0 (number_in low high field (table_view members.now)) }
+        ≡ if_named is_there 0 (number_in low high field (table_view members.now)) }
     ensures within { IfOk result (λ n. n ≤ high) }
 {
     if is_there {
