@@ -12,12 +12,12 @@ use Rattle.srcp_core.specs.declared.record.Finish.{Finish}
 use Rattle.srcp_core.specs.declared.record.Finish.TheVariants as finish
 use Rattle.srcp_script.specs.Output.{finish_word}
 
--- where no LF is in the bytes, the last is none
+-- if no LF is in the bytes, the last is none
 no_lf_last : (byte : ℕ) (bytes : List ℕ) → list_any is_lf (byte ∷ bytes) ≡ false → is_lf (get_or (byte ∷ bytes) (length bytes) 0) ≡ false
 no_lf_last byte [] none = (or_parts (is_lf byte) false none).0
 no_lf_last byte (next ∷ bytes) none = no_lf_last next bytes (or_parts (is_lf byte) (list_any is_lf (next ∷ bytes)) none).1
 
--- nothing is left exactly where the last byte is an LF
+-- nothing is left exactly if the last byte is an LF
 pub rest-last : (byte : ℕ) (bytes : List ℕ) → is_empty (rest (byte ∷ bytes)) ≡ is_lf (get_or (byte ∷ bytes) (length bytes) 0)
 rest-last byte [] =
     elim (cases_Bool (is_lf byte)) [

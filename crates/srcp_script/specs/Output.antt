@@ -31,7 +31,7 @@ fault_word fault.Busy = codes "Busy"
 fault_word fault.PieceTooLong = codes "PieceTooLong"
 fault_word fault.Closing = codes "Closing"
 
--- the bytes, and an LF where the last line has none
+-- the bytes, and an LF if the last line has none
 abbrev pub ended : List ℕ → List ℕ
 ended bytes = if is_empty (rest bytes) then bytes else bytes ++ codes "\n"
 

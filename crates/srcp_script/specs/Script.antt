@@ -14,7 +14,7 @@ use Rattle.srcp_script.specs.declared.script.Cause.TheVariants.{Word, Number, Es
 use Rattle.srcp_script.specs.declared.script.ScriptFault.{ScriptFault}
 
 infixl 10 ◌>>=◌
--- what comes after an answer, where it is no error
+-- what comes after an answer, if it is no error
 abbrev pub ◌>>=◌ : {A B E : Type 0} → Result A E → (A → Result B E) → Result B E
 (Ok x) >>= f = f x
 (Err e) >>= f = Err e
@@ -37,11 +37,11 @@ escape byte plain =
     else (if byte == 120 then hex_byte plain  -- x
     else None)))
 
--- the byte in front of what is read
+-- the byte before what is read
 abbrev pub after : ℕ → Option (List ℕ) → Option (List ℕ)
 after byte more = option_map (λ bytes. byte ∷ bytes) more
 
--- both texts, where both can be read
+-- both texts, if both can be read
 abbrev pub joined : Option (List ℕ) → Option (List ℕ) → Option (List ℕ)
 joined first second = option_and_then (λ front. option_map (λ back. front ++ back) second) first
 
@@ -57,7 +57,7 @@ abbrev pub plain_and : List (List ℕ) → Option (List ℕ)
 plain_and [] = Some []
 plain_and (plain ∷ parts) = joined (Some plain) (escapes parts)
 
--- the bytes that a text writes, where each backslash is followed rightly
+-- the bytes that a text writes, if each backslash is followed rightly
 abbrev pub unescaped : List ℕ → Option (List ℕ)
 unescaped text = plain_and (slice_split (λ byte. byte == 92) text)
 
@@ -85,7 +85,7 @@ size part = number_from 0 4294967295 part
 abbrev pub moment : List ℕ → Result ℕ Cause
 moment part = number_from 0 18446744073709551615 part
 
--- the parts of what stands behind such a byte, where there is one
+-- the parts of what follows such a byte, if there is one
 abbrev pub parts_behind : (byte : ℕ) → Option (List ℕ) → List (List ℕ)
 parts_behind byte None = []
 parts_behind byte (Some text) = slice_split (λ b. b == byte) text

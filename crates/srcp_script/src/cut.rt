@@ -7,7 +7,7 @@ ghost use Rattle.srcp_script.specs.Script.{parts_behind};
 
 use memchr::memchr;
 
-/// Cuts a text at the first such byte: what stands before it, and what stands behind it, where there is one.
+/// Cuts a text at the first such byte. Returns what stands before it, and what follows it if there is one.
 #[inline(always)]
 pub fn cut_at(byte: u8, text: &[u8]) -> (&[u8], Option<&[u8]>)
     ensures parts { slice_split (λ b. b == byte) text.now
@@ -23,7 +23,7 @@ pub fn cut_at(byte: u8, text: &[u8]) -> (&[u8], Option<&[u8]>)
     }
 }
 
-/// Returns where such a byte first stands. A space is looked for byte by byte, since the words of a script are short.
+/// Where such a byte first stands. A space is looked for byte by byte, since the words of a script are short.
 #[inline(always)]
 fn find_byte(byte: u8, text: &[u8]) -> Option<usize>
     ensures { result ≡ position (λ b. b == byte) text.now }

@@ -1,10 +1,10 @@
 //! Scripts, and what is printed of their run: it reads a script into the events of a run
-//! (`read_script`), tells its first fault (`ScriptFault`), and prints the record of a run and the row of
+//! (`read_script`), names its first fault (`ScriptFault`), and prints the record of a run and the row of
 //! a registry (`print_shown`). Of a record it prints the line of each connection (`connection_line`),
 //! what ends the last line that it was sent (`line_end`), and what follows the connections
 //! (`print_end`). `cut_at` cuts a text at a byte, as its lines and their words are cut.
 //!
-//! It runs no event: `srcp_core` does that. It reads and writes no device, and knows no configuration.
+//! It runs no event: `srcp_core` does that. It does no input or output, and knows no configuration.
 #![tactic(auto)]
 
 mod cut;

@@ -1,4 +1,4 @@
-//! What a run gave, printed.
+//! The record of a run, printed.
 
 ghost use Rattle.std.specs.Prelude.{◌≡◌, ◌+◌, ◌≤◌, [], ◌∷◌, ◌++◌, OnOk, IfOk, decimal, length, not, string_bytes};
 ghost use Rattle.std.specs.List.{flat_map, AllByRecursion};
@@ -51,7 +51,7 @@ pub fn line_end(bytes: &[u8]) -> &'static [u8]
     if is_cut(bytes) { b"\n" } else { b"" }
 }
 
-/// The bytes do not end in an LF, though there are some.
+/// Whether there are bytes that do not end in an LF.
 fn is_cut(bytes: &[u8]) -> bool
     ensures { result ≡ not (is_empty (rest bytes.now)) }
 {

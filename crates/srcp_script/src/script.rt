@@ -27,19 +27,19 @@ pub enum Cause {
     Memory,
 }
 
-/// The first faulty line of a script, counted from 1 with the lines that are skipped.
+/// The first wrong line of a script, counted from 1 with the lines that are skipped.
 #[derive(Clone, Copy, Debug, PartialEq, Eq, Error)]
 pub struct ScriptFault {
     pub line: usize,
     pub cause: Cause,
 }
 
-/// The events of a script, in order. Lines end in LF, the last may lack it; empty lines and lines that
-/// begin with `#` are skipped.
+/// Reads the events of a script, in order. Lines end in LF, the last may lack it; empty lines and lines
+/// that begin with `#` are skipped.
 ///
 /// # Errors
-/// The first faulty line, and in it the first fault from left to right; `Cause::Memory` only where a
-/// growth was refused.
+/// The first wrong line, and in it the first fault from left to right; `Cause::Memory` only if memory is
+/// refused.
 pub fn read_script(alloc: Global, bytes: &[u8]) -> Result<Vec<Event>, ScriptFault>
     ensures events { IfOk result (λ events. script bytes.now ≡ Ok events.items) }
     ensures refused { IfErr result
@@ -62,7 +62,7 @@ pub fn read_script(alloc: Global, bytes: &[u8]) -> Result<Vec<Event>, ScriptFaul
     Ok(events)
 }
 
-/// Reads the event of a line, and puts it behind the others.
+/// Reads the event of a line, and appends it.
 fn push_event(alloc: Global, line: &[u8], events: &mut Vec<Event>) -> Result<(), Cause>
     ensures pushed { OnOk result ((event : Event) × (event_of line.now ≡ Ok event)
         × (events.new.items ≡ events.old.items ++ event ∷ [])) }
@@ -72,7 +72,7 @@ fn push_event(alloc: Global, line: &[u8], events: &mut Vec<Event>) -> Result<(),
     events.push(event).map_err(|_| Cause::Memory)
 }
 
-/// An empty line, or one that begins with `#`.
+/// Whether the line is empty or begins with `#`.
 fn is_skipped(line: &[u8]) -> bool
     ensures { result ≡ is_skipped line.now }
 {

@@ -10,11 +10,11 @@ use crate::script::Cause;
 use std::alloc::Global;
 use std::vec::Vec;
 
-/// The bytes that a text writes: `\n`, `\r`, `\t`, `\\` and `\xHH` stand for one byte each, any other
+/// Returns the bytes that a text writes: `\n`, `\r`, `\t`, `\\` and `\xHH` stand for one byte each, any other
 /// byte for itself.
 ///
 /// # Errors
-/// `Escape` where a backslash is followed by something else, `Memory` where a growth was refused.
+/// `Escape` if a backslash is followed by something else, `Memory` if memory is refused.
 pub(super) fn unescape(alloc: Global, text: &[u8]) -> Result<Vec<u8>, Cause>
     ensures bytes { IfOk result (λ bytes. unescaped text.now ≡ Some bytes.items) }
     ensures causes { IfErr result (λ cause. cause ≢ Cause.Memory → cause ≡ Cause.Escape) }
@@ -35,7 +35,7 @@ pub(super) fn unescape(alloc: Global, text: &[u8]) -> Result<Vec<u8>, Cause>
     }
 }
 
-/// The byte that a text behind a backslash writes, and what stands behind that.
+/// The byte that a text after a backslash writes, and what follows it.
 fn escaped_byte(text: &[u8]) -> Option<(u8, &[u8])>
     ensures first { MatchOption result (unescaped (92 ∷ text.now) ≡ None) (λ first.
         unescaped (92 ∷ text.now) ≡ after first.0 (unescaped first.1.now)) }
@@ -54,7 +54,7 @@ fn escaped_byte(text: &[u8]) -> Option<(u8, &[u8])>
     }
 }
 
-/// The byte that two hexadecimal digits write, and what stands behind them.
+/// The byte that two hexadecimal digits write, and what follows them.
 fn hex_byte(text: &[u8]) -> Option<(u8, &[u8])>
     ensures first { MatchOption result (unescaped (92 ∷ 120 ∷ text.now) ≡ None) (λ first.
         unescaped (92 ∷ 120 ∷ text.now) ≡ after first.0 (unescaped first.1.now)) }

@@ -12,10 +12,10 @@ use srcp_core::{Event, Piece};
 use srcp_text::{read_number, read_plain};
 use std::alloc::Global;
 
-/// The event of a line.
+/// Reads the event of a line.
 ///
 /// # Errors
-/// The first fault of the line from left to right; `Memory` where a growth was refused.
+/// The first fault of the line from left to right; `Memory` if memory is refused.
 pub(super) fn read_event(alloc: Global, line: &[u8]) -> Result<Event, Cause>
     ensures { MatchResult result
         (λ event. event_of line.now ≡ Ok event)
