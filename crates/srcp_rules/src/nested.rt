@@ -90,6 +90,7 @@ impl Rows for Nested {
         }
     }
 
+    #[inline(always)]
     fn set(&mut self, row: Row) {
         let Some(rows) = self.by_number.get_mut(&row.shown.key.bus) else {
             return;
