@@ -290,7 +290,8 @@ module _ {B : Type 0} (value : B → State) (last : Key) where
       let own = λ (o : Option State). option_map_or (λ rows. row_after (at.After last) rows) o None in
       let rest = λ (n : ℕ). slice_get (device_rows (numbered value (last.address + 1) (drop n places))) 0 in
       row_after-numbered (last.address + 1) 0 last.address (omega arith) refl places devices.each
-      ∙ ap (λ n. option_or (own (option_map value (slice_index_or places last.address None))) (rest n)) {x = suc last.address} {y = last.address + 1} (omega arith)
+      ∙ ap (λ n. option_or (own (option_map value (slice_index_or places last.address None))) (rest n))
+      {x = suc last.address} {y = last.address + 1} (omega arith)
       ∙ ap (λ o. option_or (own o) (rest (last.address + 1)))
       (sym (entry_at-numbered value last.address 0 last.address (omega arith) places))
 

@@ -18,7 +18,8 @@ returns-clause-ok g c =
     (sym (insert_entry-numbered box_value key.address 0 key.address (omega arith) places c.in_ok-reach.ensures.there c.in-Ok.device)
     ∙ ap (λ es. insert_entry nat_cmp es key.address c.in-Ok.device.value) (c.in_ok-reach.ensures.same ∙ c.self.view_is)
     ∙ ap (insert_entry nat_cmp c.args.self.now key.address) (c.in-Ok.ensures.ok ∙ c.of.ensures))
-    ∙ devices-insert key.bus key.group c.args.self.now c.requires.devices key (refl, refl) c.args.added.now c.requires.device c.requires.free
+    ∙ devices-insert key.bus key.group c.args.self.now c.requires.devices key (refl, refl) c.args.added.now
+    c.requires.device c.requires.free
 
 pub returns-clause-devices : goal.returns-clause-devices
 returns-clause-devices g c =
