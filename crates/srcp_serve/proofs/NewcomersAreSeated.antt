@@ -33,8 +33,10 @@ use Rattle.srcp_serve.specs.Turns.{AsksPeers}
 use Rattle.srcp_serve.specs.Visits.{AddsGiven, Closes, CountsAsked, Visits}
 use Rattle.srcp_serve.specs.declared.door.DoorFault.{DoorFault}
 use Rattle.srcp_serve.specs.declared.serving.visit.Seat.{Seat as Own}
-use Rattle.srcp_serve.proofs.PlacesAreTakenAndFreed.{count_append, count_cleared, count_cons, count_seated, count_without, differ_cleared, differ_seated}
-use Rattle.srcp_serve.proofs.PlacesAreTakenAndFreed.{free_in, free_is, length-sit, new_apart, none_free, own_append, sit_pushed, sit_seated, sit_without}
+use Rattle.srcp_serve.proofs.PlacesAreTakenAndFreed.{count_append, count_cleared, count_cons, count_seated, count_without, differ_cleared}
+use Rattle.srcp_serve.proofs.PlacesAreTakenAndFreed.{differ_seated}
+use Rattle.srcp_serve.proofs.PlacesAreTakenAndFreed.{free_in, free_is, length-sit, new_apart, none_free, own_append, sit_pushed, sit_seated}
+use Rattle.srcp_serve.proofs.PlacesAreTakenAndFreed.{sit_without}
 use Rattle.srcp_serve.proofs.PlacesAreTakenAndFreed.{sits_here, visits-append}
 use Rattle.srcp_serve.proofs.RefusalsWereAskedFor.{asked_none, asked_one, asked_then}
 use Rattle.srcp_serve.proofs.CallsAreAdded.{adds_none, adds_one, adds_then, given_then, refusals_then}

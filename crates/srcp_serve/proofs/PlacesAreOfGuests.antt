@@ -125,7 +125,8 @@ module _ (buses : List Bus) (before : ℕ → List ℕ) where
       next : course buses (stand.events ++ Open guest.granted ∷ []) ≡ happens buses (course buses stand.events) (Open guest.granted)
       next = fold-append (happens buses) start stand.events (Open guest.granted ∷ [])
 
-      by : (o : Option CoreFault) → fault buses (course buses stand.events) (Open guest.granted) ≡ o → IsSentAsTaken (welcomed buses stand guest)
+      by : (o : Option CoreFault) → fault buses (course buses stand.events) (Open guest.granted) ≡ o
+          → IsSentAsTaken (welcomed buses stand guest)
       by None e =
           let yes : welcomed buses stand guest ≡ let_in buses stand guest =
           ap (λ o. if is_none o then let_in buses stand guest else record stand { events = stand.events ++ Open guest.granted ∷ [] })

@@ -104,4 +104,5 @@ module _ (buses : List Bus) (before : ℕ → List ℕ) (stand : Stand) (calls :
   -- the step of an induction over turns
   pub sent_after_turn : Begins (filter_map newcomer_of calls)
       → IsSentAsTaken buses (λ peer. before peer ++ taken peer calls) (turned buses stand calls)
-  sent_after_turn b = sent_after_visits buses before (after (filter_map newcomer_of calls)) calls b.first b.still b.asked fair b.none b.sent_before_visits
+  sent_after_turn b =
+      sent_after_visits buses before (after (filter_map newcomer_of calls)) calls b.first b.still b.asked fair b.none b.sent_before_visits

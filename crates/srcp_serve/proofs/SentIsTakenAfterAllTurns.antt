@@ -129,7 +129,8 @@ module _ (buses : List Bus) (before : ℕ → List ℕ) (stand : Stand) (calls :
       let none_before : IsNew peer stand.guests = subst (λ (guests : List ℕ). IsNew peer guests) same_guests none_now in
       let fresh_now : IsFresh before now.guests = λ other h. fresh other (subst (λ (guests : List ℕ). IsNew other guests) same_guests h) in
       let even_after : IsSentAsTaken buses before after =
-      even_begun buses before peers more now new_now fresh_now (sent_after_moments buses before stand (filter_map moment_of calls) as_taken).0 in
+      even_begun buses before peers more now new_now fresh_now
+      (sent_after_moments buses before stand (filter_map moment_of calls) as_taken).0 in
       let unseated : IsNoneOf peer (seats after.places) = new_unseated peer after.guests (seats after.places) none even_after.known in
       ap (λ t. t ++ taken peer calls) (fresh peer none_before)
       ∙ nothing_taken buses before after calls first (away_no_writes buses now.events peers) asked peer unseated

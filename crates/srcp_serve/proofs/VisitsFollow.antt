@@ -1,4 +1,5 @@
 -- A visit: one read, the writes, and how it ends.
+use Rattle.std.proofs.Common.{◌⊎◌, ⊎_elim}
 use Rattle.std.proofs.Common.{◌≡◌, ◌∙◌, ℕ, ◌+◌, Bool, true, false, cond, ◌==◌, not, List, [], ◌∷◌, ◌++◌, map, take, Option, Some, None}
 use Rattle.std.proofs.Common.{refl, ap, sym, subst, arith, append_assoc, append-nil}
 use Rattle.std.proofs.Math.Bool.{or-false}
@@ -310,6 +311,11 @@ module _ (buses : List Bus) (events : List Event) (keys : List (Option ℕ)) (n 
 -- ---- the functions
 
 module _ (peer key : ℕ) (old mid : Held) (told_old told_mid : Option (List DoorCall)) where
+  -- the peer is lost, or its connection is to be closed
+  abbrev pub Ends : Type 0
+  Ends = Exchanges peer key old told_old mid told_mid false
+      ⊎ (Exchanges peer key old told_old mid told_mid true × (is_last (finish_at key mid) ≡ true))
+
   pub exchanges_lost : ReadsIn peer key old told_old mid told_mid false → Exchanges peer key old told_old mid told_mid false
   exchanges_lost reads buses events keys n told s is =
       exchanged_lost buses events keys n peer old told_old told mid (reads buses events keys n told s is)
@@ -349,6 +355,10 @@ module _ (peer key : ℕ) (old mid : Held) (told_old told_mid : Option (List Doo
           (ap (λ t. t || is_closing buses n (events ++ exchange n x.calls)) x.loses_is
           ∙ sym (says ∙ calls_agree.closes key mid buses (events ++ exchange n x.calls) keys n s.layout s.named x.stands) ∙ ends)
           (goes buses (events ++ exchange n x.calls) keys n told (record { layout = s.layout; named = s.named; stands = x.stands }) is)
+
+      -- the visit ends so
+      pub visit_ends : Ends → Visits peer key old told_old new told_new false
+      visit_ends ends = ⊎_elim visit_lost (λ over. visit_closed true over.0 (sym over.1) refl) ends
 
 -- the connection is shut and the peer let go
 pub lets_go : (peer key : ℕ) (old new : Held) (told_old told_new : Option (List DoorCall)) → new ≡ hung_up key old

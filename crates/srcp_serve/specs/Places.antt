@@ -175,7 +175,8 @@ module _ (buses : List Bus) (stand : Stand) (old : Option (List DoorCall)) (told
       pub keys : List (Option ℕ)
       pub adds : AddsGiven old told (AcceptCall answer granted ∷ early)
       pub counted : CountsRefusals core_old (AcceptCall answer granted ∷ early) held
-      pub asked_for : CountsAsked buses stand.events (accepted buses stand (AcceptCall answer granted)).events core_old held
+      pub asked_for : CountsAsked buses stand.events
+          (accepted buses stand (AcceptCall answer granted)).events core_old held
       pub asked : map question early
           ≡ flat_map (turns_away buses stand.events) (filter_map newcomer_of (AcceptCall answer granted ∷ []))
       pub others : AllByRecursion (IsLeftOut early) (accepted buses stand (AcceptCall answer granted)).places

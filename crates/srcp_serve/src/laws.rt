@@ -26,10 +26,10 @@ pub fn paced_turns()
     ensures all { (buses : List Bus) → PacedServingSparesAll buses }
 {}
 
-/// Ensures that a turn makes no panel overrun if its lines are light enough (`each`). Two sums together have to be within
-/// the slack that the door was told, or within 256 if it was told none. One is of the weights, by `srcp_rules::weight`,
-/// of the lines that end in the bytes of the turn. The other is of the changes of its moment and of the ends of sessions.
-/// If each turn is so, no panel ever overran (`all`).
+/// Ensures that a turn makes no panel overrun if its lines are light enough (`each`). Two sums together have to be
+/// within the slack that the door was told, or within 256 if it was told none. One is of the weights, by
+/// `srcp_rules::weight`, of the lines that end in the bytes of the turn. The other is of the changes of its moment and
+/// of the ends of sessions. If each turn is so, no panel ever overran (`all`).
 pub fn light_turns()
     ensures each { (buses : List Bus) → LightTurnsSpare buses }
     ensures all { (buses : List Bus) → LightServingSparesAll buses }

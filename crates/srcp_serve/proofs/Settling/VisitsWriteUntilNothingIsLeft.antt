@@ -22,7 +22,8 @@ use Rattle.srcp_serve.specs.Serving.{Question, Expects, Moments, Newcomers, Read
 use Rattle.srcp_serve.specs.Serving.{count_of, is_close, is_write, loses, loses_reading, loses_writing, falls_short, lent_none_last, rooms}
 use Rattle.srcp_serve.specs.Serving.{exchange, is_ready, is_closing, lent, handed, unless_nil, reads_of, writes_of, closes_of, visit_asks}
 use Rattle.srcp_serve.proofs.VisitsSendWhatIsTaken.{first_of_writes, has_writes, no_write}
-use Rattle.srcp_serve.proofs.Settling.PanelsTakeTheirLines.{Panel, first_text, owed_then, panel_bytes, panel_full, panel_goes_on, panel_lends, panel_open}
+use Rattle.srcp_serve.proofs.Settling.PanelsTakeTheirLines.{Panel, first_text, owed_then, panel_bytes, panel_full, panel_goes_on}
+use Rattle.srcp_serve.proofs.Settling.PanelsTakeTheirLines.{panel_lends, panel_open}
 use Rattle.srcp_serve.proofs.Settling.PanelsTakeTheirLines.{panel_room}
 
 -- the peer took all of it, where it is a write

@@ -1,6 +1,6 @@
 //! Which peer has which place.
 
-ghost use Rattle.std.specs.Prelude.{◌≡◌, ◌<◌, ◌≤◌, Some, None, is_none, length, option_copied, position, replicate};
+ghost use Rattle.std.specs.Prelude.{◌≡◌, ◌<◌, ◌≤◌, Some, None, is_none, length, position, replicate};
 ghost use Rattle.std.specs.Prelude.{slice_set};
 ghost use Rattle.std.specs.List.{slice_index_or};
 ghost use Rattle.srcp_serve.specs.Places.{AreFreeFrom};
@@ -52,11 +52,11 @@ impl Places {
     }
 
     /// Returns the peer that has the place, if one does.
-    pub(super) fn seat(&self, place: usize) -> Option<&Seat>
+    pub(super) fn seat(&self, place: usize) -> Option<Seat>
         requires { place < MOST_CONNECTIONS }
-        ensures { option_copied result ≡ slice_index_or self.now place None }
+        ensures { result ≡ slice_index_or self.now place None }
     {
-        self.seats[place].as_ref()
+        self.seats[place]
     }
 
     /// Returns the first free place, if there is one.

@@ -3,18 +3,15 @@
 ghost use Rattle.std.specs.Prelude.{◌≡◌, ◌<◌, ◌≤◌, ◌+◌};
 ghost use Rattle.srcp_serve.specs.Tally.{CountsFaults};
 ghost use Rattle.srcp_serve.specs.Turns.{AsksPeers};
-ghost use Rattle.srcp_serve.specs.Visits.{Closes, Exchanges, LetsGo, ReadsIn, Visits, WritesOnce, WritesOut};
+ghost use Rattle.srcp_serve.specs.Visits.{Closes, LetsGo, ReadsIn, Visits, WritesOnce, WritesOut};
 
+use super::Server;
 use crate::door::{Door, Got};
-use crate::tally::Tally;
-use srcp_core::{Core, MOST_IN_PIECE};
+use srcp_core::Core;
 use srcp_rules::Rows;
 
 /// The most writes of a visit.
 pub const MOST_WRITES: u32 = 300;
-
-/// The buffer of a read. One serves all peers, since a new one would be cleared for each visit.
-pub(super) type PieceBuffer = [u8; MOST_IN_PIECE];
 
 /// A peer that has a connection, and the key of that connection.
 #[derive(Clone, Copy)]
@@ -34,158 +31,133 @@ enum Wrote {
     Failed,
 }
 
-/// Reads from the peer and writes to it. Closes it if it is lost or its connection is to be closed. Returns whether it
-/// keeps its place.
-pub(super) fn visit<R: Rows, D: Door>(
-    core: &mut Core<'_, R>,
-    door: &mut D,
-    seat: &Seat,
-    tally: &mut Tally,
-    buffer: &mut PieceBuffer,
-) -> bool
-    requires { tally.old.faults ≤ D.faults door.old }
-    ensures faults { CountsFaults tally.old.faults (D.faults door.old) tally.new.faults (D.faults door.new) }
-    ensures asks { AsksPeers (D.told door.old) (D.told door.new) }
-    ensures told { Visits seat.now.peer seat.now.key core.old (D.told door.old) core.new (D.told door.new) result }
-{
-    if !exchange(core, door, seat, tally, buffer) {
-        let_go(core, door, seat, tally);
-        return false;
+impl<'d, D: Door> Server<'d, D> {
+    /// Reads from the peer and writes to it. Closes it if it is lost or its connection is to be closed. Returns whether
+    /// it keeps its place.
+    pub(super) fn visit<R: Rows>(&mut self, core: &mut Core<'_, R>, seat: Seat) -> bool
+        requires { self.old.tally.faults ≤ D.faults self.old.door.now }
+        ensures same_door { self.new.door.ghost_name ≡ self.old.door.ghost_name }
+        ensures places { self.new.places ≡ self.old.places }
+        ensures faults { CountsFaults self.old.tally.faults (D.faults self.old.door.now)
+            self.new.tally.faults (D.faults self.new.door.now) }
+        ensures asks { AsksPeers (D.told self.old.door.now) (D.told self.new.door.now) }
+        ensures told { Visits seat.peer seat.key core.old (D.told self.old.door.now)
+            core.new (D.told self.new.door.now) result }
+    {
+        if self.read_in(core, seat) && self.write_out(core, seat) && !core.closing(seat.key) {
+            return true;
+        }
+        self.let_go(core, seat);
+        false
     }
-    if core.closing(seat.key) {
-        let_go(core, door, seat, tally);
-        return false;
-    }
-    true
-}
 
-/// Reads from the peer and writes to it. Returns false if it is lost.
-fn exchange<R: Rows, D: Door>(
-    core: &mut Core<'_, R>,
-    door: &mut D,
-    seat: &Seat,
-    tally: &mut Tally,
-    buffer: &mut PieceBuffer,
-) -> bool
-    requires { tally.old.faults ≤ D.faults door.old }
-    ensures faults { CountsFaults tally.old.faults (D.faults door.old) tally.new.faults (D.faults door.new) }
-    ensures asks { AsksPeers (D.told door.old) (D.told door.new) }
-    ensures told { Exchanges seat.now.peer seat.now.key core.old (D.told door.old) core.new (D.told door.new) result }
-{
-    if !read_in(core, door, seat, tally, buffer) {
-        return false;
+    /// Shuts the connection of a peer and closes the peer.
+    pub(super) fn let_go<R: Rows>(&mut self, core: &mut Core<'_, R>, seat: Seat)
+        requires { self.old.tally.faults ≤ D.faults self.old.door.now }
+        ensures same_door { self.new.door.ghost_name ≡ self.old.door.ghost_name }
+        ensures places { self.new.places ≡ self.old.places }
+        ensures faults { CountsFaults self.old.tally.faults (D.faults self.old.door.now)
+            self.new.tally.faults (D.faults self.new.door.now) }
+        ensures asks { AsksPeers (D.told self.old.door.now) (D.told self.new.door.now) }
+        ensures denied { core.new.denied ≡ core.old.denied }
+        ensures told { LetsGo seat.peer seat.key core.old (D.told self.old.door.now)
+            core.new (D.told self.new.door.now) }
+    {
+        let _ = core.hangup(seat.key);
+        self.close(seat.peer);
     }
-    write_out(core, door, seat, tally)
-}
 
-/// Shuts the connection of a peer and closes the peer.
-pub(super) fn let_go<R: Rows, D: Door>(
-    core: &mut Core<'_, R>,
-    door: &mut D,
-    seat: &Seat,
-    tally: &mut Tally,
-)
-    requires { tally.old.faults ≤ D.faults door.old }
-    ensures faults { CountsFaults tally.old.faults (D.faults door.old) tally.new.faults (D.faults door.new) }
-    ensures asks { AsksPeers (D.told door.old) (D.told door.new) }
-    ensures denied { core.new.denied ≡ core.old.denied }
-    ensures told { LetsGo seat.now.peer seat.now.key core.old (D.told door.old) core.new (D.told door.new) }
-{
-    let _ = core.hangup(seat.key);
-    close(door, seat.peer, tally);
-}
-
-/// Closes a peer. A failure is counted, and the peer is closed all the same.
-pub(super) fn close<D: Door>(door: &mut D, peer: u32, tally: &mut Tally)
-    requires { tally.old.faults ≤ D.faults door.old }
-    ensures faults { CountsFaults tally.old.faults (D.faults door.old) tally.new.faults (D.faults door.new) }
-    ensures asks { AsksPeers (D.told door.old) (D.told door.new) }
-    ensures told { Closes peer (D.told door.old) (D.told door.new) }
-{
-    match door.close(peer) {
-        Ok(()) => (),
-        Err(_) => tally.fault(),
-    }
-}
-
-/// Reads once, if the connection accepts bytes. Returns false if the peer is lost.
-fn read_in<R: Rows, D: Door>(
-    core: &mut Core<'_, R>,
-    door: &mut D,
-    seat: &Seat,
-    tally: &mut Tally,
-    buffer: &mut PieceBuffer,
-) -> bool
-    requires { tally.old.faults ≤ D.faults door.old }
-    ensures faults { CountsFaults tally.old.faults (D.faults door.old) tally.new.faults (D.faults door.new) }
-    ensures asks { AsksPeers (D.told door.old) (D.told door.new) }
-    ensures told { ReadsIn seat.now.peer seat.now.key core.old (D.told door.old) core.new (D.told door.new) result }
-{
-    if !core.ready(seat.key) {
-        return true;
-    }
-    match door.read(seat.peer, buffer) {
-        Ok(Got::Bytes(count)) => core.receive(seat.key, &buffer[..count]).is_ok(),
-        Ok(Got::Nothing) => true,
-        Ok(Got::Ended) => false,
-        Err(_) => {
-            tally.fault();
-            false
+    /// Closes a peer. A failure is counted, and the peer is closed all the same.
+    pub(super) fn close(&mut self, peer: u32)
+        requires { self.old.tally.faults ≤ D.faults self.old.door.now }
+        ensures same_door { self.new.door.ghost_name ≡ self.old.door.ghost_name }
+        ensures places { self.new.places ≡ self.old.places }
+        ensures faults { CountsFaults self.old.tally.faults (D.faults self.old.door.now)
+            self.new.tally.faults (D.faults self.new.door.now) }
+        ensures asks { AsksPeers (D.told self.old.door.now) (D.told self.new.door.now) }
+        ensures told { Closes peer (D.told self.old.door.now) (D.told self.new.door.now) }
+    {
+        match self.door.close(peer) {
+            Ok(()) => (),
+            Err(_) => self.tally.fault(),
         }
     }
-}
 
-/// Writes what the core lends, as long as the peer takes all of it. Returns false if the peer is lost.
-fn write_out<R: Rows, D: Door>(
-    core: &mut Core<'_, R>,
-    door: &mut D,
-    seat: &Seat,
-    tally: &mut Tally,
-) -> bool
-    requires { tally.old.faults ≤ D.faults door.old }
-    ensures faults { CountsFaults tally.old.faults (D.faults door.old) tally.new.faults (D.faults door.new) }
-    ensures asks { AsksPeers (D.told door.old) (D.told door.new) }
-    ensures denied { core.new.denied ≡ core.old.denied }
-    ensures told { WritesOut seat.now.peer seat.now.key core.old (D.told door.old) core.new (D.told door.new) result }
-{
-    for _ in 0..MOST_WRITES {
-        match write_once(core, door, seat, tally) {
-            Wrote::All => (),
-            Wrote::Less => return true,
-            Wrote::Failed => return false,
+    /// Reads once, if the connection accepts bytes. Returns false if the peer is lost.
+    fn read_in<R: Rows>(&mut self, core: &mut Core<'_, R>, seat: Seat) -> bool
+        requires { self.old.tally.faults ≤ D.faults self.old.door.now }
+        ensures same_door { self.new.door.ghost_name ≡ self.old.door.ghost_name }
+        ensures places { self.new.places ≡ self.old.places }
+        ensures faults { CountsFaults self.old.tally.faults (D.faults self.old.door.now)
+            self.new.tally.faults (D.faults self.new.door.now) }
+        ensures asks { AsksPeers (D.told self.old.door.now) (D.told self.new.door.now) }
+        ensures told { ReadsIn seat.peer seat.key core.old (D.told self.old.door.now)
+            core.new (D.told self.new.door.now) result }
+    {
+        if !core.ready(seat.key) {
+            return true;
+        }
+        match self.door.read(seat.peer, &mut self.buffer) {
+            Ok(Got::Bytes(count)) => core.receive(seat.key, &self.buffer[..count]).is_ok(),
+            Ok(Got::Nothing) => true,
+            Ok(Got::Ended) => false,
+            Err(_) => {
+                self.tally.fault();
+                false
+            }
         }
     }
-    true
-}
 
-/// Writes what the core lends, once, and drops of it what the peer took.
-fn write_once<R: Rows, D: Door>(
-    core: &mut Core<'_, R>,
-    door: &mut D,
-    seat: &Seat,
-    tally: &mut Tally,
-) -> Wrote
-    requires { tally.old.faults ≤ D.faults door.old }
-    ensures faults { CountsFaults tally.old.faults (D.faults door.old) tally.new.faults (D.faults door.new) }
-    ensures asks { AsksPeers (D.told door.old) (D.told door.new) }
-    ensures denied { core.new.denied ≡ core.old.denied }
-    ensures told { WritesOnce seat.now.peer seat.now.key core.old (D.told door.old) core.new (D.told door.new) result }
-{
-    let Ok(lent) = core.outgoing(seat.key) else {
-        return Wrote::Less;
-    };
-    if lent.is_empty() {
-        return Wrote::Less;
+    /// Writes what the core lends, as long as the peer takes all of it. Returns false if the peer is lost.
+    fn write_out<R: Rows>(&mut self, core: &mut Core<'_, R>, seat: Seat) -> bool
+        requires { self.old.tally.faults ≤ D.faults self.old.door.now }
+        ensures same_door { self.new.door.ghost_name ≡ self.old.door.ghost_name }
+        ensures places { self.new.places ≡ self.old.places }
+        ensures faults { CountsFaults self.old.tally.faults (D.faults self.old.door.now)
+            self.new.tally.faults (D.faults self.new.door.now) }
+        ensures asks { AsksPeers (D.told self.old.door.now) (D.told self.new.door.now) }
+        ensures denied { core.new.denied ≡ core.old.denied }
+        ensures told { WritesOut seat.peer seat.key core.old (D.told self.old.door.now)
+            core.new (D.told self.new.door.now) result }
+    {
+        for _ in 0..MOST_WRITES {
+            match self.write_once(core, seat) {
+                Wrote::All => (),
+                Wrote::Less => return true,
+                Wrote::Failed => return false,
+            }
+        }
+        true
     }
-    let handed = lent.len();
-    let Ok(count) = door.write(seat.peer, lent) else {
-        tally.fault();
-        return Wrote::Failed;
-    };
-    core.sent(seat.key, count);
-    if count < handed {
-        Wrote::Less
-    } else {
-        Wrote::All
+
+    /// Writes what the core lends, once, and drops of it what the peer took.
+    fn write_once<R: Rows>(&mut self, core: &mut Core<'_, R>, seat: Seat) -> Wrote
+        requires { self.old.tally.faults ≤ D.faults self.old.door.now }
+        ensures same_door { self.new.door.ghost_name ≡ self.old.door.ghost_name }
+        ensures places { self.new.places ≡ self.old.places }
+        ensures faults { CountsFaults self.old.tally.faults (D.faults self.old.door.now)
+            self.new.tally.faults (D.faults self.new.door.now) }
+        ensures asks { AsksPeers (D.told self.old.door.now) (D.told self.new.door.now) }
+        ensures denied { core.new.denied ≡ core.old.denied }
+        ensures told { WritesOnce seat.peer seat.key core.old (D.told self.old.door.now)
+            core.new (D.told self.new.door.now) result }
+    {
+        let Ok(lent) = core.outgoing(seat.key) else {
+            return Wrote::Less;
+        };
+        if lent.is_empty() {
+            return Wrote::Less;
+        }
+        let handed = lent.len();
+        let Ok(count) = self.door.write(seat.peer, lent) else {
+            self.tally.fault();
+            return Wrote::Failed;
+        };
+        core.sent(seat.key, count);
+        if count < handed {
+            Wrote::Less
+        } else {
+            Wrote::All
+        }
     }
 }

@@ -1,5 +1,7 @@
-use Rattle.std.proofs.Common.{◌≡◌, ◌+◌, arith, refl, subst, sym, ℕ}
-use Rattle.srcp_serve.specs.Places.{ServesSoFar}
+use Rattle.std.proofs.Common.{rules, replicate, List, Option, None, ◌≡◌, ◌∙◌, ◌+◌, arith, refl, subst, sym, ℕ}
+use Rattle.srcp_core.specs.Held.{Held}
+use Rattle.srcp_serve.specs.Calls.{Call}
+use Rattle.srcp_serve.specs.Places.{ServesCourse, ServesSoFar}
 use Rattle.srcp_serve.specs.Tally.{CountsFaults}
 use Rattle.srcp_serve.specs.Turns.{AsksTurns}
 use Rattle.srcp_serve.specs.declared.tally.Tally.{Tally}
@@ -9,40 +11,60 @@ use Rattle.srcp_serve.proofs.TurnsAskInOrder.{turns_none, turns_on}
 use Rattle.srcp_serve.proofs.serving.serve.Goals as goal
 
 pub loop-init : goal.loop-init
-loop-init g c = record {
-  faults = subst (λ (t : Tally). CountsFaults 0 (g.D.Door.faults c.args.door.now) t.faults (g.D.Door.faults c.args.door.now)) (sym
-      c.new-tally.ensures) (none_failed 0 _ (omega arith));
-  course = subst (λ places. ServesSoFar 0 0 c.args.core.now (g.D.Door.told c.args.door.now) c.args.core.now (g.D.Door.told
-      c.args.door.now) places)
-      (sym c.new-places.ensures) (serves_first c.args.core.now (g.D.Door.told c.args.door.now));
-  few = omega arith;
-  told = turns_none (g.D.Door.told c.args.door.now);
-}
+loop-init g c =
+    let n = c.new-server.ensures in
+    let told = g.D.Door.told c.args.door.now in
+    let first : ServesSoFar 0 0 c.args.core.now told c.args.core.now told (replicate 64 None) = serves_first c.args.core.now told in
+    record {
+      same_door = refl;
+      faults = rw (n.faults, n.door) (none_failed 0 _ (omega arith));
+      course = rw (n.door, n.places) first;
+      few = omega arith;
+      told = rw n.door (turns_none told);
+    }
 
 pub loop-preserved : goal.loop-preserved
 loop-preserved g c = record {
+  same_door = c.turn-opens.ensures.same_door ∙ c.loop.invariant.same_door;
   faults = counts_then _ _ _ _ _ _ c.loop.invariant.faults c.turn-opens.ensures.faults;
   few = fewer c.turn-opens.result c.loop.opened c.loop.counter c.one_more_if-opened.result c.loop.invariant.few
       c.one_more_if-opened.ensures;
   course = subst (λ (n : ℕ). ServesSoFar (c.loop.counter + 1) n c.args.core.now (g.D.Door.told c.args.door.now) c.turn-opens.new.core
-      (g.D.Door.told c.turn-opens.new.door) c.turn-opens.new.places) (sym c.one_more_if-opened.ensures)
+      (g.D.Door.told c.turn-opens.new.self.door.now) c.turn-opens.new.self.places) (sym c.one_more_if-opened.ensures)
       (serves_on c.loop.counter c.loop.opened c.turn-opens.result c.args.core.now c.loop.core c.turn-opens.new.core (g.D.Door.told
-      c.args.door.now) (g.D.Door.told c.loop.door) (g.D.Door.told c.turn-opens.new.door) c.loop.places c.turn-opens.new.places
+      c.args.door.now) (g.D.Door.told c.loop.server.door.now)
+      (g.D.Door.told c.turn-opens.new.self.door.now) c.loop.server.places c.turn-opens.new.self.places
       c.loop.invariant.course c.loop.invariant.told c.turn-opens.ensures.told c.turn-opens.ensures.course);
-  told = turns_on c.loop.counter (g.D.Door.told c.args.door.now) (g.D.Door.told c.loop.door) (g.D.Door.told c.turn-opens.new.door)
+  told =
+      turns_on c.loop.counter (g.D.Door.told c.args.door.now) (g.D.Door.told c.loop.server.door.now)
+      (g.D.Door.told c.turn-opens.new.self.door.now)
       c.loop.invariant.told c.turn-opens.ensures.told;
 }
 
 pub returns-clause-turns : goal.returns-clause-turns
 returns-clause-turns g c = refl
 
+-- what is told to one value is told to the same value under another name
+same_told : {D : Type 0} (told_of : D → Option (List Call)) (turns : ℕ) (old : Option (List Call)) {x y : D} → y ≡ x
+    → AsksTurns turns old (told_of x) → AsksTurns turns old (told_of y)
+same_told told_of turns old e h = subst (λ d. AsksTurns turns old (told_of d)) (sym e) h
+
+same_served : {D : Type 0} (told_of : D → Option (List Call)) (turns opened : ℕ) (core new : Held) (old : Option (List Call))
+    {x y : D} → y ≡ x → ServesCourse turns opened core old new (told_of x) → ServesCourse turns opened core old new (told_of y)
+same_served told_of turns opened core new old e s = subst (λ d. ServesCourse turns opened core old new (told_of d)) (sym e) s
+
 pub returns-clause-told : goal.returns-clause-told
 returns-clause-told g c =
     let all : c.loop.counter ≡ c.args.turns = omega (arith, c.loop-test.false, c.loop.auto.counter-end) in
-    subst (λ (k : ℕ). AsksTurns k (g.D.Door.told c.args.door.now) (g.D.Door.told c.loop.door)) all c.loop.invariant.told
+    let old = g.D.Door.told c.args.door.now in
+    same_told g.D.Door.told c.args.turns old {x = c.loop.server.door.now} (search rules)
+    (subst (λ (k : ℕ). AsksTurns k old (g.D.Door.told c.loop.server.door.now)) all c.loop.invariant.told)
 
 pub returns-clause-course : goal.returns-clause-course
 returns-clause-course g c =
     let all : c.loop.counter ≡ c.args.turns = omega (arith, c.loop-test.false, c.loop.auto.counter-end) in
-    serves_all c.loop.counter c.args.turns c.loop.opened c.args.core.now c.loop.core (g.D.Door.told c.args.door.now) (g.D.Door.told
-    c.loop.door) c.loop.places all (returns-clause-told g c) c.loop.invariant.course
+    let old = g.D.Door.told c.args.door.now in
+    let new = g.D.Door.told c.loop.server.door.now in
+    same_served g.D.Door.told c.args.turns c.loop.opened c.args.core.now c.loop.core old {x = c.loop.server.door.now} (search rules)
+    (serves_all c.loop.counter c.args.turns c.loop.opened c.args.core.now c.loop.core old new c.loop.server.places all
+    (subst (λ (k : ℕ). AsksTurns k old new) all c.loop.invariant.told) c.loop.invariant.course)

@@ -4,11 +4,11 @@ use Rattle.srcp_serve.specs.declared.tally.Tally.{Tally}
 use Rattle.srcp_serve.proofs.TurnsFollow.{lets_nobody, lets_none, lets_peer}
 use Rattle.srcp_serve.proofs.FaultsAreCounted.{one_failed}
 use Rattle.srcp_serve.proofs.TurnsAskInOrder.{asks_newcomer, asks_none}
-use Rattle.srcp_serve.proofs.serving.let_in.Goals as goal
+use Rattle.srcp_serve.proofs.serving.Server.let_in.Goals as goal
 
 pub returns-in-Err-clause-faults : goal.returns-in-Err-clause-faults
 returns-in-Err-clause-faults g c =
-    one_failed c.args.tally.now.faults (g.D.Door.faults c.args.door.now) _ _ c.requires
+    one_failed c.args.self.now.tally.faults (g.D.Door.faults c.args.self.now.door.now) _ _ c.requires
     (ap (λ (t : Tally). t.faults) c.fault.ensures) c.in-Err.ensures.err
 
 pub returns-in-Ok-None-clause-told : goal.returns-in-Ok-None-clause-told
@@ -22,18 +22,18 @@ returns-in-Err-clause-told g c = asks_newcomer _ _ _ _ c.accept.ensures.told (as
 
 pub returns-in-Ok-None-clause-course : goal.returns-in-Ok-None-clause-course
 returns-in-Ok-None-clause-course g c =
-    lets_nobody c.args.core.now (g.D.Door.told c.args.door.now) (g.D.Door.told c.accept.new.self) c.args.places.now
-    (subst (λ (o : Option ℕ). Tells (g.D.Door.told c.args.door.now) (AcceptCall (Ok o)) (g.D.Door.told c.accept.new.self))
+    lets_nobody c.args.core.now (g.D.Door.told c.args.self.now.door.now) (g.D.Door.told c.accept.new.self) c.args.self.now.places
+    (subst (λ (o : Option ℕ). Tells (g.D.Door.told c.args.self.now.door.now) (AcceptCall (Ok o)) (g.D.Door.told c.accept.new.self))
     c.in-Ok-None.field-0-is c.in-Ok-None.ensures.told)
 
 pub returns-in-Ok-Some-clause-course : goal.returns-in-Ok-Some-clause-course
 returns-in-Ok-Some-clause-course g c =
-    lets_peer c.in-Ok-Some.peer c.seat.result c.args.core.now c.seat.new.core (g.D.Door.told c.args.door.now)
-    (g.D.Door.told c.accept.new.self) (g.D.Door.told c.seat.new.door) c.args.places.now c.seat.new.places
-    (subst (λ (o : Option ℕ). Tells (g.D.Door.told c.args.door.now) (AcceptCall (Ok o)) (g.D.Door.told c.accept.new.self))
+    lets_peer c.in-Ok-Some.peer c.seat.result c.args.core.now c.seat.new.core (g.D.Door.told c.args.self.now.door.now)
+    (g.D.Door.told c.accept.new.self) (g.D.Door.told c.seat.new.self.door.now) c.args.self.now.places c.seat.new.self.places
+    (subst (λ (o : Option ℕ). Tells (g.D.Door.told c.args.self.now.door.now) (AcceptCall (Ok o)) (g.D.Door.told c.accept.new.self))
     c.in-Ok-Some.field-0-is c.in-Ok-Some.ensures.told) c.seat.ensures.told c.seat.ensures.course
 
 pub returns-in-Err-clause-course : goal.returns-in-Err-clause-course
 returns-in-Err-clause-course g c =
-    lets_none c.args.core.now (g.D.Door.told c.args.door.now)
-    (g.D.Door.told c.accept.new.self) c.args.places.now c.in-Err.field-0 c.in-Err.ensures.told
+    lets_none c.args.core.now (g.D.Door.told c.args.self.now.door.now)
+    (g.D.Door.told c.accept.new.self) c.args.self.now.places c.in-Err.field-0 c.in-Err.ensures.told

@@ -4,14 +4,14 @@ use Rattle.srcp_serve.proofs.FaultsAreCounted.{one_failed}
 use Rattle.srcp_serve.proofs.CallsAreAdded.{closes_by}
 use Rattle.std.proofs.Common.{refl}
 use Rattle.srcp_serve.proofs.TurnsAskInOrder.{asks_one}
-use Rattle.srcp_serve.proofs.serving.visit.close.Goals as goal
+use Rattle.srcp_serve.proofs.serving.Server.close.Goals as goal
 
 pub returns-in-Ok-clause-told : goal.returns-in-Ok-clause-told
 returns-in-Ok-clause-told g c = closes_by _ _ _ _ c.close.ensures.told
 
 pub returns-in-Err-clause-faults : goal.returns-in-Err-clause-faults
 returns-in-Err-clause-faults g c =
-    one_failed c.args.tally.now.faults (g.D.Door.faults c.args.door.now) _ _ c.requires
+    one_failed c.args.self.now.tally.faults (g.D.Door.faults c.args.self.now.door.now) _ _ c.requires
     (ap (λ (t : Tally). t.faults) c.fault.ensures) c.in-Err.ensures.err
 
 pub returns-in-Err-clause-told : goal.returns-in-Err-clause-told

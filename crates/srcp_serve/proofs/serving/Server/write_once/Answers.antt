@@ -6,12 +6,12 @@ use Rattle.srcp_serve.proofs.FaultsAreCounted.{one_failed}
 use Rattle.srcp_serve.proofs.OneWriteFollows.{sends, wrote_absent, wrote_none, wrote_less, wrote_all, wrote_failed}
 use Rattle.std.proofs.Common.{refl}
 use Rattle.srcp_serve.proofs.TurnsAskInOrder.{asks_none, asks_one}
-use Rattle.srcp_serve.proofs.serving.visit.write_once.Goals as goal
+use Rattle.srcp_serve.proofs.serving.Server.write_once.Goals as goal
 
 pub returns-in_default-clause-told : goal.returns-in_default-clause-told
 returns-in_default-clause-told g c =
-    wrote_absent c.args.seat.now.peer c.args.seat.now.key c.args.core.now (g.D.Door.told c.args.door.now) c.outgoing.follows.lender-at-none
-    (g.D.Door.told c.args.door.now) Less c.in_default.ensures.absent.1
+    wrote_absent c.args.seat.peer c.args.seat.key c.args.core.now (g.D.Door.told c.args.self.now.door.now) c.outgoing.follows.lender-at-none
+    (g.D.Door.told c.args.self.now.door.now) Less c.in_default.ensures.absent.1
 
 pub returns-then-is_empty-clause-told : goal.returns-then-is_empty-clause-told
 returns-then-is_empty-clause-told g c =
@@ -21,7 +21,7 @@ returns-then-is_empty-clause-told g c =
 pub returns-then-count-handed-clause-told : goal.returns-then-count-handed-clause-told
 returns-then-count-handed-clause-told g c =
     wrote_less _ _ _ _ c.in-Ok.lent.now _ _ _ c.in-Ok.ensures.bytes
-    (sends c.args.seat.now.key c.in-Ok-write.count c.args.core.now c.outgoing.follows.lender-at-none c.sent.new.self
+    (sends c.args.seat.key c.in-Ok-write.count c.args.core.now c.outgoing.follows.lender-at-none c.sent.new.self
     c.outgoing.follows.holds-at-none c.sent.ensures c.in-Ok.lent.now c.in-Ok.ensures.bytes
     c.in-Ok-write.ensures.count) c.in-Ok-write.ensures.told c.if-count-handed.true
 
@@ -29,14 +29,14 @@ pub returns-else-count-handed-clause-told : goal.returns-else-count-handed-claus
 returns-else-count-handed-clause-told g c =
     let full : c.in-Ok-write.count ≡ length c.in-Ok.lent.now = omega (arith, c.in-Ok-write.ensures.count, c.if-count-handed.false) in
     wrote_all _ _ _ _ c.in-Ok.lent.now _ _ _ c.in-Ok.ensures.bytes
-    (sends c.args.seat.now.key c.in-Ok-write.count c.args.core.now c.outgoing.follows.lender-at-none c.sent.new.self
+    (sends c.args.seat.key c.in-Ok-write.count c.args.core.now c.outgoing.follows.lender-at-none c.sent.new.self
     c.outgoing.follows.holds-at-none c.sent.ensures c.in-Ok.lent.now c.in-Ok.ensures.bytes
     c.in-Ok-write.ensures.count) c.in-Ok-write.ensures.told full
     (sym c.is_empty.ensures ∙ c.if-is_empty.false)
 
 pub returns-in_default-write-clause-faults : goal.returns-in_default-write-clause-faults
 returns-in_default-write-clause-faults g c =
-    one_failed c.args.tally.now.faults (g.D.Door.faults c.args.door.now) _ _ c.requires
+    one_failed c.args.self.now.tally.faults (g.D.Door.faults c.args.self.now.door.now) _ _ c.requires
     (ap (λ (t : Tally). t.faults) c.fault.ensures) c.in_default-write.ensures.err
 
 pub returns-in_default-write-clause-told : goal.returns-in_default-write-clause-told
@@ -52,12 +52,12 @@ returns-then-is_empty-clause-asks g c = asks_none _
 
 pub returns-then-count-handed-clause-asks : goal.returns-then-count-handed-clause-asks
 returns-then-count-handed-clause-asks g c =
-    asks_one _ _ _ refl (fair_write c.args.seat.now.peer c.in-Ok.lent.now c.write.result c.write.ensures.count) c.write.ensures.told
+    asks_one _ _ _ refl (fair_write c.args.seat.peer c.in-Ok.lent.now c.write.result c.write.ensures.count) c.write.ensures.told
 
 pub returns-else-count-handed-clause-asks : goal.returns-else-count-handed-clause-asks
 returns-else-count-handed-clause-asks g c =
-    asks_one _ _ _ refl (fair_write c.args.seat.now.peer c.in-Ok.lent.now c.write.result c.write.ensures.count) c.write.ensures.told
+    asks_one _ _ _ refl (fair_write c.args.seat.peer c.in-Ok.lent.now c.write.result c.write.ensures.count) c.write.ensures.told
 
 pub returns-in_default-write-clause-asks : goal.returns-in_default-write-clause-asks
 returns-in_default-write-clause-asks g c =
-    asks_one _ _ _ refl (fair_write c.args.seat.now.peer c.in-Ok.lent.now c.write.result c.write.ensures.count) c.write.ensures.told
+    asks_one _ _ _ refl (fair_write c.args.seat.peer c.in-Ok.lent.now c.write.result c.write.ensures.count) c.write.ensures.told

@@ -9,7 +9,7 @@ use Rattle.srcp_serve.proofs.AnswersAreFair.{fair_read}
 use Rattle.srcp_serve.proofs.OneReadFollows.{read_not, read_other, read_bytes}
 use Rattle.srcp_serve.proofs.FaultsAreCounted.{one_failed}
 use Rattle.srcp_serve.proofs.TurnsAskInOrder.{asks_none, asks_one}
-use Rattle.srcp_serve.proofs.serving.visit.read_in.Goals as goal
+use Rattle.srcp_serve.proofs.serving.Server.read_in.Goals as goal
 
 pub returns-then-not-ready-clause-told : goal.returns-then-not-ready-clause-told
 returns-then-not-ready-clause-told g c = read_not _ _ _ _ _ c.ready.ensures c.if-not-ready.true
@@ -20,7 +20,7 @@ returns-in-Ok-Bytes-clause-told g c =
     read_bytes _ _ _ _ _ c.ready.ensures c.in-Ok-Bytes.count c.read.new.buf _ _ _ _ c.if-not-ready.false full
     (subst
     (λ (x : Got).
-    Tells (g.D.Door.told c.args.door.now) (door.ReadCall c.args.seat.now.peer (Ok x) c.read.new.buf)
+    Tells (g.D.Door.told c.args.self.now.door.now) (door.ReadCall c.args.seat.peer (Ok x) c.read.new.buf)
     (g.D.Door.told c.read.new.self))
     c.in-Ok-Bytes.field-0-is c.in-Ok-Bytes.ensures.told) c.receive.ensures.fault c.receive.ensures.received c.is_ok.ensures.value
 
@@ -29,19 +29,19 @@ returns-in-Ok-Nothing-clause-told g c =
     let full : length c.read.new.buf ≡ 256 = omega (arith, c.read.auto.buf) in
     read_other _ _ _ _ _ c.ready.ensures
     (Ok c.in-Ok-Nothing.field-0) c.read.new.buf _ c.if-not-ready.false full c.in-Ok-Nothing.ensures.told _
-    (ap (λ (x : Got). piece_of (ReadCall c.args.seat.now.peer (Ok x) c.read.new.buf [])) c.in-Ok-Nothing.field-0-is)
-    (ap (λ (x : Got). loses_reading (ReadCall c.args.seat.now.peer (Ok x) c.read.new.buf [])) c.in-Ok-Nothing.field-0-is)
+    (ap (λ (x : Got). piece_of (ReadCall c.args.seat.peer (Ok x) c.read.new.buf [])) c.in-Ok-Nothing.field-0-is)
+    (ap (λ (x : Got). loses_reading (ReadCall c.args.seat.peer (Ok x) c.read.new.buf [])) c.in-Ok-Nothing.field-0-is)
 
 pub returns-in-Ok-Ended-clause-told : goal.returns-in-Ok-Ended-clause-told
 returns-in-Ok-Ended-clause-told g c =
     let full : length c.read.new.buf ≡ 256 = omega (arith, c.read.auto.buf) in
     read_other _ _ _ _ _ c.ready.ensures (Ok c.in-Ok-Ended.field-0) c.read.new.buf _ c.if-not-ready.false full c.in-Ok-Ended.ensures.told _
-    (ap (λ (x : Got). piece_of (ReadCall c.args.seat.now.peer (Ok x) c.read.new.buf [])) c.in-Ok-Ended.field-0-is)
-    (ap (λ (x : Got). loses_reading (ReadCall c.args.seat.now.peer (Ok x) c.read.new.buf [])) c.in-Ok-Ended.field-0-is)
+    (ap (λ (x : Got). piece_of (ReadCall c.args.seat.peer (Ok x) c.read.new.buf [])) c.in-Ok-Ended.field-0-is)
+    (ap (λ (x : Got). loses_reading (ReadCall c.args.seat.peer (Ok x) c.read.new.buf [])) c.in-Ok-Ended.field-0-is)
 
 pub returns-in-Err-clause-faults : goal.returns-in-Err-clause-faults
 returns-in-Err-clause-faults g c =
-    one_failed c.args.tally.now.faults (g.D.Door.faults c.args.door.now) _ _ c.requires
+    one_failed c.args.self.now.tally.faults (g.D.Door.faults c.args.self.now.door.now) _ _ c.requires
     (ap (λ (t : Tally). t.faults) c.fault.ensures) c.in-Err.ensures.err
 
 pub returns-in-Err-clause-told : goal.returns-in-Err-clause-told
@@ -54,20 +54,20 @@ returns-then-not-ready-clause-asks g c = asks_none _
 
 pub returns-in-Ok-Bytes-clause-asks : goal.returns-in-Ok-Bytes-clause-asks
 returns-in-Ok-Bytes-clause-asks g c =
-    asks_one _ _ _ refl (fair_read c.args.seat.now.peer c.read.result _ c.read.new.buf c.read.ensures.count c.read.auto.buf)
+    asks_one _ _ _ refl (fair_read c.args.seat.peer c.read.result _ c.read.new.buf c.read.ensures.count c.read.auto.buf)
     c.read.ensures.told
 
 pub returns-in-Ok-Nothing-clause-asks : goal.returns-in-Ok-Nothing-clause-asks
 returns-in-Ok-Nothing-clause-asks g c =
-    asks_one _ _ _ refl (fair_read c.args.seat.now.peer c.read.result _ c.read.new.buf c.read.ensures.count c.read.auto.buf)
+    asks_one _ _ _ refl (fair_read c.args.seat.peer c.read.result _ c.read.new.buf c.read.ensures.count c.read.auto.buf)
     c.read.ensures.told
 
 pub returns-in-Ok-Ended-clause-asks : goal.returns-in-Ok-Ended-clause-asks
 returns-in-Ok-Ended-clause-asks g c =
-    asks_one _ _ _ refl (fair_read c.args.seat.now.peer c.read.result _ c.read.new.buf c.read.ensures.count c.read.auto.buf)
+    asks_one _ _ _ refl (fair_read c.args.seat.peer c.read.result _ c.read.new.buf c.read.ensures.count c.read.auto.buf)
     c.read.ensures.told
 
 pub returns-in-Err-clause-asks : goal.returns-in-Err-clause-asks
 returns-in-Err-clause-asks g c =
-    asks_one _ _ _ refl (fair_read c.args.seat.now.peer c.read.result _ c.read.new.buf c.read.ensures.count c.read.auto.buf)
+    asks_one _ _ _ refl (fair_read c.args.seat.peer c.read.result _ c.read.new.buf c.read.ensures.count c.read.auto.buf)
     c.read.ensures.told

@@ -3,11 +3,11 @@ use Rattle.srcp_serve.specs.declared.tally.Tally.{Tally}
 use Rattle.srcp_serve.proofs.MomentsFollow.{keeps_moment, takes_moment}
 use Rattle.srcp_serve.proofs.FaultsAreCounted.{one_failed}
 use Rattle.srcp_serve.proofs.TurnsAskInOrder.{asks_moment}
-use Rattle.srcp_serve.proofs.serving.take_moment.Goals as goal
+use Rattle.srcp_serve.proofs.serving.Server.take_moment.Goals as goal
 
 pub returns-in-Err-clause-faults : goal.returns-in-Err-clause-faults
 returns-in-Err-clause-faults g c =
-    rw (sym c.expect.ensures.faults) (one_failed c.args.tally.now.faults (g.D.Door.faults c.expect.new.self) _ _
+    rw (sym c.expect.ensures.faults) (one_failed c.args.self.now.tally.faults (g.D.Door.faults c.expect.new.self) _ _
     (rw c.expect.ensures.faults c.requires) (ap (λ (t : Tally). t.faults) c.fault.ensures) c.in-Err.ensures.err)
 
 pub returns-in-Ok-clause-told : goal.returns-in-Ok-clause-told
@@ -18,12 +18,14 @@ returns-in-Err-clause-told g c = asks_moment _ _ _ _ _ _ c.expect.ensures.told c
 
 pub returns-in-Ok-clause-course : goal.returns-in-Ok-clause-course
 returns-in-Ok-clause-course g c =
-    takes_moment c.earliest_due.result c.slack.result c.args.core.now c.earliest_due.ensures c.slack.ensures (g.D.Door.told c.args.door.now)
+    takes_moment c.earliest_due.result c.slack.result c.args.core.now c.earliest_due.ensures c.slack.ensures
+    (g.D.Door.told c.args.self.now.door.now)
     (g.D.Door.told c.expect.new.self)
     (g.D.Door.told c.now.new.self) c.expect.ensures.told c.in-Ok.moment c.advance.new.self c.in-Ok.ensures.told c.advance.ensures
 
 pub returns-in-Err-clause-course : goal.returns-in-Err-clause-course
 returns-in-Err-clause-course g c =
-    keeps_moment c.earliest_due.result c.slack.result c.args.core.now c.earliest_due.ensures c.slack.ensures (g.D.Door.told c.args.door.now)
+    keeps_moment c.earliest_due.result c.slack.result c.args.core.now c.earliest_due.ensures c.slack.ensures
+    (g.D.Door.told c.args.self.now.door.now)
     (g.D.Door.told c.expect.new.self)
     (g.D.Door.told c.now.new.self) c.expect.ensures.told c.in-Err.field-0 c.in-Err.ensures.told
