@@ -52,7 +52,7 @@ module _ {E : Type 0} (gives : List ℕ → Result ℕ E → Type 0)
         | inr f ↦ rw f refl
       ]
 
-  -- the number that an argument gives, where it is there and can be read
+  -- the number that an argument gives, if it is there and can be read
   pub turns_of-given : (given : Option (List ℕ)) (r : Option ℕ) → (given ≡ None → r ≡ None)
       → ((text : List ℕ) → given ≡ Some text → ReadsOne gives text r) → r ≡ option_and_then turns_of given
   turns_of-given None r none value = none refl

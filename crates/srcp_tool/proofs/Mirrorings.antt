@@ -31,7 +31,7 @@ holds_more input more text changes holds free = record {
   no_more = free-append text more holds.no_more free;
 }
 
--- its LF, where it is the line of a change
+-- its LF, if it is the line of a change
 pub holds_ended : (input text : List ℕ) (changes : List Change) (change : Change) → HoldsLines input changes text → IsLineOf text change
     → HoldsLines (input ++ 10 ∷ []) (changes ++ change ∷ []) []
 holds_ended input text changes change holds is = record {
@@ -47,7 +47,7 @@ holds_ended input text changes change holds is = record {
 pub client_ended : (changes : List Change) (change : Change) → client (changes ++ change ∷ []) ≡ changed change (client changes)
 client_ended changes change = fold-append _ [] changes (change ∷ [])
 
--- its LF, where it is that of no change
+-- its LF, if it is that of no change
 pub refuses_ended : (input text : List ℕ) (changes : List Change) → HoldsLines input changes text
     → ((change : Change) → IsLineOf text change → ⊥) → RefusesLine (input ++ 10 ∷ []) (length changes + 1)
 refuses_ended input text changes holds none = record {
@@ -97,7 +97,7 @@ taken_more old new input more taken rows count adds free = record {
   begun = adds taken.text taken.begun;
 }
 
--- its LF, where it is the line of a change
+-- its LF, if it is the line of a change
 pub taken_ended : (old new : MirroredLines) (input : List ℕ) (taken : HasTaken old input) (change : Change) → IsLineOf taken.text change
     → new.mirror ≡ changed change old.mirror → new.count ≡ old.count + 1 → IsBegun new.begun [] → HasTaken new (input ++ 10 ∷ [])
 taken_ended old new input taken change is rows count begun = record {
@@ -109,7 +109,7 @@ taken_ended old new input taken change is rows count begun = record {
   begun = begun;
 }
 
--- its LF, where it is that of no change
+-- its LF, if it is that of no change
 pub taken_refused : (old : MirroredLines) (input : List ℕ) (taken : HasTaken old input)
     → ((change : Change) → IsLineOf taken.text change → ⊥) → RefusesLine (input ++ 10 ∷ []) (old.count + 1)
 taken_refused old input taken none = rw taken.count (refuses_ended input taken.text taken.changes taken.holds none)

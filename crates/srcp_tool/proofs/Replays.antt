@@ -14,7 +14,7 @@ use Rattle.srcp_core.proofs.Agreement.MemoryAnswers.{gives_as_if}
 use Rattle.srcp_script.specs.Output.{connection_lines, printed, printed_end}
 use Rattle.srcp_tool.specs.Output.{replayed, run_of}
 
--- where no growth was refused it gives what it gives where memory gives all
+-- if no memory was refused it gives what it gives with memory for all
 pub run_is : (buses : List Bus) (events : List Event) (told : Record) → IsPromised buses events told → told.denied ≡ 0
     → told ≡ run_of buses events
 run_is buses events told p d =

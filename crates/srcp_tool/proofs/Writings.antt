@@ -69,7 +69,7 @@ pub record HasWritten (whole left : List ℕ) (old new : Option (List ℕ)) : Ty
   pub parts : whole ≡ front ++ left
   pub appends : Appends old new front
 
--- what is written next, where it is the front of what was left
+-- what is written next, if it is the front of what was left
 pub written_next : (whole left text behind : List ℕ) (old mid new : Option (List ℕ)) → HasWritten whole left old mid → left ≡ text ++ behind
     → Appends mid new text → HasWritten whole behind old new
 written_next whole left text behind old mid new before next w = record {

@@ -26,7 +26,7 @@ turns_rule = record (new_rule (codes "turns")) {
   parser = Some (Unsigned 0 18446744073709551615);
 }
 
--- `replay`, which takes a configuration where one is given
+-- `replay`, which takes a configuration if one is given
 abbrev pub replay_app : App
 replay_app = with_rule (new_app (codes "replay")) (config_rule false)
 
@@ -90,7 +90,7 @@ subtask name rows =
     else (if bytes_eq name (codes "serve") then Serve (unwrap_or (config_in rows) (codes "")) (turns_in rows)
     else Replay (config_in rows)))
 
--- to replay over the built-in layout where there is no subcommand
+-- to replay over the built-in layout if there is no subcommand
 abbrev pub task_in : Option (Text × List Row) → Task
 task_in None = Replay None
 task_in (Some found) = subtask found.0 found.1

@@ -9,7 +9,7 @@ use Rattle.srcp_script.specs.declared.script.Cause.TheVariants as cause
 use Rattle.srcp_tool.specs.declared.fault.ToolFault.{ToolFault}
 use Rattle.srcp_tool.specs.declared.fault.ToolFault.TheVariants as fault
 
--- what is told of a fault
+-- the text of a fault
 abbrev pub fault_text : ToolFault → List ℕ
 fault_text fault.Input = codes "cannot read the input"
 fault_text fault.Output = codes "cannot write"
@@ -21,7 +21,7 @@ fault_text (fault.Config what) = config_text what
 fault_text fault.Unreadable = codes "cannot read the configuration"
 fault_text fault.Listen = codes "cannot listen"
 
--- why the program stops at a fault of a script: want of memory is told as such, whatever the line
+-- why the program stops at a fault of a script: want of memory is a fault of its own, whatever the line
 abbrev pub stops_at : (line : ℕ) → Cause → ToolFault
 stops_at line cause.Memory = fault.Memory
 stops_at line what = fault.Script (record { line = line; cause = what })
@@ -31,7 +31,7 @@ abbrev pub stops_for : ConfigFault → ToolFault
 stops_for config.Memory = fault.Memory
 stops_for what = fault.Config what
 
--- the status of a configuration: 1 where memory was refused, 2 where what was handed in is refused
+-- the status of a configuration: 1 if memory was refused, 2 if what was handed in is refused
 abbrev pub config_status : ConfigFault → ℕ
 config_status config.Memory = 1
 config_status other = 2
@@ -41,7 +41,7 @@ abbrev pub script_status : Cause → ℕ
 script_status cause.Memory = 1
 script_status other = 2
 
--- the status: 1 where a device failed or memory was refused, 2 where what was handed in is refused
+-- the status: 1 if input or output failed or memory was refused, 2 if what was handed in is refused
 abbrev pub fault_status : ToolFault → ℕ
 fault_status fault.Input = 1
 fault_status fault.Output = 1

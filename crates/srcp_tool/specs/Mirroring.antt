@@ -20,7 +20,7 @@ pub record HasTaken (taken : MirroredLines) (input : List ℕ) : Type 0 where
   pub count : taken.count ≡ length changes
   pub begun : IsBegun taken.begun text
 
--- where no line was refused the whole lines were applied; else this is the first that no change has
+-- if no line was refused the whole lines were applied; else this is the first that no change has
 abbrev pub IsAt : MirroredLines → Option ℕ → (input : List ℕ) → Type 0
 IsAt lines None input = HasTaken lines input
 IsAt lines (Some n) input = RefusesLine input n

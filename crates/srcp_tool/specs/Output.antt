@@ -29,7 +29,7 @@ use Rattle.srcp_script.specs.declared.script.ScriptFault.{ScriptFault}
 
 -- ---- replay: what a run gave
 
--- what a run of these events gives where memory gives all
+-- what a run of these events gives if memory gives all
 abbrev pub run_of : List Bus → List Event → Record
 run_of buses events = let w = course buses (all_under [] events) in record {
   steps = map step_told w.steps;
@@ -61,7 +61,7 @@ pub record ClientHolds (input : List ℕ) (rows : List Shown) : Type 0 where
   pub holds : HoldsLines input changes begun
   pub same : rows ≡ client changes
 
--- `mirror` prints the rows of a client of the whole lines, where the input is within its limit
+-- `mirror` prints the rows of a client of the whole lines, if the input is within its limit
 pub record Mirrors (input output : List ℕ) : Type 0 where
   pub within : length input ≤ input_limit
   pub rows : List Shown
@@ -79,7 +79,7 @@ pub record RefusesLine (input : List ℕ) (n : ℕ) : Type 0 where
   pub no_change : (change : Change) → IsLineOf text change → ⊥
   pub place : n ≡ length changes + 1
 
--- why `mirror` prints nothing; a line is told only of an input within its limit
+-- why `mirror` prints nothing; a line is the cause only of an input within its limit
 abbrev pub RefusesInput : List ℕ → ToolFault → Type 0
 RefusesInput input (Line n) = (length input ≤ input_limit) × RefusesLine input n
 RefusesInput input TooLarge = input_limit < length input

@@ -12,12 +12,12 @@ use clap::{Arg, ArgMatches, Command, Error, value_parser};
 use std::alloc::{AllocError, Global};
 use std::string::String;
 
-/// What the words ask for, the program's name first.
+/// Returns what the words ask for, the program's name first.
 ///
 /// # Errors
-/// What `clap` answers where the words ask for nothing that the program does, or for `--help` or
-/// `--version`: it has the text, where that goes, and the status. Its kind is `OutOfMemory` where a
-/// growth was refused.
+/// What `clap` answers if the words ask for nothing that the program does, or for `--help` or
+/// `--version`: it has the text, where that goes, and the status. Its kind is `OutOfMemory` if memory
+/// is refused.
 pub fn read_words<'a>(alloc: Global, words: &'a [String]) -> Result<Tool<'a>, Error>
     ensures task { IfOk result (λ tool. task_of tool ≡ task (map string_bytes words.entry.now)) }
     ensures kinds { FailsBy (fault_of program_app (map string_bytes words.entry.now)) result }
@@ -26,7 +26,7 @@ pub fn read_words<'a>(alloc: Global, words: &'a [String]) -> Result<Tool<'a>, Er
     Ok(tool_in(&matches))
 }
 
-/// What the matches ask for: to replay where they have no subcommand.
+/// What the matches ask for: to replay if they have no subcommand.
 fn tool_in<'a>(matches: &ArgMatches<'a>) -> Tool<'a>
     ensures { task_of result ≡ task_in (subcommand_rows_of matches.now) }
 {

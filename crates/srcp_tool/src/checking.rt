@@ -1,4 +1,4 @@
-//! What a configuration says, told to a person.
+//! What a configuration says, printed for a person.
 
 ghost use Rattle.std.specs.Prelude.{◌≡◌, IfOk, IfErr};
 ghost use Rattle.srcp_tool.specs.Output.{check_output, RefusesFor, Writes};
@@ -10,11 +10,11 @@ use std::alloc::Global;
 use std::io::Write;
 use std::vec::Vec;
 
-/// What the bytes of a configuration say: the port, and for each bus, by rising number, its groups
-/// with how much there is of each. The ports of an accessory are told where there are more than two.
+/// Returns what the bytes of a configuration say: the port, and for each bus, by rising number, its groups
+/// with how much there is of each. The ports of an accessory are printed if there are more than two.
 ///
 /// # Errors
-/// `Config` for the configuration's first fault, `Memory` where a growth was refused.
+/// `Config` for the configuration's first fault, `Memory` if memory is refused.
 pub fn check_text(alloc: Global, bytes: &[u8]) -> Result<Vec<u8>, ToolFault>
     ensures text { IfOk result (λ text. check_output bytes.now ≡ Ok text.items) }
     ensures stops { IfErr result (RefusesFor (λ fault. check_output bytes.now ≡ Err fault)) }

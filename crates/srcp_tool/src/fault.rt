@@ -1,4 +1,4 @@
-//! Why the program stops, what it tells of it, and the status with which it ends.
+//! Why the program stops, with which text and which status.
 
 ghost use Rattle.std.specs.Prelude.{◌≡◌, Some};
 ghost use Rattle.srcp_tool.specs.Faults.{fault_text, fault_status, stops_at};
@@ -10,7 +10,7 @@ use std::alloc::AllocError;
 use std::fmt;
 use thiserror::Error;
 
-/// Why the program stops. It prints as what the program tells of it on standard error, behind
+/// Why the program stops. It displays as the text that the program prints on standard error after
 /// `srcp_server: `.
 #[derive(Clone, Copy, Debug, PartialEq, Eq, Error)]
 pub enum ToolFault {
@@ -97,8 +97,8 @@ impl From<RunFault> for ToolFault {
 }
 
 impl ToolFault {
-    /// The status with which the program ends: 1 where a device failed or memory was refused, 2 where
-    /// what was handed in is refused.
+    /// Returns the status with which the program ends: 1 if input or output failed or memory was refused,
+    /// 2 if what was handed in is refused.
     pub fn status(&self) -> u8
         ensures { result ≡ fault_status self.now }
     {

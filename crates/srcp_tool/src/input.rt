@@ -18,11 +18,11 @@ const CONFIG_LIMIT: usize = 1_048_576;
 /// The bytes that are asked for at once.
 pub(crate) const PIECE: usize = 65_536;
 
-/// All that the standard input gives.
+/// Reads the standard input to its end.
 ///
 /// # Errors
-/// `Input` where a read fails, `TooLarge` where there is more than the limit, `Memory` where a growth
-/// was refused.
+/// `Input` if a read fails, `TooLarge` if there is more than the limit, `Memory` if memory
+/// is refused.
 pub(crate) fn read_input<R: Read>(alloc: Global, reader: &mut R) -> Result<Vec<u8>, ToolFault>
     ensures whole { IfOk result (λ input. IfSome (R.remaining reader.old) (λ bytes. input.items ≡ bytes)) }
     ensures within { IfOk result (λ input. length input.items ≤ input_limit) }
@@ -33,11 +33,11 @@ pub(crate) fn read_input<R: Read>(alloc: Global, reader: &mut R) -> Result<Vec<u
     read_within(INPUT_LIMIT, alloc, reader)
 }
 
-/// All bytes of a configuration.
+/// Reads a configuration to its end.
 ///
 /// # Errors
-/// `Unreadable` where a read fails, `TooLarge` where there are more than 1,048,576 bytes, `Memory` where
-/// a growth was refused.
+/// `Unreadable` if a read fails, `TooLarge` if there are more than 1,048,576 bytes, `Memory` if
+/// memory is refused.
 pub fn read_config<R: Read>(alloc: Global, reader: &mut R) -> Result<Vec<u8>, ToolFault>
     ensures whole { IfOk result (λ config. IfSome (R.remaining reader.old) (λ bytes. config.items ≡ bytes)) }
     ensures within { IfOk result (λ config. length config.items ≤ config_limit) }
@@ -51,7 +51,7 @@ pub fn read_config<R: Read>(alloc: Global, reader: &mut R) -> Result<Vec<u8>, To
     }
 }
 
-/// All that a reader gives, where that is no more than the limit.
+/// Reads to the end, if that is no more than the limit.
 fn read_within<R: Read>(limit: usize, alloc: Global, reader: &mut R) -> Result<Vec<u8>, ToolFault>
     requires { limit ≤ input_limit }
     ensures whole { IfOk result (λ input. IfSome (R.remaining reader.old) (λ bytes. input.items ≡ bytes)) }
@@ -80,7 +80,7 @@ fn read_within<R: Read>(limit: usize, alloc: Global, reader: &mut R) -> Result<V
 /// The next bytes that a reader gives, and how many those are: none at its end.
 ///
 /// # Errors
-/// `Input` where the read fails.
+/// `Input` if the read fails.
 pub(crate) fn read_piece<R: Read>(reader: &mut R, piece: &mut [u8]) -> Result<usize, ToolFault>
     ensures within { IfOk result (λ count. count ≤ length piece.new) }
     ensures bytes { IfOk result

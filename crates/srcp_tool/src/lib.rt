@@ -1,8 +1,8 @@
 //! What the program does besides serving: it reads its words (`read_words`) and a configuration's bytes
 //! (`read_config`), replays a script (`replay`), mirrors the lines of a panel (`mirror`), and checks a configuration
-//! (`check`). `ToolFault` says why it stops, what it tells of that, and the status.
+//! (`check`). `ToolFault` says why it stops, with which text and which status.
 //!
-//! `check_text` is what a configuration prints, without a device.
+//! `check_text` is what `check` writes, as bytes in memory.
 //!
 //! What a configuration says stands in `srcp_layout_file`, and what a script says in `srcp_script`. It asks no socket
 //! and no clock for anything: `srcp_serve` does that. It opens no file; its callers hand it readers and writers.

@@ -1,4 +1,4 @@
-//! A script that is read, run, and told of.
+//! A script, read and run, and its record printed.
 
 ghost use Rattle.std.specs.Prelude.{◌≡◌, List, IfOk, IfErr, IfSome};
 ghost use Rattle.std.specs.List.{AllByRecursion};
@@ -17,14 +17,14 @@ use std::alloc::Global;
 use std::io::{Read, Write};
 use std::vec::Vec;
 
-/// Reads a script to the end of the input, and writes what it prints: it carries out the events over the registry of the
-/// layout, from moment 0 on and with session ids from 1 on, and tells what every connection was sent, which events were
-/// refused, and the rows at the end. The text is the same over every keeper of rows.
+/// Reads a script to the end of the input, runs its events over the registry of the layout, and writes the record. The
+/// run begins at moment 0, and session ids at 1. The record has what every connection was sent, which events were
+/// refused, and the rows at the end. It is the same over every keeper of rows.
 ///
 /// # Errors
-/// `Input` where a read fails, `TooLarge` where there is more than 16,777,216 bytes, `Script` for the script's first
-/// fault, `Memory` where a growth was refused, in the run too: nothing is written then. `Output` where a write fails or
-/// takes nothing: a front is written.
+/// `Input` if a read fails, `TooLarge` if there is more than 16,777,216 bytes, `Script` for the script's first
+/// fault, `Memory` if memory is refused, in the run too: nothing is written then. `Output` if a write fails or
+/// takes nothing: a prefix is written.
 pub fn replay<K: Rows, R: Read, W: Write>(
     alloc: Global,
     layout: &Layout,
@@ -37,33 +37,33 @@ pub fn replay<K: Rows, R: Read, W: Write>(
         result (W.contents writer.old) (W.contents writer.new) }
 {
     let input = read_input(alloc, reader)?;
-    let told = run_script::<K>(alloc, layout, &input)?;
-    write_record(alloc, &told, writer)
+    let outline = run_script::<K>(alloc, layout, &input)?;
+    write_record(alloc, &outline, writer)
 }
 
 /// The outline of a script's run.
 ///
 /// # Errors
-/// `TooLarge` where there is more than 16,777,216 bytes, `Script` for the script's first fault, `Memory` where a growth
-/// was refused, in the run too.
+/// `TooLarge` if there is more than 16,777,216 bytes, `Script` for the script's first fault, `Memory` if memory is
+/// refused, in the run too.
 fn run_script<K: Rows>(alloc: Global, layout: &Layout, input: &[u8]) -> Result<Record, ToolFault>
     ensures well_formed { IfOk result (λ run. AllByRecursion (λ row. IsWellFormedShown row.shown) run.rows) }
     ensures text { IfOk result (λ run. replayed layout.now input.now ≡ Ok (printed run)) }
     ensures stops { IfErr result (RefusesFor (λ fault. replayed layout.now input.now ≡ Err fault)) }
 {
     let events = events_of(alloc, input)?;
-    let told = run_in_outline::<K>(alloc, layout, &events)?;
-    if told.denied > 0 {
+    let outline = run_in_outline::<K>(alloc, layout, &events)?;
+    if outline.denied > 0 {
         return Err(ToolFault::Memory);
     }
-    Ok(told)
+    Ok(outline)
 }
 
 /// The events of a script.
 ///
 /// # Errors
-/// `TooLarge` where there is more than 16,777,216 bytes, `Script` for the script's first fault, `Memory`
-/// where a growth was refused.
+/// `TooLarge` if there is more than 16,777,216 bytes, `Script` for the script's first fault, `Memory`
+/// if memory is refused.
 fn events_of(alloc: Global, input: &[u8]) -> Result<Vec<Event>, ToolFault>
     ensures events { IfOk result (λ events.
         (buses : List Bus) → replayed buses input.now ≡ Ok (printed (run_of buses events.items))) }
@@ -80,8 +80,8 @@ fn events_of(alloc: Global, input: &[u8]) -> Result<Vec<Event>, ToolFault>
 /// Writes what is printed of a run. What each connection was sent is written from where it is kept.
 ///
 /// # Errors
-/// `Memory` where a growth was refused: nothing is written then. `Output` where a write fails or takes nothing: a front
-/// is written.
+/// `Memory` if memory is refused: nothing is written then. `Output` if a write fails or takes nothing: a prefix is
+/// written.
 fn write_record<W: Write>(alloc: Global, run: &Record, writer: &mut W) -> Result<(), ToolFault>
     requires { AllByRecursion (λ row. IsWellFormedShown row.shown) run.now.rows }
     ensures { Writes (λ text. text ≡ printed run.now) (RefusesFor (λ fault. ⊥))

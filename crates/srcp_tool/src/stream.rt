@@ -1,4 +1,4 @@
-//! The rows that information lines tell of.
+//! The rows that information lines make.
 
 ghost use Rattle.std.specs.Prelude.{◌≡◌, ◌+◌, ◌^◌, ◌<◌, ◌≤◌, ◌++◌, ℕ, List, length, IfOk, IfSome, IfErr};
 ghost use Rattle.srcp_info.specs.Client.{listing};
@@ -23,8 +23,8 @@ use std::vec::Vec;
 /// not kept: memory is taken for the rows and for what is written of them.
 ///
 /// # Errors
-/// `Input` where a read fails, `TooLarge` where there is more than 16,777,216 bytes, `Line` for the
-/// first line that is no information line, `Memory` where a growth was refused: nothing is written
+/// `Input` if a read fails, `TooLarge` if there is more than 16,777,216 bytes, `Line` for the
+/// first line that is no information line, `Memory` if memory is refused: nothing is written
 /// then. `Output` if a write fails or takes nothing: a prefix of the rows' lines is written.
 pub fn mirror<R: Read, W: Write>(
     alloc: Global,
@@ -41,8 +41,8 @@ pub fn mirror<R: Read, W: Write>(
     write_whole(writer, text.as_slice())
 }
 
-/// Applies the lines of the input up to its end. The first line that is refused is told at the end
-/// alone, since a read that fails and an input that is too large are told before it.
+/// Applies the lines of the input up to its end. The first line that is refused is returned at the end
+/// alone, since a read that fails and an input that is too large come before it.
 fn read_lines<R: Read>(alloc: Global, reader: &mut R) -> Result<Mirror, ToolFault>
     ensures within { IfOk result (λ rows. IfSome (R.remaining reader.old) (λ input. length input ≤ input_limit)) }
     ensures holds { IfOk result (λ rows. IfSome (R.remaining reader.old) (λ input. ClientHolds input rows)) }
@@ -70,8 +70,8 @@ fn read_lines<R: Read>(alloc: Global, reader: &mut R) -> Result<Mirror, ToolFaul
     Err(ToolFault::TooLarge)
 }
 
-/// Applies the lines that end in a piece, unless a line was refused before. A line that is refused is
-/// told by its number.
+/// Applies the lines that end in a piece, unless a line was refused before. Returns the
+/// number of a line that is refused.
 fn take_piece(
     lines: &mut MirroredLines,
     refused: Option<usize>,

@@ -9,8 +9,8 @@ use srcp_info::{Mirror, MirrorFault};
 use srcp_script::cut_at;
 use std::alloc::Global;
 
-/// The rows that the whole lines of a stream tell of, how many lines those were, and the line that has
-/// begun behind them.
+/// The rows that the whole lines of a stream make, how many lines those were, and the line that has
+/// begun after them.
 #[derive(Drop)]
 pub(super) struct MirroredLines {
     mirror: Mirror,
@@ -19,7 +19,7 @@ pub(super) struct MirroredLines {
 }
 
 impl MirroredLines {
-    /// No line. Takes no memory.
+    /// Makes the rows of no line. Takes no memory.
     pub(super) fn new(alloc: Global) -> MirroredLines
         ensures taken { HasTaken result [] }
         ensures count { result.count ≡ 0 }
@@ -48,8 +48,8 @@ impl MirroredLines {
     /// Applies the lines that end in a piece of the stream.
     ///
     /// # Errors
-    /// `NotInfo` where the line that follows those that were applied is no information line, `Memory`
-    /// where a growth was refused.
+    /// `NotInfo` if the line that follows those that were applied is no information line, `Memory`
+    /// if memory is refused.
     pub(super) fn take(&mut self, piece: &[u8]) -> Result<(), MirrorFault>
         requires { self.old.count + length piece.now < 2 ^ 64 }
         ensures taken { OnOk result

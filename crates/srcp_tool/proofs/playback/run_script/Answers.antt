@@ -6,7 +6,7 @@ use Rattle.srcp_tool.proofs.playback.run_script.Goals as goal
 
 pub returns-clause-text : goal.returns-clause-text
 returns-clause-text g c =
-    replays c.args.layout.now c.in_ok-events.events.items c.in_ok-told.told c.args.input.now
-    (subst (λ (events : List Event). IsPromisedOutline c.args.layout.now events c.in_ok-told.told) c.deref.ensures.value
-    c.in_ok-told.ensures.promised)
+    replays c.args.layout.now c.in_ok-events.events.items c.in_ok-outline.outline c.args.input.now
+    (subst (λ (events : List Event). IsPromisedOutline c.args.layout.now events c.in_ok-outline.outline) c.deref.ensures.value
+    c.in_ok-outline.ensures.promised)
     (omega arith) c.in_ok-events.ensures.events
