@@ -74,12 +74,12 @@ impl Queue {
         requires { length self.old < MOST_WAITING }
         ensures { self.new ≡ self.old ++ change ∷ [] }
     {
-        if self.ring.is_full() {
+        if let Err(change) = self.ring.try_push_back(change) {
             let waiting = self.len();
             self.ring.truncate_front(waiting);
             self.taken = 0;
+            self.ring.push_back(change);
         }
-        self.ring.push_back(change);
     }
 
     /// Takes out the first change.
