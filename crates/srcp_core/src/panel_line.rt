@@ -19,14 +19,13 @@ pub(crate) struct PanelLine {
 }
 
 impl Model for PanelLine {
-    ghost use Rattle.std.specs.Prelude.{◌≡◌, ◌≤◌, ◌⊎◌, ◌++◌, ℕ, List, [], length};
-    ghost use Rattle.srcp_info.specs.declared.limits.TheConstants.{LONGEST_LINE};
+    ghost use Rattle.std.specs.Prelude.{◌≡◌, ◌⊎◌, ◌++◌, ℕ, List, []};
 
     ghost Value = { List ℕ };
 
     ghost view = { λ l. l.copied ++ l.written.items };
 
-    ghost invariant = { λ l. ((l.copied ≡ []) ⊎ (l.written.items ≡ [])) };
+    ghost invariant = { λ l. (l.copied ≡ []) ⊎ (l.written.items ≡ []) };
 }
 
 impl PanelLine {

@@ -1,11 +1,11 @@
 //! A change with the line that tells it.
 
-ghost use Rattle.std.specs.Prelude.{◌≡◌, ◌≢◌, ◌≤◌, length};
+ghost use Rattle.std.specs.Prelude.{◌≡◌};
 ghost use Rattle.srcp_info.specs.WellFormed.{IsWellFormed};
 ghost use Rattle.srcp_feed.specs.Feed.{IsLineOrNone};
 
 use crate::WrittenLine;
-use srcp_info::{Change, InfoLine, LONGEST_LINE, write_change};
+use srcp_info::{Change, InfoLine, write_change};
 use std::marker::Model;
 
 /// A change, and the line that tells it if that was made, so that one line is made for all panels.

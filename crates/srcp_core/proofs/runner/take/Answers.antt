@@ -1,4 +1,4 @@
-use Rattle.std.proofs.Common.{◌≡◌, Option, sym, ap, ◌∙◌}
+use Rattle.std.proofs.Common.{Option, sym, ap, ◌∙◌}
 use Rattle.srcp_rules.specs.State.{shown_rows}
 use Rattle.srcp_core.specs.Held.{Place}
 use Rattle.srcp_core.specs.Machine.{item_at, item_of}

@@ -1,4 +1,4 @@
-use Rattle.std.proofs.Common.{◌≡◌, sym, ap, ◌∙◌, [], Some, None}
+use Rattle.std.proofs.Common.{◌≡◌, sym, ap, ◌∙◌, Some, None}
 use Rattle.std.specs.Option.{option_copied}
 use Rattle.srcp_rules.specs.State.{shown_rows, row_after}
 use Rattle.srcp_feed.specs.Feed.{Feed}
