@@ -1,4 +1,4 @@
-//! The rows that lines leave.
+//! The rows of a client after lines.
 
 use srcp_info::{Group, Key, Mirror, MirrorFault};
 use std::process::Abort;
