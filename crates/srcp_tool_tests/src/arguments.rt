@@ -90,29 +90,29 @@ fn refused(alloc: Global, words: &[&str]) -> Option<(ErrorKind, i32)> {
 
 #[test]
 fn refuses_words_that_ask_for_nothing(rt: HostRuntime) {
-    let told = refused(rt.alloc(), &["check"]);
-    assert_eq!(rt; told, Some((ErrorKind::MissingRequiredArgument, 2)));
-    let told = refused(rt.alloc(), &["serve", "--turns", "3"]);
-    assert_eq!(rt; told, Some((ErrorKind::MissingRequiredArgument, 2)));
-    let told = refused(rt.alloc(), &["serve", "--config", "f", "--turns", "x"]);
-    assert_eq!(rt; told, Some((ErrorKind::ValueValidation, 2)));
+    let answer = refused(rt.alloc(), &["check"]);
+    assert_eq!(rt; answer, Some((ErrorKind::MissingRequiredArgument, 2)));
+    let answer = refused(rt.alloc(), &["serve", "--turns", "3"]);
+    assert_eq!(rt; answer, Some((ErrorKind::MissingRequiredArgument, 2)));
+    let answer = refused(rt.alloc(), &["serve", "--config", "f", "--turns", "x"]);
+    assert_eq!(rt; answer, Some((ErrorKind::ValueValidation, 2)));
     let past = ["serve", "--config", "f", "--turns", "18446744073709551616"];
     assert_eq!(rt;
         refused(rt.alloc(), &past),
         Some((ErrorKind::ValueValidation, 2))
     );
-    let told = refused(rt.alloc(), &["mirror", "--config", "f"]);
-    assert_eq!(rt; told, Some((ErrorKind::UnknownArgument, 2)));
-    let told = refused(rt.alloc(), &["reply"]);
-    assert_eq!(rt; told, Some((ErrorKind::InvalidSubcommand, 2)));
+    let answer = refused(rt.alloc(), &["mirror", "--config", "f"]);
+    assert_eq!(rt; answer, Some((ErrorKind::UnknownArgument, 2)));
+    let answer = refused(rt.alloc(), &["reply"]);
+    assert_eq!(rt; answer, Some((ErrorKind::InvalidSubcommand, 2)));
 }
 
 #[test]
 fn helps_and_tells_its_version(rt: HostRuntime) {
-    let told = refused(rt.alloc(), &["--help"]);
-    assert_eq!(rt; told, Some((ErrorKind::DisplayHelp, 0)));
-    let told = refused(rt.alloc(), &["serve", "--help"]);
-    assert_eq!(rt; told, Some((ErrorKind::DisplayHelp, 0)));
-    let told = refused(rt.alloc(), &["--version"]);
-    assert_eq!(rt; told, Some((ErrorKind::DisplayVersion, 0)));
+    let answer = refused(rt.alloc(), &["--help"]);
+    assert_eq!(rt; answer, Some((ErrorKind::DisplayHelp, 0)));
+    let answer = refused(rt.alloc(), &["serve", "--help"]);
+    assert_eq!(rt; answer, Some((ErrorKind::DisplayHelp, 0)));
+    let answer = refused(rt.alloc(), &["--version"]);
+    assert_eq!(rt; answer, Some((ErrorKind::DisplayVersion, 0)));
 }

@@ -20,9 +20,9 @@ fn tells_what_a_configuration_says(rt: HostRuntime) -> Result<(), Fail> {
 #[test]
 fn tells_nothing_of_a_refused_configuration(rt: HostRuntime) {
     let mut output = Vec::new(rt.alloc());
-    let told = check(rt.alloc(), b"port = 80", &mut output);
+    let answer = check(rt.alloc(), b"port = 80", &mut output);
     let missing = ToolFault::Config(ConfigFault::Missing(Field::Bus));
-    assert_eq!(rt; told, Err(missing));
+    assert_eq!(rt; answer, Err(missing));
     assert!(rt; output.is_empty());
 }
 
@@ -41,7 +41,7 @@ fn reads_a_configuration_up_to_its_limit(rt: HostRuntime) -> Result<(), Fail> {
         at_once: 1_000_000,
         fails: false,
     };
-    let told = read_config(rt.alloc(), &mut large).err();
-    assert_eq!(rt; told, Some(ToolFault::TooLarge));
+    let answer = read_config(rt.alloc(), &mut large).err();
+    assert_eq!(rt; answer, Some(ToolFault::TooLarge));
     Ok(())
 }

@@ -1,4 +1,4 @@
-//! What the program tells of a fault, and its status.
+//! The texts of the program's faults, and their statuses.
 
 use srcp_layout_file::{ConfigFault, Field};
 use srcp_script::{Cause, ScriptFault};
@@ -68,8 +68,8 @@ fn tells_a_fault_and_its_status(rt: HostRuntime) -> Result<(), Fail> {
         (ToolFault::Listen, "cannot listen", 1),
     ];
     for (fault, text, status) in faults {
-        let told = format!(in rt.alloc(); "{fault}")?;
-        assert_eq!(rt; told.as_str(), text);
+        let answer = format!(in rt.alloc(); "{fault}")?;
+        assert_eq!(rt; answer.as_str(), text);
         assert_eq!(rt; fault.status(), status);
     }
     Ok(())

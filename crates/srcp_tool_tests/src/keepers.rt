@@ -25,7 +25,7 @@ fb_ports = 3
 ";
 
 const SCRIPTS: [&[u8]; 4] = [
-    // Devices are made out of order, locked, driven, and told to a panel that came first.
+    // Devices are made out of order, locked and driven, and a panel that came first is sent each change.
     b"open\nroom 1 1000\nbytes 1 SET CONNECTIONMODE SRCP INFO\\nGO\\n\nroom 1 90
 open\nroom 2 1000\nbytes 2 GO\\n\nroom 2 1000
 bytes 2 INIT 1 GL 30 N 1 28 5\\nINIT 1 GA 7 N\\nINIT 1 GL 3 N 1 28 2\\nSET 1 LOCK GL 3 9\\n\nroom 2 1000

@@ -63,8 +63,8 @@ fn refuses_the_first_wrong_line(rt: HostRuntime) {
         fails: false,
     };
     let mut output = Vec::new(rt.alloc());
-    let told = mirror(rt.alloc(), &mut lines, &mut output);
-    assert_eq!(rt; told, Err(ToolFault::Line(2)));
+    let answer = mirror(rt.alloc(), &mut lines, &mut output);
+    assert_eq!(rt; answer, Err(ToolFault::Line(2)));
     assert!(rt; output.is_empty());
 }
 

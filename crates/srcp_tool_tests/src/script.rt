@@ -29,9 +29,9 @@ fn reads_a_script(rt: HostRuntime) -> Result<(), Fail> {
 
 #[test]
 fn tells_a_fault_with_its_line(rt: HostRuntime) {
-    let told = read_script(rt.alloc(), b"open\n# none\n\nbytes 0 \\q\nOPEN\n").err();
+    let answer = read_script(rt.alloc(), b"open\n# none\n\nbytes 0 \\q\nOPEN\n").err();
     assert_eq!(rt;
-        told,
+        answer,
         Some(ScriptFault {
             line: 4,
             cause: Cause::Number

@@ -22,7 +22,7 @@ const CONFIG: &[u8] = b"bus = [{number = 9, groups = [\"GA\"], ga_max = 1}]";
 
 const CHECKED: &[u8] = b"port 4303\nbus 9 GA 1\n";
 
-/// A reader that fails behind these bytes.
+/// A reader that fails after these bytes.
 fn failing(bytes: &[u8]) -> Source<'_> {
     Source {
         bytes,
@@ -31,7 +31,7 @@ fn failing(bytes: &[u8]) -> Source<'_> {
     }
 }
 
-/// A reader that ends behind these bytes.
+/// A reader that ends after these bytes.
 fn ending(bytes: &[u8]) -> Source<'_> {
     Source {
         bytes,
@@ -46,13 +46,13 @@ fn replays_nothing_where_a_read_fails(rt: HostRuntime) {
     for front in 0..SCRIPT.len() + 1 {
         let mut script = failing(&SCRIPT[..front]);
         let mut output = Vec::new(rt.alloc());
-        let told = replay::<Flat, Source<'_>, Vec<u8>>(
+        let answer = replay::<Flat, Source<'_>, Vec<u8>>(
             rt.alloc(),
             &layout,
             &mut script,
             &mut output,
         );
-        assert_eq!(rt; told, Err(ToolFault::Input));
+        assert_eq!(rt; answer, Err(ToolFault::Input));
         assert!(rt; output.is_empty());
     }
 }
@@ -63,8 +63,8 @@ fn replays_a_front_where_a_write_fails(rt: HostRuntime) {
     for room in 0..RECORD.len() + 1 {
         let mut script = ending(SCRIPT);
         let mut sink = Sink::new(rt.alloc(), room, room % 2 == 0);
-        let told = replay::<Flat, Source<'_>, Sink>(rt.alloc(), &layout, &mut script, &mut sink);
-        assert_eq!(rt; told, written(room, RECORD));
+        let answer = replay::<Flat, Source<'_>, Sink>(rt.alloc(), &layout, &mut script, &mut sink);
+        assert_eq!(rt; answer, written(room, RECORD));
         assert_eq!(rt; sink.taken.as_slice(), &RECORD[..room]);
     }
 }
@@ -74,8 +74,8 @@ fn mirrors_nothing_where_a_read_fails(rt: HostRuntime) {
     for front in 0..ROWS.len() + 1 {
         let mut lines = failing(&ROWS[..front]);
         let mut output = Vec::new(rt.alloc());
-        let told = mirror(rt.alloc(), &mut lines, &mut output);
-        assert_eq!(rt; told, Err(ToolFault::Input));
+        let answer = mirror(rt.alloc(), &mut lines, &mut output);
+        assert_eq!(rt; answer, Err(ToolFault::Input));
         assert!(rt; output.is_empty());
     }
 }
@@ -85,8 +85,8 @@ fn mirrors_a_front_where_a_write_fails(rt: HostRuntime) {
     for room in 0..ROWS.len() + 1 {
         let mut lines = ending(ROWS);
         let mut sink = Sink::new(rt.alloc(), room, room % 2 == 0);
-        let told = mirror(rt.alloc(), &mut lines, &mut sink);
-        assert_eq!(rt; told, written(room, ROWS));
+        let answer = mirror(rt.alloc(), &mut lines, &mut sink);
+        assert_eq!(rt; answer, written(room, ROWS));
         assert_eq!(rt; sink.taken.as_slice(), &ROWS[..room]);
     }
 }
@@ -94,8 +94,8 @@ fn mirrors_a_front_where_a_write_fails(rt: HostRuntime) {
 #[test]
 fn reads_no_configuration_where_a_read_fails(rt: HostRuntime) {
     for front in 0..CONFIG.len() + 1 {
-        let told = read_config(rt.alloc(), &mut failing(&CONFIG[..front])).err();
-        assert_eq!(rt; told, Some(ToolFault::Unreadable));
+        let answer = read_config(rt.alloc(), &mut failing(&CONFIG[..front])).err();
+        assert_eq!(rt; answer, Some(ToolFault::Unreadable));
     }
 }
 
@@ -103,13 +103,13 @@ fn reads_no_configuration_where_a_read_fails(rt: HostRuntime) {
 fn checks_a_front_where_a_write_fails(rt: HostRuntime) {
     for room in 0..CHECKED.len() + 1 {
         let mut sink = Sink::new(rt.alloc(), room, room % 2 == 0);
-        let told = check(rt.alloc(), CONFIG, &mut sink);
-        assert_eq!(rt; told, written(room, CHECKED));
+        let answer = check(rt.alloc(), CONFIG, &mut sink);
+        assert_eq!(rt; answer, written(room, CHECKED));
         assert_eq!(rt; sink.taken.as_slice(), &CHECKED[..room]);
     }
 }
 
-/// What writing a text into so much room comes to.
+/// The result of writing a text into `room` bytes.
 fn written(room: usize, text: &[u8]) -> Result<(), ToolFault> {
     if room < text.len() {
         Err(ToolFault::Output)
@@ -136,11 +136,11 @@ fn reads_each_front_of_a_script(rt: HostRuntime) {
         (b"open\nshut 1\n".as_slice(), Ok(2)),
     ];
     for (front, wanted) in fronts {
-        let told = match read_script(rt.alloc(), front) {
+        let answer = match read_script(rt.alloc(), front) {
             Ok(events) => Ok(events.len()),
             Err(ScriptFault { line, cause }) => Err((line, cause)),
         };
-        assert_eq!(rt; told, wanted);
+        assert_eq!(rt; answer, wanted);
     }
 }
 
