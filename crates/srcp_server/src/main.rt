@@ -24,7 +24,7 @@ use std::{env, fs, io};
 /// How long a turn waits at most if the words say how many turns are made, in milliseconds.
 const LONGEST_TURN: u64 = 8;
 
-/// Does what the words ask for. A fault is told on the standard error and by the status.
+/// Does what the words ask for. A fault is printed on the standard error, and the status says which kind it is.
 fn main(rt: HostRuntime) -> ExitCode {
     let words = match words_given(&rt) {
         Ok(words) => words,
@@ -42,7 +42,7 @@ fn main(rt: HostRuntime) -> ExitCode {
     };
     match done {
         Ok(()) => ExitCode::SUCCESS,
-        Err(fault) => tell(&rt, fault),
+        Err(fault) => print_fault(&rt, fault),
     }
 }
 
@@ -51,10 +51,10 @@ fn words_given<R: Env + AllocGlobal>(rt: &R) -> io::Result<Vec<String>> {
     Ok(env::args(rt)?.collect(rt.alloc())?)
 }
 
-/// Prints why the words cannot be had. One that is no UTF-8 is told in the way of `clap`, which is not handed it.
+/// Prints why the words cannot be had. For a word that is no UTF-8 it prints what `clap` would.
 fn print_no_words<R: Eprint>(rt: &R, fault: &io::Error) -> ExitCode {
     if fault.kind() == io::ErrorKind::OutOfMemory {
-        return tell(rt, ToolFault::Memory);
+        return print_fault(rt, ToolFault::Memory);
     }
     let _ = eprintln!(rt;
         "error: invalid UTF-8 was detected in one or more arguments\n\nFor more information, try '--help'."
@@ -65,7 +65,7 @@ fn print_no_words<R: Eprint>(rt: &R, fault: &io::Error) -> ExitCode {
 /// Prints what `clap` says of words that it refuses, or that ask for help or for the version.
 fn print_refusal<R: Print + Eprint>(rt: &R, refused: &clap::Error) -> ExitCode {
     if refused.kind() == ErrorKind::OutOfMemory {
-        return tell(rt, ToolFault::Memory);
+        return print_fault(rt, ToolFault::Memory);
     }
     let _ = refused.print(rt);
     if refused.use_stderr() {
@@ -75,7 +75,7 @@ fn print_refusal<R: Print + Eprint>(rt: &R, refused: &clap::Error) -> ExitCode {
     }
 }
 
-fn tell<R: Eprint>(rt: &R, fault: ToolFault) -> ExitCode {
+fn print_fault<R: Eprint>(rt: &R, fault: ToolFault) -> ExitCode {
     let _ = eprintln!(rt; "srcp_server: {fault}");
     ExitCode::from(fault.status())
 }
@@ -128,7 +128,7 @@ fn built_in_layout(alloc: Global) -> Result<Layout, ToolFault> {
     }
 }
 
-/// Serves the layout of the configuration in a file, for so many turns, to the peers that come to its port.
+/// Serves the layout of the configuration in a file to the peers that connect to its port, for `turns` turns.
 fn serve_layout<R: Files + AllocGlobal + Net + Clock>(
     rt: &R,
     path: &str,
@@ -146,7 +146,7 @@ fn serve_layout<R: Files + AllocGlobal + Net + Clock>(
     Ok(())
 }
 
-/// The program stops for the same reason as the door, and tells the same of it.
+/// The program's fault for a door that cannot listen, with the same text.
 fn tool_fault(fault: ListenFault) -> ToolFault
     ensures text { fault_text result ≡ listen_text fault }
     ensures status { fault_status result ≡ 1 }
