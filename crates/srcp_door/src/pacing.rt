@@ -1,8 +1,9 @@
 //! How many lines are let through in a turn.
 
-ghost use Rattle.std.specs.Prelude.{◌≡◌, ◌<◌, ◌≤◌, ◌+◌, ◌↔◌, ◌⊎◌, ◌==◌, ◌&&◌, false, true, not, cond, IsTrue, length, take};
-ghost use Rattle.srcp_door.specs.Pacing.{Allows, IsFirstWeight, IsLongest, IsShort, fits};
-ghost use Rattle.srcp_door.specs.Pacing.{line_after, line_weight, lines, pace_of, share_after, spent, weight_of};
+ghost use Rattle.std.specs.Prelude.{◌≡◌, ◌<◌, ◌≤◌, ◌+◌, ◌↔◌, ◌⊎◌, ◌==◌, ◌&&◌, false, true, not, cond, IsTrue, length};
+ghost use Rattle.std.specs.Prelude.{take};
+ghost use Rattle.srcp_door.specs.Pacing.{Allows, IsFirstWeight, IsLongest, IsShort, fits, line_after, line_weight};
+ghost use Rattle.srcp_door.specs.Pacing.{lines, pace_of, share_after, spent, weight_of};
 
 use memchr::memchr;
 use srcp_rules::{MOST_CHANGES, weight};
@@ -26,8 +27,8 @@ pub enum Line {
 }
 
 impl Line {
-    /// Returns how much the line weighs that ends behind these bytes. If it began in an earlier piece, it weighs as much
-    /// as a line can, since nobody has all its bytes.
+    /// Returns how much the line weighs that ends behind these bytes. If it began in an earlier piece, it weighs as
+    /// much as a line can, since nobody has all its bytes.
     fn weight(self, text: &[u8]) -> usize
         ensures weight { result ≡ line_weight self text.now }
         ensures most { result ≤ MOST_CHANGES }
@@ -78,9 +79,9 @@ pub struct Allowed {
 }
 
 impl Pace {
-    /// Returns what may be let through in a turn, by how many changes may come before a panel overruns, if one is there.
-    /// With `tick` it is one line though the panels may take none, so that nobody starves behind a panel that does not
-    /// read.
+    /// Returns what may be let through in a turn, by how many changes may come before a panel overruns, if one is
+    /// there. With `tick` it is one line though the panels may take none, so that nobody starves behind a panel that
+    /// does not read.
     pub fn of_turn(slack: Option<usize>, tick: bool) -> Pace
         ensures { result ≡ pace_of slack tick }
     {

@@ -14,8 +14,8 @@ const MOST_STEPS: u64 = 60_000;
 /// How far a moment may be behind the time, in milliseconds.
 const MOST_BEHIND: u64 = STEP * MOST_STEPS;
 
-/// Tells moments in milliseconds since 1970: the wall clock at the start, and what elapsed since on a clock that is never
-/// set. Seen as a record of the two clocks at the start and the moment that was told last.
+/// Tells moments in milliseconds since 1970: the wall clock at the start, and what elapsed since on a clock that is
+/// never set. Seen as a record of the two clocks at the start and the moment that was told last.
 #[derive(Drop)]
 pub struct Timekeeper {
     wall: u64,
@@ -43,8 +43,8 @@ impl Timekeeper {
         }
     }
 
-    /// Goes on to the present where nothing falls due, and else to the moment before the first that does. So only time in
-    /// which something falls due is made up in steps. `due` is the moment at which that is, if there is one.
+    /// Goes on to the present where nothing falls due, and else to the moment before the first that does. So only time
+    /// in which something falls due is made up in steps. `due` is the moment at which that is, if there is one.
     pub fn pass(&mut self, elapsed: u64, due: Option<u64>)
         ensures { self.new ≡ record self.old { last = passed self.old.last (target self.old elapsed) due } }
     {
@@ -60,7 +60,8 @@ impl Timekeeper {
         ensures forward { self.old.last ≤ result }
         ensures within { result ≤ max self.old.last (target self.old elapsed) }
         ensures step { target self.old elapsed ≤ self.old.last + 10 + ten_minutes → result ≤ self.old.last + 10 }
-        ensures reached { target self.old elapsed ≤ self.old.last + 10 → result ≡ max self.old.last (target self.old elapsed) }
+        ensures reached { target self.old elapsed ≤ self.old.last + 10
+            → result ≡ max self.old.last (target self.old elapsed) }
         ensures behind { target self.old elapsed ≤ result + ten_minutes }
     {
         let goal = self.goal(elapsed);

@@ -1,5 +1,6 @@
 -- What a door has delivered when it ends.
-use Rattle.std.proofs.Common.{◌≡◌, ◌∙◌, ℕ, ◌+◌, Bool, true, false, not, List, [], ◌++◌, length, refl, ap, sym, arith, ◌==◌, ◌⊎◌, inl, inr, get_or, Option, Some, None, ◌∷◌}
+use Rattle.std.proofs.Common.{◌≡◌, ◌∙◌, ℕ, ◌+◌, Bool, true, false, not, List, length, refl, ap, arith, ◌==◌, ◌⊎◌, inl, inr}
+use Rattle.std.proofs.Common.{get_or, Option, Some, None}
 use Rattle.std.specs.Prelude.{All, ◌&&◌}
 use Rattle.srcp_sockets.specs.declared.peer.Peer.{Peer}
 use Rattle.srcp_sockets.specs.declared.readiness.Writing.{Writing}
@@ -55,17 +56,23 @@ pub waited_clocked : (count : ℕ) (old mid new : Option (List Step)) (answer : 
     → HasWaited count old mid → HasWaited count old new
 waited_clocked count old mid new answer tells waited later is =
     let t = tells later is in
-    let w = waited t.0 t.1 in
-    (w.0, w.1, λ wall start. ap (λ l. (times wall start l).waits) t.2
-    ∙ ap (λ x. x.waits) (times_more wall start t.0 (Clocks answer)) ∙ same (times wall start t.0) answer ∙ w.2 wall start)
+    let w = waited t.0 t.1 in (
+      w.0,
+      w.1,
+      λ wall start. ap (λ l. (times wall start l).waits) t.2
+          ∙ ap (λ x. x.waits) (times_more wall start t.0 (Clocks answer)) ∙ same (times wall start t.0) answer ∙ w.2 wall start,
+    )
 
 pub waited_more : (count : ℕ) (old mid new : Option (List Step)) (most : Option ℕ) (n : ℕ) (ready : List Ready)
     → Tells mid (Waits most n ready) new → HasWaited count old mid → HasWaited (count + 1) old new
 waited_more count old mid new most n ready tells waited later is =
     let t = tells later is in
-    let w = waited t.0 t.1 in
-    (w.0, w.1, λ wall start.
-    let one : (times wall start later).waits ≡ (times wall start t.0).waits + 1 =
-    ap (λ l. (times wall start l).waits) t.2 ∙ ap (λ x. x.waits) (times_more wall start t.0 (Waits most n ready)) in
-    let before = w.2 wall start in
-    omega (arith, one, before))
+    let w = waited t.0 t.1 in (
+      w.0,
+      w.1,
+      λ wall start.
+          let one : (times wall start later).waits ≡ (times wall start t.0).waits + 1 =
+          ap (λ l. (times wall start l).waits) t.2 ∙ ap (λ x. x.waits) (times_more wall start t.0 (Waits most n ready)) in
+          let before = w.2 wall start in
+          omega (arith, one, before),
+    )

@@ -1,22 +1,20 @@
 -- The sockets follow the course.
-use Rattle.std.proofs.Common.{◌≡◌, ◌∙◌, ℕ, ◌<◌, List, [], ◌∷◌, ◌++◌, length, take, refl, ap, sym, subst, arith, get_or, ◌==◌, if◌then◌else◌, Ok, Err, Option, Some, None}
+use Rattle.std.proofs.Common.{◌≡◌, ◌∙◌, ℕ, ◌<◌, List, [], ◌∷◌, ◌++◌, length, take, refl, ap, sym, subst, arith, get_or, ◌==◌, if◌then◌else◌}
+use Rattle.std.proofs.Common.{Ok, Err, Option}
 use Rattle.std.specs.Prelude.{map, flat_map, option_map, slice_index_or}
 use Rattle.std.specs.Io.{StartsWith}
 use Rattle.std.proofs.lemmas.List.{get_or_default, length-map}
 use Rattle.std.proofs.Math.ListN.{get_or-map}
-use Rattle.srcp_rules.specs.declared.layout.Bus.{Bus}
-use Rattle.srcp_rules.specs.Layout.{IsLayout}
-use Rattle.srcp_core.specs.Connection.{Connection, sent}
+use Rattle.srcp_core.specs.Connection.{sent}
 use Rattle.srcp_core.specs.Course.{course}
 use Rattle.srcp_core.specs.Held.{Held}
-use Rattle.srcp_core.specs.Stands.{StandsFor}
 use Rattle.srcp_sockets.specs.Names.{IsNamed}
 use Rattle.srcp_serve.specs.Given.{Call, told_call, ExpectCall, NowCall, AcceptCall, ReadCall, WriteCall, CloseCall}
 use Rattle.srcp_serve.specs.Serving.{events_of, stand_after, taken as given_taken}
-use Rattle.srcp_serve.specs.Places.{IsOfCourse, IsOfGiven, ServesCourse}
+use Rattle.srcp_serve.specs.Places.{IsOfGiven, ServesCourse}
 use Rattle.srcp_sockets.specs.Accounts.{account}
 use Rattle.srcp_sockets.specs.Doors.{AreSound}
-use Rattle.srcp_sockets.specs.Follows.{Follows, IsFollowed}
+use Rattle.srcp_sockets.specs.Follows.{Follows}
 use Rattle.srcp_sockets.specs.Streams.{taken, taken_in, took}
 use Rattle.srcp_sockets.specs.Steps.{Step, calls}
 use Rattle.srcp_sockets.proofs.Tellings.{taken_is, took_is}

@@ -1,7 +1,7 @@
 -- How what is known of a peer goes on from step to step.
-use Rattle.std.proofs.Common.{◌≡◌, ◌∙◌, ℕ, ◌≤◌, Bool, true, false, not, List, [], ◌∷◌, ◌++◌, take, drop, length, if◌then◌else◌, Ok, Err, refl, ap, sym, subst, arith, ◌==◌, Option, Some, None, append-nil}
+use Rattle.std.proofs.Common.{◌≡◌, ◌∙◌, ℕ, Bool, true, false, not, List, [], ◌∷◌, ◌++◌, take, drop, length, if◌then◌else◌, Ok, Err}
+use Rattle.std.proofs.Common.{refl, ap, sym, subst, arith, ◌==◌, Option}
 use Rattle.std.specs.Prelude.{◌≢◌, nat_lt, OnErr, Result, ◌&&◌, ◌||◌, fold}
-use Rattle.std.proofs.lemmas.List.Elements.{filter_map-append}
 use Rattle.std.proofs.lemmas.List.Sums.{fold-append}
 use Rattle.std.proofs.lemmas.Bool.Decides.{nat_tests}
 use Rattle.std.specs.declared.io.ErrorKind.{ErrorKind}
@@ -13,22 +13,26 @@ use Rattle.srcp_sockets.specs.declared.readiness.Reading.TheVariants as input
 use Rattle.srcp_sockets.specs.declared.readiness.Writing.{Writing}
 use Rattle.srcp_sockets.specs.declared.readiness.Writing.TheVariants as output
 use Rattle.srcp_sockets.specs.declared.peer.Peer.{Peer}
-use Rattle.srcp_sockets.specs.declared.stay.Stay.{Stay}
 use Rattle.srcp_sockets.specs.declared.stay.Stay.TheVariants as stay
-use Rattle.srcp_sockets.specs.Steps.{Step, SaysNothing, SaysOne, Tells, Accepts, Clocks, Closes, Reads, Shuts, Writes, Waits, Told, calls, call_of, refusal_told}
-use Rattle.srcp_serve.specs.Calls.{Call, ReadCall, WriteCall, CloseCall}
+use Rattle.srcp_sockets.specs.Steps.{Step, Tells, Reads, Shuts, Writes, Waits, Told}
+use Rattle.srcp_sockets.specs.Steps.{refusal_told}
+use Rattle.srcp_serve.specs.Calls.{ReadCall, WriteCall}
 use Rattle.srcp_serve.specs.declared.door.DoorFault.{DoorFault}
 use Rattle.srcp_serve.specs.declared.door.Got.{Got}
 use Rattle.srcp_serve.specs.declared.door.Got.TheVariants as got
-use Rattle.srcp_sockets.specs.Accounts.{Account, Sent, Received, account, account_step, told_step, is_at_rest, is_short, may_end, may_fail, refused_read, refused_write, shut_down, untouched, waited, read_in, wrote, woken, woken_sent, woken_came}
+use Rattle.srcp_sockets.specs.Accounts.{Account, Sent, Received, account, account_step, told_step, is_at_rest, is_short, may_end, may_fail}
+use Rattle.srcp_sockets.specs.Accounts.{refused_read, refused_write, shut_down, untouched, waited, wrote, woken, woken_sent}
+use Rattle.srcp_sockets.specs.Accounts.{woken_came}
 use Rattle.srcp_door.specs.Pacing.{line_after}
 use Rattle.srcp_sockets.specs.declared.ending.Ending.{Ending}
 use Rattle.srcp_door.specs.declared.pacing.Line.{Line}
 use Rattle.srcp_door.specs.declared.pacing.Line.TheVariants as line
 use Rattle.srcp_door.specs.declared.pacing.Share.{Share}
-use Rattle.srcp_sockets.specs.Peers.{Agrees, ComesAs, IsKept, MayEnd, MayFail, ReadsAs, Spares, WritesAs, after_wake, queued_more, given, is_lost, is_resting, may_have, missed, refused, taken, woken_input, woken_output}
+use Rattle.srcp_sockets.specs.Peers.{Agrees, ComesAs, IsKept, MayEnd, MayFail, ReadsAs, Spares, WritesAs, after_wake, queued_more, given}
+use Rattle.srcp_sockets.specs.Peers.{is_lost, is_resting, may_have, missed, refused, taken, woken_input, woken_output}
 use Rattle.srcp_sockets.specs.Turns.{got_bytes}
-use Rattle.srcp_sockets.proofs.States.{again_writes, comes_here, handed_as, read_comes, reads_here, unread_comes, unwritten_as, woken_comes, woken_writes, written_as, wrote_as}
+use Rattle.srcp_sockets.proofs.States.{again_writes, comes_here, handed_as, read_comes, reads_here, unread_comes, unwritten_as, woken_comes}
+use Rattle.srcp_sockets.proofs.States.{woken_writes, written_as, wrote_as}
 use Rattle.srcp_sockets.proofs.Lined.{line_after-append}
 use Rattle.srcp_sockets.proofs.Staying.{may_end_then, may_fail_then, shut_agrees, stays_drop, stays_here}
 use Rattle.srcp_sockets.proofs.Wanting.{noted_agrees, wants_less, wants_woken, was_read}
@@ -464,45 +468,6 @@ missed_peer old new p buffer after fault said state ready aftered is stated tell
     subst (λ (s : Reading). IsKept new (record p { incoming = after; input = s })) (sym (stated ∙ ap (missed p.input) is))
     (subst (λ (a : List ℕ). IsKept new (record p { incoming = a; input = missed p.input (refusal_told fault) })) (sym aftered)
     (kept_missed old new p buffer fault ready tells kept))
-
--- ---- steps that are no calls of the door
-
-pub says_none : (told : Option (List Step)) → SaysNothing told told
-says_none told later is = (later, is, refl)
-
-pub says_then : (old mid new : Option (List Step)) → SaysNothing old mid → SaysNothing mid new → SaysNothing old new
-says_then old mid new first second later is =
-    let s = second later is in
-    let f = first s.0 s.1 in
-    (f.0, f.1, s.2 ∙ f.2)
-
--- one step more that is none
-calls_skip : (log : List Step) (step : Step) → call_of step ≡ None → calls (log ++ step ∷ []) ≡ calls log
-calls_skip log (Accepts n answer) e = filter_map-append call_of log (Accepts n answer ∷ []) ∙ append-nil (calls log)
-calls_skip log (Reads n buffer answer) e = filter_map-append call_of log (Reads n buffer answer ∷ []) ∙ append-nil (calls log)
-calls_skip log (Writes n bytes answer) e = filter_map-append call_of log (Writes n bytes answer ∷ []) ∙ append-nil (calls log)
-calls_skip log (Waits most count ready) e = filter_map-append call_of log (Waits most count ready ∷ []) ∙ append-nil (calls log)
-calls_skip log (Shuts n) e = filter_map-append call_of log (Shuts n ∷ []) ∙ append-nil (calls log)
-calls_skip log (Closes n) e = filter_map-append call_of log (Closes n ∷ []) ∙ append-nil (calls log)
-calls_skip log (Clocks answer) e = filter_map-append call_of log (Clocks answer ∷ []) ∙ append-nil (calls log)
-calls_skip log (Told call) e = cc
-
-pub says_step : (old new : Option (List Step)) (step : Step) → Tells old step new → call_of step ≡ None → SaysNothing old new
-says_step old new step tells none later is =
-    let t = tells later is in
-    (t.0, t.1, ap calls t.2 ∙ calls_skip t.0 step none)
-
--- one call of the door
-pub says_call : (old new : Option (List Step)) (call : Call) → Tells old (Told call) new → SaysOne old call new
-says_call old new call tells later is =
-    let t = tells later is in
-    (t.0, t.1, ap calls t.2 ∙ filter_map-append call_of t.0 (Told call ∷ []))
-
-pub says_after : (old mid new : Option (List Step)) (call : Call) → SaysNothing old mid → SaysOne mid call new → SaysOne old call new
-says_after old mid new call first second later is =
-    let s = second later is in
-    let f = first s.0 s.1 in
-    (f.0, f.1, s.2 ∙ ap (λ c. c ++ call ∷ []) f.2)
 
 -- a call about one socket spares the others
 told_other : (n other : ℕ) (a : Account) (answer : Result Got DoorFault) (buffer : List ℕ) → other ≢ n → told_step other a

@@ -3,10 +3,13 @@ pub mod States
 pub mod Resting
 pub mod Wanting
 pub mod Staying
+pub mod Saying
 pub mod Keeping
 pub mod Naming
 pub mod Lists
 pub mod Standing
+pub mod Waited
+pub mod Coming
 pub mod Parting
 pub mod Serving
 pub mod Tellings

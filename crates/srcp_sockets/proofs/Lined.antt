@@ -1,6 +1,7 @@
 -- The line that a socket's peer is being handed out.
-use Rattle.std.proofs.Common.{◌≡◌, ◌∙◌, ℕ, Bool, true, false, cond, List, [], ◌∷◌, ◌++◌, refl, ap, sym, ◌==◌, if◌then◌else◌, Option, Some, None, Ok, Err}
-use Rattle.std.specs.Prelude.{Result, flat_map, fold, take}
+use Rattle.std.proofs.Common.{◌≡◌, ◌∙◌, ℕ, Bool, true, false, cond, List, [], ◌∷◌, ◌++◌, refl, ap, sym, ◌==◌, if◌then◌else◌, Some}
+use Rattle.std.proofs.Common.{None, Ok, Err}
+use Rattle.std.specs.Prelude.{Result, flat_map, fold}
 use Rattle.std.proofs.lemmas.List.Sums.{fold-append}
 use Rattle.srcp_door.specs.Pacing.{Seen, line_after, seen_after, seen_of, with_text}
 use Rattle.srcp_door.specs.declared.pacing.Line.{Line}
@@ -10,9 +11,9 @@ use Rattle.srcp_serve.specs.declared.door.Got.{Got}
 use Rattle.srcp_serve.specs.declared.door.Got.TheVariants as got
 use Rattle.srcp_serve.specs.Calls.{ExpectCall, NowCall, AcceptCall, ReadCall, WriteCall, CloseCall}
 use Rattle.srcp_sockets.specs.Accounts.{account}
-use Rattle.srcp_sockets.specs.Steps.{Accepts, Clocks, Closes, Reads, Shuts, Step, Told, Waits, Writes, calls}
-use Rattle.srcp_sockets.specs.Streams.{handed, handed_in}
-use Rattle.srcp_sockets.specs.Times.{Times, clocked, first_times, lines_after, times, times_step, told_moment}
+use Rattle.srcp_sockets.specs.Steps.{Accepts, Clocks, Closes, Reads, Shuts, Step, Told, Waits, Writes}
+use Rattle.srcp_sockets.specs.Streams.{handed_in}
+use Rattle.srcp_sockets.specs.Times.{Times, first_times, times, times_step, told_moment}
 use Rattle.srcp_sockets.specs.Turns.{got_bytes}
 use Rattle.srcp_sockets.proofs.Tellings.{by_calls, handed_is, in_call}
 

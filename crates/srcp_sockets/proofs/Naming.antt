@@ -1,5 +1,6 @@
 -- The numbers of the peers differ.
-use Rattle.std.proofs.Common.{◌≡◌, ◌∙◌, ℕ, zero, suc, ◌<◌, ◌≤◌, ◌+◌, Bool, true, false, List, [], ◌∷◌, ◌++◌, length, refl, ap, sym, subst, arith, ⊎_elim, get_or, ◌==◌, ◌⊎◌, Option, Some, None, Ok, append-nil}
+use Rattle.std.proofs.Common.{◌≡◌, ◌∙◌, ℕ, suc, ◌<◌, ◌≤◌, false, List, [], ◌∷◌, ◌++◌, length, refl, ap, sym, subst}
+use Rattle.std.proofs.Common.{arith, ⊎_elim, ◌==◌, ◌⊎◌, Option, Some, None, Ok, append-nil}
 use Rattle.std.specs.Prelude.{filter_map, slice_index}
 use Rattle.std.specs.List.{AllByRecursion, IsDistinct}
 use Rattle.std.proofs.lemmas.Bool.{cases_lt}

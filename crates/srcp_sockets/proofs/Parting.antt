@@ -1,5 +1,6 @@
 -- A peer is let go, and its socket is closed.
-use Rattle.std.proofs.Common.{◌≡◌, ◌∙◌, ℕ, ◌<◌, ◌≤◌, ◌+◌, ◌-◌, Bool, true, false, not, List, length, refl, ap, sym, subst, arith, ⊎_elim, get_or, set, ◌==◌, if◌then◌else◌, Option, Some, Ok, Err, ◌⊎◌, true≢false}
+use Rattle.std.proofs.Common.{◌≡◌, ◌∙◌, ℕ, ◌<◌, ◌≤◌, ◌+◌, ◌-◌, Bool, true, false, not, List, length, refl, ap, sym, subst, arith, ⊎_elim}
+use Rattle.std.proofs.Common.{get_or, set, ◌==◌, if◌then◌else◌, Option, Some, Ok, Err, ◌⊎◌, true≢false}
 use Rattle.std.specs.Prelude.{⊤, ◌≢◌, ◌&&◌, ◌||◌, nat_lt, slice_index_or, Result}
 use Rattle.std.proofs.lemmas.Bool.{cases_eq, cases_lt}
 use Rattle.std.proofs.lemmas.List.{get_or_default}
@@ -79,7 +80,8 @@ clock_goes answer l = record {
 
 pub stands_clocked : (old new : Option (List Step)) (peers : List Peer) (l : Listening) (last : ℕ) (answer : Option ℕ)
     → Tells old (Clocks answer) new → Stands old peers l last → Stands new peers l last
-stands_clocked old new peers l last answer tells stands = stands_goes (λ socket a. ⊤) old new peers l last (Clocks answer) (clock_goes answer l)
+stands_clocked old new peers l last answer tells stands =
+    stands_goes (λ socket a. ⊤) old new peers l last (Clocks answer) (clock_goes answer l)
     (λ log is socket. tt) (clocked_all old new peers answer tells stands.kept) tells stands
 
 -- ---- one that is let go

@@ -1,16 +1,16 @@
 -- What holds of all that was told holds of each step when it was made.
-use Rattle.std.proofs.Common.{◌≡◌, ◌∙◌, ℕ, Bool, true, false, not, List, [], ◌∷◌, ◌++◌, take, refl, ap, sym, subst, ◌==◌, if◌then◌else◌, Option, Some, None, Ok, Err, true≢false}
+use Rattle.std.proofs.Common.{◌≡◌, ◌∙◌, ℕ, Bool, true, false, not, List, [], ◌∷◌, ◌++◌, take, refl, ap, sym, ◌==◌, if◌then◌else◌}
+use Rattle.std.proofs.Common.{Option, Ok, Err, true≢false}
 use Rattle.std.specs.Prelude.{Result, ◌&&◌, ◌||◌, fold}
 use Rattle.std.proofs.lemmas.List.Sums.{fold-append}
-use Rattle.std.proofs.lemmas.Bool.Decides.{nat_tests}
 use Rattle.std.specs.declared.io.ErrorKind.{ErrorKind}
 use Rattle.srcp_serve.specs.declared.door.DoorFault.{DoorFault}
-use Rattle.srcp_serve.specs.declared.door.Got.{Got}
 use Rattle.srcp_serve.specs.declared.door.Got.TheVariants as got
 use Rattle.srcp_sockets.specs.declared.system.Ready.{Ready}
 use Rattle.srcp_serve.specs.Calls.{Call, ExpectCall, NowCall, AcceptCall, ReadCall, WriteCall, CloseCall}
 use Rattle.srcp_sockets.specs.Steps.{Accepts, Clocks, Closes, Reads, Shuts, Step, Told, Waits, Writes}
-use Rattle.srcp_sockets.specs.Accounts.{Account, accepted, account, account_step, closed, heard, is_at_rest, is_short, may_close, may_end, may_fail, may_shut, shut_down, untouched, waited, woken, woken_came, woken_sent, wrote, read_of}
+use Rattle.srcp_sockets.specs.Accounts.{Account, accepted, account, account_step, closed, heard, is_at_rest, is_short, may_close, may_end}
+use Rattle.srcp_sockets.specs.Accounts.{may_fail, may_shut, shut_down, untouched, waited, woken, woken_came, woken_sent, wrote, read_of}
 use Rattle.srcp_sockets.proofs.Keeping.{own}
 use Rattle.srcp_sockets.proofs.Resting.{and_left, and_right}
 use Rattle.srcp_sockets.proofs.Tellings.{if_same}

@@ -1,5 +1,6 @@
 -- A peer that rests is at rest by its account.
-use Rattle.std.proofs.Common.{◌≡◌, ◌∙◌, ℕ, ◌+◌, ◌≤◌, Bool, true, false, not, List, [], ◌++◌, take, drop, length, refl, ap, sym, subst, arith, length-append, ◌==◌, true≢false}
+use Rattle.std.proofs.Common.{◌≡◌, ◌∙◌, ℕ, ◌+◌, Bool, true, false, not, List, ◌++◌, length, refl, ap, sym}
+use Rattle.std.proofs.Common.{arith, length-append, ◌==◌, true≢false}
 use Rattle.std.specs.Prelude.{cond, ◌&&◌, ◌||◌, nat_lt}
 use Rattle.std.proofs.lemmas.Bool.Decides.{nat_tests}
 use Rattle.srcp_sockets.specs.declared.readiness.Reading.{Reading}

@@ -1,5 +1,6 @@
 -- No moment is told while a peer is unread.
-use Rattle.std.proofs.Common.{◌≡◌, ◌∙◌, ℕ, ◌<◌, ◌≤◌, ◌+◌, Bool, true, false, not, List, [], ◌∷◌, ◌++◌, length, refl, ap, sym, subst, arith, ⊎_elim, ◌⊎◌, get_or, set, get_or-set_other, get_or-set_same, ◌==◌, Option, Some, None}
+use Rattle.std.proofs.Common.{◌≡◌, ◌∙◌, ℕ, ◌<◌, ◌+◌, Bool, true, false, not, List, length, refl, ap, sym, subst, arith}
+use Rattle.std.proofs.Common.{⊎_elim, get_or, set, get_or-set_other, get_or-set_same, ◌==◌, Option}
 use Rattle.std.specs.Prelude.{◌≢◌, ◌&&◌, slice_index_or, Result}
 use Rattle.std.proofs.lemmas.Bool.{cases_eq}
 use Rattle.std.proofs.lemmas.List.{get_or_default}
@@ -11,7 +12,7 @@ use Rattle.srcp_sockets.specs.declared.waiting.Listening.{Listening}
 use Rattle.srcp_sockets.specs.Steps.{Clocks, Reads, Step, Tells, Told}
 use Rattle.srcp_sockets.specs.Accounts.{Account, account, account_step, clocked, read_of}
 use Rattle.srcp_sockets.specs.Peers.{Agrees, IsKept, Spares, is_wanting}
-use Rattle.srcp_sockets.specs.Doors.{AreApart, AreRead, Hears, IsAbsent, IsRead, IsThere, Sound, Stands}
+use Rattle.srcp_sockets.specs.Doors.{AreApart, AreRead, IsAbsent, IsRead, IsThere, Stands}
 use Rattle.srcp_sockets.proofs.Keeping.{account_more, own, picks}
 use Rattle.srcp_sockets.proofs.Parting.{Goes, stands_goes}
 use Rattle.srcp_sockets.proofs.Standing.{find, nobody, spared}

@@ -1,6 +1,7 @@
 -- What each step makes of the meaning of a peer's states.
-use Rattle.std.proofs.Common.{◌≡◌, ◌∙◌, ℕ, ◌≤◌, Bool, true, false, not, List, [], ◌++◌, take, drop, length, if◌then◌else◌, Ok, Err, refl, ap, sym, subst, arith, append_assoc, ◌==◌, true≢false}
-use Rattle.std.specs.Prelude.{◌&&◌, ◌||◌, cond, nat_lt, Result}
+use Rattle.std.proofs.Common.{◌≡◌, ◌∙◌, ℕ, ◌≤◌, Bool, true, false, not, List, ◌++◌, take, drop, length, if◌then◌else◌, Ok, Err, refl}
+use Rattle.std.proofs.Common.{ap, sym, subst, arith, append_assoc, ◌==◌, true≢false}
+use Rattle.std.specs.Prelude.{◌&&◌, ◌||◌, nat_lt}
 use Rattle.std.specs.Io.{StartsWith}
 use Rattle.std.proofs.lemmas.List.{take-append-drop, take-append-le, length-take}
 use Rattle.std.proofs.Math.Seq.{take-append_seam}
@@ -15,7 +16,8 @@ use Rattle.srcp_sockets.specs.Steps.{refusal_told}
 use Rattle.srcp_sockets.specs.declared.stay.Stay.{Stay}
 use Rattle.srcp_sockets.specs.declared.stay.Stay.TheVariants as stay
 use Rattle.srcp_sockets.specs.Accounts.{Sent, Received, wrote, refused_write, read_in, refused_read, woken_sent, woken_came}
-use Rattle.srcp_sockets.specs.Peers.{ComesAs, ReadsAs, WritesAs, refused, taken, given, given_some, missed, queued_more, may_have, woken_input, woken_output}
+use Rattle.srcp_sockets.specs.Peers.{ComesAs, ReadsAs, WritesAs, refused, taken, given, given_some, missed, queued_more, may_have}
+use Rattle.srcp_sockets.specs.Peers.{woken_input, woken_output}
 
 -- ---- the output
 

@@ -1,5 +1,6 @@
 -- How far a peer is let go, by its account.
-use Rattle.std.proofs.Common.{◌≡◌, ◌∙◌, ℕ, Bool, true, false, not, List, [], ◌++◌, drop, length, refl, ap, sym, subst, arith, ◌==◌, true≢false, Option, append-nil, ⊎_elim, ◌⊎◌}
+use Rattle.std.proofs.Common.{◌≡◌, ◌∙◌, ℕ, Bool, true, false, not, List, [], ◌++◌, drop, length, refl, ap, sym, subst, arith, ◌==◌}
+use Rattle.std.proofs.Common.{true≢false, Option, append-nil, ⊎_elim}
 use Rattle.std.specs.Prelude.{◌&&◌, ◌||◌, cond}
 use Rattle.std.proofs.lemmas.List.{drop_all}
 use Rattle.srcp_sockets.specs.Steps.{Step}
@@ -10,8 +11,10 @@ use Rattle.srcp_sockets.specs.declared.readiness.Writing.{Writing}
 use Rattle.srcp_sockets.specs.declared.readiness.Writing.TheVariants as output
 use Rattle.srcp_sockets.specs.declared.stay.Stay.{Stay}
 use Rattle.srcp_sockets.specs.declared.stay.Stay.TheVariants as stay
-use Rattle.srcp_sockets.specs.Accounts.{Account, Leave, Received, Sent, account, clocked, clock_after, is_held, is_overdue, is_owed, let_go, may_close, may_end, may_fail, shut_down}
-use Rattle.srcp_sockets.specs.Peers.{Agrees, ComesAs, IsKept, MayFail, ReadsAs, StaysAs, WritesAs, closable_as, is_closable, is_here, is_lost}
+use Rattle.srcp_sockets.specs.Accounts.{Account, Leave, Received, Sent, account, clocked, clock_after, is_held, is_overdue, is_owed, let_go}
+use Rattle.srcp_sockets.specs.Accounts.{may_close, may_end, may_fail, shut_down}
+use Rattle.srcp_sockets.specs.Peers.{Agrees, ComesAs, IsKept, MayFail, ReadsAs, StaysAs, WritesAs, closable_as, is_closable, is_here}
+use Rattle.srcp_sockets.specs.Peers.{is_lost}
 use Rattle.srcp_sockets.proofs.Resting.{held_is, owed_is}
 use Rattle.srcp_sockets.proofs.States.{comes_starts, reads_here}
 use Rattle.srcp_sockets.proofs.Wanting.{wants_less}

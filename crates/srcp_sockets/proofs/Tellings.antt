@@ -1,16 +1,17 @@
 -- An account of a socket is what a reader is told of it.
-use Rattle.std.proofs.Common.{◌≡◌, ◌∙◌, ℕ, Bool, true, false, List, [], ◌∷◌, ◌++◌, length, take, refl, ap, sym, subst, ◌==◌, if◌then◌else◌, Option, Some, None, Ok, Err, append-nil, append_assoc}
-use Rattle.std.specs.Prelude.{◌||◌, nat_lt, Result, flat_map, filter_map, fold}
+use Rattle.std.proofs.Common.{◌≡◌, ◌∙◌, ℕ, Bool, true, false, List, [], ◌∷◌, ◌++◌, length, take, refl, ap, sym, ◌==◌, if◌then◌else◌}
+use Rattle.std.proofs.Common.{Ok, Err, append-nil, append_assoc}
+use Rattle.std.specs.Prelude.{◌||◌, nat_lt, Result, flat_map, fold}
 use Rattle.std.specs.declared.io.ErrorKind.{ErrorKind}
-use Rattle.srcp_serve.specs.declared.door.DoorFault.{DoorFault}
-use Rattle.srcp_serve.specs.declared.door.Got.{Got}
 use Rattle.srcp_serve.specs.declared.door.Got.TheVariants as got
 use Rattle.srcp_sockets.specs.declared.system.Ready.{Ready}
 use Rattle.srcp_sockets.specs.declared.system.Refusal.{Refusal}
 use Rattle.srcp_sockets.specs.declared.system.Refusal.TheVariants.{Later, Again, Fault}
 use Rattle.srcp_serve.specs.Calls.{Call, ExpectCall, NowCall, AcceptCall, ReadCall, WriteCall, CloseCall}
-use Rattle.srcp_sockets.specs.Steps.{Accepts, Clocks, Closes, Reads, Shuts, Step, Told, Waits, Writes, call_of, calls, refusal_told}
-use Rattle.srcp_sockets.specs.Accounts.{Account, Received, Sent, accepted, account, account_step, closed, heard, heard_refusal, refused_read, refused_write, shut_down, untouched, waited, woken, woken_came, woken_sent, wrote, read_of}
+use Rattle.srcp_sockets.specs.Steps.{Accepts, Clocks, Closes, Reads, Shuts, Step, Told, Waits, Writes, calls, refusal_told}
+use Rattle.srcp_sockets.specs.Accounts.{Account, accepted, account, account_step, closed, heard, heard_refusal}
+use Rattle.srcp_sockets.specs.Accounts.{refused_read, refused_write, shut_down, untouched, waited, woken, woken_came, woken_sent, wrote}
+use Rattle.srcp_sockets.specs.Accounts.{read_of}
 use Rattle.srcp_sockets.specs.Streams.{gave, gave_in, handed, handed_in, taken, taken_in, took, took_in}
 
 -- the four lists

@@ -1,6 +1,7 @@
 -- How the times go on from step to step.
-use Rattle.std.proofs.Common.{◌≡◌, ◌∙◌, ℕ, ◌≤◌, Bool, true, false, List, [], ◌∷◌, ◌++◌, refl, ap, sym, subst, arith, ⊎_elim, ◌⊎◌, ◌==◌, Option, Some, None, Ok, Err, true≢false}
-use Rattle.std.specs.Prelude.{◌&&◌, ◌||◌, not, nat_le, fold, Result}
+use Rattle.std.proofs.Common.{◌≡◌, ◌∙◌, ℕ, Bool, true, false, List, [], ◌∷◌, ◌++◌, refl, ap, sym, subst, arith, ⊎_elim, ◌⊎◌, ◌==◌}
+use Rattle.std.proofs.Common.{Option, Some, None, Ok, Err, true≢false}
+use Rattle.std.specs.Prelude.{◌&&◌, ◌||◌, not, Result}
 use Rattle.std.specs.Option.{option_map_or}
 use Rattle.std.proofs.lemmas.List.Sums.{fold-append}
 use Rattle.std.proofs.lemmas.Bool.Decides.{nat_tests}
@@ -22,11 +23,14 @@ use Rattle.srcp_sockets.specs.declared.turn.Turn.{Turn}
 use Rattle.srcp_serve.specs.Calls.{Call, ExpectCall, NowCall, AcceptCall, ReadCall, WriteCall, CloseCall}
 use Rattle.srcp_sockets.specs.Accounts.{is_short}
 use Rattle.srcp_sockets.specs.Steps.{Accepts, Clocks, Step, Tells, Told, Waits}
-use Rattle.srcp_sockets.specs.Times.{AreKeptTimes, ArePaced, IsTimed, IsTimedFrom, KeepsTimes, Timed, Times, clocked, ends_by, first_times, in_time, is_told, newcomer_of, times, times_step, told_accept, told_moment, told_read, told_times}
-use Rattle.srcp_sockets.specs.Turns.{after_call, after_read, after_wait, begun, first_turn, got_bytes, hands_out, is_pending, moment_at, tells_end, time_left, told_at}
+use Rattle.srcp_sockets.specs.Times.{IsTimed, IsTimedFrom, KeepsTimes, Timed, Times, clocked, ends_by, first_times}
+use Rattle.srcp_sockets.specs.Times.{in_time, is_told, newcomer_of, times, times_step, told_accept, told_moment, told_read}
+use Rattle.srcp_sockets.specs.Turns.{after_call, after_read, after_wait, begun, first_turn, got_bytes, hands_out, is_pending, moment_at}
+use Rattle.srcp_sockets.specs.Turns.{tells_end, time_left, told_at}
 use Rattle.srcp_sockets.specs.Waiting.{IsWithin}
 
-pub times_more : (wall start : ℕ) (log : List Step) (step : Step) → times wall start (log ++ step ∷ []) ≡ times_step (times wall start log) step
+pub times_more : (wall start : ℕ) (log : List Step) (step : Step)
+    → times wall start (log ++ step ∷ []) ≡ times_step (times wall start log) step
 times_more wall start log step = fold-append times_step (first_times wall start) log (step ∷ [])
 
 pub keeps_none : (told : Option (List Step)) → KeepsTimes told told
@@ -403,7 +407,14 @@ timed_first told turn is begins log e = ⊎_elim
     (λ (f : told ≡ Some []).
     let same : log ≡ [] = cc in
     subst (λ (l : List Step). Timed (times turn.timekeeper.wall turn.timekeeper.start l) turn) (sym same)
-    (record { same = sym is; clock = ap (λ (u : Turn). u.clock) (sym is); kept = record { exact = refl; punctual = refl; patient = refl; prompt = refl }; paced = record { light = refl; once = refl }; heard = refl; honest = refl }))
+    (record {
+      same = sym is;
+      clock = ap (λ (u : Turn). u.clock) (sym is);
+      kept = record { exact = refl; punctual = refl; patient = refl; prompt = refl };
+      paced = record { light = refl; once = refl };
+      heard = refl;
+      honest = refl;
+    }))
     (λ (f : told ≡ None). absurd (nothing (sym f ∙ e)))
     begins
   where

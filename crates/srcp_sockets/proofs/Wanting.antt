@@ -1,5 +1,6 @@
 -- A peer that is unread by its account is read in the next visit.
-use Rattle.std.proofs.Common.{◌≡◌, ◌∙◌, ℕ, ◌+◌, Bool, true, false, not, List, [], ◌++◌, length, refl, ap, sym, subst, arith, length-append, true≢false, append-nil}
+use Rattle.std.proofs.Common.{◌≡◌, ◌∙◌, ℕ, ◌+◌, Bool, true, false, not, List, ◌++◌, length, refl, ap, sym, arith, length-append}
+use Rattle.std.proofs.Common.{true≢false}
 use Rattle.std.specs.Prelude.{◌&&◌, nat_lt}
 use Rattle.std.proofs.lemmas.Bool.Decides.{nat_tests}
 use Rattle.srcp_sockets.specs.declared.peer.Peer.{Peer}

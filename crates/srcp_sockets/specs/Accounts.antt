@@ -1,5 +1,6 @@
 -- What the steps so far say of one socket.
-use Rattle.std.specs.Prelude.{ℕ, ◌+◌, ◌-◌, ◌==◌, ◌&&◌, ◌||◌, nat_le, nat_lt, Bool, true, false, not, cond, if◌then◌else◌, List, [], ◌++◌, length, take, fold, Option, Some, None, Result, Ok, Err}
+use Rattle.std.specs.Prelude.{ℕ, ◌+◌, ◌-◌, ◌==◌, ◌&&◌, ◌||◌, nat_le, nat_lt, Bool, true, false, not, cond}
+use Rattle.std.specs.Prelude.{if◌then◌else◌, List, [], ◌++◌, length, take, fold, Option, Some, None, Result, Ok, Err}
 use Rattle.std.specs.declared.io.ErrorKind.{ErrorKind}
 use Rattle.srcp_sockets.specs.declared.system.Ready.{Ready}
 use Rattle.srcp_sockets.specs.declared.system.Refusal.{Refusal}
@@ -76,8 +77,8 @@ is_silent received owed = not (is_held received) && ((received.quiet && (not rec
     || (received.ended && owed))
 
 -- nothing happens to it unless its socket is found ready: all that was taken for it was taken by the socket, or that
--- was found to refuse it since; and where the core has more for it, so that it takes nothing of it, there is no room for more,
--- and else there is nothing of it
+-- was found to refuse it since; and where the core has more for it, so that it takes nothing of it, there is no room
+-- for more, and else there is nothing of it
 abbrev pub is_at_rest : Sent → Received → Bool
 is_at_rest sent received = not sent.lost && ((not (is_owed sent) || sent.full) && cond sent.cut (is_full sent)
     (is_silent received (is_owed sent)))

@@ -1,5 +1,6 @@
 -- When a door ends: what its sockets took of what is queued.
-use Rattle.std.specs.Prelude.{◌≡◌, ◌⊎◌, ℕ, ◌+◌, ◌<◌, ◌∷◌, ◌++◌, nat_le, Bool, true, false, List, [], length, slice_index_or, Option, Some, None}
+use Rattle.std.specs.Prelude.{◌≡◌, ◌⊎◌, ℕ, ◌+◌, ◌<◌, ◌∷◌, ◌++◌, nat_le, Bool, true, false, List, [], length}
+use Rattle.std.specs.Prelude.{slice_index_or, Option, Some, None}
 use Rattle.srcp_sockets.specs.declared.peer.Peer.{Peer}
 use Rattle.srcp_sockets.specs.Accounts.{account, is_owed}
 use Rattle.srcp_sockets.specs.Steps.{Clocks, Step}

@@ -3,8 +3,8 @@ use Rattle.std.specs.Prelude.{◌+◌, ◌&&◌, nat_lt, Bool, cond}
 use Rattle.srcp_sockets.specs.declared.ending.Ending.{Ending}
 use Rattle.srcp_sockets.specs.declared.ending.Ending.TheVariants.{Open, Settling, Settled}
 
--- the state after a visit's begin, where `ended` says that the peer's input is over and none of it held: a visit in which
--- fewer than 300 writes were made, and none was cut, had no more for the peer
+-- the state after a visit's begin, where `ended` says that the peer's input is over and none of it held: a visit in
+-- which fewer than 300 writes were made, and none was cut, had no more for the peer
 abbrev pub begun : Ending → (ended : Bool) → Ending
 begun Open ended = cond ended (Settling 0) Open
 begun (Settling writes) ended = cond (nat_lt writes 300) Settled (Settling 0)

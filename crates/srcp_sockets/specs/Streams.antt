@@ -1,11 +1,9 @@
 -- What a reader is told of the sockets of a door.
-use Rattle.std.specs.Prelude.{◌≡◌, ℕ, ◌==◌, Bool, true, false, List, [], ◌∷◌, ◌++◌, take, flat_map, if◌then◌else◌, Option, Some, Result, Ok, Err}
-use Rattle.std.specs.Io.{StartsWith}
+use Rattle.std.specs.Prelude.{ℕ, ◌==◌, List, [], take, flat_map, if◌then◌else◌}
+use Rattle.std.specs.Prelude.{Ok}
 use Rattle.srcp_serve.specs.declared.door.Got.TheVariants as got
-use Rattle.srcp_sockets.specs.declared.system.Ready.{Ready}
 use Rattle.srcp_serve.specs.Calls.{Call, ReadCall, WriteCall}
-use Rattle.srcp_sockets.specs.Steps.{Step, Reads, Writes, Waits, Told, calls}
-use Rattle.srcp_sockets.specs.Accounts.{account, is_at_rest, is_short}
+use Rattle.srcp_sockets.specs.Steps.{Step, Reads, Writes, calls}
 
 -- what a call of the door told to have taken for a peer
 abbrev pub taken_in : ℕ → Call → List ℕ

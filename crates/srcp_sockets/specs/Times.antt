@@ -1,5 +1,6 @@
 -- When it is, how long the door waits, and what it hands out meanwhile.
-use Rattle.std.specs.Prelude.{◌≡◌, ℕ, ◌+◌, ◌==◌, ◌&&◌, ◌||◌, nat_le, Bool, true, false, not, if◌then◌else◌, List, fold, Option, Some, None, Result, Ok, Err}
+use Rattle.std.specs.Prelude.{◌≡◌, ℕ, ◌+◌, ◌==◌, ◌&&◌, ◌||◌, nat_le, Bool, true, false, not, if◌then◌else◌, List, fold}
+use Rattle.std.specs.Prelude.{Option, Some, None, Result, Ok, Err}
 use Rattle.std.specs.Option.{option_map_or}
 use Rattle.std.proofs.Props.{props}
 use Rattle.srcp_door.specs.Pacing.{fits, line_after, weight_of}
@@ -8,14 +9,15 @@ use Rattle.srcp_door.specs.declared.pacing.Line.TheVariants.{Ended}
 use Rattle.srcp_serve.specs.declared.door.DoorFault.{DoorFault}
 use Rattle.srcp_serve.specs.declared.door.DoorFault.TheVariants.{Accept}
 use Rattle.srcp_serve.specs.declared.door.Got.{Got}
-use Rattle.srcp_serve.specs.Calls.{Call, ExpectCall, NowCall, AcceptCall, ReadCall, WriteCall, CloseCall}
+use Rattle.srcp_serve.specs.Calls.{Call, NowCall, AcceptCall, ReadCall}
 use Rattle.std.specs.declared.io.ErrorKind.{ErrorKind}
 use Rattle.srcp_sockets.specs.declared.system.Refusal.{Refusal}
 use Rattle.srcp_sockets.specs.declared.system.Refusal.TheVariants.{Later, Again, Fault}
 use Rattle.srcp_sockets.specs.declared.turn.Turn.{Turn}
 use Rattle.srcp_sockets.specs.Accounts.{is_short}
 use Rattle.srcp_sockets.specs.Steps.{Step, Accepts, Clocks, Closes, Reads, Shuts, Told, Waits, Writes, refusal_told}
-use Rattle.srcp_sockets.specs.Turns.{after_call, after_read, after_wait, begun, first_turn, got_bytes, hands_out, is_pending, moment_at, tells_end, time_left, told_at}
+use Rattle.srcp_sockets.specs.Turns.{after_call, after_read, after_wait, begun, first_turn, got_bytes, hands_out}
+use Rattle.srcp_sockets.specs.Turns.{is_pending, moment_at, tells_end, time_left, told_at}
 
 pub record Times : Type 0 where
   pub turn : Turn  -- the turn, by the calls so far

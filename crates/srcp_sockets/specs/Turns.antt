@@ -1,7 +1,8 @@
 -- What a turn is after a call of the door.
-use Rattle.std.specs.Prelude.{ℕ, ◌+◌, ◌-◌, ◌*◌, ◌/◌, ◌==◌, ◌||◌, ◌&&◌, nat_le, nat_lt, Bool, true, false, not, cond, List, [], take, Option, Some, None, Result, Ok, Err}
+use Rattle.std.specs.Prelude.{ℕ, ◌-◌, ◌/◌, ◌==◌, ◌||◌, ◌&&◌, nat_le, nat_lt, Bool, true, false, not, cond}
+use Rattle.std.specs.Prelude.{List, [], take, Option, Some, None, Result, Ok, Err}
 use Rattle.std.specs.Option.{option_map}
-use Rattle.srcp_door.specs.Moments.{Moments, next_moment, passed, target}
+use Rattle.srcp_door.specs.Moments.{next_moment, passed, target}
 use Rattle.srcp_door.specs.Pacing.{pace_of, spent, weight_of}
 use Rattle.srcp_door.specs.declared.pacing.Line.{Line}
 use Rattle.srcp_door.specs.declared.pacing.Pace.TheVariants.{Paced}
@@ -78,8 +79,8 @@ after_wait turn = record turn { busy = false }
 
 -- ---- the moment
 
--- the moment that is to be told, where the clock that is never set shows this time: what this stands for, or a step of 10
--- milliseconds where something falls due meanwhile; at most 10 minutes are made up in such steps
+-- the moment that is to be told, where the clock that is never set shows this time: what this stands for, or a step of
+-- 10 milliseconds where something falls due meanwhile; at most 10 minutes are made up in such steps
 abbrev pub moment_at : Turn → (time : ℕ) → ℕ
 moment_at turn time =
     next_moment 10 600000 (passed turn.timekeeper.last (target turn.timekeeper time) turn.due)
@@ -122,8 +123,8 @@ abbrev pub is_short : (slack : Option ℕ) → Bool
 is_short None = false
 is_short (Some left) = nat_lt left 171
 
--- how long a turn stands still though there is something to do: as long as the clock takes to go on, where a panel is so
--- far behind for the second turn
+-- how long a turn stands still though there is something to do: as long as the clock takes to go on, where a panel is
+-- so far behind for the second turn
 abbrev pub stop : Turn → ℕ
 stop turn = cond (is_behind turn.before && is_behind turn.slack) 1 0
 

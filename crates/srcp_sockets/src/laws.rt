@@ -1,7 +1,8 @@
 //! What holds of every door over a system, whatever the system answered. Each function does nothing: what it ensures is
 //! a law.
 
-ghost use Rattle.std.specs.Prelude.{◌≡◌, ◌++◌, ◌∷◌, ◌==◌, ◌&&◌, ◌||◌, ◌*◌, ◌<◌, ◌≤◌, ◌⊎◌, ℕ, List, length, slice_index_or, Option, Some, Ok, Err, Result, true, false};
+ghost use Rattle.std.specs.Prelude.{◌≡◌, ◌++◌, ◌∷◌, ◌==◌, ◌&&◌, ◌||◌, ◌*◌, ◌<◌, ◌≤◌, ◌⊎◌, ℕ, List, length};
+ghost use Rattle.std.specs.Prelude.{slice_index_or, Option, Some, Ok, Err, Result, true, false};
 ghost use Rattle.std.specs.Io.{StartsWith};
 ghost use Rattle.srcp_sockets.specs.declared.peer.Peer.{Peer};
 ghost use Rattle.srcp_serve.specs.declared.door.DoorFault.{DoorFault};
@@ -43,8 +44,8 @@ pub fn untaken_is_held<S: System + Drop>(door: &SocketDoor<S>)
     let _sockets = &door.sockets;
 }
 
-/// An end was told of a peer only after a read of its socket had found it, once all that came before it was handed out and
-/// the socket had taken all that was taken for it.
+/// An end was told of a peer only after a read of its socket had found it, once all that came before it was handed out
+/// and the socket had taken all that was taken for it.
 pub fn ends_are_true<S: System + Drop>(door: &SocketDoor<S>)
     ensures { (before after : List Step) (socket : ℕ) (buffer : List ℕ)
         → S.told door.now.sockets.system ≡ Some (before ++ Told (ReadCall socket (Ok Got.Ended) buffer) ∷ after)
@@ -114,8 +115,8 @@ pub fn times_are_kept<S: System + Drop>(door: &SocketDoor<S>)
 }
 
 /// What was told of who wants in was what the system had said: its number if the system accepted a peer under that, a
-/// fault if it failed, and nobody if it found nobody or was interrupted. If the system was not asked, it was nobody; or a
-/// fault, since memory or the numbers ran out.
+/// fault if it failed, and nobody if it found nobody or was interrupted. If the system was not asked, it was nobody; or
+/// a fault, since memory or the numbers ran out.
 pub fn newcomers_are_true<S: System + Drop>(door: &SocketDoor<S>)
     ensures { (log : List Step) → S.told door.now.sockets.system ≡ Some log
         → (times door.now.sockets.turn.timekeeper.wall door.now.sockets.turn.timekeeper.start log).honest ≡ true }
@@ -124,9 +125,9 @@ pub fn newcomers_are_true<S: System + Drop>(door: &SocketDoor<S>)
 }
 
 /// The lines that were handed out from one moment to the next weighed at most what the panels could still take, as the
-/// door was told before, or 256 if there was none, less 160. If that was less than any line can weigh, and the clock had
-/// gone on since the moment before, a read handed out lines of at most that weight, and no other in that time lines that
-/// weigh something. Between two moments the end of one peer was told at most.
+/// door was told before, or 256 if there was none, less 160. If that was less than any line can weigh, and the clock
+/// had gone on since the moment before, a read handed out lines of at most that weight, and no other in that time lines
+/// that weigh something. Between two moments the end of one peer was told at most.
 pub fn turns_are_paced<S: System + Drop>(door: &SocketDoor<S>)
     ensures { (log : List Step) → S.told door.now.sockets.system ≡ Some log
         → ArePaced (times door.now.sockets.turn.timekeeper.wall door.now.sockets.turn.timekeeper.start log) }

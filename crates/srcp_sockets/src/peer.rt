@@ -1,11 +1,13 @@
 //! A peer with its socket.
 
-ghost use Rattle.std.specs.Prelude.{◌≡◌, ◌≢◌, ◌<◌, ◌≤◌, ◌++◌, ◌==◌, ◌&&◌, true, false, not, ℕ, List, [], Option, Some, Ok, IfErr, OnErr, length, take, drop, min, fold};
+ghost use Rattle.std.specs.Prelude.{◌≡◌, ◌≢◌, ◌<◌, ◌≤◌, ◌++◌, ◌==◌, ◌&&◌, true, false, not, ℕ, List, [], Option, Some};
+ghost use Rattle.std.specs.Prelude.{Ok, IfErr, OnErr, length, take, drop, min, fold};
 ghost use Rattle.srcp_sockets.specs.Steps.{SaysNothing, Tells, Told};
 ghost use Rattle.srcp_serve.specs.Calls.{ReadCall, WriteCall};
 ghost use Rattle.srcp_sockets.specs.Times.{KeepsTimes};
-ghost use Rattle.srcp_sockets.specs.Peers.{Asks, IsKept, MayEnd, MayFail, Offers, Spares, after_wake, has_rest, is_due, is_over};
-ghost use Rattle.srcp_sockets.specs.Peers.{is_resting, is_waiting, is_wanting, may_have, queued_more, tries_again, woken_output};
+ghost use Rattle.srcp_sockets.specs.Peers.{Asks, IsKept, MayEnd, MayFail, Offers, Spares, after_wake, has_rest, is_due};
+ghost use Rattle.srcp_sockets.specs.Peers.{is_over, is_resting, is_waiting, is_wanting, may_have, queued_more};
+ghost use Rattle.srcp_sockets.specs.Peers.{tries_again, woken_output};
 ghost use Rattle.srcp_sockets.specs.declared.readiness.Reading.{Reading};
 ghost use Rattle.srcp_sockets.specs.declared.readiness.Writing.{Writing};
 ghost use Rattle.srcp_sockets.specs.Doors.{IsRead};
@@ -179,8 +181,8 @@ impl Peer {
             || self.asked && (self.cut || self.incoming.is_empty())
     }
 
-    /// Begins a visit: reads its socket, and goes on on the way to its end. With `clear` its mark is cleared. So many lines
-    /// may be queued in the visit while its socket refuses more.
+    /// Begins a visit: reads its socket, and goes on on the way to its end. With `clear` its mark is cleared. So many
+    /// lines may be queued in the visit while its socket refuses more.
     pub fn begin_visit<S: System>(&mut self, system: &mut S, clear: bool, room: u32)
         requires { IsKept (S.told system.old) self.old }
         ensures kept { IsKept (S.told system.new) self.new }
@@ -241,8 +243,8 @@ impl Peer {
         }
     }
 
-    /// Moves what was read into the front of a buffer, as far as the turn's lines go, or tells the end or the fault behind
-    /// it, if the turn told no other.
+    /// Moves what was read into the front of a buffer, as far as the turn's lines go, or tells the end or the fault
+    /// behind it, if the turn told no other.
     pub fn read<S: System>(&mut self, system: &mut S, turn: &mut Turn, buffer: &mut [u8]) -> Handed
         requires kept { IsKept (S.told system.old) self.old }
         requires here { self.old.stay ≡ Stay.Here }

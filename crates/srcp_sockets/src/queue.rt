@@ -1,6 +1,7 @@
 //! Bytes that are held in order until they are handed over.
 
-ghost use Rattle.std.specs.Prelude.{◌≡◌, ◌<◌, ◌≤◌, ◌+◌, ◌-◌, ◌++◌, ◌==◌, [], ℕ, List, IfOk, MatchResult, length, take, drop, min, slice_range};
+ghost use Rattle.std.specs.Prelude.{◌≡◌, ◌<◌, ◌≤◌, ◌+◌, ◌-◌, ◌++◌, ◌==◌, [], ℕ, List, IfOk, MatchResult, length, take};
+ghost use Rattle.std.specs.Prelude.{drop, min, slice_range};
 ghost use Rattle.srcp_sockets.specs.Steps.{Tells, Reads};
 
 use crate::system::System;

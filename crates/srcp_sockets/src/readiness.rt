@@ -1,8 +1,9 @@
 //! What a read and a write of a peer's socket may find, and what is flushed to it.
 
 ghost use Rattle.std.specs.Prelude.{◌≡◌, ◌≢◌, true, false};
-ghost use Rattle.srcp_sockets.specs.Peers.{flushes_all, given, is_lost, is_over, may_have, missed, refused, rests_reading, has_ended};
-ghost use Rattle.srcp_sockets.specs.Peers.{rests_writing, taken, tries_again, woken_input, woken_output};
+ghost use Rattle.srcp_sockets.specs.Peers.{flushes_all, given, is_lost, is_over, may_have, missed, refused};
+ghost use Rattle.srcp_sockets.specs.Peers.{rests_reading, has_ended, rests_writing, taken, tries_again, woken_input};
+ghost use Rattle.srcp_sockets.specs.Peers.{woken_output};
 
 use crate::queue::{MOST_INCOMING, Outgoing, Queue};
 use crate::system::Refusal;
@@ -40,8 +41,8 @@ pub enum Flush {
     Answers,
     /// All.
     All,
-    /// All, and a socket that refused more is tried though it was not found ready: the system finds it so only once much
-    /// of its room is free.
+    /// All, and a socket that refused more is tried though it was not found ready: the system finds it so only once
+    /// much of its room is free.
     Again,
 }
 

@@ -1,6 +1,8 @@
 //! The system's sockets, with their peers.
 
-ghost use Rattle.std.specs.Prelude.{not, All, false, true, ◌≡◌, ◌<◌, ◌≤◌, ◌+◌, ◌-◌, max, ℕ, ◌⊎◌, Option, Some, None, Ok, Err, Result, IfErr, IfNone, IfOk, IfSome, List, [], length, slice_index_or, vec_capacity};
+ghost use Rattle.std.specs.Prelude.{not, All, false, true, ◌≡◌, ◌<◌, ◌≤◌, ◌+◌, ◌-◌, max, ℕ, ◌⊎◌, Option, Some, None};
+ghost use Rattle.std.specs.Prelude.{Ok, Err, Result, IfErr, IfNone, IfOk, IfSome, List, [], length, slice_index_or};
+ghost use Rattle.std.specs.Prelude.{vec_capacity};
 ghost use Rattle.srcp_sockets.specs.declared.peer.Peer.{Peer};
 ghost use Rattle.srcp_sockets.specs.Facts.{Stands-prop};
 ghost use Rattle.std.specs.Option.{option_map};
@@ -70,9 +72,9 @@ impl<S: System + Drop> Sockets<S> {
         self.most = Some(milliseconds);
     }
 
-    /// Begins a turn: goes on with those that were let go, flushes the peers, waits, and begins their visits. All that is
-    /// queued is flushed once the clock went on, or before a wait. Until then the system is not asked who is ready while
-    /// input is held.
+    /// Begins a turn: goes on with those that were let go, flushes the peers, waits, and begins their visits. All that
+    /// is queued is flushed once the clock went on, or before a wait. Until then the system is not asked who is ready
+    /// while input is held.
     pub(crate) fn begin_turn(&mut self, ready: &mut [Ready])
         ensures calls { SaysNothing (S.told self.old.system) (S.told self.new.system) }
         ensures read { AreRead (S.told self.new.system) }
@@ -91,13 +93,15 @@ impl<S: System + Drop> Sockets<S> {
         self.turn.clock != self.flushed || self.turn.stop() > 0
     }
 
-    /// Returns whether the turn goes on with the input that is held, where `holds` says that some is: until the clock goes on.
+    /// Returns whether the turn goes on with the input that is held, where `holds` says that some is: until the clock
+    /// goes on.
     fn goes_on(&self, holds: bool) -> bool {
         !self.has_ticked() && holds
     }
 
-    /// Returns what is flushed, where `held` says that the turn goes on with the input that is held: all before a wait, or
-    /// once the clock went on. If the panels can take less than a line may bring, their sockets are tried again then.
+    /// Returns what is flushed, where `held` says that the turn goes on with the input that is held: all before a wait,
+    /// or once the clock went on. If the panels can take less than a line may bring, their sockets are tried again
+    /// then.
     fn flushing(&self, held: bool) -> Flush {
         if self.has_ticked() && self.turn.is_short() {
             Flush::Again
@@ -152,8 +156,8 @@ impl<S: System + Drop> Sockets<S> {
         self.turn.wait();
     }
 
-    /// Begins the visit of each peer; `holds` says whether input was held as the turn began. The marks are cleared if no peer
-    /// was refused its first line in the turn before.
+    /// Begins the visit of each peer; `holds` says whether input was held as the turn began. The marks are cleared if
+    /// no peer was refused its first line in the turn before.
     fn begin_visits(&mut self, holds: bool)
         ensures calls { SaysNothing (S.told self.old.system) (S.told self.new.system) }
         ensures read { AreRead (S.told self.new.system) }
@@ -165,8 +169,8 @@ impl<S: System + Drop> Sockets<S> {
         begin_visits(&mut self.system, self.peers.as_mut_slice(), clear, room);
     }
 
-    /// Returns how many lines may be queued for a peer whose socket refuses more. While commands wait for the panels, that
-    /// is what the panels lack: so what may be queued for a panel lasts for as many lines, one a millisecond.
+    /// Returns how many lines may be queued for a peer whose socket refuses more. While commands wait for the panels,
+    /// that is what the panels lack: so what may be queued for a panel lasts for as many lines, one a millisecond.
     fn room(&self, holds: bool) -> u32 {
         if holds { self.turn.lack() } else { MOST_WRITES }
     }
@@ -237,8 +241,8 @@ impl<S: System + Drop> Sockets<S> {
         self.let_in(number, queues)
     }
 
-    /// Returns whether the next peer that wants in may be let in now. If too many are kept that were let go, one of them
-    /// is closed first.
+    /// Returns whether the next peer that wants in may be let in now. If too many are kept that were let go, one of
+    /// them is closed first.
     fn may_let_in(&mut self) -> bool
         ensures calls { SaysNothing (S.told self.old.system) (S.told self.new.system) }
         ensures room { result ≡ true → length self.new.peers.items < vec_capacity self.new.peers }
@@ -254,7 +258,10 @@ impl<S: System + Drop> Sockets<S> {
     }
 
     /// Tells that nobody came, or a fault, where the system was not asked.
-    fn tell_nobody(&mut self, answer: Result<Option<u32>, DoorFault>) -> Result<Option<u32>, DoorFault>
+    fn tell_nobody(
+        &mut self,
+        answer: Result<Option<u32>, DoorFault>,
+    ) -> Result<Option<u32>, DoorFault>
         requires { (answer ≡ Ok None) ⊎ (answer ≡ Err DoorFault.Accept) }
         ensures told { SaysOne (S.told self.old.system) (AcceptCall result) (S.told self.new.system) }
         ensures same { result ≡ answer }

@@ -2,7 +2,8 @@
 
 ghost use Rattle.std.specs.Prelude.{◌≡◌, ◌<◌, ◌≤◌, List, Option, None, IfOk, length};
 ghost use Rattle.srcp_serve.specs.Calls.{ExpectCall, NowCall, AcceptCall, ReadCall, WriteCall, CloseCall};
-ghost use Rattle.srcp_sockets.specs.Steps.{Step, Tells, Accepts, Clocks, Closes, Reads, Shuts, Writes, Waits, Told, refusal_told};
+ghost use Rattle.srcp_sockets.specs.Steps.{Step, Tells, Accepts, Clocks, Closes, Reads, Shuts, Writes, Waits, Told};
+ghost use Rattle.srcp_sockets.specs.Steps.{refusal_told};
 
 use srcp_serve::{DoorFault, Got};
 use std::io::ErrorKind;

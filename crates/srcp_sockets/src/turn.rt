@@ -1,11 +1,13 @@
 //! What a door knows of the turn that it is in.
 
-ghost use Rattle.std.specs.Prelude.{◌≡◌, ◌<◌, ◌≤◌, ◌-◌, ◌/◌, ◌||◌, ◌⊎◌, true, false, ℕ, List, Some, None, Ok, Err, IfErr, cond, length, take};
+ghost use Rattle.std.specs.Prelude.{◌≡◌, ◌<◌, ◌≤◌, ◌-◌, ◌/◌, ◌||◌, ◌⊎◌, true, false, ℕ, List, Some, None, Ok, Err};
+ghost use Rattle.std.specs.Prelude.{IfErr, cond, length, take};
 ghost use Rattle.srcp_serve.specs.Calls.{ExpectCall, AcceptCall, WriteCall, CloseCall};
 ghost use Rattle.srcp_door.specs.Pacing.{Allows, IsShort, fits, line_after, weight_of};
 ghost use Rattle.srcp_door.specs.declared.pacing.Line.{Line};
-ghost use Rattle.srcp_sockets.specs.Turns.{after_call, after_read, after_wait, begun, earlier, ended, first_turn, handed_out};
-ghost use Rattle.srcp_sockets.specs.Turns.{is_behind, is_pending, is_short, moment_at, stop, tells_end, time_left, told_at};
+ghost use Rattle.srcp_sockets.specs.Turns.{after_call, after_read, after_wait, begun, earlier, ended, first_turn};
+ghost use Rattle.srcp_sockets.specs.Turns.{handed_out, is_behind, is_pending, is_short, moment_at, stop, tells_end};
+ghost use Rattle.srcp_sockets.specs.Turns.{time_left, told_at};
 
 use srcp_door::{Allowed, MOST_SLACK, Pace, RESERVE, Share, Timekeeper};
 use srcp_feed::MOST_WAITING;
@@ -91,8 +93,8 @@ impl Turn {
         u64::from(is_behind(self.before) && is_behind(self.slack))
     }
 
-    /// Returns how many changes the panels lack for a line to go before the clock goes on; as many as a peer is written lines
-    /// in a visit if there is no panel.
+    /// Returns how many changes the panels lack for a line to go before the clock goes on; as many as a peer is written
+    /// lines in a visit if there is no panel.
     pub(crate) fn lack(&self) -> u32 {
         match self.slack {
             Some(slack) => u32::try_from(RESERVE.saturating_sub(slack)).unwrap_or(MOST_WRITES),
@@ -196,7 +198,8 @@ impl Turn {
         }
     }
 
-    /// Returns how many bytes of a peer's piece may be handed out now, by its share of the lines, and notes that they are.
+    /// Returns how many bytes of a peer's piece may be handed out now, by its share of the lines, and notes that they
+    /// are.
     pub(crate) fn allow(&mut self, share: &mut Share, piece: &[u8]) -> Allowed
         ensures within { result.count ≤ length piece.now }
         ensures nothing { result.count ≡ 0 → self.new ≡ self.old }

@@ -1,6 +1,6 @@
 //! How long a turn may wait.
 
-ghost use Rattle.std.specs.Prelude.{◌≡◌, ◌≤◌, ℕ, Some, None, true, false, All, min};
+ghost use Rattle.std.specs.Prelude.{◌≡◌, ◌≤◌, ◌↔◌, ℕ, Some, None, IsTrue, true, false, All, min};
 ghost use Rattle.std.specs.Option.{option_map};
 ghost use Rattle.srcp_sockets.specs.Accounts.{is_short};
 ghost use Rattle.srcp_sockets.specs.Peers.{is_resting};
@@ -32,7 +32,9 @@ pub enum Listening {
 
 impl Listening {
     /// Returns whether nobody wants in.
-    pub(crate) fn is_quiet(self) -> bool {
+    pub(crate) fn is_quiet(self) -> bool
+        ensures { IsTrue result ↔ self ≡ Listening.Quiet }
+    {
         matches!(self, Listening::Quiet)
     }
 
@@ -48,10 +50,10 @@ impl Listening {
     }
 }
 
-/// Returns how many milliseconds a turn waits at most; `None` if only a socket ends the wait. While a peer that is there
-/// or the listener may have something, or a panel may have something coming, it does not wait; but if a panel is so far
-/// behind for the second turn that no line may go, it waits until the clock goes on. It waits neither past what falls
-/// due, nor longer than `most` if that is said, nor longer than the pause while a peer is kept that was let go.
+/// Returns how many milliseconds a turn waits at most; `None` if only a socket ends the wait. While a peer that is
+/// there or the listener may have something, or a panel may have something coming, it does not wait; but if a panel is
+/// so far behind for the second turn that no line may go, it waits until the clock goes on. It waits neither past what
+/// falls due, nor longer than `most` if that is said, nor longer than the pause while a peer is kept that was let go.
 pub fn longest_wait(
     peers: &[Peer],
     listening: Listening,

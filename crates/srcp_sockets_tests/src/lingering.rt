@@ -6,7 +6,8 @@ use crate::scene::{AMPLE, all_served, serve_events, told};
 use std::test::Fail;
 use std::vec::Vec;
 
-/// How many bytes a session is sent that begins and ends itself in the first ten milliseconds: the welcome line and two replies.
+/// How many bytes a session is sent that begins and ends itself in the first ten milliseconds: the welcome line and two
+/// replies.
 const ALL: usize = 76;
 
 #[test]

@@ -112,8 +112,8 @@ fn time_goes_forward_in_steps_where_something_falls_due(rt: HostRuntime) -> Resu
     };
     let mut door = SocketDoor::listen(&rt, rt.alloc(), free_port(&rt)?, &clock)?;
     door.wait_at_most(0);
-    // The wall clock is set back by an hour. Nothing runs for 32 milliseconds in which nothing falls due, for 32 in which
-    // something does, and for an hour in which something does at once.
+    // The wall clock is set back by an hour. Nothing runs for 32 milliseconds in which nothing falls due, for 32 in
+    // which something does, and for an hour in which something does at once.
     for (wall, elapsed, due, moment) in [
         (10_000_000, 500, None, 10_000_000),
         (6_400_007, 507, None, 10_000_007),

@@ -23,7 +23,10 @@ pub returns-then-is_over : goal.returns-then-is_over
 returns-then-is_over g c = record {
   kept = clocked_all (g.S.System.told c.flush-leaving.new.system) (g.S.System.told c.clock-clock.new.self) c.flush-leaving.new.peers
       c.clock-clock.result c.clock-clock.ensures c.flush-leaving.ensures.kept;
-  ended = inr (inl (λ log is. let t = c.clock-clock.ensures log is in (t.0, c.clock-clock.result, t.2, sym c.is_over.ensures ∙ c.if-is_over.true)));
+  ended =
+      inr (inl
+      (λ log is. let t = c.clock-clock.ensures log is in
+      (t.0, c.clock-clock.result, t.2, sym c.is_over.ensures ∙ c.if-is_over.true)));
 }
 
 pub loop-look-preserved : goal.loop-look-preserved

@@ -1,5 +1,4 @@
-use Rattle.std.proofs.Common.{◌≡◌, ◌∙◌, ◌⊎◌, ⊎_elim, ap, sym, true≢false}
-use Rattle.srcp_sockets.specs.Accounts.{account}
+use Rattle.std.proofs.Common.{◌∙◌, ⊎_elim, sym, true≢false}
 use Rattle.srcp_sockets.specs.Doors.{IsAbsent, IsThere}
 use Rattle.srcp_sockets.proofs.Pasts.{might_close, might_shut}
 use Rattle.srcp_sockets.proofs.Standing.{find}

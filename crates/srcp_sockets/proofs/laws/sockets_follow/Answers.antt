@@ -2,7 +2,7 @@ use Rattle.std.proofs.Common.{List, subst}
 use Rattle.std.specs.Prelude.{ℕ}
 use Rattle.std.specs.Io.{StartsWith}
 use Rattle.srcp_sockets.specs.Accounts.{account}
-use Rattle.srcp_sockets.specs.Streams.{gave, handed, taken, took}
+use Rattle.srcp_sockets.specs.Streams.{handed, took}
 use Rattle.srcp_sockets.proofs.Tellings.{gave_is, handed_is, taken_is, took_is}
 use Rattle.srcp_sockets.proofs.laws.sockets_follow.Goals as goal
 

@@ -1,6 +1,5 @@
 use Rattle.std.proofs.Common.{◌≡◌, ◌∙◌, ◌⊎◌, ◌++◌, List, inl, inr, ap, sym, true}
 use Rattle.std.specs.Prelude.{ℕ, slice_index_or}
-use Rattle.srcp_sockets.specs.declared.peer.Peer.{Peer}
 use Rattle.srcp_sockets.specs.declared.readiness.Writing.{Writing}
 use Rattle.srcp_sockets.specs.declared.readiness.Writing.TheVariants as output
 use Rattle.srcp_sockets.specs.Accounts.{Sent, account}

@@ -1,6 +1,7 @@
 use Rattle.std.proofs.Common.{ap, arith, refl}
 use Rattle.srcp_door.specs.declared.pacing.Share.{Share}
-use Rattle.srcp_sockets.proofs.Keeping.{says_none, says_then, spares_none, spares_then}
+use Rattle.srcp_sockets.proofs.Saying.{says_none, says_then}
+use Rattle.srcp_sockets.proofs.Keeping.{spares_none, spares_then}
 use Rattle.srcp_sockets.proofs.Serving.{set_read}
 use Rattle.srcp_sockets.proofs.Timing.{keeps_none, keeps_then}
 use Rattle.srcp_sockets.proofs.Lists.{absent_there, set_apart, set_kept, set_marked, set_rest, set_those}

@@ -1,5 +1,6 @@
 use Rattle.std.proofs.Common.{arith, refl}
-use Rattle.srcp_sockets.proofs.Keeping.{says_none, says_then, spares_none, spares_then}
+use Rattle.srcp_sockets.proofs.Saying.{says_none, says_then}
+use Rattle.srcp_sockets.proofs.Keeping.{spares_none, spares_then}
 use Rattle.srcp_sockets.proofs.Timing.{keeps_none, keeps_then}
 use Rattle.srcp_sockets.proofs.Lists.{absent_there, set_apart, set_kept, set_those}
 use Rattle.srcp_sockets.proofs.peers.flush.Goals as goal

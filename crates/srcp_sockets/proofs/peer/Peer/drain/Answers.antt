@@ -1,6 +1,7 @@
-use Rattle.std.proofs.Common.{◌≡◌, ◌∙◌, refl, ap, sym}
+use Rattle.std.proofs.Common.{◌∙◌, refl, ap}
 use Rattle.srcp_sockets.specs.Peers.{is_here}
-use Rattle.srcp_sockets.proofs.Keeping.{says_none, says_then, spares_none, spares_then}
+use Rattle.srcp_sockets.proofs.Saying.{says_none, says_then}
+use Rattle.srcp_sockets.proofs.Keeping.{spares_none, spares_then}
 use Rattle.srcp_sockets.proofs.Timing.{keeps_none, keeps_then}
 use Rattle.srcp_sockets.proofs.peer.Peer.drain.Goals as goal
 

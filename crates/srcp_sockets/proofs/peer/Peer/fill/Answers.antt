@@ -1,6 +1,6 @@
 use Rattle.std.proofs.Common.{refl, Ok, Err}
 use Rattle.srcp_sockets.specs.Steps.{Reads}
-use Rattle.srcp_sockets.proofs.Keeping.{says_step}
+use Rattle.srcp_sockets.proofs.Saying.{says_step}
 use Rattle.srcp_sockets.proofs.Timing.{keeps_step}
 use Rattle.srcp_sockets.proofs.peer.Peer.fill.Goals as goal
 

@@ -11,6 +11,7 @@ returns-clause-kept g c =
     let new = g.S.System.told c.told_read.new.self in
     let out = c.take_out-handed in
     let number : out.new.self.number ≡ c.args.self.now.number = ap (λ (p : Peer). p.number) out.ensures.same in
-    kept_got old new c.args.self.now out.new.self out.result.got out.new.buffer c.requires.here out.ensures.same out.ensures.bytes out.ensures.line
+    kept_got old new c.args.self.now out.new.self out.result.got out.new.buffer c.requires.here out.ensures.same out.ensures.bytes
+    out.ensures.line
     out.ensures.ended out.ensures.failed
     (subst (λ (n : ℕ). Tells old (Told (ReadCall n out.result.got out.new.buffer)) new) number c.told_read.ensures) c.requires.kept

@@ -1,6 +1,7 @@
 use Rattle.std.proofs.Common.{refl}
 use Rattle.srcp_sockets.specs.Steps.{Shuts}
-use Rattle.srcp_sockets.proofs.Keeping.{kept_shut, says_step, spares_shut}
+use Rattle.srcp_sockets.proofs.Keeping.{kept_shut, spares_shut}
+use Rattle.srcp_sockets.proofs.Saying.{says_step}
 use Rattle.srcp_sockets.proofs.Timing.{keeps_step}
 use Rattle.srcp_sockets.proofs.peer.Peer.shut_down.Goals as goal
 

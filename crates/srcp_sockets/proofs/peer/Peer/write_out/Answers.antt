@@ -1,6 +1,7 @@
 use Rattle.std.proofs.Common.{List, ℕ, false, rules, refl, subst, Ok, Err}
 use Rattle.srcp_sockets.specs.Steps.{Tells, Writes}
-use Rattle.srcp_sockets.proofs.Keeping.{says_step, wrote_peer}
+use Rattle.srcp_sockets.proofs.Saying.{says_step}
+use Rattle.srcp_sockets.proofs.Keeping.{wrote_peer}
 use Rattle.srcp_sockets.proofs.Timing.{keeps_step}
 use Rattle.srcp_sockets.proofs.peer.Peer.write_out.Goals as goal
 

@@ -3,7 +3,7 @@ use Rattle.srcp_sockets.specs.declared.peer.Peer.{Peer}
 use Rattle.srcp_serve.specs.declared.door.DoorFault.TheVariants.{Close}
 use Rattle.srcp_serve.specs.Calls.{CloseCall}
 use Rattle.srcp_sockets.proofs.Clocking.{clock_is}
-use Rattle.srcp_sockets.proofs.Keeping.{says_call}
+use Rattle.srcp_sockets.proofs.Saying.{says_call}
 use Rattle.srcp_sockets.proofs.Naming.{named_call}
 use Rattle.srcp_sockets.proofs.Parting.{stands_let_go, stands_missing}
 use Rattle.srcp_sockets.proofs.Timing.{timed_close}

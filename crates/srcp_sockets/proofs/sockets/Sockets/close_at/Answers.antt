@@ -3,7 +3,7 @@ use Rattle.srcp_sockets.specs.declared.peer.Peer.{Peer}
 use Rattle.srcp_sockets.specs.Doors.{Stands}
 use Rattle.srcp_sockets.specs.Steps.{Closes}
 use Rattle.srcp_sockets.proofs.Clocking.{clock_is}
-use Rattle.srcp_sockets.proofs.Keeping.{says_step}
+use Rattle.srcp_sockets.proofs.Saying.{says_step}
 use Rattle.srcp_sockets.proofs.Naming.{named_silent}
 use Rattle.srcp_sockets.proofs.Parting.{stands_closed_at}
 use Rattle.srcp_sockets.proofs.Timing.{keeps_step, timed_kept}

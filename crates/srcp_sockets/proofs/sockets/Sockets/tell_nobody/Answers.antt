@@ -1,9 +1,8 @@
-use Rattle.std.proofs.Common.{◌≡◌, ap, refl, sym, ⊎_elim, true, Ok, Err, None, List, [], ℕ, ◌∷◌}
+use Rattle.std.proofs.Common.{◌≡◌, ap, refl, ⊎_elim, true, None, [], ◌∷◌}
 use Rattle.std.specs.Prelude.{filter_map}
 use Rattle.srcp_serve.specs.Calls.{AcceptCall, peer_of}
-use Rattle.srcp_sockets.specs.Steps.{Told}
 use Rattle.srcp_sockets.specs.Times.{is_told}
-use Rattle.srcp_sockets.proofs.Keeping.{says_call}
+use Rattle.srcp_sockets.proofs.Saying.{says_call}
 use Rattle.srcp_sockets.proofs.Naming.{named_call}
 use Rattle.srcp_sockets.proofs.Standing.{stands_told}
 use Rattle.srcp_sockets.proofs.Timing.{timed_unasked}
@@ -19,8 +18,10 @@ invariant_of-self g c =
     (λ e. ap (λ a. filter_map peer_of (AcceptCall a ∷ [])) e) (λ e. ap (λ a. filter_map peer_of (AcceptCall a ∷ [])) e) c.requires in
     let told : is_told None answer ≡ true = ⊎_elim (λ e. ap (is_told None) e) (λ e. ap (is_told None) e) c.requires in
     record {
-      stands = stands_told old new self.peers.items self.listening self.last (AcceptCall answer) (λ s a. refl) c.told_accept.ensures self.stands;
-      named = named_call old new self.last (AcceptCall answer) (says_call old new (AcceptCall answer) c.told_accept.ensures) none self.named;
+      stands =
+          stands_told old new self.peers.items self.listening self.last (AcceptCall answer) (λ s a. refl) c.told_accept.ensures self.stands;
+      named =
+          named_call old new self.last (AcceptCall answer) (says_call old new (AcceptCall answer) c.told_accept.ensures) none self.named;
       timed = timed_unasked old new self.turn c.note_accept.new.self answer c.note_accept.ensures told c.told_accept.ensures self.timed;
     }
 

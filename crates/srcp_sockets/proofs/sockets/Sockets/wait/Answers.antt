@@ -9,9 +9,9 @@ use Rattle.srcp_sockets.specs.Doors.{Stands}
 use Rattle.srcp_sockets.specs.Peers.{is_resting}
 use Rattle.srcp_sockets.specs.Steps.{Waits}
 use Rattle.srcp_sockets.specs.Times.{IsTimed}
-use Rattle.srcp_sockets.proofs.Keeping.{says_step}
+use Rattle.srcp_sockets.proofs.Saying.{says_step}
 use Rattle.srcp_sockets.proofs.Naming.{named_silent}
-use Rattle.srcp_sockets.proofs.Standing.{stands_waited}
+use Rattle.srcp_sockets.proofs.Waited.{stands_waited}
 use Rattle.srcp_sockets.proofs.Timing.{timed_wait}
 use Rattle.srcp_sockets.proofs.sockets.Sockets.wait.Goals as goal
 
@@ -31,7 +31,8 @@ invariant_of-self g c =
           (sym (with_items_is c.args.self.now.peers c.wake.new.peers (c.wake.auto.peers ∙ search rules)))
           (subst (λ (l : Listening). Stands new c.wake.new.peers l last) (sym c.listen-self.ensures)
           (stands_waited old new before c.wake.new.peers most count ready listening last
-          (subst (λ (ps : List Peer). is_short most ≡ false → All (λ peer. is_resting peer ≡ true) ps) same c.longest_wait-most.ensures.rest)
+          (subst (λ (ps : List Peer). is_short most ≡ false → All (λ peer. is_resting peer ≡ true) ps) same
+          c.longest_wait-most.ensures.rest)
           c.longest_wait-most.ensures.newcomers c.wait-count.ensures.told c.wake.auto.peers c.wake.ensures
           (subst (λ (ps : List Peer). Stands old ps listening last) same c.args.self.now.stands)));
       named = named_silent old new last (says_step old new (Waits most count ready) c.wait-count.ensures.told refl) c.args.self.now.named;

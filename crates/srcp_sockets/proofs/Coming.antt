@@ -1,0 +1,245 @@
+-- What holds of all sockets holds after an accept.
+use Rattle.std.proofs.Common.{◌≡◌, ◌∙◌, ℕ, ◌<◌, ◌≤◌, ◌+◌, true, false, List, [], ◌∷◌, ◌++◌, length, refl, ap, sym}
+use Rattle.std.proofs.Common.{subst, arith, ⊎_elim, ◌==◌, Option, Some, Ok, Err, true≢false}
+use Rattle.std.specs.Prelude.{◌≢◌, slice_index_or, Result}
+use Rattle.std.proofs.lemmas.Bool.{cases_eq, cases_lt}
+use Rattle.std.proofs.lemmas.List.{length-append, get_or_push, get_or_append_left}
+use Rattle.std.proofs.lemmas.List.Elements.{All-push}
+use Rattle.std.specs.declared.io.ErrorKind.{ErrorKind}
+use Rattle.srcp_sockets.specs.declared.system.Refusal.{Refusal}
+use Rattle.srcp_sockets.specs.declared.system.Refusal.TheVariants.{Later, Again, Fault}
+use Rattle.srcp_sockets.specs.declared.peer.Peer.{Peer}
+use Rattle.srcp_sockets.specs.declared.readiness.Reading.TheVariants as input
+use Rattle.srcp_sockets.specs.declared.readiness.Writing.TheVariants as output
+use Rattle.srcp_sockets.specs.declared.stay.Stay.TheVariants as stay
+use Rattle.srcp_sockets.specs.declared.waiting.Listening.{Listening}
+use Rattle.srcp_sockets.specs.Steps.{Accepts, Step, Tells, refusal_told}
+use Rattle.srcp_sockets.specs.Accounts.{Account, accepted, account, account_step, heard, heard_refusal}
+use Rattle.srcp_sockets.specs.Peers.{Agrees, IsKept, Spares}
+use Rattle.srcp_door.specs.Pacing.{line_after}
+use Rattle.srcp_sockets.specs.declared.ending.Ending.TheVariants as ending
+use Rattle.srcp_door.specs.declared.pacing.Line.TheVariants as line
+use Rattle.srcp_sockets.specs.Listeners.{refused_listening}
+use Rattle.srcp_sockets.specs.Doors.{AreApart, AreKept, Closed, Fresh, Hears, IsAbsent, Sound, Stands}
+use Rattle.srcp_sockets.proofs.Keeping.{account_more, alien, own, picks, skips, spares_after}
+use Rattle.srcp_sockets.proofs.Lists.{kept_spared}
+use Rattle.srcp_sockets.proofs.Standing.{absent_above, all_sound, not_listener, spared}
+
+abbrev pub newcomer : ℕ → Peer
+newcomer number = record {
+  number = number;
+  outgoing = [];
+  incoming = [];
+  input = input.Ready;
+  output = output.Open;
+  cut = false;
+  stay = stay.Here;
+  share = record { line = line.Ended; mark = true };
+  ending = ending.Open;
+  asked = true;
+  room = 300;
+}
+
+-- what an accept says of the sockets
+accept_new : (socket : ℕ) (a : Account) (answer : Result Unit ErrorKind) → (socket ≡ 0 → ⊥) → account_step socket a
+    (Accepts socket answer) ≡ accepted a answer
+accept_new socket a answer ne = skips (socket == 0) (record a { received = heard a.received answer }) _ (not_listener socket ne)
+    ∙ picks (socket == socket) (accepted a answer) a (own socket)
+
+accept_other : (socket number : ℕ) (a : Account) (answer : Result Unit ErrorKind) → (socket ≡ 0 → ⊥) → socket ≢ number
+    → account_step socket a (Accepts number answer) ≡ a
+accept_other socket number a answer ne differ = skips (socket == 0) (record a { received = heard a.received answer }) _
+    (not_listener socket ne)
+    ∙ skips (number == socket) (accepted a answer) a (alien number socket differ)
+
+-- one that comes in leaves the others as they are
+spares_come : (old new : Option (List Step)) (number : ℕ) (done : Unit {0}) (other : ℕ) → other ≢ number
+    → Tells old (Accepts number (Ok done)) new → Spares other old new
+spares_come old new number done other differ tells =
+    spares_after other old new (Accepts number (Ok done)) tells (λ a. ⊎_elim
+    (λ (e : other ≡ 0). subst (λ (n : ℕ). account_step n a (Accepts number (Ok done)) ≡ a) (sym e) refl)
+    (λ (ne : other ≡ 0 → ⊥). accept_other other number a (Ok done) ne differ)
+    (cases_eq other 0))
+
+-- a newcomer is what its account says
+fresh_agrees : (number : ℕ) (a : Account) (done : Unit {0}) → Fresh a → Sound a → Agrees (accepted a (Ok done)) (newcomer number)
+fresh_agrees number a done f s = record {
+  reads = (f.gave ∙ sym (ap (λ h. h ++ []) f.handed), refl, refl, refl);
+  writes = (f.written ∙ sym (ap (λ h. h ++ []) f.took), refl);
+  cut = refl;
+  stays = (refl, refl, refl);
+  line = sym (ap (line_after line.Ended) f.handed);
+  honest = s.honest;
+  rested = s.rested;
+  rightly = s.rightly;
+  unread = λ e. absurd (true≢false (sym e));
+  served = s.served;
+}
+
+-- a place of a list with one more
+at_push : (P : Peer → Type 0) (peers : List Peer) (p : Peer) → ((k : ℕ) (d : Peer) → k < length peers → P (slice_index_or peers k d)) → P p
+    → (k : ℕ) (d : Peer) → k < length (peers ++ p ∷ []) → P (slice_index_or (peers ++ p ∷ []) k d)
+at_push P peers p all one k d lt = All-push P peers p all one k d lt
+
+push_apart : (peers : List Peer) (p : Peer) → AreApart peers → IsAbsent p.number peers → AreApart (peers ++ p ∷ [])
+push_apart peers p apart absent j k d lj lk differ e = ⊎_elim
+    (λ (jl : j < length peers). ⊎_elim
+    (λ (kl : k < length peers). apart j k d jl kl differ (sym (low j jl) ∙ e ∙ low k kl))
+    (λ (kg : length peers ≤ k). absent j d jl (sym (low j jl) ∙ e ∙ last k (omega (arith, lk, kg, length-append peers (p ∷ [])))))
+    (cases_lt k (length peers)))
+    (λ (jg : length peers ≤ j). ⊎_elim
+    (λ (kl : k < length peers). absent k d kl (sym (low k kl) ∙ sym e ∙ last j (omega (arith, lj, jg, length-append peers (p ∷ [])))))
+    (λ (kg : length peers ≤ k). differ (omega (arith, lj, lk, jg, kg, length-append peers (p ∷ []))))
+    (cases_lt k (length peers)))
+    (cases_lt j (length peers))
+  where
+    low : (n : ℕ) → n < length peers → (slice_index_or (peers ++ p ∷ []) n d).number ≡ (slice_index_or peers n d).number
+    low n lt = ap (λ (x : Peer). x.number) (get_or_append_left peers (p ∷ []) d n lt)
+
+    last : (n : ℕ) → length peers ≡ n → (slice_index_or (peers ++ p ∷ []) n d).number ≡ p.number
+    last n is = ap (λ (x : Peer). x.number) (get_or_push peers p d n is)
+
+absent_push : (socket : ℕ) (peers : List Peer) (p : Peer) → IsAbsent socket (peers ++ p ∷ []) → IsAbsent socket peers × (socket ≢ p.number)
+absent_push socket peers p absent = (
+  λ k d lt e. absent k d (omega (arith, lt, length-append peers (p ∷ [])))
+      (ap (λ (x : Peer). x.number) (get_or_append_left peers (p ∷ []) d k lt) ∙ e),
+  λ e. absent (length peers) p (omega (arith, length-append peers (p ∷ [])))
+      (ap (λ (x : Peer). x.number) (get_or_push peers p p (length peers) refl) ∙ sym e),
+)
+
+pub stands_come : (old new : Option (List Step)) (peers : List Peer) (l : Listening) (last : ℕ) (done : Unit {0})
+    → Tells old (Accepts (last + 1) (Ok done)) new → Stands old peers l last → Stands new (peers ++ newcomer (last + 1) ∷ []) l (last + 1)
+stands_come old new peers l last done tells stands = record {
+  kept = kept;
+  apart = push_apart peers (newcomer (last + 1)) stands.apart (absent_above last (last + 1) peers stands.within (omega arith));
+  within = at_push (λ (p : Peer). (0 < p.number) × (p.number ≤ last + 1)) peers (newcomer (last + 1))
+      (λ k d lt. let w = stands.within k d lt in (w.0, (let m : (slice_index_or peers k d).number ≤ last = w.1 in omega (arith, m))))
+      (omega arith, omega arith);
+  sound = λ log is. all_sound new (peers ++ newcomer (last + 1) ∷ []) log is kept (λ socket absent.
+      let there = absent_push socket peers (newcomer (last + 1)) absent in
+      spared Sound socket old new (spares_come old new (last + 1) done socket there.1 tells) (λ lg e. stands.sound lg e socket) log is);
+  fresh = λ log is socket above.
+      spared Fresh socket old new (spares_come old new (last + 1) done socket (λ e. omega (arith, above, e)) tells)
+      (λ lg e. stands.fresh lg e socket (omega (arith, above))) log is;
+  closed = λ log is socket absent.
+      let there = absent_push socket peers (newcomer (last + 1)) absent in
+      spared Closed socket old new (spares_come old new (last + 1) done socket there.1 tells)
+      (λ lg e. stands.closed lg e socket there.0) log is;
+  heard = λ log is.
+      spared (λ (a : Account). Hears a l) 0 old new (spares_come old new (last + 1) done 0 (λ e. omega (arith, e)) tells) stands.heard log
+      is;
+}
+  where
+    old_kept : (k : ℕ) (d : Peer) → k < length peers → IsKept new (slice_index_or peers k d)
+    old_kept k d lt =
+        let w = stands.within k d lt in
+        let m : (slice_index_or peers k d).number ≤ last = w.1 in
+        kept_spared old new (slice_index_or peers k d)
+        (spares_come old new (last + 1) done (slice_index_or peers k d).number (λ e. omega (arith, m, e)) tells) (stands.kept k d lt)
+
+    one_kept : IsKept new (newcomer (last + 1))
+    one_kept later is =
+        let t = tells later is in
+        let more : account (last + 1) later ≡ accepted (account (last + 1) t.0) (Ok done) =
+        ap (account (last + 1)) t.2 ∙ account_more (last + 1) t.0 (Accepts (last + 1) (Ok done))
+        ∙ accept_new (last + 1) (account (last + 1) t.0) (Ok done) (λ e. omega (arith, e)) in
+        subst (λ (a : Account). Agrees a (newcomer (last + 1))) (sym more)
+        (fresh_agrees (last + 1) (account (last + 1) t.0) done (stands.fresh t.0 t.1 (last + 1) (omega arith))
+        (stands.sound t.0 t.1 (last + 1)))
+
+    kept : AreKept new (peers ++ newcomer (last + 1) ∷ [])
+    kept = at_push (IsKept new) peers (newcomer (last + 1)) old_kept one_kept
+
+-- an accept that failed
+refused_hears : (a : Account) (l : Listening) (said : Refusal) → Hears a l
+    → Hears (record a { received = heard_refusal a.received said }) (refused_listening said)
+refused_hears a l Later h = record {
+  fresh = record { written = h.fresh.written; took = h.fresh.took; gave = h.fresh.gave; handed = h.fresh.handed };
+  lost = h.lost;
+  cut = h.cut;
+  ended = h.ended;
+  failed = h.failed;
+  heard = refl;
+}
+refused_hears a l Again h = record { fresh = h.fresh; lost = h.lost; cut = h.cut; ended = h.ended; failed = h.failed; heard = tt }
+refused_hears a l Fault h = record { fresh = h.fresh; lost = h.lost; cut = h.cut; ended = h.ended; failed = h.failed; heard = tt }
+
+refused_sound : (a : Account) (said : Refusal) → Sound a → Sound (record a { received = heard_refusal a.received said })
+refused_sound a Later h = record {
+  took = h.took;
+  handed = h.handed;
+  honest = h.honest;
+  rested = h.rested;
+  rightly = h.rightly;
+  served = h.served;
+}
+refused_sound a Again h = h
+refused_sound a Fault h = h
+
+refused_closed : (a : Account) (said : Refusal) → Closed a → Closed (record a { received = heard_refusal a.received said })
+refused_closed a Later h = record { watched = h.watched; kept = h.kept }
+refused_closed a Again h = h
+refused_closed a Fault h = h
+
+refused_fresh : (a : Account) (said : Refusal) → Fresh a → Fresh (record a { received = heard_refusal a.received said })
+refused_fresh a Later h = record { written = h.written; took = h.took; gave = h.gave; handed = h.handed }
+refused_fresh a Again h = h
+refused_fresh a Fault h = h
+
+spares_refused : (old new : Option (List Step)) (number : ℕ) (fault : ErrorKind) (other : ℕ) → (other ≡ 0 → ⊥)
+    → Tells old (Accepts number (Err fault)) new → Spares other old new
+spares_refused old new number fault other ne tells =
+    spares_after other old new (Accepts number (Err fault)) tells (λ a. ⊎_elim
+    (λ (e : other ≡ number). subst (λ (n : ℕ). account_step other a (Accepts n (Err fault)) ≡ a) e (accept_new other a (Err fault) ne))
+    (λ (differ : other ≡ number → ⊥). accept_other other number a (Err fault) ne differ)
+    (cases_eq other number))
+
+pub stands_refused : (old new : Option (List Step)) (peers : List Peer) (l : Listening) (last number : ℕ) (fault : ErrorKind)
+    → Tells old (Accepts number (Err fault)) new → Stands old peers l last
+    → Stands new peers (refused_listening (refusal_told fault)) last
+stands_refused old new peers l last number fault tells stands = record {
+  kept = λ k d lt.
+      let some : 0 < (slice_index_or peers k d).number = (stands.within k d lt).0 in
+      kept_spared old new (slice_index_or peers k d)
+      (spares_refused old new number fault (slice_index_or peers k d).number (λ e. omega (arith, some, e)) tells) (stands.kept k d lt);
+  apart = stands.apart;
+  within = stands.within;
+  sound = λ log is socket. ⊎_elim
+      (λ (e : socket ≡ 0). subst (λ (n : ℕ). Sound (account n log)) (sym e)
+      (subst Sound (sym (more log is)) (refused_sound (account 0 (tells log is).0) (refusal_told fault)
+      (stands.sound (tells log is).0 (tells log is).1 0))))
+      (λ (ne : socket ≡ 0 → ⊥). spared Sound socket old new (spares_refused old new number fault socket ne tells)
+      (λ lg e. stands.sound lg e socket) log is)
+      (cases_eq socket 0);
+  fresh = λ log is socket above.
+      spared Fresh socket old new (spares_refused old new number fault socket (λ e. omega (arith, above, e)) tells)
+      (λ lg e. stands.fresh lg e socket above) log is;
+  closed = λ log is socket absent. ⊎_elim
+      (λ (e : socket ≡ 0). subst (λ (n : ℕ). Closed (account n log)) (sym e)
+      (subst Closed (sym (more log is)) (refused_closed (account 0 (tells log is).0) (refusal_told fault)
+      (stands.closed (tells log is).0 (tells log is).1 0 (subst (λ (n : ℕ). IsAbsent n peers) e absent)))))
+      (λ (ne : socket ≡ 0 → ⊥). spared Closed socket old new
+      (spares_refused old new number fault socket ne tells)
+      (λ lg e. stands.closed lg e socket absent) log is)
+      (cases_eq socket 0);
+  heard = λ log is. subst (λ (a : Account). Hears a (refused_listening (refusal_told fault))) (sym (more log is))
+      (refused_hears (account 0 (tells log is).0) l (refusal_told fault) (stands.heard (tells log is).0 (tells log is).1));
+}
+  where
+    more : (log : List Step) (is : new ≡ Some log)
+        → account 0 log ≡ record (account 0 (tells log is).0) {
+          received = heard_refusal (account 0 (tells log is).0).received
+              (refusal_told fault);
+        }
+    more log is = ap (account 0) (tells log is).2 ∙ account_more 0 (tells log is).0 (Accepts number (Err fault))
+
+-- a newcomer, by the names that the function gives
+pub stands_came : (old new : Option (List Step)) (peers items : List Peer) (peer : Peer) (l : Listening) (last number : ℕ) (done : Unit {0})
+    → number ≡ last + 1 → items ≡ peers ++ peer ∷ [] → peer ≡ newcomer number
+    → Tells old (Accepts number (Ok done)) new → Stands old peers l last → Stands new items l number
+stands_came old new peers items peer l last number done next pushed is tells stands =
+    let told : Tells old (Accepts (last + 1) (Ok done)) new = subst (λ (n : ℕ). Tells old (Accepts n (Ok done)) new) next tells in
+    let received = stands_come old new peers l last done told stands in
+    let one : newcomer (last + 1) ≡ peer = ap newcomer (sym next) ∙ sym is in
+    subst (λ (n : ℕ). Stands new items l n) (sym next)
+    (subst (λ (ps : List Peer). Stands new ps l (last + 1)) (ap (λ (p : Peer). peers ++ p ∷ []) one ∙ sym pushed) received)
