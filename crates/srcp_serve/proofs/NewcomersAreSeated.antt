@@ -1,46 +1,34 @@
 -- A newcomer gets the first free place, or is closed.
-use Rattle.std.proofs.Common.{◌≡◌, ◌∙◌, ℕ, suc, ◌+◌, ◌<◌, Bool, true, false, List, [], ◌∷◌, ◌++◌, map, length, if◌then◌else◌, Option, Some}
-use Rattle.std.proofs.Common.{None, Ok, Err, Result, refl, ap, sym, subst, arith, append_assoc, append-nil, length-append}
-use Rattle.std.proofs.lemmas.Grind.{flat_map-append}
-use Rattle.std.proofs.lemmas.List.{map-append, length-map}
-use Rattle.std.specs.List.{filter, slice_index_or, slice_set, AllByRecursion}
+use Rattle.std.proofs.Common.{◌≡◌, ◌∙◌, ℕ, suc, ◌+◌, ◌<◌, Bool, true, false, List, [], ◌∷◌, ◌++◌, length, if◌then◌else◌, Option, Some}
+use Rattle.std.proofs.Common.{None, Result, refl, ap, sym, subst, arith, length-append}
+use Rattle.std.specs.List.{filter, slice_set, AllByRecursion}
 use Rattle.std.specs.Prelude.{is_none, not, position, nat_lt}
 use Rattle.std.proofs.lemmas.List.Sums.{fold-append}
 use Rattle.srcp_rules.specs.declared.layout.Bus.{Bus}
 use Rattle.srcp_core.specs.Connection.{is_open}
 use Rattle.srcp_core.specs.Course.{World, start, counted, course, denied_in, fault, happens, or_refused}
 use Rattle.srcp_core.specs.Held.{Held, open_count}
-use Rattle.srcp_core.specs.Machine.{IsAdmitted, IsNotAdmitted, advanced, slack_at}
-use Rattle.srcp_core.specs.Waits.{due_next, least}
-use Rattle.srcp_index.specs.Earliest.{IsEarliestDue}
-use Rattle.srcp_rules.specs.Layout.{IsLayout}
-use Rattle.srcp_core.specs.Recording.{key_of, without_key}
+use Rattle.srcp_core.specs.Machine.{IsAdmitted, IsNotAdmitted}
+use Rattle.srcp_core.specs.Recording.{key_of}
 use Rattle.srcp_core.specs.Under.{Event, Open, denied_by}
 use Rattle.srcp_core.specs.Stands.{StandsFor}
 use Rattle.srcp_core.specs.declared.record.CoreFault.{CoreFault}
 use Rattle.srcp_core.specs.declared.record.CoreFault.TheVariants.{Full, Memory as MemoryFault}
 use Rattle.srcp_core.proofs.Agreement.CallLaws.{calls_agree, calls_lead}
-use Rattle.srcp_core.proofs.Agreement.NumbersAndKeys.{key_push_last, length_without}
-use Rattle.srcp_serve.specs.Calls.{Call as DoorCall, Tells, Adds}
-use Rattle.srcp_serve.specs.Calls as door
-use Rattle.srcp_serve.specs.Given.{Guest, Call, CloseCall, CountsRefusals}
-use Rattle.srcp_serve.specs.Serving.{Seat, Stand, Expects, expects, Closes as ClosesQuestion, question, is_let_in, let_in, welcomed}
-use Rattle.srcp_serve.specs.Serving.{visit_events}
-use Rattle.srcp_serve.specs.Places.{AreOwn, Visit, calls_of, made_by, asked_by, visits_of, seat_of, left_by, Sit, SitsAt, IsNotOf}
-use Rattle.srcp_serve.specs.Places.{IsLeftOut, IsHosting, WelcomesPeer, AreVisited, AreVisitedSoFar, SeatsPeer, TakesMoment, VisitsPlace}
-use Rattle.srcp_serve.specs.Places.{VisitsPlaces, VisitsSoFar}
-use Rattle.srcp_serve.specs.Turns.{AsksPeers}
-use Rattle.srcp_serve.specs.Visits.{AddsGiven, Closes, CountsAsked, Visits}
+use Rattle.srcp_core.proofs.Agreement.NumbersAndKeys.{key_push_last}
+use Rattle.srcp_serve.specs.Calls.{Call as DoorCall}
+use Rattle.srcp_serve.specs.Given.{Guest, CloseCall}
+use Rattle.srcp_serve.specs.Serving.{Seat, Stand, Closes as ClosesQuestion, is_let_in, let_in, welcomed}
+use Rattle.srcp_serve.specs.Places.{Sit, IsNotOf}
+use Rattle.srcp_serve.specs.Places.{IsLeftOut, IsHosting, WelcomesPeer, SeatsPeer}
+use Rattle.srcp_serve.specs.Visits.{Closes, CountsAsked}
 use Rattle.srcp_serve.specs.declared.door.DoorFault.{DoorFault}
 use Rattle.srcp_serve.specs.declared.serving.visit.Seat.{Seat as Own}
-use Rattle.srcp_serve.proofs.PlacesAreTakenAndFreed.{count_append, count_cleared, count_cons, count_seated, count_without, differ_cleared}
+use Rattle.srcp_serve.proofs.PlacesAreTakenAndFreed.{count_append, count_cons, count_seated}
 use Rattle.srcp_serve.proofs.PlacesAreTakenAndFreed.{differ_seated}
-use Rattle.srcp_serve.proofs.PlacesAreTakenAndFreed.{free_in, free_is, length-sit, new_apart, none_free, own_append, sit_pushed, sit_seated}
-use Rattle.srcp_serve.proofs.PlacesAreTakenAndFreed.{sit_without}
-use Rattle.srcp_serve.proofs.PlacesAreTakenAndFreed.{sits_here, visits-append}
-use Rattle.srcp_serve.proofs.RefusalsWereAskedFor.{asked_none, asked_one, asked_then}
-use Rattle.srcp_serve.proofs.CallsAreAdded.{adds_none, adds_one, adds_then, given_then, refusals_then}
-use Rattle.srcp_serve.proofs.VisitsAreSeenAgain.{asked_by-append}
+use Rattle.srcp_serve.proofs.PlacesAreTakenAndFreed.{free_in, free_is, new_apart, none_free, sit_pushed, sit_seated}
+use Rattle.srcp_serve.proofs.RefusalsWereAskedFor.{asked_one}
+use Rattle.srcp_serve.proofs.CallsAreAdded.{adds_none}
 
 pub none_left_out : (places : List (Option Seat)) → AllByRecursion (IsLeftOut []) places
 none_left_out [] = tt

@@ -1,39 +1,27 @@
 -- Turn after turn, serving follows the course.
-use Rattle.std.proofs.Common.{◌≡◌, ◌∙◌, ℕ, zero, suc, ◌+◌, ◌≤◌, Bool, true, false, ◌==◌, List, [], ◌∷◌, ◌++◌, map, drop, fold, replicate}
-use Rattle.std.proofs.Common.{length, if◌then◌else◌, Option, Some, None, Ok, Err, Result, refl, ap, sym, subst, arith, append_assoc}
+use Rattle.std.proofs.Common.{◌≡◌, ◌∙◌, ℕ, zero, suc, ◌+◌, ◌≤◌, Bool, true, false, ◌==◌, List, [], ◌∷◌, ◌++◌, map, replicate}
+use Rattle.std.proofs.Common.{length, Option, Some, None, refl, ap, sym, subst, arith}
 use Rattle.std.proofs.Common.{append-nil}
-use Rattle.std.proofs.lemmas.Bool.Decides.{nat_tests}
 use Rattle.std.proofs.lemmas.List.{append_cancel_left, map-append}
 use Rattle.std.proofs.lemmas.List.Elements.{filter_map-append}
-use Rattle.std.proofs.lemmas.List.Folds.{list_any-append}
 use Rattle.std.proofs.lemmas.Option.{same_Some}
-use Rattle.std.specs.List.{list_all, list_any, filter_map, AllByRecursion, IsDistinct}
-use Rattle.std.specs.Prelude.{◌||◌, not, flat_map}
+use Rattle.std.specs.List.{filter_map, AllByRecursion, IsDistinct}
 use Rattle.srcp_rules.specs.declared.layout.Bus.{Bus}
-use Rattle.srcp_core.specs.Course.{course}
 use Rattle.srcp_core.specs.Held.{Held}
-use Rattle.srcp_core.specs.Stands.{StandsFor}
-use Rattle.srcp_core.specs.Under.{Open, denied_by}
-use Rattle.srcp_core.proofs.CourseLaws.SentLinesAreOneList.{all_front}
 use Rattle.srcp_serve.specs.Calls.{Call as DoorCall, Tells, Adds, PeersDiffer, peer_of}
 use Rattle.srcp_serve.specs.Calls as door
-use Rattle.srcp_serve.specs.Given.{Guest, Call, ExpectCall, NowCall, AcceptCall, ReadCall, WriteCall, CloseCall, answers_of, told_call}
-use Rattle.srcp_serve.specs.Serving.{Seat, Stand, Expects, Moments, expects, Newcomers, IsFair, IsServed, question, is_expect, moment_of}
-use Rattle.srcp_serve.specs.Serving.{newcomer_of, seats, visits_ask, visit_events, kept, is_let_in, let_in, welcomed, with_moment, timed}
-use Rattle.srcp_serve.specs.Serving.{begun, visited, turned, turn_asks, turns_away, stand_after}
-use Rattle.srcp_serve.specs.Places.{IsHosting, IsServing, IsLeftOut, IsNotOf, IsOneOf, IsTurnGiven, one_if, LetsIn, MakesTurn, SeatsPeer}
-use Rattle.srcp_serve.specs.Places.{SeatsDiffer, ServesCourse, ServesSoFar, Sit, TakesMoment, Visit, VisitsPlaces, AreOwn, asked_by}
-use Rattle.srcp_serve.specs.Places.{calls_of, left_by, made_by, seat_of, visits_of}
-use Rattle.srcp_serve.specs.Turns.{AsksNewcomer, AsksPeers, AsksTurn, AsksTurns, IsTurn, is_of_peer}
-use Rattle.srcp_serve.specs.Visits.{AddsGiven, CountsAsked}
-use Rattle.srcp_serve.specs.declared.door.DoorFault.{DoorFault}
+use Rattle.srcp_serve.specs.Given.{Call, ExpectCall, NowCall, AcceptCall, told_call}
+use Rattle.srcp_serve.specs.Serving.{Stand, IsFair, IsServed, question}
+use Rattle.srcp_serve.specs.Serving.{turned, turn_asks, stand_after}
+use Rattle.srcp_serve.specs.Places.{IsHosting, IsServing, IsOneOf, IsTurnGiven, one_if, MakesTurn}
+use Rattle.srcp_serve.specs.Places.{SeatsDiffer, ServesCourse, ServesSoFar, Sit}
+use Rattle.srcp_serve.specs.Turns.{AsksTurn, AsksTurns}
+use Rattle.srcp_serve.specs.Visits.{CountsAsked}
 use Rattle.srcp_serve.specs.declared.serving.visit.Seat.{Seat as Own}
-use Rattle.srcp_serve.proofs.PlacesAreTakenAndFreed.{all_here, all_seated, kept_by, known_left, round_seats, visits_apart}
 use Rattle.srcp_serve.proofs.ServedOneTurnMore.{served-more}
-use Rattle.srcp_serve.proofs.RefusalsWereAskedFor.{asked_moment, asked_then}
-use Rattle.srcp_serve.proofs.CallsAreAdded.{adds_one, adds_then, given_then, refusals_then, same_calls}
-use Rattle.srcp_serve.proofs.SentIsTakenAfterAllTurns.{peers_told, sent_taken}
-use Rattle.srcp_serve.proofs.VisitsAreSeenAgain.{AreApart, visits_asked, visits_make}
+use Rattle.srcp_serve.proofs.RefusalsWereAskedFor.{asked_then}
+use Rattle.srcp_serve.proofs.CallsAreAdded.{adds_then, refusals_then, same_calls}
+use Rattle.srcp_serve.proofs.SentIsTakenAfterAllTurns.{sent_taken}
 use Rattle.srcp_serve.proofs.TurnsFollow.{fair_given, not_now, peers_front}
 
 sit_none : (n : ℕ) → Sit [] (replicate n None) (replicate n None)

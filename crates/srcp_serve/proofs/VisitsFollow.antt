@@ -20,12 +20,12 @@ use Rattle.srcp_core.specs.Stands.{StandsFor}
 use Rattle.srcp_core.specs.Under.{Event, Piece, Bytes, Room, Shut, denied_by}
 use Rattle.srcp_core.proofs.Agreement.CallLaws.{calls_agree, calls_lead}
 use Rattle.srcp_serve.specs.Calls.{Call as DoorCall}
-use Rattle.srcp_serve.specs.Given.{Call, ReadCall, WriteCall, CloseCall, answers_of}
+use Rattle.srcp_serve.specs.Given.{Call, CountsRefusals, ReadCall, WriteCall, CloseCall, answers_of}
 use Rattle.srcp_serve.specs.Serving.{Seat, Question, Writes, Closes as ClosesQuestion, question, visit, exchange, rooms, lent_none_last}
 use Rattle.srcp_serve.specs.Serving.{handed, is_closing, reads_of, writes_of, closes_of, visit_events, is_about, is_close, is_write, loses}
 use Rattle.srcp_serve.specs.Serving.{loses_reading, loses_writing, falls_short, piece_of, count_of}
 use Rattle.srcp_serve.specs.Turns.{AsksPeers}
-use Rattle.srcp_serve.specs.Visits.{AreAbout, AreWritesTo, Closes, CountsAsked, Exchanges, IsExchanged, IsLetGo, IsReadFrom, IsVisited}
+use Rattle.srcp_serve.specs.Visits.{AddsGiven, AreAbout, AreWritesTo, Closes, CountsAsked, Follows, IsLetGo, IsReadFrom, IsVisited}
 use Rattle.srcp_serve.specs.Visits.{IsWrittenTo, LetsGo, Reading, ReadsIn, Visits, WritesOut, read_calls}
 use Rattle.srcp_serve.proofs.RefusalsWereAskedFor.{asked_one, asked_rooms, asked_then}
 use Rattle.srcp_serve.proofs.CallsAreAdded.{given_then, refusals_then}
@@ -120,6 +120,28 @@ same_rooms xs ys c l s k =
     ∙ ap (λ t. filter_map count_of ys ++ last_room (not t && (not (list_any falls_short xs) && nat_lt (count_by is_write xs) 300))) l
     ∙ ap (λ t. filter_map count_of ys ++ last_room (not (list_any loses ys) && (not t && nat_lt (count_by is_write xs) 300))) s
     ∙ ap (λ m. filter_map count_of ys ++ last_room (not (list_any loses ys) && (not (list_any falls_short ys) && nat_lt m 300))) k
+
+module _ (buses : List Bus) (events : List Event) (keys : List (Option ℕ)) (n peer : ℕ)
+    (old : Option (List DoorCall)) (told : List DoorCall) (new : Held) where
+  -- the peer was read and then written to
+  pub record IsExchanged (core_old : Held) (stays : Bool) : Type 0 where
+    pub calls : List Call
+    pub adds : AddsGiven old told calls
+    pub counted : CountsRefusals core_old calls new
+    pub asked_for : CountsAsked buses events (events ++ exchange n calls) core_old new
+    pub own : AreAbout peer calls
+    pub quiet : list_any is_close calls ≡ false
+    pub asked : map question calls
+        ≡ reads_of buses events (record { peer = peer; conn = n })
+        ++ writes_of buses events calls (record { peer = peer; conn = n })
+    pub loses_is : list_any loses calls ≡ not stays
+    pub stands : StandsFor buses keys new (course buses (events ++ exchange n calls))
+
+-- the peer is read and written to
+abbrev pub Exchanges : (peer key : ℕ) (old : Held) (told_old : Option (List DoorCall))
+    (new : Held) (told_new : Option (List DoorCall)) (stays : Bool) → Type 0
+Exchanges peer key old told_old new told_new stays = Follows
+    (λ buses events keys n told. IsExchanged buses events keys n peer told_old told new old stays) key old told_new
 
 module _ (buses : List Bus) (events : List Event) (keys : List (Option ℕ)) (n peer : ℕ) (core_old : Held) where
   abbrev seat : Seat

@@ -1,5 +1,5 @@
 -- What each function of a visit asks and does, over a core that stands for the course of some events.
-use Rattle.std.specs.Prelude.{◌≡◌, ℕ, ◌<◌, Bool, false, true, not, if◌then◌else◌, ◌⊎◌, List, [], ◌∷◌, ◌++◌, map, take}
+use Rattle.std.specs.Prelude.{◌≡◌, ℕ, ◌<◌, Bool, true, not, if◌then◌else◌, ◌⊎◌, List, [], ◌∷◌, ◌++◌, map, take}
 use Rattle.std.specs.Prelude.{length, filter_map, Option, Some, None, Result, Ok, Err}
 use Rattle.std.specs.List.{list_any, AllByRecursion}
 use Rattle.srcp_rules.specs.Layout.{IsLayout}
@@ -12,8 +12,8 @@ use Rattle.srcp_core.specs.Under.{Event, Bytes, Room, Shut}
 use Rattle.srcp_serve.specs.Calls.{Call as DoorCall, Adds}
 use Rattle.srcp_serve.specs.Calls as door
 use Rattle.srcp_serve.specs.Given.{Call, ReadCall, WriteCall, CountsRefusals, told_call}
-use Rattle.srcp_serve.specs.Serving.{Writes, question, piece_of, count_of, is_about, is_close, loses, loses_reading}
-use Rattle.srcp_serve.specs.Serving.{loses_writing, rooms, exchange, lent, handed, reads_of, writes_of, visit_asks}
+use Rattle.srcp_serve.specs.Serving.{Writes, question, piece_of, count_of, is_about, is_close, loses_reading}
+use Rattle.srcp_serve.specs.Serving.{loses_writing, rooms, lent, handed, reads_of, visit_asks}
 use Rattle.srcp_serve.specs.Serving.{visit_events}
 use Rattle.srcp_serve.specs.declared.door.DoorFault.{DoorFault}
 use Rattle.srcp_serve.specs.declared.door.Got.{Got}
@@ -131,20 +131,6 @@ module _ (buses : List Bus) (events : List Event) (keys : List (Option ℕ)) (n 
     pub stays_is : list_any loses_writing calls ≡ not stays
     pub stands : StandsFor buses keys new (course buses (events ++ map (Room n) (rooms calls)))
 
-  -- the peer was read and then written to
-  pub record IsExchanged (core_old : Held) (stays : Bool) : Type 0 where
-    pub calls : List Call
-    pub adds : AddsGiven old told calls
-    pub counted : CountsRefusals core_old calls new
-    pub asked_for : CountsAsked buses events (events ++ exchange n calls) core_old new
-    pub own : AreAbout peer calls
-    pub quiet : list_any is_close calls ≡ false
-    pub asked : map question calls
-        ≡ reads_of buses events (record { peer = peer; conn = n })
-        ++ writes_of buses events calls (record { peer = peer; conn = n })
-    pub loses_is : list_any loses calls ≡ not stays
-    pub stands : StandsFor buses keys new (course buses (events ++ exchange n calls))
-
   -- its connection was shut, and the peer was closed
   pub record IsLetGo : Type 0 where
     pub closed : IsClosed peer old told
@@ -189,12 +175,6 @@ abbrev pub WritesOut : (peer key : ℕ) (old : Held) (told_old : Option (List Do
     (new : Held) (told_new : Option (List DoorCall)) (stays : Bool) → Type 0
 WritesOut peer key old told_old new told_new stays = Follows
     (λ buses events keys n told. IsWrittenTo buses events keys n peer told_old told new stays) key old told_new
-
--- the peer is read and written to
-abbrev pub Exchanges : (peer key : ℕ) (old : Held) (told_old : Option (List DoorCall))
-    (new : Held) (told_new : Option (List DoorCall)) (stays : Bool) → Type 0
-Exchanges peer key old told_old new told_new stays = Follows
-    (λ buses events keys n told. IsExchanged buses events keys n peer told_old told new old stays) key old told_new
 
 -- its connection is shut, and the peer is closed
 abbrev pub LetsGo : (peer key : ℕ) (old : Held) (told_old : Option (List DoorCall))

@@ -2,9 +2,7 @@ use Rattle.std.proofs.Common.{rules, replicate, List, Option, None, ◌≡◌, �
 use Rattle.srcp_core.specs.Held.{Held}
 use Rattle.srcp_serve.specs.Calls.{Call}
 use Rattle.srcp_serve.specs.Places.{ServesCourse, ServesSoFar}
-use Rattle.srcp_serve.specs.Tally.{CountsFaults}
 use Rattle.srcp_serve.specs.Turns.{AsksTurns}
-use Rattle.srcp_serve.specs.declared.tally.Tally.{Tally}
 use Rattle.srcp_serve.proofs.ServingFollows.{fewer, serves_all, serves_first, serves_on}
 use Rattle.srcp_serve.proofs.FaultsAreCounted.{counts_then, none_failed}
 use Rattle.srcp_serve.proofs.TurnsAskInOrder.{turns_none, turns_on}

@@ -1,4 +1,4 @@
-use Rattle.std.proofs.Common.{◌≡◌, false, true, inl, inr, subst, sym, ◌∙◌}
+use Rattle.std.proofs.Common.{false, true, inl, inr, subst, sym, ◌∙◌}
 use Rattle.srcp_core.specs.Held.{Held}
 use Rattle.srcp_serve.specs.Turns.{AsksPeers}
 use Rattle.srcp_serve.specs.declared.serving.Server.{Server}
