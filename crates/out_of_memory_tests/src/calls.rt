@@ -58,7 +58,7 @@ pub(crate) fn ring(alloc: Global) -> Outcome {
     if makes() {
         Outcome::Granted
     } else {
-        Outcome::refused_where(makes())
+        Outcome::refused_if(makes())
     }
 }
 
@@ -68,7 +68,7 @@ pub(crate) fn feed(alloc: Global) -> Result<Outcome, Refused> {
     let rows = Flat::empty(alloc, &layout)?;
     Ok(match InfoFeed::begin(alloc, &rows) {
         Ok(_) => Outcome::Granted,
-        Err(_) => Outcome::refused_where(InfoFeed::begin(alloc, &rows).is_ok()),
+        Err(_) => Outcome::refused_if(InfoFeed::begin(alloc, &rows).is_ok()),
     })
 }
 
@@ -78,7 +78,7 @@ pub(crate) fn mirror(alloc: Global) -> Outcome {
     let mut outcome = Outcome::Granted;
     for (count, line) in LINES.into_iter().enumerate() {
         if mirror.apply(line) == Err(MirrorFault::Memory) {
-            outcome = Outcome::refused_where(mirror.rows().len() == count);
+            outcome = Outcome::refused_if(mirror.rows().len() == count);
             if mirror.apply(line) != Ok(()) {
                 return Outcome::Broken;
             }
@@ -97,7 +97,7 @@ pub(crate) fn layout(alloc: Global) -> Outcome {
     let mut outcome = Outcome::Granted;
     for (count, number) in (1..10).enumerate() {
         if layout.add(bus(number)) == Err(LayoutFault::Memory) {
-            outcome = Outcome::refused_where(layout.buses().len() == count);
+            outcome = Outcome::refused_if(layout.buses().len() == count);
             if layout.add(bus(number)) != Ok(()) {
                 return Outcome::Broken;
             }
@@ -115,10 +115,10 @@ pub(crate) fn connect(alloc: Global) -> Result<Outcome, Refused> {
     let layout = one_bus(alloc)?;
     let mut core = Core::<Nested>::new(alloc, &layout, 0, 0)?;
     Ok(match core.connect() {
-        Ok(_) => Outcome::granted_where(core.denied() == 0),
+        Ok(_) => Outcome::granted_if(core.denied() == 0),
         Err(CoreFault::Memory) => {
             let counted = core.denied() == 1;
-            Outcome::refused_where(core.connect().is_ok() && counted)
+            Outcome::refused_if(core.connect().is_ok() && counted)
         }
         Err(_) => Outcome::Broken,
     })
@@ -127,9 +127,9 @@ pub(crate) fn connect(alloc: Global) -> Result<Outcome, Refused> {
 /// Reading a configuration.
 pub(crate) fn configuration(alloc: Global) -> Outcome {
     match read_layout(alloc, CONFIGURATION) {
-        Ok(config) => Outcome::granted_where(config.layout.buses().len() == 1),
+        Ok(config) => Outcome::granted_if(config.layout.buses().len() == 1),
         Err(ConfigFault::Memory) => {
-            Outcome::refused_where(read_layout(alloc, CONFIGURATION).is_ok())
+            Outcome::refused_if(read_layout(alloc, CONFIGURATION).is_ok())
         }
         Err(_) => Outcome::Broken,
     }
@@ -138,10 +138,10 @@ pub(crate) fn configuration(alloc: Global) -> Outcome {
 /// Reading a script.
 pub(crate) fn script(alloc: Global) -> Outcome {
     match read_script(alloc, SCRIPT) {
-        Ok(events) => Outcome::granted_where(events.len() == 3),
+        Ok(events) => Outcome::granted_if(events.len() == 3),
         Err(fault) => {
-            let told = matches!(fault.cause, Cause::Memory);
-            Outcome::refused_where(told && read_script(alloc, SCRIPT).is_ok())
+            let is_memory = matches!(fault.cause, Cause::Memory);
+            Outcome::refused_if(is_memory && read_script(alloc, SCRIPT).is_ok())
         }
     }
 }
@@ -153,11 +153,11 @@ pub(crate) fn words(alloc: Global) -> Result<Outcome, Refused> {
         words.push(String::from_str(alloc, word)?)?;
     }
     Ok(match read_words(alloc, &words) {
-        Ok(Tool::Check { config }) => Outcome::granted_where(config == "f"),
+        Ok(Tool::Check { config }) => Outcome::granted_if(config == "f"),
         Ok(_) => Outcome::Broken,
         Err(fault) => {
-            let told = fault.kind() == ErrorKind::OutOfMemory;
-            Outcome::refused_where(told && read_words(alloc, &words).is_ok())
+            let is_memory = fault.kind() == ErrorKind::OutOfMemory;
+            Outcome::refused_if(is_memory && read_words(alloc, &words).is_ok())
         }
     })
 }

@@ -1,4 +1,4 @@
-//! Serving a peer that there is no memory for, and one more.
+//! Serving two peers, of which one is refused its memory.
 ghost use Rattle.srcp_serve.specs.Calls.{one_more};
 
 use crate::calls::one_bus;
@@ -8,7 +8,7 @@ use srcp_rules::Nested;
 use srcp_serve::{Door, DoorFault, Got, Served, serve as serve_turns};
 use std::alloc::Global;
 
-/// A door to two peers, which come in the first two turns, send nothing and take all.
+/// A door to two peers, which connect in the first two turns, send nothing and take all.
 #[derive(Drop)]
 struct TwoPeers {
     came: u32,
@@ -46,7 +46,7 @@ impl Door for TwoPeers {
     }
 }
 
-/// Three turns over that door: where a connection is refused its memory, its peer is closed, and the other is served.
+/// Serves three turns over that door. If a connection is refused its memory, its peer is closed, and the other served.
 pub(crate) fn serve(alloc: Global) -> Result<Outcome, Refused> {
     let layout = one_bus(alloc)?;
     let mut core = Core::<Nested>::new(alloc, &layout, 0, 0)?;
@@ -60,8 +60,8 @@ pub(crate) fn serve(alloc: Global) -> Result<Outcome, Refused> {
             faults: 0,
         };
     Ok(match opened {
-        1 => Outcome::refused_where(all_turns && door.closed == 1 && core.denied() == 1),
-        _ => Outcome::granted_where(
+        1 => Outcome::refused_if(all_turns && door.closed == 1 && core.denied() == 1),
+        _ => Outcome::granted_if(
             all_turns && opened == 2 && door.closed == 0 && core.denied() == 0,
         ),
     })

@@ -13,8 +13,8 @@ use srcp_text::LineBuf;
 use std::alloc::Global;
 use std::io::{self, Write};
 
-/// Runs the script and prints its record. `tests/listing_out_of_memory.py` has the records that are expected. Where the record
-/// itself is refused its memory there is none, and nothing is printed.
+/// Runs the script and prints its record. `tests/listing_out_of_memory.py` has the records that are expected. If the
+/// record itself is refused its memory there is none, and nothing is printed.
 pub(crate) fn listing<R: Rows, W: Write>(
     alloc: Global,
     script: &[u8],
@@ -32,18 +32,18 @@ pub(crate) fn listing<R: Rows, W: Write>(
     })
 }
 
-/// Prints a record: the steps, what it tells of each connection, the refused events, and the rows. It takes no memory.
-fn print_record<W: Write>(told: &Record, out: &mut W) -> io::Result<()>
-    requires { AllByRecursion (λ row. IsWellFormedShown row.shown) told.now.rows }
+/// Prints a record: the steps, what it says of each connection, the refused events, and the rows. Takes no memory.
+fn print_record<W: Write>(run: &Record, out: &mut W) -> io::Result<()>
+    requires { AllByRecursion (λ row. IsWellFormedShown row.shown) run.now.rows }
 {
-    for step in told.steps.as_slice() {
+    for step in run.steps.as_slice() {
         writeln!(out, "{step:?}")?;
     }
-    let rows = told.rows.as_slice();
-    for connection in told.connections.as_slice() {
+    let rows = run.rows.as_slice();
+    for connection in run.connections.as_slice() {
         print_connection(connection, rows, out)?;
     }
-    for refusal in told.refused.as_slice() {
+    for refusal in run.refused.as_slice() {
         let event = refusal.event;
         let fault = refusal.fault;
         writeln!(out, "refused {event} {fault:?}")?;
@@ -54,7 +54,7 @@ fn print_record<W: Write>(told: &Record, out: &mut W) -> io::Result<()>
     Ok(())
 }
 
-/// Prints what a record tells of one connection, and the bytes that it took.
+/// Prints what a record says of one connection, and the bytes that it was sent.
 fn print_connection<W: Write>(
     connection: &ConnRecord,
     rows: &[Row],
@@ -71,7 +71,7 @@ fn print_connection<W: Write>(
     out.write_all(connection.sent.as_slice())
 }
 
-/// Prints how many steps there were before an item, and the place of the row that it lists, if it lists one.
+/// Prints how many steps there were before an item, and the index of the row that it lists, if it lists one.
 fn print_item<W: Write>(item: &Item, rows: &[Row], out: &mut W) -> io::Result<()> {
     let steps = item.steps;
     let place = rows

@@ -1,7 +1,8 @@
-//! One trial of what is left if memory is refused, for `tests/run_out_of_memory.py`. Standard input names the trial and says how
-//! many growths are made before it. `rt try --fail-alloc N` refuses the Nth growth of a program, so this says which growth of
-//! the trial is refused. The program prints what came of it. The lines behind the first are the script of a listing, which
-//! prints its record before that. Without a name all trials that want no script are made, and each has to be granted.
+//! One trial of what is left if memory is refused, for `tests/run_out_of_memory.py`. Standard input names the trial and
+//! says how many allocations are made before it. `rt try --fail-alloc N` refuses the Nth allocation of a program, so
+//! this says which allocation of the trial is refused. The program prints the outcome. The lines after the first are the
+//! script of a listing, which prints its record before that. Without a name all trials that want no script are made,
+//! and each has to be granted.
 #![tactic(auto)]
 
 mod calls;
@@ -18,7 +19,7 @@ use std::io::{Read, Write};
 use std::process::ExitCode;
 use std::vec::Vec;
 
-/// How many growths may be made before a trial.
+/// How many allocations may be made before a trial.
 const MOST_BEFORE: u32 = 10_000;
 
 /// The names of the trials that want no script.
@@ -62,7 +63,7 @@ fn main(rt: HostRuntime) -> ExitCode {
     ExitCode::SUCCESS
 }
 
-/// What stands before the first LF, and what stands behind it.
+/// What stands before the first LF, and what follows it.
 fn cut_at_line_feed(text: &[u8]) -> (&[u8], &[u8]) {
     match text.iter().position(|byte| *byte == b'\n') {
         Some(place) => (&text[..place], &text[place + 1..]),
@@ -70,7 +71,7 @@ fn cut_at_line_feed(text: &[u8]) -> (&[u8], &[u8]) {
     }
 }
 
-/// Makes so many growths, and then the trial of that name.
+/// Makes `before` allocations, and then the trial of that name.
 fn trial_after<W: Write>(
     alloc: Global,
     before: u32,
@@ -78,7 +79,7 @@ fn trial_after<W: Write>(
     script: &[u8],
     out: &mut W,
 ) -> Outcome {
-    let made = growths(alloc, before);
+    let made = allocations(alloc, before);
     let outcome = match trial(alloc, name, script, out) {
         Ok(outcome) => outcome,
         Err(Refused) => Outcome::Unprepared,
@@ -89,8 +90,8 @@ fn trial_after<W: Write>(
     }
 }
 
-/// One growth, and then so many.
-fn growths(alloc: Global, count: u32) -> Result<Vec<Vec<u32>>, Refused> {
+/// Makes one allocation, and then `count`.
+fn allocations(alloc: Global, count: u32) -> Result<Vec<Vec<u32>>, Refused> {
     let mut made = Vec::with_capacity(alloc, MOST_BEFORE as usize)?;
     for index in 0..count {
         let mut one = Vec::new(alloc);

@@ -1,25 +1,25 @@
-//! What came of a trial.
+//! The outcome of a trial.
 use srcp_rules::{LayoutFault, Memory};
 use srcp_script::ScriptFault;
 use std::alloc::{AllocError, AllocFailed};
 use std::fmt;
 
-/// What came of a trial.
+/// The outcome of a trial.
 #[derive(Clone, Copy, Debug, PartialEq, Eq)]
 pub(crate) enum Outcome {
-    /// No growth of the call was refused, and it answered what it should.
+    /// No allocation of the call was refused, and it answered what it should.
     Granted,
-    /// A growth was refused outside of the call.
+    /// An allocation was refused outside of the call.
     Unprepared,
-    /// A growth of the call was refused, and it answered so and left what it should.
+    /// An allocation of the call was refused, and it answered so and left what it should.
     Refused,
     /// The call answered or left something else.
     Broken,
 }
 
 impl Outcome {
-    /// Granted where this holds.
-    pub(crate) fn granted_where(holds: bool) -> Outcome {
+    /// Granted if this holds, else broken.
+    pub(crate) fn granted_if(holds: bool) -> Outcome {
         if holds {
             Outcome::Granted
         } else {
@@ -27,8 +27,8 @@ impl Outcome {
         }
     }
 
-    /// Refused where this holds.
-    pub(crate) fn refused_where(holds: bool) -> Outcome {
+    /// Refused if this holds, else broken.
+    pub(crate) fn refused_if(holds: bool) -> Outcome {
         if holds {
             Outcome::Refused
         } else {

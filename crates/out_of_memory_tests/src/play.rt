@@ -7,8 +7,8 @@ use srcp_script::read_script;
 use std::alloc::Global;
 use std::vec::Vec;
 
-/// A connection more is opened than is used, so that a refused one is not missed. The panel is settled before each piece
-/// of commands and after it.
+/// One connection more is opened than is used, so that a refused one is not missed. The panel has been sent everything
+/// before each piece of commands and after it.
 const SCRIPT: &[u8] = b"open
 open
 open
@@ -33,9 +33,9 @@ room 2 10000
 /// How many rows there are at its end.
 const ROWS: usize = 12;
 
-/// Runs the script. Where a growth is refused there is no record, or one that tells of one refusal. Its rows are then those
-/// of a run that met none, since what was refused was done when it was sent again. Its panel was sent the same lines before
-/// the locks, and then one for each lock that was accepted: it was told nothing of what was refused.
+/// Runs the script. If an allocation is refused there is no record, or one with one refusal. Its rows are then those of
+/// a run without a refusal, since what was refused was done when it was sent again. Its panel was sent the same lines
+/// before the locks, and then one for each lock that was accepted, and nothing of what was refused.
 pub(crate) fn play<R: Rows>(alloc: Global) -> Result<Outcome, Refused> {
     let layout = one_bus(alloc)?;
     let events = read_script(alloc, SCRIPT)?;
@@ -43,21 +43,21 @@ pub(crate) fn play<R: Rows>(alloc: Global) -> Result<Outcome, Refused> {
         return Ok(Outcome::Refused);
     };
     if record.denied == 0 {
-        let told = refusals(&record) == 0 && record.rows.as_slice().len() == ROWS;
-        return Ok(Outcome::granted_where(told));
+        let is_whole = refusals(&record) == 0 && record.rows.as_slice().len() == ROWS;
+        return Ok(Outcome::granted_if(is_whole));
     }
     let Ok(ample) = run::<R>(alloc, &layout, &events) else {
         return Ok(Outcome::Broken);
     };
     let same = record.rows.as_slice() == ample.rows.as_slice()
-        && told_to_panels(alloc, &record)?.as_slice() == told_to_panels(alloc, &ample)?.as_slice()
-        && lines_like(&record, LOCK_TOLD) == lines_like(&record, LOCK_ACCEPTED)
+        && panel_lines(alloc, &record)?.as_slice() == panel_lines(alloc, &ample)?.as_slice()
+        && lines_like(&record, LOCK_LINE) == lines_like(&record, LOCK_ACCEPTED)
         && ample.denied == 0;
-    Ok(Outcome::refused_where(same && record.denied == 1 && refusals(&record) == 1))
+    Ok(Outcome::refused_if(same && record.denied == 1 && refusals(&record) == 1))
 }
 
-/// How a line begins that tells a panel of a lock.
-const LOCK_TOLD: &[u8] = b"1.000 100 INFO 1 LOCK ";
+/// How an information line of a lock begins.
+const LOCK_LINE: &[u8] = b"1.000 100 INFO 1 LOCK ";
 
 /// The reply to the SET of a lock.
 const LOCK_ACCEPTED: &[u8] = b"1.000 200 OK";
@@ -74,12 +74,12 @@ fn refusals(record: &Record) -> usize {
     )
 }
 
-/// How many lines all connections were sent that begin so.
-fn lines_like(record: &Record, front: &[u8]) -> usize {
+/// How many lines all connections were sent that begin with `prefix`.
+fn lines_like(record: &Record, prefix: &[u8]) -> usize {
     let mut count: usize = 0;
     for connection in record.connections.as_slice() {
         for line in connection.sent.as_slice().split(|byte| *byte == b'\n') {
-            if line.starts_with(front) {
+            if line.starts_with(prefix) {
                 count = count.saturating_add(1);
             }
         }
@@ -88,16 +88,16 @@ fn lines_like(record: &Record, front: &[u8]) -> usize {
 }
 
 /// The information lines that information sessions were sent before the locks.
-fn told_to_panels(alloc: Global, record: &Record) -> Result<Vec<u8>, Refused> {
-    let mut told = Vec::new(alloc);
+fn panel_lines(alloc: Global, record: &Record) -> Result<Vec<u8>, Refused> {
+    let mut lines = Vec::new(alloc);
     for connection in record.connections.as_slice() {
         if connection.info {
             for line in connection.sent.as_slice().split(|byte| *byte == b'\n') {
                 if line.starts_with(b"0.000 10") {
-                    told.extend_from_slice(line)?;
+                    lines.extend_from_slice(line)?;
                 }
             }
         }
     }
-    Ok(told)
+    Ok(lines)
 }
