@@ -1,8 +1,8 @@
 //! One trial of what is left if memory is refused, for `tests/run_out_of_memory.py`. Standard input names the trial and
 //! says how many allocations are made before it. `rt try --fail-alloc N` refuses the Nth allocation of a program, so
-//! this says which allocation of the trial is refused. The program prints the outcome. The lines after the first are the
-//! script of a listing, which prints its record before that. Without a name all trials that want no script are made,
-//! and each has to be granted.
+//! this says which allocation of the trial is refused. The program prints the outcome. The lines after the first are
+//! the script of a listing, which prints its record before that. Without a name all trials that want no script are
+//! made, and each has to be granted.
 #![tactic(auto)]
 
 mod calls;
