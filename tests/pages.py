@@ -279,15 +279,19 @@ def holder_of_a_port(program):
 
 
 def gate_that_proves_what_is_new(_):
-    """The README says that of `./test`: it calls `rt ci`, of which the kit says so, without --anew, which proves all."""
+    """The page on the gate says which kit keeps what passed. This kit says of its `rt ci` what the page says of it, and
+    `./test` calls that without --anew, which proves all."""
     if not (kit := shutil.which("rt")):
         raise TriedNothing("there is no kit here")
-    page, told = [" ".join(Path(file).read_text().split()) for file in (TOP / "README.md", kit)]
-    is_said = "`./test` is the gate: it proves all that the kit has not proved on this machine yet" in page
+    letter = re.search(r"rattle-kit-(\w+)", subprocess.run([kit, "version"], capture_output=True, text=True).stdout)[1]
+    page, told = [" ".join(Path(file).read_text().split()) for file in (TOP / "docs/gate.md", kit)]
+    said = [f"The kit {letter} {words}" in page for words in ("keeps on its machine what passed", "keeps nothing")]
+    if not any(said):
+        raise TriedNothing(f"docs/gate.md does not name the kit {letter}")
     keeps = "a later run in any checkout here proves and tries only what changed" in told and "--anew proves" in told
     calls = re.findall(r"^rt (.*)$", (TOP / "test").read_text(), re.M)
-    got = is_said, keeps, calls
-    return None if got == (True, True, ["ci"]) else f"the page says it, the kit does it, and ./test calls: {got}"
+    got = *said, calls
+    return None if got == (keeps, not keeps, ["ci"]) else f"the page says {got} of the kit {letter}, which keeps: {keeps}"
 
 
 def older_pythons():
