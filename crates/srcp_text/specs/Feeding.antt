@@ -1,4 +1,4 @@
--- What a feed of a piece from a place on finds.
+-- What a feed of a piece from an offset on finds.
 use Rattle.std.specs.Prelude.{ℕ, Bool, true, false, ◌+◌, List, [], ◌∷◌, take, drop, position, slice_range, Option, Some}
 use Rattle.std.specs.Prelude.{None}
 use Rattle.srcp_text.specs.Marks.{Mark, Line, TooLong, is_lf}
@@ -6,7 +6,7 @@ use Rattle.srcp_text.specs.Reading.{Reading, extended, after_lf}
 use Rattle.srcp_text.specs.declared.reader.Fed.{Fed}
 use Rattle.srcp_text.specs.declared.reader.Fed.TheVariants.{Line as FoundLine, TooLong as FoundTooLong, More}
 
--- where the feed stopped: after an LF, if it met one
+-- the offset where the feed stopped: after an LF, if it met one
 abbrev pub stop_of : Fed → Option ℕ
 stop_of (FoundLine stop) = Some stop
 stop_of (FoundTooLong stop) = Some stop
@@ -18,12 +18,12 @@ is_line (FoundLine stop) = true
 is_line (FoundTooLong stop) = false
 is_line More = false
 
--- the place after the LF that stands so far from start on
+-- the offset after the LF that stands so far behind `start`
 abbrev pub place_after : ℕ → Option ℕ → Option ℕ
 place_after start None = None
 place_after start (Some len) = Some (start + len + 1)
 
--- the place after the first LF from start on
+-- the offset after the first LF from `start` on
 abbrev pub next_stop : List ℕ → ℕ → Option ℕ
 next_stop piece start = place_after start (position is_lf (drop start piece))
 
@@ -50,6 +50,6 @@ feed_at begun start left None = (More, record { begun = extended begun left; lin
 feed_at begun start left (Some len) =
     (fed_at (extended begun (take len left)) (start + len + 1), after_lf (extended begun (take len left)))
 
--- what a feed answers and what is known then, by what was known before
+-- what a feed answers and what is known then, by what was known at its beginning
 abbrev pub feed_of : Reading → List ℕ → ℕ → Fed × Reading
 feed_of reading piece start = feed_at reading.begun start (drop start piece) (position is_lf (drop start piece))

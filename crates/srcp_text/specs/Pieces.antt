@@ -11,7 +11,7 @@ pub record Step : Type 0 where
   pub result : Fed
   pub reading : Reading
 
--- the feeds of a piece from a place on: each goes on where the one before stopped, and the last one met no LF
+-- the feeds of a piece from an offset on: each goes on where the one before stopped, and the last one met no LF
 abbrev pub FeedsPiece : List ℕ → ℕ → Reading → List Step → Reading → Type 0
 FeedsPiece piece start old [] new = ⊥
 FeedsPiece piece start old (step ∷ steps) new =

@@ -7,7 +7,7 @@ ghost use Rattle.srcp_text.specs.Words.{bit_word, words_of};
 use crate::word::{first_filled, word_len};
 use std::marker::Model;
 
-/// The words of a line that are still to come. Contracts see it as the list of them.
+/// Iterates over the words of a line that are still to come. Contracts see it as the list of them.
 #[derive(Debug, Drop)]
 pub struct Words<'a> {
     rest: &'a [u8],

@@ -3,8 +3,8 @@
 ghost use Rattle.std.specs.Prelude.{◌≡◌};
 ghost use Rattle.srcp_text.specs.Words.{number_of, plain_number_of, has_leading_zero};
 
-/// Returns the number that a word writes: one ASCII digit or more and nothing else, leading zeros
-/// allowed, and at most `max`. Returns `None` for any other word.
+/// Returns the number that a word writes in decimal, if it is at most `max`. The word is one ASCII digit or more, and
+/// leading zeros are allowed. Returns `None` for any other word.
 pub fn read_number(word: &[u8], max: u32) -> Option<u32>
     ensures { result ≡ number_of max word.now }
 {
@@ -12,8 +12,8 @@ pub fn read_number(word: &[u8], max: u32) -> Option<u32>
     Some(number as u32)
 }
 
-/// Returns the number that a word writes without leading zeros, if it is at most `max`: each number has
-/// one such word alone, that of `put_number`. Returns `None` for any other word.
+/// Returns the number that a word writes without leading zeros, if it is at most `max`. Each number has one such word,
+/// that of `put_number`. Returns `None` for any other word.
 pub fn read_plain(word: &[u8], max: u64) -> Option<u64>
     ensures { result ≡ plain_number_of max word.now }
 {
@@ -23,7 +23,7 @@ pub fn read_plain(word: &[u8], max: u64) -> Option<u64>
     number_within(word, max)
 }
 
-// The number that a word of digits writes, leading zeros allowed, if it is at most `max`.
+// Returns the number that a word of digits writes, leading zeros allowed, if it is at most `max`.
 fn number_within(word: &[u8], max: u64) -> Option<u64>
     ensures { result ≡ number_of max word.now }
 {

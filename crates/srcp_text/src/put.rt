@@ -6,7 +6,7 @@ ghost use Rattle.srcp_text.specs.Stamp.{stamp};
 
 use arrayvec::ArrayVec;
 
-/// A line that is being written. Its 256 bytes stand in the value itself, so it takes no memory.
+/// Holds a line that is being written. Its 256 bytes stand in the value itself, so it allocates no memory.
 pub type LineBuf = ArrayVec<u8, 256>;
 
 /// Appends bytes as they are. The line must have room for them.
@@ -17,8 +17,7 @@ pub fn put_bytes<const N: usize>(bytes: &[u8], line: &mut ArrayVec<u8, N>)
     line.try_extend_from_slice(bytes).unwrap();
 }
 
-/// Appends a number in decimal, without leading zeros: at most 20 bytes, for which the line must
-/// have room.
+/// Appends a number in decimal, without leading zeros. That is at most 20 bytes, for which the line must have room.
 #[inline]
 pub fn put_number<const N: usize>(number: u64, line: &mut ArrayVec<u8, N>)
     requires { array_vec_len line.old + length (decimal number) ≤ N }
@@ -38,7 +37,7 @@ pub fn put_number<const N: usize>(number: u64, line: &mut ArrayVec<u8, N>)
     }
 }
 
-/// Appends a number of four digits or more. It stands apart, so that a short number needs no scratch.
+/// Appends a number of four digits or more. It is a function of its own, so that a short number needs no buffer.
 #[inline(never)]
 fn put_long_number<const N: usize>(number: u64, line: &mut ArrayVec<u8, N>)
     requires { array_vec_len line.old + length (decimal number) ≤ N }
@@ -49,9 +48,8 @@ fn put_long_number<const N: usize>(number: u64, line: &mut ArrayVec<u8, N>)
     put_bytes(&digits[start..], line);
 }
 
-/// Appends the stamp of a moment of `moment` milliseconds: its seconds in decimal, a point, and the
-/// milliseconds past them in three digits, as `12.050`: at most 21 bytes, for which the line must
-/// have room.
+/// Appends the stamp of a moment of `moment` milliseconds, as `12.050`: its seconds in decimal, a point, and the
+/// milliseconds past them in three digits. That is at most 21 bytes, for which the line must have room.
 #[inline(always)]
 pub fn put_stamp<const N: usize>(moment: u64, line: &mut ArrayVec<u8, N>)
     requires { array_vec_len line.old + length (stamp moment) ≤ N }

@@ -1,4 +1,4 @@
-//! The reader that finds the lines of bytes which come in pieces.
+//! The reader that finds the lines of bytes that come in pieces.
 
 ghost use Rattle.std.specs.Prelude.{◌≡◌, ◌<◌, ◌≤◌, IsTrue, IfSome, List, ℕ, [], ◌++◌, length, position};
 ghost use Rattle.srcp_text.specs.Marks.{is_lf, marks, without_cr};
@@ -8,7 +8,7 @@ ghost use Rattle.srcp_text.specs.Feeding.{feed_of, fed_at, is_line, new_marks, n
 use memchr::memchr;
 use std::marker::Model;
 
-// How many bytes a line has at most, the CR counted.
+// The most bytes of a line, the CR counted.
 const LONGEST: usize = 1000;
 
 /// What a feed found.
@@ -30,18 +30,17 @@ pub enum Fed {
 
 #[derive(Clone, Copy, Debug, PartialEq, Eq)]
 enum State {
-    // The bytes are those of the begun line.
+    // `bytes` has the begun line.
     Begun,
-    // The begun line has more than 1,000 bytes.
+    // The begun line has more than 1,000 bytes, which are not kept.
     TooLong,
-    // The bytes are those of the line that the last feed found, and no line has begun.
+    // `bytes` has the line that the last feed found, and no line has begun.
     Found,
 }
 
-/// Finds the lines of bytes that come in pieces, in whatever pieces they come. The line form is that
-/// of SRCP 0.8: a line ends in LF, and one CR just before the LF is dropped. At most 1,000 bytes may
-/// stand before the LF, the CR counted. The bytes of a begun line stand in the value itself, so nothing
-/// takes memory.
+/// Finds the lines of bytes, in whatever pieces they come. The line form is that of SRCP 0.8: a line ends in LF, and
+/// one CR just before the LF is dropped. At most 1,000 bytes may stand before the LF, the CR counted. The bytes of a
+/// begun line stand in the value itself, so no memory is allocated.
 #[derive(Debug, Drop)]
 pub struct LineReader {
     // The first `len` bytes are those of the line.
@@ -74,8 +73,8 @@ impl LineReader {
         }
     }
 
-    /// Takes the bytes of `piece` from the offset `start` up to the first LF, or all of them if there
-    /// is none. After a line, or one too long, the next feed begins a new line.
+    /// Takes the bytes of `piece` from the offset `start` up to the first LF, or all of them if there is none. Returns
+    /// what it found. After a line, or one too long, the next feed begins a new line.
     pub fn feed(&mut self, piece: &[u8], start: usize) -> Fed
         requires { start ≤ length piece.now }
         // It stops after the first LF, if there is one.
@@ -84,11 +83,11 @@ impl LineReader {
         ensures within { IfSome (stop_of result)
             (λ stop. (start < stop) × (stop ≤ length piece.now)) }
         ensures no_line { ¬ IsTrue (is_line result) → self.new.line ≡ [] }
-        // What it took adds this mark to those of the bytes fed before, or none.
+        // It adds this mark to those of the bytes fed earlier, or none.
         ensures marks { (fed : List ℕ) → StandsAt fed self.old
             → marks (fed ++ taken piece.now start result)
             ≡ marks fed ++ new_marks result self.new.line }
-        // And it stands at the bytes that have then been fed.
+        // It then stands at the bytes that have been fed.
         ensures stands { (fed : List ℕ) → StandsAt fed self.old
             → StandsAt (fed ++ taken piece.now start result) self.new }
         // The same as one equation.
@@ -153,14 +152,14 @@ impl LineReader {
     }
 }
 
-// Where the first LF of some bytes stands.
+// Returns the offset of the first LF of some bytes.
 fn first_lf(bytes: &[u8]) -> Option<usize>
     ensures { result ≡ position is_lf bytes.now }
 {
     memchr(b'\n', bytes)
 }
 
-// The text without a CR at its end.
+// Returns the text without a CR at its end.
 fn without_cr(text: &[u8]) -> &[u8]
     ensures { result.now ≡ without_cr text.now }
 {

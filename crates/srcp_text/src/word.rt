@@ -6,8 +6,8 @@ ghost use Rattle.srcp_text.specs.Words.{is_blank, is_filled, is_keyword, words_o
 
 use crate::iter::Words;
 
-/// Returns the words of a line, from its first on. They are cut at runs of space and tab, also at both
-/// ends of the line, and every other byte belongs to a word.
+/// Returns the words of a line, the first one first. They are cut at runs of space and tab, also at both ends of the
+/// line. Every other byte belongs to a word.
 pub fn words(line: &[u8]) -> Words<'_>
     ensures words { result ≡ words_of line.now }
     // So they can be counted.
@@ -23,14 +23,14 @@ pub fn is_keyword(keyword: &[u8], word: &[u8]) -> bool
     keyword.eq_ignore_ascii_case(word)
 }
 
-// Where the first word of a text begins.
+// Returns the offset at which the first word of a text begins.
 pub(crate) fn first_filled(text: &[u8]) -> Option<usize>
     ensures { result ≡ position is_filled text.now }
 {
     text.iter().position(|byte| !is_blank_byte(*byte))
 }
 
-// How many bytes the first word has of a text that begins with it.
+// Returns how many bytes the first word has of a text that begins with it.
 pub(crate) fn word_len(text: &[u8]) -> usize
     requires some { 0 < length text.now }
     requires begun { is_blank (slice_index text.now 0) ≡ false }
@@ -43,7 +43,7 @@ pub(crate) fn word_len(text: &[u8]) -> usize
     len
 }
 
-// Whether a byte parts words: space and tab do.
+// Returns whether a byte parts words: space and tab do.
 fn is_blank_byte(byte: u8) -> bool
     ensures { result ≡ is_blank byte }
 {

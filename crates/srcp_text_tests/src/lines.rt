@@ -4,8 +4,8 @@ ghost use Rattle.std.specs.Prelude.{◌≤◌};
 
 use srcp_text::{Fed, LineReader};
 
-// What a reader finds that goes on with this piece: how many lines, how many too long ones, and whether
-// the last line found is `last`.
+// Feeds a piece to a reader. Returns how many lines it finds, how many too long ones, and whether the last line found
+// is `last`.
 fn lines_in(reader: &mut LineReader, piece: &[u8], last: &[u8]) -> (u32, u32, bool) {
     let mut found = (0u32, 0u32, false);
     let mut start = 0;
