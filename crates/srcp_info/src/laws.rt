@@ -1,5 +1,4 @@
-//! Laws of all lines, and of all that a client holds. Each function does nothing: its `ensures` is the
-//! law.
+//! Laws of all lines, and of all that a client holds. Each function does nothing: its `ensures` is the law.
 
 ghost use Rattle.srcp_info.specs.Laws.{ChangesHaveLines, RepliesHaveLines, LinesDiffer, LinesReadAgain, BytesHoldOnce};
 ghost use Rattle.srcp_info.specs.Laws.{ClientRises, ClientFollows};
@@ -24,7 +23,7 @@ pub fn lines_read_again()
     ensures { LinesReadAgain }
 {}
 
-/// States that bytes hold the lines of one list of changes alone, and then one line that has begun.
+/// States that bytes are the lines of one list of changes alone, and then one line that has begun.
 pub fn bytes_hold_once()
     ensures { BytesHoldOnce }
 {}
@@ -34,7 +33,7 @@ pub fn client_rises()
     ensures { ClientRises }
 {}
 
-/// States that one change more changes the rows of a client by that change.
+/// States that applying a line's change gives the rows of a client the change's effect.
 pub fn client_follows()
     ensures { ClientFollows }
 {}

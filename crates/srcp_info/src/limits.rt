@@ -1,4 +1,4 @@
-//! The greatest numbers of rows and lines.
+//! The limits of rows and lines.
 
 /// The greatest number of a bus. The least is 1: bus 0 is the server itself.
 pub const GREATEST_BUS: u8 = 250;
@@ -12,32 +12,32 @@ pub const GREATEST_GA: u32 = 2044;
 /// The greatest number of a sensor.
 pub const GREATEST_FB: u32 = 4096;
 
-/// How many ports an accessory has at most.
+/// The most ports of an accessory.
 pub const MOST_PORTS: u32 = 8;
 
 /// The greatest version of a decoder's protocol.
 pub const GREATEST_VERSION: u32 = 255;
 
-/// How many speed steps a decoder has at most.
+/// The most speed steps of a decoder.
 pub const MOST_STEPS: u32 = 1000;
 
-/// How many functions a locomotive has at most.
+/// The most functions of a locomotive.
 pub const MOST_FUNCTIONS: u32 = 29;
 
 /// The greatest speed, and the greatest of the greatest speeds that a client may give.
 pub const GREATEST_SPEED: u32 = 65535;
 
-/// For how many seconds a lock is set at most.
+/// The most seconds for which a lock is set.
 pub const MOST_SECONDS: u32 = 86400;
 
-/// For how many milliseconds a port of an accessory is set at most.
+/// The most milliseconds for which a port of an accessory is set.
 pub const MOST_MILLISECONDS: u32 = 60000;
 
-/// How many bytes the text of a power row has at most.
+/// The most bytes of the text of a power row.
 pub const LONGEST_TEXT: usize = 80;
 
-/// How many bytes a line has at most, its LF among them.
+/// The most bytes of a line, its LF included.
 pub const LONGEST_LINE: usize = 126;
 
-/// How many bytes the line of a reply that shows no row has at most, its LF among them.
+/// The most bytes of the line of a reply that shows no row, its LF included.
 pub const LONGEST_SHORT_REPLY: usize = 64;

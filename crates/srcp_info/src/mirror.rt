@@ -1,4 +1,4 @@
-//! The rows that a client holds who follows the lines.
+//! The rows of a client that applies the lines that it is sent.
 
 ghost use Rattle.std.specs.Prelude.{◌≡◌, ◌+◌, ◌<◌, true, false, not, [], length, Err, OnOk, OnErr};
 ghost use Rattle.std.specs.List.{filter, AllByRecursion};
@@ -17,17 +17,17 @@ use std::collections::BTreeMap;
 use std::collections::btree_map::Values;
 use std::marker::Model;
 
-/// Why a line was not applied.
+/// Says why a line was not applied.
 #[derive(Clone, Copy, Debug, PartialEq, Eq)]
 pub enum MirrorFault {
     /// It is not the line of a well-formed change.
     NotInfo,
-    /// There is no memory for a row more.
+    /// Memory for one more row is refused.
     Memory,
 }
 
-/// The rows that a client holds who applies each line that it is sent. Contracts see it as the list
-/// of the rows, which go by rising key.
+/// Holds the rows of a client that applies each line that it is sent. Contracts see it as the list of the rows, by
+/// rising key.
 #[derive(Drop)]
 pub struct Mirror {
     by_key: BTreeMap<Key, Shown>,
@@ -50,7 +50,7 @@ impl Model for Mirror {
 }
 
 impl Mirror {
-    /// Makes a mirror of no rows. Takes no memory.
+    /// Makes a mirror of no rows. Allocates no memory.
     pub fn new(alloc: Global) -> Mirror
         ensures { result ≡ [] }
     {
@@ -59,9 +59,9 @@ impl Mirror {
         }
     }
 
-    /// Applies a line, without its LF: its row is put at its key, or all rows of its device are
-    /// taken out. `NotInfo` if it is not the line of a well-formed change, and `Memory` if
-    /// its row is one more and memory for it is refused. Both leave the mirror as it was.
+    /// Applies a line, without its LF: its row is put at its key, or all rows of its device are removed. Answers
+    /// `NotInfo` if it is not the line of a well-formed change, and `Memory` if memory for one more row is refused. A
+    /// refusal leaves the mirror as it was.
     pub fn apply(&mut self, line: &[u8]) -> Result<(), MirrorFault>
         ensures ok { OnOk result ((change : Change)
             × IsLineOf line.now change × (self.new ≡ changed change self.old)) }
@@ -97,7 +97,7 @@ impl Mirror {
     }
 }
 
-/// Takes out all rows of a device.
+/// Removes all rows of a device.
 fn drop_device(by_key: &mut BTreeMap<Key, Shown>, device: &Device)
     ensures { by_key.new.entries
         ≡ filter (λ entry. not (owns device.now entry.0)) by_key.old.entries }
@@ -105,7 +105,7 @@ fn drop_device(by_key: &mut BTreeMap<Key, Shown>, device: &Device)
     while drop_first(by_key, device) {}
 }
 
-/// Takes out the first row of a device. Whether there was one.
+/// Removes the first row of a device. Returns whether there was one.
 fn drop_first(by_key: &mut BTreeMap<Key, Shown>, device: &Device) -> bool
     ensures others { filter (λ entry. not (owns device.now entry.0)) by_key.new.entries
         ≡ filter (λ entry. not (owns device.now entry.0)) by_key.old.entries }

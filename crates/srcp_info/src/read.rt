@@ -23,7 +23,7 @@ use crate::value::{Text, Value};
 use crate::well_formed::is_well_formed;
 use crate::write::{InfoLine, write_change};
 
-/// What follows the words of the group in the line of a row.
+/// Holds what follows the words of the group in the line of a row.
 #[derive(Clone, Copy)]
 struct Tail {
     address: u32,
@@ -31,8 +31,8 @@ struct Tail {
     value: Value,
 }
 
-// Each of the next functions reads the tail of a line. A text that no such line has gives any answer:
-// what was read is written again and compared before it is handed out.
+// Each of the next functions reads the tail of a line. A text that no such line has gives any answer: what was read is
+// written again and compared before it is returned.
 
 fn read_session(text: &[u8]) -> Tail
     ensures { (address : ℕ) (mode : Mode) → address < 2 ^ 32
@@ -180,7 +180,7 @@ fn read_lock(text: &[u8]) -> Tail
     }
 }
 
-/// The tail of the line of a row, by its kind and its group.
+/// Reads the tail of the line of a row, by its kind and its group.
 fn read_value(kind: InfoKind, group: Group, text: &[u8]) -> Tail
     ensures { (shown : Shown) → IsWellFormedShown shown
         → shown.key.group ≡ group → value_code shown.value ≡ kind_code kind
@@ -205,7 +205,7 @@ fn read_value(kind: InfoKind, group: Group, text: &[u8]) -> Tail
     }
 }
 
-/// What the words of a line tell up to those of its group.
+/// Holds what the words of a line say up to those of its group.
 #[derive(Clone, Copy)]
 struct Head {
     moment: u64,
@@ -214,7 +214,7 @@ struct Head {
     group: Group,
 }
 
-/// The first words of a line, up to those of its group, and the text after them.
+/// Returns the first words of a line, up to those of its group, and the text after them.
 fn next_head(line: &[u8]) -> (Head, &[u8])
     ensures { (moment : ℕ) (kind : InfoKind) (bus : ℕ) (group : Group) (more : List (List ℕ))
         → moment < 2 ^ 64 → bus < 2 ^ 8
@@ -236,7 +236,7 @@ fn next_head(line: &[u8]) -> (Head, &[u8])
     (head, rest)
 }
 
-/// The change whose line this is, if it is the line of a well-formed change. Otherwise any.
+/// Returns the change that has this line if the line is that of a well-formed change. Returns any change otherwise.
 fn change_of(line: &[u8]) -> Change
     ensures { (change : Change) → IsLineOf line.now change → result ≡ change }
 {
@@ -275,9 +275,9 @@ fn change_of(line: &[u8]) -> Change
     }
 }
 
-/// Returns the change whose line this is, without its LF, or `None` if no well-formed change has that
-/// line. Takes no memory. The line's form is that of SRCP 0.8. A line with another spelling, as with
-/// two spaces, a leading zero or small letters, is none.
+/// Returns the change that has this line, without its LF, or `None` if no well-formed change has it. Allocates no
+/// memory. The line's form is that of SRCP 0.8. A line with another spelling, as with two spaces, a leading zero or
+/// small letters, is none.
 pub fn read_change(line: &[u8]) -> Option<Change>
     ensures { Reads line.now result }
 {

@@ -1,4 +1,4 @@
-//! The words of a line, one after another. Each is read for what it would say in a line of ours.
+//! The words of a line, one after another. Each is read for what it would say in a line of this server.
 
 ghost use Rattle.std.specs.Prelude.{◌≡◌, ℕ, ◌^◌, ◌<◌, ◌≤◌, ◌++◌, ◌∷◌, List, Bool, false, length, map, decimal, codes};
 ghost use Rattle.std.specs.Prelude.{position, ◌==◌};
@@ -17,25 +17,25 @@ use crate::limits::MOST_FUNCTIONS;
 use crate::value::{Bits, Letter, Mode};
 use srcp_text::{read_number, read_plain};
 
-/// What an information line is about.
+/// Says what an information line is about.
 #[derive(Clone, Copy, PartialEq, Eq)]
 pub(crate) enum InfoKind {
     /// What a device does: the number of the line is 100.
     State,
     /// What a device is: 101.
     Init,
-    /// That a device is gone: 102.
+    /// A removed device: 102.
     Term,
 }
 
-/// Where a byte first stands.
+/// Returns the offset of the first such byte.
 fn place_of(wanted: u8, text: &[u8]) -> Option<usize>
     ensures { result ≡ position (λ byte. byte == wanted) text.now }
 {
     text.iter().position(|byte| *byte == wanted)
 }
 
-/// What stands before the first separator, and what stands after it. With no separator, all of the
+/// Returns what stands before the first separator, and what stands after it. Without a separator that is all of the
 /// text and nothing.
 pub(crate) fn cut(text: &[u8], separator: u8) -> (&[u8], &[u8])
     ensures before { result.0.now ≡ before_first (λ byte. byte == separator) text.now }
@@ -47,7 +47,7 @@ pub(crate) fn cut(text: &[u8], separator: u8) -> (&[u8], &[u8])
     }
 }
 
-/// The first word, and the text after the space that follows it.
+/// Returns the first word, and the text after the space that follows it.
 pub(crate) fn next_word(text: &[u8]) -> (&[u8], &[u8])
     ensures { (word : List ℕ) (others : List (List ℕ)) → list_any is_space word ≡ false
         → text.now ≡ join_with_byte 32 (word ∷ others)
@@ -56,7 +56,7 @@ pub(crate) fn next_word(text: &[u8]) -> (&[u8], &[u8])
     cut(text, b' ')
 }
 
-/// The first word as a number, and the text after the space that follows it.
+/// Returns the first word as a number, and the text after the space that follows it.
 pub(crate) fn next_number(text: &[u8]) -> (u32, &[u8])
     ensures { (number : ℕ) (others : List (List ℕ)) → number < 2 ^ 32
         → text.now ≡ join_with_byte 32 (decimal number ∷ others)
@@ -66,7 +66,7 @@ pub(crate) fn next_number(text: &[u8]) -> (u32, &[u8])
     (read_number(word, u32::MAX).unwrap_or(0), rest)
 }
 
-/// The group that one word names.
+/// Returns the group that one word names.
 fn group_named(word: &[u8]) -> Option<Group>
     ensures session { word.now ≡ codes "SESSION" → result ≡ Some Group.Session }
     ensures power { word.now ≡ codes "POWER" → result ≡ Some Group.Power }
@@ -85,7 +85,7 @@ fn group_named(word: &[u8]) -> Option<Group>
     }
 }
 
-/// The group that the first word names, or the first two, and the text after them.
+/// Returns the group that the first word names, or the first two, and the text after them.
 pub(crate) fn next_group(text: &[u8]) -> (Group, &[u8])
     ensures { (group : Group) (others : List (List ℕ))
         → text.now ≡ join_with_byte 32 (group_words group ++ others)
@@ -98,7 +98,7 @@ pub(crate) fn next_group(text: &[u8]) -> (Group, &[u8])
     }
 }
 
-/// The group of locks that the word after LOCK names, and the text after it.
+/// Returns the group of locks that the word after LOCK names, and the text after it.
 fn next_lock_group(text: &[u8]) -> (Group, &[u8])
     ensures gl { (others : List (List ℕ)) → text.now ≡ join_with_byte 32 (codes "GL" ∷ others)
         → (result.0 ≡ Group.LockGl) × (result.1.now ≡ join_with_byte 32 others) }
@@ -112,7 +112,7 @@ fn next_lock_group(text: &[u8]) -> (Group, &[u8])
     }
 }
 
-/// What the number of a line says that it is about.
+/// Returns what a line of this number is about.
 pub(crate) fn kind_of(code: &[u8]) -> InfoKind
     ensures { (kind : InfoKind) → code.now ≡ kind_code kind → result ≡ kind }
 {
@@ -123,7 +123,7 @@ pub(crate) fn kind_of(code: &[u8]) -> InfoKind
     }
 }
 
-/// The mode of a session that a text names.
+/// Returns the mode of a session that a text names.
 pub(crate) fn mode_named(text: &[u8]) -> Mode
     ensures { (mode : Mode) → text.now ≡ mode_word mode → result ≡ mode }
 {
@@ -133,7 +133,7 @@ pub(crate) fn mode_named(text: &[u8]) -> Mode
     }
 }
 
-/// The decoder protocol that the first word names, and the text after it.
+/// Returns the decoder protocol that the first word names, and the text after it.
 pub(crate) fn next_letter(text: &[u8]) -> (Letter, &[u8])
     ensures { (letter : Letter) (others : List (List ℕ))
         → text.now ≡ join_with_byte 32 (letter_word letter ∷ others)
@@ -148,7 +148,7 @@ pub(crate) fn next_letter(text: &[u8]) -> (Letter, &[u8])
     }
 }
 
-/// Whether the first word is 1, and the text after it.
+/// Returns whether the first word is 1, and the text after it.
 pub(crate) fn next_bit(text: &[u8]) -> (bool, &[u8])
     ensures { (on : Bool) (others : List (List ℕ))
         → text.now ≡ join_with_byte 32 (bit_word on ∷ others)
@@ -161,7 +161,7 @@ pub(crate) fn next_bit(text: &[u8]) -> (bool, &[u8])
     }
 }
 
-/// Whether the first word is ON, and the text after it.
+/// Returns whether the first word is ON, and the text after it.
 pub(crate) fn next_switch(text: &[u8]) -> (bool, &[u8])
     ensures { (on : Bool) (others : List (List ℕ))
         → text.now ≡ join_with_byte 32 (switch_word on ∷ others)
@@ -174,7 +174,7 @@ pub(crate) fn next_switch(text: &[u8]) -> (bool, &[u8])
     }
 }
 
-/// The functions that the words of a text are.
+/// Returns the functions that the words of a text write.
 pub(crate) fn functions_of(text: &[u8]) -> Bits
     ensures { (functions : List Bool) → length functions ≤ MOST_FUNCTIONS
         → text.now ≡ join_with_byte 32 (map bit_word functions)
@@ -190,7 +190,7 @@ pub(crate) fn functions_of(text: &[u8]) -> Bits
     functions
 }
 
-/// The moment that a stamp prints, in milliseconds.
+/// Returns the moment of a stamp, in milliseconds.
 pub(crate) fn moment_of(word: &[u8]) -> u64
     ensures { (moment : ℕ) → moment < 2 ^ 64 → word.now ≡ stamp moment → result ≡ moment }
 {

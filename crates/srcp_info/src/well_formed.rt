@@ -1,4 +1,4 @@
-//! Which rows and changes have a line.
+//! Rows and changes that have a line.
 
 ghost use Rattle.std.specs.Prelude.{◌≡◌, ◌≤◌, ◌↔◌, IsTrue};
 ghost use Rattle.std.specs.List.{list_all, slice_split};
@@ -13,7 +13,7 @@ use crate::limits::{
 };
 use crate::value::{Bits, DriveMode, Text, Value};
 
-/// Whether a byte can stand in a word of a text: it is no control byte, space or DEL.
+/// Returns whether a byte can stand in a word of a text: it is no control byte, space or DEL.
 fn is_text_byte(byte: u8) -> bool
     ensures { result ≡ is_text_byte byte }
 {
@@ -26,7 +26,7 @@ fn are_text_bytes(bytes: &[u8]) -> bool
     bytes.iter().all(|byte| is_text_byte(*byte))
 }
 
-/// Whether a word is one of a text: such a byte or more.
+/// Returns whether a word is one of a text: one such byte or more.
 fn is_text_word(word: &[u8]) -> bool
     ensures { result ≡ is_text_word word.now }
 {
@@ -39,7 +39,7 @@ fn is_space(byte: u8) -> bool
     byte == b' '
 }
 
-/// Whether the spaces of a text stand between words, one between each two.
+/// Returns whether each space of a text stands between two words.
 fn are_text_words(text: &[u8]) -> bool
     ensures { result ≡ list_all is_text_word (slice_split is_space text.now) }
 {
@@ -47,8 +47,8 @@ fn are_text_words(text: &[u8]) -> bool
         .all(|word| is_text_word(word))
 }
 
-/// Returns whether a power row can show the text: at most 80 bytes, with no control bytes and no DEL,
-/// and each space between two words.
+/// Returns whether a power row can show the text. It has at most 80 bytes, no control bytes and no DEL, and each of
+/// its spaces stands between two words.
 pub fn is_text(text: &[u8]) -> bool
     ensures { result ≡ is_text text.now }
 {
@@ -61,7 +61,7 @@ fn is_between(low: u32, high: u32, number: u32) -> bool
     low <= number && number <= high
 }
 
-/// Whether the group has a device of this address on this bus.
+/// Returns whether the group has a device of this address on this bus.
 fn is_address(group: Group, bus: u8, address: u32) -> bool
     ensures { IsTrue result ↔ IsAddress group bus address }
 {
@@ -75,7 +75,7 @@ fn is_address(group: Group, bus: u8, address: u32) -> bool
     }
 }
 
-/// Whether the group is one of locks.
+/// Returns whether the group is one of locks.
 fn is_lock(group: Group) -> bool
     ensures { result ≡ is_lock group }
 {
@@ -85,7 +85,7 @@ fn is_lock(group: Group) -> bool
     }
 }
 
-/// Whether the devices of the group come and go.
+/// Returns whether the devices of the group come and go.
 fn can_go(group: Group) -> bool
     ensures { result ≡ can_go group }
 {
@@ -95,8 +95,8 @@ fn can_go(group: Group) -> bool
     }
 }
 
-/// Whether a locomotive can have this speed: none is above the greatest, unless that is 0, and an
-/// emergency stop has speed 0.
+/// Returns whether a locomotive can have this speed. None is above the greatest, unless that is 0, and an emergency
+/// stop has speed 0.
 fn is_speed(mode: u32, v: u32, vmax: u32) -> bool
     ensures { IsTrue result ↔ IsSpeed mode v vmax }
 {
@@ -107,7 +107,7 @@ fn is_speed(mode: u32, v: u32, vmax: u32) -> bool
         && (mode != DriveMode::EmergencyStop as u32 || v == 0)
 }
 
-/// Whether the value is one that the row at this group and port can have.
+/// Returns whether the row at this group and port can have the value.
 fn is_value_at(group: Group, port: u8, value: &Value) -> bool
     ensures { IsTrue result ↔ IsValueAt group port value.now }
 {
@@ -148,8 +148,8 @@ fn is_value_at(group: Group, port: u8, value: &Value) -> bool
     }
 }
 
-/// Whether the change has a line: its numbers are in the ranges of their group, and its value is
-/// one that the row at its key can have.
+/// Returns whether the change has a line: its numbers are in the ranges of their group, and the row at its key can
+/// have its value.
 pub(crate) fn is_well_formed(change: Change) -> bool
     ensures { IsTrue result ↔ IsWellFormed change }
 {

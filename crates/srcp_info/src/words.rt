@@ -6,7 +6,7 @@ ghost use Rattle.srcp_info.specs.Line.{letter_word, mode_word, switch_word, valu
 use crate::change::Code;
 use crate::value::{Letter, Mode, Value};
 
-/// How a line names a decoder protocol.
+/// Returns the word for a decoder protocol.
 pub(crate) fn letter_word(letter: Letter) -> &'static [u8]
     ensures { result.now ≡ letter_word letter }
 {
@@ -18,7 +18,7 @@ pub(crate) fn letter_word(letter: Letter) -> &'static [u8]
     }
 }
 
-/// How a line names a session's mode.
+/// Returns the word for a session's mode.
 pub(crate) fn mode_word(mode: Mode) -> &'static [u8]
     ensures { result.now ≡ mode_word mode }
 {
@@ -28,14 +28,14 @@ pub(crate) fn mode_word(mode: Mode) -> &'static [u8]
     }
 }
 
-/// Power as `ON` or `OFF`.
+/// Returns `ON` or `OFF`.
 pub(crate) fn switch_word(on: bool) -> &'static [u8]
     ensures { result.now ≡ switch_word on }
 {
     if on { b"ON" } else { b"OFF" }
 }
 
-/// The number of the line that tells of a value: 101 for what a device is, 100 for what it does.
+/// Returns the number of the line of a value: 101 for what a device is, 100 for what it does.
 pub(crate) fn value_code(value: &Value) -> &'static [u8; 3]
     ensures { result.now ≡ value_code value.now }
 {
@@ -49,7 +49,7 @@ pub(crate) fn value_code(value: &Value) -> &'static [u8; 3]
     }
 }
 
-/// The number of a refusal, and its text.
+/// Returns the number of a refusal, and its text.
 pub(crate) fn code_text(code: Code) -> &'static [u8]
     ensures { result.now ≡ code_text code }
 {

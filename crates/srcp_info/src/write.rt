@@ -16,12 +16,11 @@ use crate::words::{code_text, letter_word, mode_word, switch_word, value_code};
 use arrayvec::ArrayVec;
 use srcp_text::{put_bytes, put_number, put_stamp};
 
-/// A line that is being written, with room for the longest line. Its bytes stand in
-/// the value itself, so it takes no memory.
+/// Holds a line that is being written, with room for the longest line. Its bytes stand in the value itself, so it
+/// allocates no memory.
 pub type InfoLine = ArrayVec<u8, LONGEST_LINE>;
 
-/// Appends bytes whose number is known when the program is built. They are pushed one by one, which
-/// then costs less than a copy.
+/// Appends a fixed number of bytes. They are pushed one by one, which costs less than a copy.
 #[inline(always)]
 fn put_fixed<const M: usize, const N: usize>(bytes: &[u8; M], buffer: &mut ArrayVec<u8, N>)
     requires { array_vec_len buffer.old + length bytes.now ≤ N }
@@ -63,7 +62,7 @@ fn put_numeral<const N: usize>(number: u32, buffer: &mut ArrayVec<u8, N>)
     put_number(u64::from(number), buffer);
 }
 
-/// Appends each number after a space.
+/// Appends each number behind a space.
 fn put_numerals<const N: usize>(numbers: &[u32], buffer: &mut ArrayVec<u8, N>)
     requires { array_vec_len buffer.old + length (after_spaces (map decimal numbers.now)) ≤ N }
     ensures { buffer.new.items ≡ buffer.old.items ++ after_spaces (map decimal numbers.now) }
@@ -190,8 +189,8 @@ fn put_info<const N: usize>(
     put_group(group, buffer);
 }
 
-/// Writes the line that tells of a row, with its LF, into an empty buffer with room for the longest line. It has at
-/// most 126 bytes, and takes no memory. It is the line that `write_change` writes of a change to this row.
+/// Writes the line of a row, with its LF, into an empty buffer with room for the longest line. It has at most 126
+/// bytes, and allocates no memory. It is the line that `write_change` writes of a change to this row.
 pub fn write_shown<const N: usize>(shown: &Shown, buffer: &mut ArrayVec<u8, N>)
     requires well_formed { IsWellFormedShown shown.now }
     requires fits { LONGEST_LINE ≤ N }
@@ -211,7 +210,7 @@ pub fn write_shown<const N: usize>(shown: &Shown, buffer: &mut ArrayVec<u8, N>)
     buffer.push(b'\n');
 }
 
-/// Writes the line of a device that is gone.
+/// Writes the line of a removed device.
 fn write_gone<const N: usize>(stamp: u64, device: &Device, buffer: &mut ArrayVec<u8, N>)
     requires well_formed { IsWellFormed (Change.Gone stamp device.now) }
     requires fits { LONGEST_LINE ≤ N }
@@ -224,9 +223,9 @@ fn write_gone<const N: usize>(stamp: u64, device: &Device, buffer: &mut ArrayVec
     buffer.push(b'\n');
 }
 
-/// Writes the line that tells of a change, with its LF, into an empty buffer with room for the longest line. It has at
-/// most 126 bytes, and takes no memory. The line's form is that of SRCP 0.8, with one space between two words,
-/// numbers without leading zeros, and capital letters alone.
+/// Writes the line of a change, with its LF, into an empty buffer with room for the longest line. It has at most 126
+/// bytes, and allocates no memory. The line's form is that of SRCP 0.8, with one space between two words, numbers
+/// without leading zeros, and capital letters alone.
 pub fn write_change<const N: usize>(change: &Change, buffer: &mut ArrayVec<u8, N>)
     requires well_formed { IsWellFormed change.now }
     requires fits { LONGEST_LINE ≤ N }
@@ -266,9 +265,8 @@ fn write_go<const N: usize>(stamp: u64, id: u32, buffer: &mut ArrayVec<u8, N>)
     buffer.push(b'\n');
 }
 
-/// Writes the line of a reply at a moment of `stamp` milliseconds, with its LF, into an empty buffer.
-/// A row that is shown keeps its own stamp. The line has at most 126 bytes, and at most 64 if it shows
-/// no row. Takes no memory.
+/// Writes the line of a reply at a moment of `stamp` milliseconds, with its LF, into an empty buffer. A row that is
+/// shown keeps its own stamp. The line has at most 126 bytes, and at most 64 if it shows no row. Allocates no memory.
 pub fn write_reply<const N: usize>(stamp: u64, reply: &Reply, buffer: &mut ArrayVec<u8, N>)
     requires well_formed { IsWellFormedReply reply.now }
     requires fits { LONGEST_LINE ≤ N }

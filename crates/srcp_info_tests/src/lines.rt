@@ -41,7 +41,7 @@ fn bits(values: &[bool]) -> Bits {
     bits
 }
 
-// The line is read as the change, and the change is written as the line.
+// Reads the line as the change, and writes the change as the line.
 fn goes_round(rt: &impl Abort, line: &[u8], change: Change) {
     let read = read_change(line);
     assert_eq!(rt; read, Some(change));
