@@ -20,7 +20,7 @@ pub(crate) struct Pair {
     pub(crate) key: Key,
 }
 
-/// Compares two pairs: ranks up to `since` are alike, and pairs of like rank go by their keys.
+/// Compares two pairs. Ranks up to `since` are equal, and pairs of equal rank go by their keys.
 fn compare(since: u64, a: &Pair, b: &Pair) -> Ordering
     ensures { result ≡ order since a.now b.now }
 {
@@ -31,7 +31,7 @@ fn compare(since: u64, a: &Pair, b: &Pair) -> Ordering
     ranks.then(compare_keys(&a.key, &b.key).then(a.rank.cmp(&b.rank)))
 }
 
-/// Returns whether a comes before b.
+/// Returns whether `a` comes before `b`.
 fn is_before(since: u64, a: &Pair, b: &Pair) -> bool
     ensures { result ≡ before since a.now b.now }
 {
@@ -48,7 +48,7 @@ fn place_of(pairs: &VecDeque<Pair>, since: u64, pair: &Pair) -> usize
     pairs.partition_point(|x| is_before(since, x, pair))
 }
 
-/// Puts a pair where it belongs, where there is room.
+/// Inserts a pair in order, if there is room.
 fn put_in(pairs: &mut VecDeque<Pair>, since: u64, pair: Pair)
     requires ranked { IsRanked (before since) pairs.old.items }
     requires room { deque_len pairs.old < deque_capacity pairs.old }
@@ -60,7 +60,7 @@ fn put_in(pairs: &mut VecDeque<Pair>, since: u64, pair: Pair)
     let _ = pairs.insert(place, pair);
 }
 
-/// Takes a pair out, if it is there.
+/// Removes a pair, if it is there.
 fn take_from(pairs: &mut VecDeque<Pair>, since: u64, pair: Pair)
     requires ranked { IsRanked (before since) pairs.old.items }
     ensures pairs { pairs.new.items ≡ taken (before since) pair pairs.old.items }
@@ -72,8 +72,8 @@ fn take_from(pairs: &mut VecDeque<Pair>, since: u64, pair: Pair)
     }
 }
 
-/// Brings pairs in the order since one moment into that since another. Only those
-/// whose rank is up to the later of the two move.
+/// Sorts pairs from the order of one moment into that of another. Only those whose rank is up to the later of the two
+/// move.
 fn arrange(pairs: &mut [Pair], since: u64, moment: u64)
     requires { IsRanked (before since) pairs.old }
     ensures { pairs.new ≡ ranked (before moment) pairs.old }
@@ -84,7 +84,7 @@ fn arrange(pairs: &mut [Pair], since: u64, moment: u64)
     sort(front, moment);
 }
 
-/// Does so to the pairs of a ring.
+/// Sorts the pairs of a ring in that way.
 fn arrange_in(pairs: &mut VecDeque<Pair>, since: u64, moment: u64)
     requires { IsRanked (before since) pairs.old.items }
     ensures pairs { pairs.new.items ≡ ranked (before moment) pairs.old.items }
@@ -93,7 +93,7 @@ fn arrange_in(pairs: &mut VecDeque<Pair>, since: u64, moment: u64)
     arrange(pairs.make_contiguous(), since, moment);
 }
 
-/// Brings pairs into the order since a moment.
+/// Sorts pairs into the order of a moment.
 fn sort(pairs: &mut [Pair], moment: u64)
     ensures permutation { IsPermutation pairs.old pairs.new }
     ensures ranked { IsRanked (before moment) pairs.new }
@@ -102,14 +102,14 @@ fn sort(pairs: &mut [Pair], moment: u64)
     pairs.sort_unstable_by(|a, b| compare(moment, a, b));
 }
 
-/// Returns whether the rank has come, and the key is beyond the cursor.
+/// Returns whether the rank is up to the moment, and the key beyond the cursor.
 fn is_ripe(moment: u64, cursor: Cursor, pair: &Pair) -> bool
     ensures { result ≡ is_ripe moment cursor pair.now }
 {
     pair.rank <= moment && !cursor.has_reached(&pair.key)
 }
 
-/// Returns the first pair that is ripe.
+/// Returns the first such pair.
 fn ripe_in(pairs: &VecDeque<Pair>, since: u64, cursor: Cursor) -> Option<Pair>
     requires { IsRanked (before since) pairs.now.items }
     ensures { result ≡ find (is_ripe since cursor) pairs.now.items }
@@ -129,7 +129,7 @@ fn first_in(pairs: &VecDeque<Pair>, rank: u64) -> Option<Pair>
     (pair.rank == rank).then_some(pair)
 }
 
-/// Returns the least of this rank and those that have come. Their pairs are at the front, and it looks no further.
+/// Returns the least of this rank and those up to `since`. The pairs of those come first, and it looks no further.
 fn least_come(pairs: &VecDeque<Pair>, since: u64, rank: u64) -> u64
     ensures { result
         ≡ fold (λ least pair. min least pair.rank) rank (take_while (λ pair. nat_le pair.rank since) pairs.now.items) }
@@ -149,11 +149,11 @@ fn least_in(pairs: &VecDeque<Pair>, since: u64) -> Option<u64>
     Some(least_come(pairs, since, first.rank))
 }
 
-/// Pairs in the order since a moment. Contracts see them as that list, with the moment and how many there is room for.
+/// Holds pairs in the order of a moment. Contracts see that list, the moment, and the number of pairs that have room.
 #[derive(Drop)]
 pub(crate) struct Index {
     since: u64,
-    /// How many pairs `reserve` has made room for.
+    /// The number of pairs that have room by `reserve`.
     room: usize,
     pairs: VecDeque<Pair>,
 }
@@ -172,7 +172,7 @@ impl Model for Index {
 }
 
 impl Index {
-    /// Returns an index of no pairs.
+    /// Makes an index of no pairs.
     pub(crate) fn new(alloc: Global) -> Index
         ensures pairs { result.pairs ≡ [] }
         ensures since { result.since ≡ 0 }
@@ -184,7 +184,8 @@ impl Index {
         }
     }
 
-    /// Makes room for `total` pairs in all. Fails if memory is refused, and the pairs stay. No other call takes memory.
+    /// Makes room for `total` pairs in all. Fails if memory is refused, and the pairs stay. No other call allocates
+    /// memory.
     pub(crate) fn reserve(&mut self, total: usize) -> Result<(), AllocError>
         ensures pairs { self.new.pairs ≡ self.old.pairs }
         ensures since { self.new.since ≡ self.old.since }
@@ -196,7 +197,7 @@ impl Index {
         Ok(())
     }
 
-    /// Puts a pair in.
+    /// Inserts a pair.
     pub(crate) fn put(&mut self, pair: Pair)
         requires room { length self.old.pairs < self.old.room }
         ensures pairs { self.new.pairs ≡ put (before self.old.since) pair self.old.pairs }
@@ -207,7 +208,7 @@ impl Index {
         put_in(&mut self.pairs, self.since, pair);
     }
 
-    /// Takes a pair out, if it is there.
+    /// Removes a pair, if it is there.
     pub(crate) fn take(&mut self, pair: Pair)
         ensures pairs { self.new.pairs ≡ taken (before self.old.since) pair self.old.pairs }
         ensures since { self.new.since ≡ self.old.since }
@@ -216,7 +217,7 @@ impl Index {
         take_from(&mut self.pairs, self.since, pair);
     }
 
-    /// Brings the pairs whose rank has come at the moment to the front, in order of their keys.
+    /// Sorts the pairs for the moment: those with a rank up to it come first, in the order of their keys.
     pub(crate) fn settle(&mut self, moment: u64)
         ensures pairs { self.new.pairs ≡ ranked (before moment) self.old.pairs }
         ensures since { self.new.since ≡ moment }
@@ -228,14 +229,14 @@ impl Index {
         }
     }
 
-    /// Returns the first pair whose rank has come and whose key is beyond the cursor.
+    /// Returns the first pair whose rank is up to the moment and whose key is beyond the cursor.
     pub(crate) fn ripe_beyond(&self, cursor: Cursor) -> Option<Pair>
         ensures { result ≡ find (is_ripe self.now.since cursor) self.now.pairs }
     {
         ripe_in(&self.pairs, self.since, cursor)
     }
 
-    /// Returns the least rank; none if there is no pair.
+    /// Returns the least rank, or `None` if there is no pair.
     pub(crate) fn least(&self) -> Option<u64>
         ensures { IsLeastRank result self.now.pairs }
     {

@@ -1,4 +1,4 @@
-//! The rows that a keeper has, with an index of their due moments and one of the sessions that hold locks.
+//! The rows of a keeper, with an index of their due moments and one of the sessions that hold locks.
 ghost use Rattle.std.specs.Prelude.{◌≡◌, ◌+◌, ◌<◌, ◌≤◌, length};
 ghost use Rattle.std.specs.List.{AllByRecursion};
 ghost use Rattle.srcp_index.specs.Earliest.{IsEarliestDue};
@@ -11,12 +11,12 @@ use srcp_rules::{Layout, Memory, Rows};
 use std::alloc::Global;
 use std::marker::Model;
 
-/// The rows of a keeper with their indexes. Contracts see the keeper alone.
+/// Holds the rows of a keeper with their indexes. Contracts see the keeper alone.
 #[derive(Drop)]
 pub struct Indexed<R: Rows> {
     rows: R,
     indexes: Indexes,
-    /// How many rows are of devices that come and go; the indexes have room for as many.
+    /// The number of rows of devices that come and go. The indexes have room for as many.
     count: usize,
 }
 
@@ -31,7 +31,7 @@ impl<R: Rows> Model for Indexed<R> {
 }
 
 impl<R: Rows> Indexed<R> {
-    /// Returns the moment at which the first of the rows falls due; none if no row has a due moment.
+    /// Returns the moment at which the first of the rows falls due, or `None` if no row has a due moment.
     pub fn earliest_due(&self) -> Option<u64>
         ensures { IsEarliestDue result (R.state self.now) }
     {
@@ -115,7 +115,7 @@ impl<R: Rows> Rows for Indexed<R> {
     }
 }
 
-/// Returns whether a row of the group may have a due moment or a holder: those of accessories and locks alone.
+/// Returns whether a row of the group may have a due moment or a holder. Only accessories and locks have such rows.
 fn may_rank(group: Group) -> bool
     ensures { result ≡ may_rank group }
 {
@@ -142,7 +142,7 @@ fn goers(rows: &[Row]) -> usize
         .count()
 }
 
-/// Whether the devices of the group come and go.
+/// Returns whether the devices of the group come and go.
 fn can_go(group: Group) -> bool
     ensures { result ≡ can_go group }
 {

@@ -8,7 +8,7 @@ use srcp_info::{Key, Row, Value};
 use srcp_rules::Memory;
 use std::alloc::Global;
 
-/// Both indexes of the rows of a registry.
+/// Holds both indexes of the rows of a registry.
 #[derive(Drop)]
 pub(crate) struct Indexes {
     /// The due moments of the rows that have one.
@@ -18,7 +18,7 @@ pub(crate) struct Indexes {
 }
 
 impl Indexes {
-    /// Returns indexes of no row.
+    /// Makes indexes of no row.
     pub(crate) fn new(alloc: Global) -> Indexes
         ensures moments { result.moments.pairs ≡ [] }
         ensures sessions { result.sessions.pairs ≡ [] }
@@ -47,7 +47,7 @@ impl Indexes {
         Ok(())
     }
 
-    /// Puts in the pairs of a row.
+    /// Inserts the pairs of a row.
     pub(crate) fn note(&mut self, row: &Row)
         requires moments { IsSome (due_of row.now) → HasRoom self.old.moments }
         requires sessions { IsSome (holder_of row.now) → HasRoom self.old.sessions }
@@ -57,7 +57,7 @@ impl Indexes {
         put_ranked(&mut self.sessions, holder(row), row.shown.key);
     }
 
-    /// Puts in the pairs of rows.
+    /// Inserts the pairs of rows.
     pub(crate) fn note_all(&mut self, rows: &[Row])
         requires moments { length self.old.moments.pairs + length rows.now ≤ self.old.moments.room }
         requires sessions { length self.old.sessions.pairs + length rows.now ≤ self.old.sessions.room }
@@ -68,7 +68,7 @@ impl Indexes {
         }
     }
 
-    /// Takes out the pairs of a row.
+    /// Removes the pairs of a row.
     pub(crate) fn forget(&mut self, row: &Row)
         ensures { self.new ≡ without_row row.now self.old }
     {
@@ -77,7 +77,7 @@ impl Indexes {
     }
 }
 
-/// Returns the session that holds the lock of a row.
+/// Returns the session that holds the lock of a row, if the row is a lock.
 fn holder(row: &Row) -> Option<u64>
     ensures { result ≡ holder_of row.now }
 {
@@ -87,7 +87,7 @@ fn holder(row: &Row) -> Option<u64>
     }
 }
 
-/// Puts in the pair of a key, if it has a rank.
+/// Inserts the pair of a key, if it has a rank.
 fn put_ranked(index: &mut Index, rank: Option<u64>, key: Key)
     requires { IsSome rank → HasRoom index.old }
     ensures { index.new ≡ with_pair rank key index.old }
@@ -97,7 +97,7 @@ fn put_ranked(index: &mut Index, rank: Option<u64>, key: Key)
     }
 }
 
-/// Takes out the pair of a key, if it has a rank.
+/// Removes the pair of a key, if it has a rank.
 fn take_ranked(index: &mut Index, rank: Option<u64>, key: Key)
     ensures { index.new ≡ without_pair rank key index.old }
 {
