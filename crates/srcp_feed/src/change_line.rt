@@ -1,4 +1,4 @@
-//! A change with the line that tells it.
+//! A change with its line.
 
 ghost use Rattle.std.specs.Prelude.{◌≡◌};
 ghost use Rattle.srcp_info.specs.WellFormed.{IsWellFormed};
@@ -8,8 +8,8 @@ use crate::WrittenLine;
 use srcp_info::{Change, InfoLine, write_change};
 use std::marker::Model;
 
-/// A change, and the line that tells it if that was made, so that one line is made for all panels.
-/// Contracts see the change alone.
+/// Holds a change, and its line if that was written, so that one line serves all panels. Contracts see the change
+/// alone.
 #[derive(Drop)]
 pub struct ChangeLine {
     change: Change,
@@ -28,7 +28,7 @@ impl Model for ChangeLine {
 }
 
 impl ChangeLine {
-    /// Makes the line of a change.
+    /// Writes the line of a change, and holds both.
     pub fn new(change: &Change) -> ChangeLine
         requires { IsWellFormed change.now }
         ensures { result ≡ change.now }
@@ -41,7 +41,7 @@ impl ChangeLine {
         }
     }
 
-    /// A change whose line is not made.
+    /// Holds a change whose line is not written.
     pub(crate) fn without_line(change: &Change) -> ChangeLine
         ensures { result ≡ change.now }
     {
@@ -51,7 +51,7 @@ impl ChangeLine {
         }
     }
 
-    /// Returns the same once more.
+    /// Returns a copy.
     pub(crate) fn copied(&self) -> ChangeLine
         ensures { result ≡ self.now }
     {
@@ -68,7 +68,7 @@ impl ChangeLine {
         &self.change
     }
 
-    /// Lends the line, which has no bytes if it was not made.
+    /// Lends the line, which has no bytes if it was not written.
     pub fn line(&self) -> &WrittenLine
         ensures { IsLineOrNone result.now self.now }
     {

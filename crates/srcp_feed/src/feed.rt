@@ -16,8 +16,8 @@ use srcp_rules::{Memory, Rows};
 use std::alloc::Global;
 use std::marker::Model;
 
-/// What one information session is given: the changes that wait, then the next rows of its listing.
-/// It holds how far the listing has come and the changes that wait, and no row.
+/// Gives one information session its changes and rows: the changes that wait, then the next rows of its listing. It
+/// holds the listing's cursor and the changes that wait, and no row.
 #[derive(Drop)]
 pub struct InfoFeed {
     cursor: Cursor,
@@ -33,8 +33,8 @@ impl Model for InfoFeed {
 }
 
 impl InfoFeed {
-    /// A listing at its beginning, for which nothing waits. It takes the memory of a ring of `MOST_WAITING` changes,
-    /// and no other call takes any. `Memory` where that is refused.
+    /// Begins a listing, for which no change waits. It allocates a ring of `MOST_WAITING` changes, and no other call
+    /// allocates. Answers `Memory` if memory is refused.
     pub fn begin<R: Rows>(alloc: Global, _rows: &R) -> Result<InfoFeed, Memory>
         ensures { IfOk result (λ feed. feed ≡ beginning) }
     {
@@ -44,9 +44,9 @@ impl InfoFeed {
         })
     }
 
-    /// Tells the session a change of the registry. A change of a row that the listing has passed waits; any
-    /// other is met by the listing. `Overrun` if `MOST_WAITING` changes wait already and this
-    /// one would wait too, which leaves the feed as it is.
+    /// Takes in a change of the registry. A change of a row that the listing has passed is queued; any other is
+    /// skipped, since the listing meets it. Answers `Overrun` if it would be queued and `MOST_WAITING` changes wait
+    /// already. That leaves the feed as it is.
     pub fn tell(&mut self, change: &Change) -> Told
         ensures answer { result ≡ told_answer change.now self.old }
         ensures feed { self.new ≡ told change.now self.old }
@@ -58,7 +58,7 @@ impl InfoFeed {
         self.tell_line(&ChangeLine::without_line(change))
     }
 
-    /// Tells the session a change as `tell` does, and keeps the line that was made of it.
+    /// Takes in a change as `tell` does, and keeps its line.
     pub fn tell_line(&mut self, change: &ChangeLine) -> Told
         ensures answer { result ≡ told_answer change.now self.old }
         ensures feed { self.new ≡ told change.now self.old }
@@ -80,7 +80,7 @@ impl InfoFeed {
         self.waiting.first()
     }
 
-    /// Drops the first change that waits, which the session was given.
+    /// Drops the first change that waits, once the session was given it. One has to wait.
     pub fn drop_first(&mut self)
         requires { 0 < length self.old.queue }
         ensures { self.new ≡ record self.old { queue = drop 1 self.old.queue } }
@@ -88,8 +88,8 @@ impl InfoFeed {
         self.waiting.drop_first();
     }
 
-    /// What the session is given next: the first change that waits, else the least row above the cursor, else
-    /// `Settled`, from which on the listing is done and every change waits.
+    /// Returns what the session is given next: the first change that waits, else the least row above the cursor, else
+    /// `Settled`. From `Settled` on the listing is done, and every change waits.
     pub fn next<R: Rows>(&mut self, rows: &R) -> Next
         ensures answer { result ≡ next_of (shown_rows (R.state rows.now)) self.old }
         ensures feed { self.new ≡ after_next (shown_rows (R.state rows.now)) self.old }
@@ -109,8 +109,8 @@ impl InfoFeed {
         }
     }
 
-    /// Returns the row that the session is given next, if no change waits, and `None` if no row is left. It goes on as
-    /// `next` does.
+    /// Returns the row that the session is given next, if no change waits, or `None` if no row is left. It advances
+    /// the listing as `next` does.
     pub fn list<'a, R: Rows>(&mut self, rows: &'a R) -> Option<&'a Row>
         requires { self.old.queue ≡ [] }
         ensures listed { IfSome result
@@ -130,7 +130,7 @@ impl InfoFeed {
         }
     }
 
-    /// Returns what `next` would, and gives nothing.
+    /// Returns what `next` would, and advances nothing.
     pub fn peek<R: Rows>(&self, rows: &R) -> Next
         ensures { result ≡ next_of (shown_rows (R.state rows.now)) self.now }
     {
@@ -143,7 +143,7 @@ impl InfoFeed {
         }
     }
 
-    /// How far the listing has come.
+    /// Returns how far the listing has come.
     pub fn cursor(&self) -> Cursor
         ensures { result ≡ self.now.cursor }
     {
@@ -159,7 +159,7 @@ impl InfoFeed {
     }
 }
 
-/// Returns the row that a listing comes to next. One that is done asks for no row, since a panel is visited often.
+/// Returns the next row of a listing. It asks for no row once the listing is done, since a panel is visited often.
 #[tactic(auto, using(crate::proofs::FeedLaws::no_row_after_done))]
 fn row_beyond<R: Rows>(rows: &R, cursor: Cursor) -> Option<&Row>
     ensures { option_copied result ≡ row_after cursor (R.state rows.now) }

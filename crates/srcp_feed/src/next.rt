@@ -1,8 +1,8 @@
-//! What an information session is given next.
+//! The answer of a feed that is asked for what comes next.
 
 use srcp_info::{Change, Shown};
 
-/// What an information session is given next.
+/// Says what an information session is given next.
 #[derive(Clone, Copy, Debug, PartialEq, Eq)]
 pub enum Next {
     /// A change that waited.

@@ -9,16 +9,16 @@ use srcp_rules::Memory;
 use std::alloc::Global;
 use std::marker::Model;
 
-/// How many changes may wait for one session. SRCP 0.8 has no such limit.
+/// The most changes that wait for one session. SRCP 0.8 has no such limit.
 pub const MOST_WAITING: usize = 256;
 
-/// The changes that wait, in the order in which they came, each with its line.
-/// Contracts see it as the list of the changes.
+/// Holds the changes that wait, in the order in which they came, each with its line. Contracts see the list of the
+/// changes.
 #[derive(Drop)]
 pub(crate) struct Queue {
     ring: HeapCircularBuffer<ChangeLine>,
-    // How many in front of the ring wait no more. They leave it together, once no other waits: it then begins again at
-    // the same place, which is still in the processor's cache.
+    // The number of consumed changes at the beginning of the ring. They are removed together, once no other waits. The
+    // ring then begins again at the same address, which is still in the processor's cache.
     taken: usize,
 }
 
@@ -36,7 +36,7 @@ impl Model for Queue {
 }
 
 impl Queue {
-    /// Returns an empty queue, with the memory of `MOST_WAITING` changes. No other call takes any.
+    /// Makes an empty queue, with the memory of `MOST_WAITING` changes. No other call allocates.
     ///
     /// # Errors
     /// If memory is refused.
@@ -55,7 +55,7 @@ impl Queue {
         self.ring.len() - self.taken
     }
 
-    /// Returns whether no more may wait.
+    /// Returns whether the queue is full.
     pub(crate) fn is_full(&self) -> bool
         ensures { result ≡ not (nat_lt (length self.now) MOST_WAITING) }
     {
@@ -82,7 +82,7 @@ impl Queue {
         }
     }
 
-    /// Takes out the first change.
+    /// Drops the first change.
     pub(crate) fn drop_first(&mut self)
         requires { 0 < length self.old }
         ensures { self.new ≡ drop 1 self.old }

@@ -1,12 +1,12 @@
-//! What became of a change that an information session was told.
+//! The answer of a feed that takes in a change.
 
-/// What became of a change that a session was told.
+/// Says what a feed did with a change.
 #[derive(Clone, Copy, Debug, PartialEq, Eq)]
 pub enum Told {
     /// The listing has not come to its row, and will meet it.
     Skipped,
-    /// It waits.
+    /// It is queued.
     Queued,
-    /// It would have to wait, and no more changes may wait.
+    /// The queue is full.
     Overrun,
 }

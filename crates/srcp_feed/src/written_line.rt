@@ -5,11 +5,11 @@ ghost use Rattle.std.specs.Prelude.{◌≡◌, ◌≤◌, ◌==◌, [], length};
 use srcp_info::{InfoLine, LONGEST_LINE};
 use std::marker::Model;
 
-/// How many bytes a line has in memory: a multiple of 16, so that a copy of them needs no call.
+/// The bytes of a line in memory: a multiple of 16, so that a copy of them needs no call.
 const ROOM: usize = 128;
 
-/// A line that was written: at most `LONGEST_LINE` bytes, which stand in the value itself. It is copied at one cost
-/// however long it is, and cleared without a write to its bytes. Contracts see it as the list of its bytes.
+/// Holds a written line: at most `LONGEST_LINE` bytes, which stand in the value itself. A copy costs the same whatever
+/// its length, and a clear writes none of its bytes. Contracts see the list of its bytes.
 #[derive(Drop)]
 pub struct WrittenLine {
     // The first `len` bytes are the line.
@@ -29,7 +29,7 @@ impl Model for WrittenLine {
 }
 
 impl WrittenLine {
-    /// Returns the line of no bytes.
+    /// Makes the line of no bytes.
     pub fn new() -> WrittenLine
         ensures { result ≡ [] }
     {
@@ -39,7 +39,7 @@ impl WrittenLine {
         }
     }
 
-    /// Returns a line of the same bytes.
+    /// Makes a line of the same bytes.
     pub fn of(line: &InfoLine) -> WrittenLine
         ensures { result ≡ line.now.items }
     {
@@ -52,7 +52,7 @@ impl WrittenLine {
         }
     }
 
-    /// Returns the same line once more.
+    /// Returns a copy.
     pub fn copied(&self) -> WrittenLine
         ensures { result ≡ self.now }
     {
