@@ -1,12 +1,12 @@
-//! What the limits have to satisfy.
+//! Laws of the limits.
 
 ghost use Rattle.std.specs.Prelude.{◌+◌, ◌≤◌};
 
 use crate::pacing::{MOST_SLACK, RESERVE};
 use srcp_rules::MOST_CHANGES;
 
-/// What is left to moments and ends of sessions is enough for a session that ends with 150 locks. It leaves enough for
-/// any line while no change waits for a panel.
+/// States that the reserve for moments and ends of sessions is enough for a session that ends with 150 locks. What
+/// remains is enough for any line while no change waits for a panel.
 pub fn turns_suffice()
     ensures ends { 150 + 1 ≤ RESERVE }
     ensures lines { RESERVE + MOST_CHANGES ≤ MOST_SLACK }

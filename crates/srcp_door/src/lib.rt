@@ -1,7 +1,8 @@
-//! The parts of a door that know neither sockets nor peers: how lines are paced (`Pace`), and the moments that are told
+//! The parts of a door that know neither sockets nor peers: how lines are paced (`Pace`), and the clock
 //! (`Timekeeper`).
 //!
-//! It makes no system call and knows no protocol but where a line ends. What a line weighs `srcp_rules` says.
+//! It makes no system call. Of the protocol it knows only that a line ends in LF; `srcp_rules` says what a line
+//! weighs.
 #![tactic(auto)]
 
 pub mod laws;

@@ -1,4 +1,4 @@
-//! How many lines are let through in a turn.
+//! The lines that are let through in a turn.
 
 ghost use Rattle.std.specs.Prelude.{◌≡◌, ◌<◌, ◌≤◌, ◌+◌, ◌↔◌, ◌⊎◌, ◌==◌, ◌&&◌, false, true, not, cond, IsTrue, length};
 ghost use Rattle.std.specs.Prelude.{take};
@@ -8,27 +8,27 @@ ghost use Rattle.srcp_door.specs.Pacing.{lines, pace_of, share_after, spent, wei
 use memchr::memchr;
 use srcp_rules::{MOST_CHANGES, weight};
 
-/// How many changes may come in a turn before a panel overruns, if none is there when it begins: one may begin in it.
+/// The most changes of a turn before a panel overruns, if no panel is there at its beginning: one may begin in it.
 pub const MOST_SLACK: usize = 256;
 
-/// How many of the changes that may come in a turn are left to moments and the ends of sessions.
+/// The changes of a turn that are reserved for moments and the ends of sessions.
 pub const RESERVE: usize = 160;
 
-/// What ends a line.
+/// The byte that ends a line.
 const LINE_END: u8 = b'\n';
 
-/// Whether the line of a peer that is being handed out began in an earlier piece.
+/// Says whether the line of a peer that is being handed out began in an earlier piece.
 #[derive(Clone, Copy)]
 pub enum Line {
-    /// The line before ended, or there was none.
+    /// The last line ended, or there was none.
     Ended,
-    /// It began, and did not end.
+    /// A line began, and did not end.
     Begun,
 }
 
 impl Line {
-    /// Returns how much the line weighs that ends behind these bytes. If it began in an earlier piece, it weighs as
-    /// much as a line can, since nobody has all its bytes.
+    /// Returns the weight of the line that ends behind these bytes. If it began in an earlier piece, its weight is the
+    /// greatest of any line, since only a part of its bytes is here.
     fn weight(self, text: &[u8]) -> usize
         ensures weight { result ≡ line_weight self text.now }
         ensures most { result ≤ MOST_CHANGES }
@@ -39,7 +39,7 @@ impl Line {
         }
     }
 
-    /// Returns the line after bytes that follow it.
+    /// Returns the state after bytes that follow.
     fn after(self, bytes: &[u8]) -> Line
         ensures { result ≡ line_after self bytes.now }
     {
@@ -51,37 +51,37 @@ impl Line {
     }
 }
 
-/// A peer's share of the lines.
+/// Holds a peer's share of the lines.
 #[derive(Clone, Copy)]
 pub struct Share {
     /// The line that is being handed out.
     pub line: Line,
-    /// Whether the peer got a line that weighs something since the marks were cleared.
+    /// True if the peer got a line of some weight since the marks were cleared.
     pub mark: bool,
 }
 
-/// How much the lines may still weigh that are let through in a turn.
+/// Says what weight of lines may still be let through in a turn.
 #[derive(Clone, Copy)]
 pub enum Pace {
-    /// As much as that.
+    /// Lines of this weight in all.
     Paced { left: usize },
-    /// As much as one line, whatever that weighs: the clock lets it through.
+    /// One line of any weight: the clock lets it through.
     OneLine,
 }
 
-/// What may be handed out of a piece.
+/// Says what may be handed out of a piece.
 #[derive(Clone, Copy)]
 pub struct Allowed {
-    /// How many of its bytes.
+    /// The number of its first bytes.
     pub count: usize,
-    /// Whether a line is kept back of a peer that got none since the marks were cleared.
+    /// True if a line is held back from a peer that got none since the marks were cleared.
     pub refused: bool,
 }
 
 impl Pace {
-    /// Returns what may be let through in a turn, by how many changes may come before a panel overruns, if one is
-    /// there. With `tick` it is one line though the panels may take none, so that nobody starves behind a panel that
-    /// does not read.
+    /// Returns what may be let through in a turn. `slack` is the number of changes before a panel overruns, if a panel
+    /// is there. With `tick` it is one line even if the panels take nothing, so that no peer starves behind a panel
+    /// that does not read.
     pub fn of_turn(slack: Option<usize>, tick: bool) -> Pace
         ensures { result ≡ pace_of slack tick }
     {
@@ -106,9 +106,9 @@ impl Pace {
         }
     }
 
-    /// Returns how many bytes of a peer's piece may be handed out now: all of a piece in which no line ends, and else
-    /// those of whole lines, as many as may go. A peer that has its mark gets none that weighs something, and one that
-    /// gets such a line gets its mark.
+    /// Returns how many bytes of a peer's piece may be handed out. A piece in which no line ends goes out whole. Of
+    /// any other go whole lines, as many as the pace and the peer's mark let through. A peer with a mark gets no line
+    /// that weighs something, and a peer that gets such a line gets its mark.
     pub fn allow(&mut self, share: &mut Share, piece: &[u8]) -> Allowed
         ensures allowed { Allows self.old share.old piece.now result.count }
         ensures within { result.count ≤ length piece.now }
@@ -139,25 +139,25 @@ impl Pace {
 /// A prefix of a piece.
 #[derive(Clone, Copy)]
 struct Prefix {
-    // How many bytes it has.
+    // The number of its bytes.
     count: usize,
-    // How many lines end in it.
+    // The number of lines that end in it.
     lines: usize,
 }
 
-/// A prefix of a piece, and what was seen of it.
+/// A prefix of a piece, and what its lines weigh.
 #[derive(Clone, Copy)]
 struct Front {
     prefix: Prefix,
-    // How much the lines weigh that end in it.
+    // The weight of the lines that end in it.
     weight: usize,
-    // Whether a line ends in the piece behind it, and how much the next such line weighs.
+    // True if a line ends in the rest of the piece, and the weight of the next such line.
     more: bool,
     next: usize,
 }
 
-/// Returns the prefix of a piece whose lines weigh at most so much: all of a piece in which no line ends, and else
-/// whole lines, as many as weigh no more.
+/// Returns the prefix of a piece whose lines weigh at most `most`. A piece in which no line ends is taken whole, else
+/// whole lines are.
 fn front_within(piece: &[u8], line: Line, most: usize) -> Front
     ensures longest { IsLongest line most piece.now result.prefix.count }
     ensures lines { result.prefix.lines ≡ lines (take result.prefix.count piece.now) }
@@ -199,7 +199,7 @@ fn front_within(piece: &[u8], line: Line, most: usize) -> Front
     }
 }
 
-/// Returns how much the first line of a piece weighs that weighs something; 0 if none does.
+/// Returns the weight of the first line of a piece that weighs something, or 0 if none does.
 fn first_weight(piece: &[u8], line: Line) -> usize
     ensures first { IsFirstWeight line piece.now result }
     ensures most { result ≤ MOST_CHANGES }

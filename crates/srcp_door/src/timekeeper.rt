@@ -5,17 +5,17 @@ ghost use Rattle.srcp_door.specs.Moments.{Moments, next_moment, passed, target, 
 
 use std::marker::Model;
 
-/// How far a moment is after the one before, in milliseconds, where the time has not run further ahead than some steps.
+/// The most milliseconds from one moment to the next, if the clock is at most `MOST_STEPS` steps ahead.
 const STEP: u64 = 10;
 
-/// How many steps are made up at most.
+/// The most steps by which a moment may lag behind the clock.
 const MOST_STEPS: u64 = 60_000;
 
-/// How far a moment may be behind the time, in milliseconds.
+/// The same in milliseconds.
 const MOST_BEHIND: u64 = STEP * MOST_STEPS;
 
-/// Tells moments in milliseconds since 1970: the wall clock at the start, and what elapsed since on a clock that is
-/// never set. Seen as a record of the two clocks at the start and the moment that was told last.
+/// Tells moments in milliseconds since 1970: the wall clock at the start, and what elapsed since on the monotonic
+/// clock. Contracts see both clocks at the start, and the last moment.
 #[derive(Drop)]
 pub struct Timekeeper {
     wall: u64,
@@ -32,7 +32,7 @@ impl Model for Timekeeper {
 }
 
 impl Timekeeper {
-    /// Begins with the wall clock and the other one at the start.
+    /// Begins with the wall clock and the monotonic clock at the start.
     pub fn new(wall: u64, start: u64) -> Timekeeper
         ensures { result ≡ record { wall = wall; start = start; last = wall } }
     {
@@ -43,8 +43,8 @@ impl Timekeeper {
         }
     }
 
-    /// Goes on to the present where nothing falls due, and else to the moment before the first that does. So only time
-    /// in which something falls due is made up in steps. `due` is the moment at which that is, if there is one.
+    /// Jumps to the present, but only up to the moment before the deadline `due`, if there is one. So only time with
+    /// deadlines is caught up in steps.
     pub fn pass(&mut self, elapsed: u64, due: Option<u64>)
         ensures { self.new ≡ record self.old { last = passed self.old.last (target self.old elapsed) due } }
     {
@@ -53,7 +53,7 @@ impl Timekeeper {
         self.last = self.last.max(goal.min(calm));
     }
 
-    /// Returns the moment to be told, where the clock that is never set shows so many milliseconds.
+    /// Returns the next moment, if the monotonic clock shows `elapsed`.
     pub fn tell(&mut self, elapsed: u64) -> u64
         ensures told { result ≡ next_moment 10 ten_minutes self.old.last (target self.old elapsed) }
         ensures new { self.new ≡ record { wall = self.old.wall; start = self.old.start; last = result } }
@@ -71,21 +71,21 @@ impl Timekeeper {
         self.last
     }
 
-    /// Returns whether the moment that was told last is behind the time.
+    /// Returns whether the last moment is behind the clock.
     pub fn is_late(&self, elapsed: u64) -> bool
         ensures { IsTrue result ↔ self.now.last < target self.now elapsed }
     {
         self.last < self.goal(elapsed)
     }
 
-    /// Returns how many milliseconds are left from the moment that was told last to that one; 0 if it has come.
+    /// Returns how many milliseconds are left from the last moment to that one, or 0 if it has come.
     pub fn left_until(&self, moment: u64) -> u64
         ensures { result ≡ moment - self.now.last }
     {
         moment.saturating_sub(self.last)
     }
 
-    /// Returns the time that the clock that is never set stands for.
+    /// Returns the moment that the monotonic clock stands for.
     fn goal(&self, elapsed: u64) -> u64
         ensures { result ≡ target self.now elapsed }
     {
