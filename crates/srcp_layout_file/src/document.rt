@@ -19,14 +19,12 @@ use srcp_rules::{Bus, Layout, LayoutFault};
 use std::alloc::Global;
 use toml::{Table, Value};
 
-/// Reads a configuration: a TOML document with a port and buses. Keys that are not named here are not
-/// read.
+/// Reads a configuration: a TOML document with a port and buses. Other keys are ignored.
 ///
 /// # Errors
-/// The first fault, in this order: the document (`NotToml`); the port; the buses; and then bus by bus
-/// in the order of the document its number, whether a bus before it has that number (`Twice`), its
-/// groups from left to right, and what these need: gl_max, ga_max, ga_ports, fb_ports. `Memory` if
-/// memory is refused.
+/// Returns the first fault, in this order: the document (`NotToml`), the port, the buses. Then bus by bus, in the
+/// order of the document: its number, and whether an earlier bus has it (`Twice`). Its groups follow from left to
+/// right, then what these need: gl_max, ga_max, ga_ports, fb_ports. Returns `Memory` if memory is refused.
 pub fn read_layout(alloc: Global, bytes: &[u8]) -> Result<Config, ConfigFault>
     ensures { Gives (λ config. config) ConfigFault.Memory result (config_of bytes.now) }
 {
@@ -37,7 +35,7 @@ pub fn read_layout(alloc: Global, bytes: &[u8]) -> Result<Config, ConfigFault>
     }
 }
 
-/// What a document says.
+/// Reads a document.
 fn read_document(alloc: Global, members: &Table) -> Result<Config, ConfigFault>
     ensures { Gives (λ config. config) ConfigFault.Memory result (config_in (table_view members.now)) }
 {
@@ -50,7 +48,7 @@ fn read_document(alloc: Global, members: &Table) -> Result<Config, ConfigFault>
     })
 }
 
-/// The buses, in the order of the document.
+/// Reads the buses, in the order of the document.
 fn read_buses(alloc: Global, values: &[Value]) -> Result<Layout, ConfigFault>
     ensures { Gives (λ layout. layout) ConfigFault.Memory result (buses_in [] (map data_of values.now)) }
 {
@@ -66,7 +64,7 @@ fn read_buses(alloc: Global, values: &[Value]) -> Result<Layout, ConfigFault>
     Ok(layout)
 }
 
-/// A bus, which differs from those before it.
+/// Reads a bus, which differs from those before it.
 fn bus_in(before: &Layout, value: &Value) -> Result<Bus, ConfigFault>
     ensures bus { result ≡ bus_in before.now (data_of value.now) }
     ensures new { IfOk result (λ bus. IsBus bus × (has_number before.now bus.number ≡ false)) }
@@ -77,7 +75,7 @@ fn bus_in(before: &Layout, value: &Value) -> Result<Bus, ConfigFault>
     }
 }
 
-/// The number of a bus, its groups, and what these need.
+/// Reads the number of a bus, its groups, and what these need.
 fn bus_of(before: &Layout, members: &Table) -> Result<Bus, ConfigFault>
     ensures bus { result ≡ bus_of before.now (table_view members.now) }
     ensures new { IfOk result (λ bus. IsBus bus × (has_number before.now bus.number ≡ false)) }
@@ -98,7 +96,7 @@ fn bus_of(before: &Layout, members: &Table) -> Result<Bus, ConfigFault>
     })
 }
 
-/// The number of a bus, which no bus before it has.
+/// Reads the number of a bus, which no earlier bus has.
 fn number_beside(before: &Layout, members: &Table) -> Result<u8, ConfigFault>
     ensures number { result ≡ number_beside before.now (table_view members.now) }
     ensures new { IfOk result (λ number.
@@ -112,7 +110,7 @@ fn number_beside(before: &Layout, members: &Table) -> Result<u8, ConfigFault>
     }
 }
 
-/// How many ports an accessory has, which is read only if the bus has accessories.
+/// Reads how many ports an accessory has, if the bus has accessories.
 fn ports_if(is_there: bool, members: &Table) -> Result<u8, ConfigFault>
     ensures ports { result
         ≡ if_named is_there 2 (given_or 2 2 8 field.GaPorts (table_view members.now)) }

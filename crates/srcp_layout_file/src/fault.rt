@@ -6,7 +6,7 @@ ghost use Rattle.srcp_layout_file.specs.Faults.{config_text, field_key};
 use crate::config::{ConfigFault, Field};
 use std::fmt;
 
-/// The key as a configuration writes it.
+/// Returns the key as a configuration writes it.
 pub(crate) fn key_of(field: Field) -> &'static str
     ensures { result.now ≡ field_key field }
 {

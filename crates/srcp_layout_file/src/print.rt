@@ -1,4 +1,4 @@
-//! What a configuration says, printed.
+//! A configuration, printed.
 
 ghost use Rattle.std.specs.Prelude.{◌≡◌, ◌∷◌, ◌++◌, [], OnOk, IfOk, decimal, string_bytes};
 ghost use Rattle.std.specs.List.{flat_map};
@@ -11,8 +11,8 @@ use std::alloc::{AllocError, Global};
 use std::string::String;
 use std::vec::Vec;
 
-/// Prints what a configuration says: the port, and for each bus, by rising number, its groups with how much there is of
-/// each. The ports of an accessory are printed if there are more than two.
+/// Prints what a configuration says: the port, then each bus by rising number, with its groups and their sizes. The
+/// ports of an accessory are printed if there are more than two.
 pub fn print_config(alloc: Global, config: &Config) -> Result<Vec<u8>, AllocError>
     ensures { IfOk result (λ text. text.items ≡ checked config.now) }
 {
@@ -62,7 +62,7 @@ fn print_power(power: bool, text: &mut Vec<u8>) -> Result<(), AllocError>
     Ok(())
 }
 
-/// Prints a group's name and how much there is of it, if there is any.
+/// Prints a group's name and its size, if it has any.
 fn print_group(alloc: Global, name: &str, count: u32, text: &mut Vec<u8>) -> Result<(), AllocError>
     ensures { OnOk result (text.new.items
         ≡ text.old.items ++ after_spaces (group_words name.now count)) }

@@ -1,4 +1,4 @@
-//! The groups that a bus of a configuration has.
+//! Groups of a bus of a configuration.
 
 ghost use Rattle.std.specs.Prelude.{◌≡◌, map};
 ghost use Rattle.toml.specs.View.{view as data_of};
@@ -8,7 +8,7 @@ ghost use Rattle.srcp_layout_file.specs.Document.{group_in, groups_in, is_group,
 use crate::config::{ConfigFault, Field};
 use toml::Value;
 
-/// Which groups a bus has.
+/// Says which groups a bus has.
 #[derive(Clone, Copy)]
 pub(super) struct Groups {
     pub(super) power: bool,
@@ -17,7 +17,7 @@ pub(super) struct Groups {
     pub(super) fb: bool,
 }
 
-/// The groups that the values name, from left to right.
+/// Returns the groups that the values name, read from left to right.
 pub(super) fn groups_in(values: &[Value]) -> Result<Groups, ConfigFault>
     ensures { result ≡ groups_in no_groups (map data_of values.now) }
 {
@@ -33,7 +33,7 @@ pub(super) fn groups_in(values: &[Value]) -> Result<Groups, ConfigFault>
     Ok(groups)
 }
 
-/// The name of one of the four groups.
+/// Returns the name of one of the four groups.
 fn group_in(value: &Value) -> Result<&str, ConfigFault>
     ensures { Shows (λ name. name.now) result (group_in (data_of value.now)) }
 {
@@ -50,7 +50,7 @@ fn is_group(name: &str) -> bool
     name == "POWER" || name == "GL" || name == "GA" || name == "FB"
 }
 
-/// The groups and the one of this name.
+/// Adds the group of this name.
 fn with_group(groups: Groups, name: &str) -> Groups
     ensures { result ≡ with_group groups name.now }
 {

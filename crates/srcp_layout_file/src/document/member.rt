@@ -1,4 +1,4 @@
-//! A value of a table: whether it is there, and of the type and within the limits that its key asks for.
+//! A value of a table: it has to be there, and of the type and within the limits that its key asks for.
 
 ghost use Rattle.std.specs.Prelude.{◌≡◌, ◌≤◌, map, option_map, IfOk};
 ghost use Rattle.toml.specs.Data.{get_member};
@@ -11,7 +11,7 @@ use crate::config::{ConfigFault, Field};
 use crate::fault::key_of;
 use toml::{Table, Value};
 
-/// The value at the key.
+/// Returns the value at the key.
 fn find_member(members: &Table, field: Field) -> Option<&Value>
     ensures { option_map (λ value. data_of value.now) result
         ≡ get_member (field_key field) (table_view members.now) }
@@ -19,7 +19,7 @@ fn find_member(members: &Table, field: Field) -> Option<&Value>
     members.get(key_of(field))
 }
 
-/// The value at the key, which must be there.
+/// Returns the value at the key, which must be there.
 pub(super) fn required(members: &Table, field: Field) -> Result<&Value, ConfigFault>
     ensures { Shows (λ value. data_of value.now) result (required field (table_view members.now)) }
 {
@@ -29,7 +29,7 @@ pub(super) fn required(members: &Table, field: Field) -> Result<&Value, ConfigFa
     }
 }
 
-/// The values of an array.
+/// Returns the values of an array.
 pub(super) fn array_in(value: &Value, field: Field) -> Result<&[Value], ConfigFault>
     ensures { Shows (λ values. map data_of values.now) result (array_in field (data_of value.now)) }
 {
@@ -39,7 +39,7 @@ pub(super) fn array_in(value: &Value, field: Field) -> Result<&[Value], ConfigFa
     }
 }
 
-/// An integer from low to high.
+/// Returns an integer from `low` to `high`.
 fn ranged(value: &Value, field: Field, low: u32, high: u32) -> Result<u32, ConfigFault>
     ensures value { result ≡ ranged low high field (data_of value.now) }
     ensures within { IfOk result (λ n. (low ≤ n) × (n ≤ high)) }
@@ -53,7 +53,7 @@ fn ranged(value: &Value, field: Field, low: u32, high: u32) -> Result<u32, Confi
     }
 }
 
-/// The integer at the key, which must be there.
+/// Returns the integer at the key, which must be there.
 pub(super) fn number_in(
     members: &Table,
     field: Field,
@@ -66,7 +66,7 @@ pub(super) fn number_in(
     ranged(required(members, field)?, field, low, high)
 }
 
-/// The integer at the key, or the default if it is not given.
+/// Returns the integer at the key, or the default if it is not given.
 pub(super) fn given_or(
     members: &Table,
     field: Field,
@@ -84,7 +84,7 @@ pub(super) fn given_or(
     }
 }
 
-/// The integer at the key, which is read only if the bus has the group: 0 if it does not.
+/// Returns the integer at the key if the bus has the group, and 0 if it does not.
 pub(super) fn number_if(
     is_there: bool,
     members: &Table,
