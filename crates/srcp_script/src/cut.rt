@@ -23,7 +23,8 @@ pub fn cut_at(byte: u8, text: &[u8]) -> (&[u8], Option<&[u8]>)
     }
 }
 
-/// Where such a byte first stands. A space is looked for byte by byte, since the words of a script are short.
+/// Returns the offset of the first such byte. A space is looked for byte by byte, since the words of a script are
+/// short.
 #[inline(always)]
 fn find_byte(byte: u8, text: &[u8]) -> Option<usize>
     ensures { result ≡ position (λ b. b == byte) text.now }

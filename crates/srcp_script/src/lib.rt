@@ -1,8 +1,8 @@
-//! Scripts, and what is printed of their run: it reads a script into the events of a run
-//! (`read_script`), names its first fault (`ScriptFault`), and prints the record of a run and the row of
-//! a registry (`print_shown`). Of a record it prints the line of each connection (`connection_line`),
-//! what ends the last line that it was sent (`line_end`), and what follows the connections
-//! (`print_end`). `cut_at` cuts a text at a byte, as its lines and their words are cut.
+//! Scripts, and what is printed of their run. It reads a script into the events of a run (`read_script`), names its
+//! first fault (`ScriptFault`), and prints the record of a run and the row of a registry (`print_shown`). Of a record
+//! it prints the line of each connection (`connection_line`), what ends the last line that was sent to it
+//! (`line_end`), and what follows the connections (`print_end`). `cut_at` cuts a text at a byte, as the lines and
+//! words of a script are cut.
 //!
 //! It runs no event: `srcp_core` does that. It does no input or output, and knows no configuration.
 #![tactic(auto)]

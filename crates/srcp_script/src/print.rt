@@ -19,7 +19,7 @@ use std::alloc::{AllocError, Global};
 use std::string::String;
 use std::vec::Vec;
 
-/// Returns the line of a connection: its number, how many bytes it was sent, and how it stands. Takes no memory.
+/// Returns the line of a connection: its number, how many bytes were sent to it, and its state. Allocates no memory.
 #[tactic(auto, using(crate::proofs::Prints::finish_most))]
 pub fn connection_line(number: usize, conn: &ConnRecord) -> LineBuf
     ensures { result.items ≡ connection_line number conn.now }
@@ -51,7 +51,7 @@ pub fn line_end(bytes: &[u8]) -> &'static [u8]
     if is_cut(bytes) { b"\n" } else { b"" }
 }
 
-/// Whether there are bytes that do not end in an LF.
+/// Returns whether there are bytes that do not end in an LF.
 fn is_cut(bytes: &[u8]) -> bool
     ensures { result ≡ not (is_empty (rest bytes.now)) }
 {

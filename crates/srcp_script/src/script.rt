@@ -14,7 +14,7 @@ use std::alloc::Global;
 use std::vec::Vec;
 use thiserror::Error;
 
-/// What is wrong in a line of a script.
+/// Says what is wrong in a line of a script.
 #[derive(Clone, Copy, Debug, PartialEq, Eq)]
 pub enum Cause {
     /// The part before the first space is none of the five words.
@@ -23,23 +23,23 @@ pub enum Cause {
     Number,
     /// A backslash is followed by something that is no escape.
     Escape,
-    /// Memory was refused.
+    /// Memory is refused.
     Memory,
 }
 
-/// The first wrong line of a script, counted from 1 with the lines that are skipped.
+/// Names the first wrong line of a script, counted from 1 with the lines that are skipped.
 #[derive(Clone, Copy, Debug, PartialEq, Eq, Error)]
 pub struct ScriptFault {
     pub line: usize,
     pub cause: Cause,
 }
 
-/// Reads the events of a script, in order. Lines end in LF, the last may lack it; empty lines and lines
-/// that begin with `#` are skipped.
+/// Reads the events of a script, in order. Lines end in LF, and the last may lack it. Empty lines and lines that begin
+/// with `#` are skipped.
 ///
 /// # Errors
-/// The first wrong line, and in it the first fault from left to right; `Cause::Memory` only if memory is
-/// refused.
+/// Returns the first wrong line, and in it the first fault from left to right. Returns `Cause::Memory` only if memory
+/// is refused.
 pub fn read_script(alloc: Global, bytes: &[u8]) -> Result<Vec<Event>, ScriptFault>
     ensures events { IfOk result (λ events. script bytes.now ≡ Ok events.items) }
     ensures refused { IfErr result
@@ -72,7 +72,7 @@ fn push_event(alloc: Global, line: &[u8], events: &mut Vec<Event>) -> Result<(),
     events.push(event).map_err(|_| Cause::Memory)
 }
 
-/// Whether the line is empty or begins with `#`.
+/// Returns whether the line is empty or begins with `#`.
 fn is_skipped(line: &[u8]) -> bool
     ensures { result ≡ is_skipped line.now }
 {

@@ -15,7 +15,7 @@ use std::alloc::Global;
 /// Reads the event of a line.
 ///
 /// # Errors
-/// The first fault of the line from left to right; `Memory` if memory is refused.
+/// Returns the first fault of the line from left to right, and `Memory` if memory is refused.
 pub(super) fn read_event(alloc: Global, line: &[u8]) -> Result<Event, Cause>
     ensures { MatchResult result
         (λ event. event_of line.now ≡ Ok event)
@@ -81,7 +81,7 @@ fn shut_line(rest: Option<&[u8]>) -> Result<Event, Cause>
     Ok(Event::Shut { conn })
 }
 
-/// The next part and what follows it; a part that is missing is a fault of its number.
+/// Returns the next part and what follows it. A part that is missing is a fault of its number.
 fn next_part(rest: Option<&[u8]>) -> Result<(&[u8], Option<&[u8]>), Cause>
     ensures { MatchResult result
         (λ next. parts_behind 32 (option_copied rest.entry) ≡ next.0.now ∷ parts_behind 32 (option_copied next.1))
@@ -93,7 +93,7 @@ fn next_part(rest: Option<&[u8]>) -> Result<(&[u8], Option<&[u8]>), Cause>
     }
 }
 
-/// The only part that is left.
+/// Returns the only part that is left.
 #[tactic(auto, using(crate::proofs::Cuts::some_part))]
 fn last_part(rest: Option<&[u8]>) -> Result<&[u8], Cause>
     ensures { MatchResult result
@@ -106,7 +106,7 @@ fn last_part(rest: Option<&[u8]>) -> Result<&[u8], Cause>
     }
 }
 
-/// The number of a connection, 1 to 4294967295.
+/// Reads the number of a connection, 1 to 4294967295.
 fn read_connection(part: &[u8]) -> Result<usize, Cause>
     ensures { result ≡ connection part.now }
 {
@@ -116,7 +116,7 @@ fn read_connection(part: &[u8]) -> Result<usize, Cause>
     }
 }
 
-/// A number of bytes, 0 to 4294967295.
+/// Reads a number of bytes, 0 to 4294967295.
 fn read_size(part: &[u8]) -> Result<usize, Cause>
     ensures { result ≡ size part.now }
 {
@@ -126,7 +126,7 @@ fn read_size(part: &[u8]) -> Result<usize, Cause>
     }
 }
 
-/// A moment, any number of 64 bits; leading zeros are allowed.
+/// Reads a moment, any number of 64 bits. Leading zeros are allowed.
 fn read_moment(part: &[u8]) -> Result<u64, Cause>
     ensures { result ≡ moment part.now }
 {
