@@ -1,13 +1,15 @@
+//! The door of a server: what it asks of the outside.
+
 ghost use Rattle.std.specs.Prelude.{◌≡◌, ℕ, ◌<◌, ◌≤◌, List, Option, None, length, OnOk, OnErr, IfOk, IfErr};
 ghost use Rattle.srcp_serve.specs.Calls.{Call, Tells, one_more};
 ghost use Rattle.srcp_serve.specs.Calls.{ExpectCall, NowCall, AcceptCall, ReadCall, WriteCall, CloseCall};
 
-/// Which call of a door failed.
+/// Names the call of a door that failed.
 #[derive(Clone, Copy, Debug, PartialEq, Eq)]
 pub enum DoorFault {
-    /// The door could not tell the time.
+    /// The time is not known.
     Now,
-    /// The door could not accept a peer, or lost the one that it accepted.
+    /// No peer could be accepted, or the one that was is lost.
     Accept,
     /// A peer could not be read.
     Read,
@@ -17,49 +19,49 @@ pub enum DoorFault {
     Close,
 }
 
-/// What a read returned.
+/// The answer to a read.
 #[derive(Clone, Copy, Debug, PartialEq, Eq)]
 pub enum Got {
-    /// This many bytes, at the start of the buffer; at least one.
+    /// This many bytes, at the start of the buffer. They are at least one.
     Bytes(usize),
-    /// No bytes yet; more may come.
+    /// No bytes are here yet, and more may come.
     Nothing,
-    /// The end of the input: the peer sends no more.
+    /// The input is over: the peer sends no more.
     Ended,
 }
 
-/// What came of serving.
+/// The counts of a server that ended.
 #[derive(Clone, Copy, Debug, PartialEq, Eq)]
 pub struct Served {
     /// The number of turns.
     pub turns: u64,
     /// The number of peers that got a connection.
     pub opened: u64,
-    /// The number of calls of the door that failed; it stops at the greatest u64.
+    /// The number of calls of the door that failed. It stops at the greatest u64.
     pub faults: u64,
 }
 
-/// What a server asks of the outside: the time, and the input and output of its peers. A call that fails says which
-/// call it was, and the door counts it.
+/// What a server asks of the outside: the time, and the input and output of its peers. A failure names its call, and
+/// the door counts it.
 pub trait Door {
-    /// The number of calls that failed; it stops at the greatest u64.
+    /// The number of calls that failed. It stops at the greatest u64.
     ghost faults: { Self → ℕ };
 
-    /// The calls so far with their answers, if the door keeps them.
+    /// The calls with their answers, if the door keeps them.
     ghost told: { Self → Option (List Call) } = { λ _. None };
 
-    /// Tells the door what to expect: when the next row falls due, if one does, and how many more changes each
-    /// information session can take, if there is one. `serve` calls it right before `now`. So a door that waits there
-    /// knows for how long it may wait, and how much input it may hand out after that.
+    /// Tells the door when the next row falls due, and how many more changes each information session can take. Each
+    /// is `None` if there is none. `serve` calls it right before `now`, so that a door knows how long it may wait. The
+    /// door also knows how much input it may then hand out.
     fn expect(&mut self, due: Option<u64>, slack: Option<usize>)
         ensures faults { faults self.new ≡ faults self.old }
         ensures told { Tells (told self.old) (ExpectCall due slack) (told self.new) };
 
-    /// Returns the time, in milliseconds since 1970. A door over sockets waits here for input, for room and for the
+    /// Returns the time, in milliseconds since 1970. A door over sockets waits here for input, for room, and for the
     /// next row that falls due.
     ///
     /// # Errors
-    /// `Now` if the time is not known.
+    /// Returns `Now` if the time is not known.
     fn now(&mut self) -> Result<u64, DoorFault>
         ensures ok { OnOk result (faults self.new ≡ faults self.old) }
         ensures err { OnErr result (faults self.new ≡ one_more (faults self.old)) }
@@ -70,17 +72,17 @@ pub trait Door {
     /// and no later peer gets it.
     ///
     /// # Errors
-    /// `Accept` if no peer could be accepted, or the one that was is lost.
+    /// Returns `Accept` if no peer could be accepted, or the one that was is lost.
     fn accept(&mut self) -> Result<Option<u32>, DoorFault>
         ensures ok { OnOk result (faults self.new ≡ faults self.old) }
         ensures err { OnErr result (faults self.new ≡ one_more (faults self.old)) }
         ensures fault { IfErr result (λ fault. fault ≡ DoorFault.Accept) }
         ensures told { Tells (told self.old) (AcceptCall result) (told self.new) };
 
-    /// Reads what has come from a peer, at most as much as the buffer holds.
+    /// Reads the bytes that came from a peer, at most as many as the buffer holds.
     ///
     /// # Errors
-    /// `Read` if the peer cannot be read: it is lost.
+    /// Returns `Read` if the peer cannot be read. The peer is lost then.
     fn read(&mut self, peer: u32, buf: &mut [u8]) -> Result<Got, DoorFault>
         requires { 0 < length buf.old }
         ensures ok { OnOk result (faults self.new ≡ faults self.old) }
@@ -89,11 +91,11 @@ pub trait Door {
         ensures count { (n : ℕ) → result ≡ Ok (Got.Bytes n) → (0 < n) × (n ≤ length buf.old) }
         ensures told { Tells (told self.old) (ReadCall peer result buf.new) (told self.new) };
 
-    /// Writes to a peer as much as it takes now. Returns how many bytes it took, from the first on; the others have to
+    /// Writes to a peer as many bytes as it takes, from the first on. Returns how many these were. The others have to
     /// be written again.
     ///
     /// # Errors
-    /// `Write` if the peer cannot be written to: it took none of these bytes, and is lost.
+    /// Returns `Write` if the peer cannot be written to. It took none of these bytes then, and is lost.
     fn write(&mut self, peer: u32, bytes: &[u8]) -> Result<usize, DoorFault>
         ensures ok { OnOk result (faults self.new ≡ faults self.old) }
         ensures err { OnErr result (faults self.new ≡ one_more (faults self.old)) }
@@ -104,7 +106,7 @@ pub trait Door {
     /// Closes a peer. No later call names it.
     ///
     /// # Errors
-    /// `Close` if that fails; the peer is closed all the same.
+    /// Returns `Close` if that fails. The peer is closed all the same.
     fn close(&mut self, peer: u32) -> Result<(), DoorFault>
         ensures ok { OnOk result (faults self.new ≡ faults self.old) }
         ensures err { OnErr result (faults self.new ≡ one_more (faults self.old)) }

@@ -1,4 +1,4 @@
-//! Laws of every list of calls that serving makes. Each function does nothing: what it ensures is a law.
+//! Laws of every list of calls that serving makes. Each function does nothing: its `ensures` is the law.
 
 ghost use Rattle.std.specs.Prelude.{List};
 ghost use Rattle.srcp_rules.specs.declared.layout.Bus.{Bus};
@@ -8,26 +8,26 @@ ghost use Rattle.srcp_serve.specs.Settling.{SettlesSoon, WaitsAreGoneAfterAVisit
 ghost use Rattle.srcp_serve.specs.Pacing.{LightServingSparesAll, LightTurnsSpare};
 ghost use Rattle.srcp_serve.specs.Pacing.{PacedServingSparesAll, PacedTurnsSpare};
 
-/// Ensures that each peer took, to the byte, what the course of the calls says that its connection was sent. The calls
-/// are those of some turns, no peer was accepted twice, and each answer is one that a door may give.
+/// States that each peer took, to the byte, what the course of the calls sends its connection. The calls are those of
+/// some turns, no peer was accepted twice, and each answer is one that a door may give.
 pub fn sent_is_taken()
     ensures { (buses : List Bus) → SentIsTaken buses }
 {}
 
-/// Ensures that memory was given in all calls, if the core counted exactly the refusals in them, and counts none.
+/// States that memory was given in all calls, if the core counted exactly the refusals in them, and counts none.
 pub fn gives_unless_counted()
     ensures { GivesUnlessCounted }
 {}
 
-/// Ensures that a turn makes no panel overrun if it brings no more changes than the slack that the door was told
-/// (`each`). That is 256 if there was no panel. If each turn is so, no panel ever overran (`all`).
+/// States that a turn makes no panel overrun if it brings at most as many changes as the slack that the door was told
+/// (`each`). The slack is 256 if there was no panel. If each turn is so, no panel ever overran (`all`).
 pub fn paced_turns()
     ensures each { (buses : List Bus) → PacedTurnsSpare buses }
     ensures all { (buses : List Bus) → PacedServingSparesAll buses }
 {}
 
-/// Ensures that a turn makes no panel overrun if its lines are light enough (`each`). Two sums together have to be
-/// within the slack that the door was told, or within 256 if it was told none. One is of the weights, by
+/// States that a turn makes no panel overrun if its lines are light enough (`each`). Two sums together have to be
+/// within the slack that the door was told, which is 256 if there was no panel. One is of the weights, by
 /// `srcp_rules::weight`, of the lines that end in the bytes of the turn. The other is of the changes of its moment and
 /// of the ends of sessions. If each turn is so, no panel ever overran (`all`).
 pub fn light_turns()
@@ -35,15 +35,15 @@ pub fn light_turns()
     ensures all { (buses : List Bus) → LightServingSparesAll buses }
 {}
 
-/// Ensures that an information session is settled after enough turns that bring no change, if in each of them its peer
-/// took all that it was handed and was not lost. Enough is when 300 times their number is at least the number of lines
-/// that it was owed, and one more if bytes were unsent.
+/// States that an information session is settled after enough turns that bring no change. In each of them its peer
+/// takes all that is handed to it, and is not lost. Enough is when 300 times their number is at least the number of
+/// lines that it was owed, and one more if bytes were unsent.
 pub fn settles_soon()
     ensures { (buses : List Bus) → SettlesSoon buses }
 {}
 
-/// Ensures that no change waits for an information session right after a visit in which its peer took all that it was
-/// handed: at most 256 wait, a visit writes up to 300 times, and changes go before rows.
+/// States that no change waits for an information session right after a visit in which its peer takes all that is
+/// handed to it. At most 256 wait, a visit writes up to 300 times, and changes go before rows.
 pub fn waits_are_gone_after_a_visit()
     ensures { (buses : List Bus) → WaitsAreGoneAfterAVisit buses }
 {}

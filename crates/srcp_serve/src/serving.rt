@@ -1,4 +1,4 @@
-//! The turns of a server: what it asks of its door in each, and what it does with the answers.
+//! Turns of a server: what it asks of its door in each, and what it does with the answers.
 
 ghost use Rattle.std.specs.Prelude.{◌≡◌, ◌<◌, ◌≤◌, ◌+◌, replicate, None};
 ghost use Rattle.srcp_core.specs.declared.limits.TheConstants.{MOST_CONNECTIONS};
@@ -18,23 +18,23 @@ use srcp_rules::Rows;
 pub use visit::MOST_WRITES;
 use visit::Seat;
 
-/// A server over a door, with the peers that have places.
+/// A server over a door, with the slots of its peers.
 #[derive(Drop)]
 struct Server<'d, D: Door> {
     door: &'d mut D,
     places: Places,
     tally: Tally,
-    // The buffer of a read. One serves all peers, since a new one would be cleared for each visit.
+    // One read buffer serves all peers, since a new one would be cleared for each visit.
     buffer: [u8; MOST_IN_PIECE],
 }
 
 /// Serves the peers of a door for this many turns, over a core that has no connection. Returns how many connections
 /// were opened, and how many calls of the door failed.
 ///
-/// Each turn advances the core to the time that the door tells, accepts one peer, and visits each peer that has a
-/// place. A visit reads the peer if its connection accepts bytes, and writes what the core lends. It closes the peer if
-/// that is lost or its connection is to be closed. Serving goes on after a call that fails. It goes on if memory is
-/// refused, too: a newcomer is closed then, or a line is answered by 500.
+/// Each turn advances the core to the door's time, accepts one peer, and visits each peer that has a slot. A visit
+/// reads the peer if its connection accepts bytes, and writes what the core lends. It closes the peer if that is lost
+/// or its connection is to be closed. Serving goes on after a call that fails, and if memory is refused. A newcomer is
+/// closed then, or a line is answered 500.
 pub fn serve<R: Rows, D: Door>(core: &mut Core<'_, R>, door: &mut D, turns: u64) -> Served
     ensures turns { result.turns ≡ turns }
     ensures faults { D.faults door.new < 18446744073709551615 → D.faults door.old + result.faults ≡ D.faults door.new }
@@ -63,7 +63,7 @@ fn one_more_if(counts: bool, count: u64) -> u64
 }
 
 impl<'d, D: Door> Server<'d, D> {
-    /// Returns a server before its first turn: every place is free, and no call failed.
+    /// Makes a server with every slot free and no call failed.
     fn new(door: &'d mut D) -> Server<'d, D>
         ensures same_door { result.door.ghost_name ≡ door.entry.ghost_name }
         ensures door { result.door.now ≡ door.old }
@@ -78,7 +78,7 @@ impl<'d, D: Door> Server<'d, D> {
         }
     }
 
-    /// Makes a turn. Returns whether a newcomer was let in.
+    /// Makes a turn. Returns whether a peer was let in.
     fn turn<R: Rows>(&mut self, core: &mut Core<'_, R>) -> bool
         requires { self.old.tally.faults ≤ D.faults self.old.door.now }
         ensures same_door { self.new.door.ghost_name ≡ self.old.door.ghost_name }
@@ -94,7 +94,7 @@ impl<'d, D: Door> Server<'d, D> {
         opens
     }
 
-    /// Visits the peers that have places, in the order of the places.
+    /// Visits the peers that have slots, in the order of the slots.
     fn visit_places<R: Rows>(&mut self, core: &mut Core<'_, R>)
         requires { self.old.tally.faults ≤ D.faults self.old.door.now }
         ensures same_door { self.new.door.ghost_name ≡ self.old.door.ghost_name }
@@ -110,7 +110,7 @@ impl<'d, D: Door> Server<'d, D> {
         }
     }
 
-    /// Visits the peer that has the place, if one does. Frees the place if the visit closed the peer.
+    /// Visits the peer of the slot, if it has one. Frees the slot if the visit closed the peer.
     fn visit_place<R: Rows>(&mut self, core: &mut Core<'_, R>, place: usize)
         requires counted { self.old.tally.faults ≤ D.faults self.old.door.now }
         requires within { place < MOST_CONNECTIONS }
@@ -150,7 +150,7 @@ impl<'d, D: Door> Server<'d, D> {
         }
     }
 
-    /// Accepts one peer, if one wants in. Returns whether it got a place.
+    /// Accepts one peer, if one is pending. Returns whether it got a slot.
     fn let_in<R: Rows>(&mut self, core: &mut Core<'_, R>) -> bool
         requires { self.old.tally.faults ≤ D.faults self.old.door.now }
         ensures same_door { self.new.door.ghost_name ≡ self.old.door.ghost_name }
@@ -170,8 +170,8 @@ impl<'d, D: Door> Server<'d, D> {
         }
     }
 
-    /// Gives a peer a connection and the first free place. Closes the peer if the core refuses the connection. Returns
-    /// whether the peer got a place.
+    /// Gives a peer a connection and the first free slot. Closes the peer if the core refuses the connection. Returns
+    /// whether the peer got a slot.
     fn seat<R: Rows>(&mut self, core: &mut Core<'_, R>, peer: u32) -> bool
         requires { self.old.tally.faults ≤ D.faults self.old.door.now }
         ensures same_door { self.new.door.ghost_name ≡ self.old.door.ghost_name }
@@ -186,7 +186,7 @@ impl<'d, D: Door> Server<'d, D> {
             return false;
         };
         let seat = Seat { peer, key };
-        // The core had fewer connections than there are places, so one is free.
+        // The core had fewer connections than there are slots, so one is free.
         let Some(free) = self.places.first_free() else {
             self.let_go(core, seat);
             return false;

@@ -1,4 +1,4 @@
-//! Which peer has which place.
+//! Slots, and the peers that have them.
 
 ghost use Rattle.std.specs.Prelude.{◌≡◌, ◌<◌, ◌≤◌, Some, None, is_none, length, position, replicate};
 ghost use Rattle.std.specs.Prelude.{slice_set};
@@ -9,11 +9,11 @@ use super::visit::Seat;
 use srcp_core::MOST_CONNECTIONS;
 use std::marker::Model;
 
-/// The places, each with the peer that has it. Contracts see them as a list.
+/// Holds the slots, each with the peer that has it. Contracts see them as a list.
 #[derive(Drop)]
 pub(super) struct Places {
     seats: [Option<Seat>; MOST_CONNECTIONS],
-    // All places from here on are free, so a turn need not look at them.
+    // All slots from here on are free, so a turn skips them.
     end: usize,
 }
 
@@ -32,7 +32,7 @@ impl Model for Places {
 }
 
 impl Places {
-    /// Returns places that are all free.
+    /// Makes slots that are all free.
     pub(super) fn new() -> Places
         ensures { result ≡ replicate MOST_CONNECTIONS None }
     {
@@ -42,7 +42,7 @@ impl Places {
         }
     }
 
-    /// Returns an end of the places that may be taken: all from it on are free.
+    /// Returns the end of the slots in use: all from it on are free.
     pub(super) fn end(&self) -> usize
         ensures free { AreFreeFrom result self.now }
         ensures most { result ≤ MOST_CONNECTIONS }
@@ -51,7 +51,7 @@ impl Places {
         self.end
     }
 
-    /// Returns the peer that has the place, if one does.
+    /// Returns the peer of the slot, if it has one.
     pub(super) fn seat(&self, place: usize) -> Option<Seat>
         requires { place < MOST_CONNECTIONS }
         ensures { result ≡ slice_index_or self.now place None }
@@ -59,7 +59,7 @@ impl Places {
         self.seats[place]
     }
 
-    /// Returns the first free place, if there is one.
+    /// Returns the first free slot, if there is one.
     pub(super) fn first_free(&self) -> Option<usize>
         ensures first { result ≡ position is_none self.now }
         ensures all { length self.now ≡ MOST_CONNECTIONS }
@@ -67,7 +67,7 @@ impl Places {
         self.seats.iter().position(|place| place.is_none())
     }
 
-    /// Gives the place to a peer.
+    /// Gives the slot to a peer.
     pub(super) fn give(&mut self, place: usize, seat: Seat)
         requires { place < MOST_CONNECTIONS }
         ensures { self.new ≡ slice_set self.old place (Some seat) }
@@ -76,7 +76,7 @@ impl Places {
         self.end = self.end.max(place + 1);
     }
 
-    /// Frees the place.
+    /// Frees the slot.
     pub(super) fn free(&mut self, place: usize)
         requires { place < MOST_CONNECTIONS }
         ensures { self.new ≡ slice_set self.old place None }

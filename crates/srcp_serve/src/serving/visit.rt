@@ -1,4 +1,4 @@
-//! The visit of a peer that has a place.
+//! The visit of a peer that has a slot.
 
 ghost use Rattle.std.specs.Prelude.{◌≡◌, ◌<◌, ◌≤◌, ◌+◌};
 ghost use Rattle.srcp_serve.specs.Tally.{CountsFaults};
@@ -20,20 +20,20 @@ pub(super) struct Seat {
     pub key: usize,
 }
 
-/// How a write went.
+/// Says how a write went.
 #[derive(Clone, Copy)]
 enum Wrote {
-    /// The peer took all that it was handed.
+    /// The peer took all bytes.
     All,
-    /// Nothing was lent, or the peer took less.
+    /// Nothing was lent, or the peer took a part.
     Less,
     /// The peer is lost.
     Failed,
 }
 
 impl<'d, D: Door> Server<'d, D> {
-    /// Reads from the peer and writes to it. Closes it if it is lost or its connection is to be closed. Returns whether
-    /// it keeps its place.
+    /// Reads from the peer and writes to it. Closes it if it is lost or its connection is to be closed. Returns
+    /// whether it keeps its slot.
     pub(super) fn visit<R: Rows>(&mut self, core: &mut Core<'_, R>, seat: Seat) -> bool
         requires { self.old.tally.faults ≤ D.faults self.old.door.now }
         ensures same_door { self.new.door.ghost_name ≡ self.old.door.ghost_name }
@@ -51,7 +51,7 @@ impl<'d, D: Door> Server<'d, D> {
         false
     }
 
-    /// Shuts the connection of a peer and closes the peer.
+    /// Hangs up the connection of a peer and closes the peer.
     pub(super) fn let_go<R: Rows>(&mut self, core: &mut Core<'_, R>, seat: Seat)
         requires { self.old.tally.faults ≤ D.faults self.old.door.now }
         ensures same_door { self.new.door.ghost_name ≡ self.old.door.ghost_name }
