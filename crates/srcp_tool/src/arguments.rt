@@ -1,4 +1,4 @@
-//! The words that the program is given.
+//! The words of the command line.
 
 ghost use Rattle.std.specs.Prelude.{◌≡◌, false, map, option_map, string_bytes, IfOk};
 ghost use Rattle.clap.specs.Words.{app_of, fault_of, found_of, rows_of, rule_of, subcommand_rows_of, FailsBy};
@@ -15,9 +15,8 @@ use std::string::String;
 /// Returns what the words ask for, the program's name first.
 ///
 /// # Errors
-/// What `clap` answers if the words ask for nothing that the program does, or for `--help` or
-/// `--version`: it has the text, where that goes, and the status. Its kind is `OutOfMemory` if memory
-/// is refused.
+/// Returns what `clap` answers if the words ask for nothing that the program does, or for `--help` or `--version`.
+/// That has the text, the stream that it goes to, and the status. Its kind is `OutOfMemory` if memory is refused.
 pub fn read_words<'a>(alloc: Global, words: &'a [String]) -> Result<Tool<'a>, Error>
     ensures task { IfOk result (λ tool. task_of tool ≡ task (map string_bytes words.entry.now)) }
     ensures kinds { FailsBy (fault_of program_app (map string_bytes words.entry.now)) result }
@@ -26,7 +25,7 @@ pub fn read_words<'a>(alloc: Global, words: &'a [String]) -> Result<Tool<'a>, Er
     Ok(tool_in(&matches))
 }
 
-/// What the matches ask for: to replay if they have no subcommand.
+/// Returns what the matches ask for, which is a replay if they have no subcommand.
 fn tool_in<'a>(matches: &ArgMatches<'a>) -> Tool<'a>
     ensures { task_of result ≡ task_in (subcommand_rows_of matches.now) }
 {
@@ -55,21 +54,21 @@ fn subtool<'a>(name: &str, found: &ArgMatches<'a>) -> Tool<'a>
     }
 }
 
-/// The file that is given by `--config`.
+/// Returns the file that `--config` names.
 fn config_in<'a>(found: &ArgMatches<'a>) -> Option<&'a str>
     ensures { option_map (λ file. file.now) result ≡ config_in (rows_of (found_of found.now)) }
 {
     found.get_str("config")
 }
 
-/// The number that is given by `--turns`, or as many turns as can be counted.
+/// Returns the number that `--turns` gives, or the greatest u64.
 fn turns_in(found: &ArgMatches<'_>) -> u64
     ensures { result ≡ turns_in (rows_of (found_of found.now)) }
 {
     found.get_one::<u64>("turns").unwrap_or(u64::MAX)
 }
 
-/// The command with its four subcommands.
+/// Makes the command with its four subcommands.
 fn program<'a>(alloc: Global) -> Result<Command<'a>, AllocError>
     ensures app { IfOk result (λ command. app_of command ≡ program_app) }
     ensures local { IfOk result (λ command. (fields_of command).has_globals ≡ false) }
@@ -80,7 +79,7 @@ fn program<'a>(alloc: Global) -> Result<Command<'a>, AllocError>
     command.subcommand(serve)
 }
 
-/// The command with the two subcommands that work on standard input.
+/// Makes the command with the two subcommands that work on standard input.
 fn over_lines<'a>(alloc: Global) -> Result<Command<'a>, AllocError>
     ensures app { IfOk result (λ command. app_of command ≡ over_lines_app) }
     ensures local { IfOk result (λ command. (fields_of command).has_globals ≡ false) }
@@ -91,7 +90,7 @@ fn over_lines<'a>(alloc: Global) -> Result<Command<'a>, AllocError>
     command.subcommand(mirror)
 }
 
-/// The command without its subcommands.
+/// Makes the command without its subcommands.
 fn server<'a>(alloc: Global) -> Command<'a>
     ensures app { app_of result ≡ server_app }
     ensures local { (fields_of result).has_globals ≡ false }
@@ -138,7 +137,7 @@ fn serve<'a>(alloc: Global) -> Result<Command<'a>, AllocError>
     command.arg(turns(alloc))
 }
 
-/// `--config F`.
+/// Makes the option `--config F`.
 fn config<'a>(alloc: Global, required: bool) -> Arg<'a>
     ensures rule { rule_of result ≡ config_rule required }
     ensures local { result.global ≡ false }
@@ -150,7 +149,7 @@ fn config<'a>(alloc: Global, required: bool) -> Arg<'a>
         .required(required)
 }
 
-/// `--turns N`.
+/// Makes the option `--turns N`.
 fn turns<'a>(alloc: Global) -> Arg<'a>
     ensures rule { rule_of result ≡ turns_rule }
     ensures local { result.global ≡ false }

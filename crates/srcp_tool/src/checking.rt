@@ -1,4 +1,4 @@
-//! What a configuration says, printed for a person.
+//! A configuration, checked and printed for a person.
 
 ghost use Rattle.std.specs.Prelude.{◌≡◌, IfOk, IfErr};
 ghost use Rattle.srcp_tool.specs.Output.{check_output, RefusesFor, Writes};
@@ -10,11 +10,11 @@ use std::alloc::Global;
 use std::io::Write;
 use std::vec::Vec;
 
-/// Returns what the bytes of a configuration say: the port, and for each bus, by rising number, its groups
-/// with how much there is of each. The ports of an accessory are printed if there are more than two.
+/// Returns what the bytes of a configuration say: the port, then each bus by rising number, with its groups and their
+/// sizes. The ports of an accessory are printed if there are more than two.
 ///
 /// # Errors
-/// `Config` for the configuration's first fault, `Memory` if memory is refused.
+/// Returns `Config` for the configuration's first fault, and `Memory` if memory is refused.
 pub fn check_text(alloc: Global, bytes: &[u8]) -> Result<Vec<u8>, ToolFault>
     ensures text { IfOk result (λ text. check_output bytes.now ≡ Ok text.items) }
     ensures stops { IfErr result (RefusesFor (λ fault. check_output bytes.now ≡ Err fault)) }
@@ -27,8 +27,8 @@ pub fn check_text(alloc: Global, bytes: &[u8]) -> Result<Vec<u8>, ToolFault>
 /// Writes what the bytes of a configuration say (`check_text`).
 ///
 /// # Errors
-/// `Config` for the configuration's first fault, `Memory` if memory is refused: nothing is written then.
-/// `Output` if a write fails or takes nothing: a prefix is written.
+/// Returns `Config` for the configuration's first fault, and `Memory` if memory is refused. Nothing is written then.
+/// Returns `Output` if a write fails or takes nothing. A prefix is written then.
 pub fn check<W: Write>(alloc: Global, bytes: &[u8], writer: &mut W) -> Result<(), ToolFault>
     ensures { Writes (λ text. check_output bytes.now ≡ Ok text)
         (RefusesFor (λ fault. check_output bytes.now ≡ Err fault))

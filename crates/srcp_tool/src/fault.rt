@@ -1,4 +1,4 @@
-//! Why the program stops, with which text and which status.
+//! Faults that stop the program, with their texts and statuses.
 
 ghost use Rattle.std.specs.Prelude.{◌≡◌, Some};
 ghost use Rattle.srcp_tool.specs.Faults.{fault_text, fault_status, stops_at};
@@ -10,8 +10,8 @@ use std::alloc::AllocError;
 use std::fmt;
 use thiserror::Error;
 
-/// Why the program stops. It displays as the text that the program prints on standard error after
-/// `srcp_server: `.
+/// Says why the program stops. It displays as the text that the program prints on standard error after `srcp_server:
+/// `.
 #[derive(Clone, Copy, Debug, PartialEq, Eq, Error)]
 pub enum ToolFault {
     /// The standard input fails.
@@ -24,7 +24,7 @@ pub enum ToolFault {
     Script(ScriptFault),
     /// This line of those to be mirrored, counted from 1, is no information line.
     Line(usize),
-    /// Memory was refused.
+    /// Memory is refused.
     Memory,
     /// The configuration is refused.
     Config(ConfigFault),
@@ -97,8 +97,8 @@ impl From<RunFault> for ToolFault {
 }
 
 impl ToolFault {
-    /// Returns the status with which the program ends: 1 if input or output failed or memory was refused,
-    /// 2 if what was handed in is refused.
+    /// Returns the status with which the program ends: 1 if input or output failed or memory was refused, and 2 if the
+    /// input or the configuration is refused.
     pub fn status(&self) -> u8
         ensures { result ≡ fault_status self.now }
     {

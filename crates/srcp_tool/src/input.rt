@@ -1,4 +1,4 @@
-//! What is read to its end: the standard input, a configuration.
+//! Input that is read to its end: the standard input, a configuration.
 
 ghost use Rattle.std.specs.Prelude.{◌≡◌, ◌<◌, ◌≤◌, length, take, IfOk, IfErr, IfSome, IsErrOf};
 ghost use Rattle.std.specs.Io.KnownBytes.{Consumes, IsAtEnd};
@@ -9,10 +9,10 @@ use std::alloc::Global;
 use std::io::Read;
 use std::vec::Vec;
 
-/// How many bytes may be read of the standard input.
+/// The most bytes that are read of the standard input.
 pub(crate) const INPUT_LIMIT: usize = 16_777_216;
 
-/// How many bytes a configuration may have.
+/// The most bytes of a configuration.
 const CONFIG_LIMIT: usize = 1_048_576;
 
 /// The bytes that are asked for at once.
@@ -21,8 +21,8 @@ pub(crate) const PIECE: usize = 65_536;
 /// Reads the standard input to its end.
 ///
 /// # Errors
-/// `Input` if a read fails, `TooLarge` if there is more than the limit, `Memory` if memory
-/// is refused.
+/// Returns `Input` if a read fails, `TooLarge` if there are more bytes than the limit, and `Memory` if memory is
+/// refused.
 pub(crate) fn read_input<R: Read>(alloc: Global, reader: &mut R) -> Result<Vec<u8>, ToolFault>
     ensures whole { IfOk result (λ input. IfSome (R.remaining reader.old) (λ bytes. input.items ≡ bytes)) }
     ensures within { IfOk result (λ input. length input.items ≤ input_limit) }
@@ -36,8 +36,8 @@ pub(crate) fn read_input<R: Read>(alloc: Global, reader: &mut R) -> Result<Vec<u
 /// Reads a configuration to its end.
 ///
 /// # Errors
-/// `Unreadable` if a read fails, `TooLarge` if there are more than 1,048,576 bytes, `Memory` if
-/// memory is refused.
+/// Returns `Unreadable` if a read fails, `TooLarge` if there are more than 1,048,576 bytes, and `Memory` if memory is
+/// refused.
 pub fn read_config<R: Read>(alloc: Global, reader: &mut R) -> Result<Vec<u8>, ToolFault>
     ensures whole { IfOk result (λ config. IfSome (R.remaining reader.old) (λ bytes. config.items ≡ bytes)) }
     ensures within { IfOk result (λ config. length config.items ≤ config_limit) }
@@ -51,7 +51,7 @@ pub fn read_config<R: Read>(alloc: Global, reader: &mut R) -> Result<Vec<u8>, To
     }
 }
 
-/// Reads to the end, if that is no more than the limit.
+/// Reads to the end, if that takes no more bytes than the limit.
 fn read_within<R: Read>(limit: usize, alloc: Global, reader: &mut R) -> Result<Vec<u8>, ToolFault>
     requires { limit ≤ input_limit }
     ensures whole { IfOk result (λ input. IfSome (R.remaining reader.old) (λ bytes. input.items ≡ bytes)) }
@@ -77,10 +77,10 @@ fn read_within<R: Read>(limit: usize, alloc: Global, reader: &mut R) -> Result<V
     Err(ToolFault::TooLarge)
 }
 
-/// The next bytes that a reader gives, and how many those are: none at its end.
+/// Reads the next bytes of a reader. Returns how many they are: none at its end.
 ///
 /// # Errors
-/// `Input` if the read fails.
+/// Returns `Input` if the read fails.
 pub(crate) fn read_piece<R: Read>(reader: &mut R, piece: &mut [u8]) -> Result<usize, ToolFault>
     ensures within { IfOk result (λ count. count ≤ length piece.new) }
     ensures bytes { IfOk result

@@ -1,11 +1,11 @@
-//! What the program does besides serving: it reads its words (`read_words`) and a configuration's bytes
-//! (`read_config`), replays a script (`replay`), mirrors the lines of a panel (`mirror`), and checks a configuration
-//! (`check`). `ToolFault` says why it stops, with which text and which status.
+//! The program but for serving. It reads its words (`read_words`) and a configuration's bytes (`read_config`), replays
+//! a script (`replay`), mirrors the lines of a panel (`mirror`), and checks a configuration (`check`). `ToolFault`
+//! says why it stops, with which text and which status.
 //!
 //! `check_text` is what `check` writes, as bytes in memory.
 //!
-//! What a configuration says stands in `srcp_layout_file`, and what a script says in `srcp_script`. It asks no socket
-//! and no clock for anything: `srcp_serve` does that. It opens no file; its callers hand it readers and writers.
+//! `srcp_layout_file` reads a configuration, and `srcp_script` a script. This crate calls no socket and no clock:
+//! `srcp_sockets` does. It opens no file; its callers give it readers and writers.
 #![tactic(auto)]
 
 mod arguments;

@@ -12,7 +12,7 @@ use std::io::Write;
 /// Writes all of a text.
 ///
 /// # Errors
-/// `Output` if a write fails or takes nothing; a prefix of the text is written then.
+/// Returns `Output` if a write fails or takes nothing. A prefix of the text is written then.
 pub(crate) fn write_whole<W: Write>(writer: &mut W, text: &[u8]) -> Result<(), ToolFault>
     ensures { WritesText text.now result (W.contents writer.old) (W.contents writer.new) }
 {
@@ -26,10 +26,10 @@ pub(crate) fn write_whole<W: Write>(writer: &mut W, text: &[u8]) -> Result<(), T
     Ok(())
 }
 
-/// Writes what is printed of each connection, from number 1 on. Takes no memory.
+/// Writes what is printed of each connection, from number 1 on. Allocates no memory.
 ///
 /// # Errors
-/// `Output` if a write fails or takes nothing; a prefix of the text is written then.
+/// Returns `Output` if a write fails or takes nothing. A prefix of the text is written then.
 pub(crate) fn write_connections<W: Write>(
     writer: &mut W,
     connections: &[ConnRecord],
@@ -43,7 +43,7 @@ pub(crate) fn write_connections<W: Write>(
     Ok(())
 }
 
-/// Writes the line of a connection, and what it was sent.
+/// Writes the line of a connection, and the bytes that were sent to it.
 fn write_connection<W: Write>(
     writer: &mut W,
     number: usize,

@@ -18,13 +18,13 @@ use std::io::{Read, Write};
 use std::vec::Vec;
 
 /// Reads a script to the end of the input, runs its events over the registry of the layout, and writes the record. The
-/// run begins at moment 0, and session ids at 1. The record has what every connection was sent, which events were
-/// refused, and the rows at the end. It is the same over every keeper of rows.
+/// run begins at moment 0, and session ids at 1. The record has what was sent to each connection, which events were
+/// refused, and the rows at the end. Each keeper of rows gives the same record.
 ///
 /// # Errors
-/// `Input` if a read fails, `TooLarge` if there is more than 16,777,216 bytes, `Script` for the script's first
-/// fault, `Memory` if memory is refused, in the run too: nothing is written then. `Output` if a write fails or
-/// takes nothing: a prefix is written.
+/// Returns `Input` if a read fails, `TooLarge` if there are more than 16,777,216 bytes, and `Script` for the script's
+/// first fault. Returns `Memory` if memory is refused, in the run too. Nothing is written then. Returns `Output` if a
+/// write fails or takes nothing. A prefix is written then.
 pub fn replay<K: Rows, R: Read, W: Write>(
     alloc: Global,
     layout: &Layout,
@@ -41,11 +41,11 @@ pub fn replay<K: Rows, R: Read, W: Write>(
     write_record(alloc, &outline, writer)
 }
 
-/// The outline of a script's run.
+/// Runs a script, and returns the outline of the run.
 ///
 /// # Errors
-/// `TooLarge` if there is more than 16,777,216 bytes, `Script` for the script's first fault, `Memory` if memory is
-/// refused, in the run too.
+/// Returns `TooLarge` if there are more than 16,777,216 bytes, and `Script` for the script's first fault. Returns
+/// `Memory` if memory is refused, in the run too.
 fn run_script<K: Rows>(alloc: Global, layout: &Layout, input: &[u8]) -> Result<Record, ToolFault>
     ensures well_formed { IfOk result (λ run. AllByRecursion (λ row. IsWellFormedShown row.shown) run.rows) }
     ensures text { IfOk result (λ run. replayed layout.now input.now ≡ Ok (printed run)) }
@@ -59,11 +59,11 @@ fn run_script<K: Rows>(alloc: Global, layout: &Layout, input: &[u8]) -> Result<R
     Ok(outline)
 }
 
-/// The events of a script.
+/// Returns the events of a script.
 ///
 /// # Errors
-/// `TooLarge` if there is more than 16,777,216 bytes, `Script` for the script's first fault, `Memory`
-/// if memory is refused.
+/// Returns `TooLarge` if there are more than 16,777,216 bytes, `Script` for the script's first fault, and `Memory` if
+/// memory is refused.
 fn events_of(alloc: Global, input: &[u8]) -> Result<Vec<Event>, ToolFault>
     ensures events { IfOk result (λ events.
         (buses : List Bus) → replayed buses input.now ≡ Ok (printed (run_of buses events.items))) }
@@ -77,11 +77,11 @@ fn events_of(alloc: Global, input: &[u8]) -> Result<Vec<Event>, ToolFault>
     Ok(events)
 }
 
-/// Writes what is printed of a run. What each connection was sent is written from where it is kept.
+/// Writes what is printed of a run. The bytes that were sent to a connection are not copied for that.
 ///
 /// # Errors
-/// `Memory` if memory is refused: nothing is written then. `Output` if a write fails or takes nothing: a prefix is
-/// written.
+/// Returns `Memory` if memory is refused. Nothing is written then. Returns `Output` if a write fails or takes nothing.
+/// A prefix is written then.
 fn write_record<W: Write>(alloc: Global, run: &Record, writer: &mut W) -> Result<(), ToolFault>
     requires { AllByRecursion (λ row. IsWellFormedShown row.shown) run.now.rows }
     ensures { Writes (λ text. text ≡ printed run.now) (RefusesFor (λ fault. ⊥))

@@ -18,14 +18,14 @@ use std::alloc::{AllocError, Global};
 use std::io::{Read, Write};
 use std::vec::Vec;
 
-/// Reads information lines to the end of the input, and writes the rows of a client that applies them,
-/// as lines in key order. Lines end in LF alone; what follows the last LF is not applied. The input is
-/// not kept: memory is taken for the rows and for what is written of them.
+/// Reads information lines to the end of the input, and writes the rows of a client that applies them, as lines in key
+/// order. Lines end in LF alone, and what follows the last LF is not applied. The input is not kept: memory is
+/// allocated for the rows and for their lines alone.
 ///
 /// # Errors
-/// `Input` if a read fails, `TooLarge` if there is more than 16,777,216 bytes, `Line` for the
-/// first line that is no information line, `Memory` if memory is refused: nothing is written
-/// then. `Output` if a write fails or takes nothing: a prefix of the rows' lines is written.
+/// Returns `Input` if a read fails, `TooLarge` if there are more than 16,777,216 bytes, and `Line` for the first line
+/// that is no information line. Returns `Memory` if memory is refused. Nothing is written then. Returns `Output` if a
+/// write fails or takes nothing. A prefix of the rows' lines is written then.
 pub fn mirror<R: Read, W: Write>(
     alloc: Global,
     reader: &mut R,
@@ -41,8 +41,8 @@ pub fn mirror<R: Read, W: Write>(
     write_whole(writer, text.as_slice())
 }
 
-/// Applies the lines of the input up to its end. The first line that is refused is returned at the end
-/// alone, since a read that fails and an input that is too large come before it.
+/// Applies the lines of the input up to its end. A line that is refused is reported only at the end, since a read that
+/// fails and an input that is too large come first.
 fn read_lines<R: Read>(alloc: Global, reader: &mut R) -> Result<Mirror, ToolFault>
     ensures within { IfOk result (λ rows. IfSome (R.remaining reader.old) (λ input. length input ≤ input_limit)) }
     ensures holds { IfOk result (λ rows. IfSome (R.remaining reader.old) (λ input. ClientHolds input rows)) }
@@ -70,8 +70,8 @@ fn read_lines<R: Read>(alloc: Global, reader: &mut R) -> Result<Mirror, ToolFaul
     Err(ToolFault::TooLarge)
 }
 
-/// Applies the lines that end in a piece, unless a line was refused before. Returns the
-/// number of a line that is refused.
+/// Applies the lines that end in a piece, unless an earlier line was refused. Returns the number of a line that is
+/// refused.
 fn take_piece(
     lines: &mut MirroredLines,
     refused: Option<usize>,
@@ -93,7 +93,7 @@ fn take_piece(
     }
 }
 
-/// The lines of the rows.
+/// Prints the lines of the rows.
 fn print_listing(alloc: Global, mirror: &Mirror) -> Result<Vec<u8>, AllocError>
     ensures { IfOk result (λ text. text.items ≡ listing mirror.now) }
 {

@@ -1,11 +1,11 @@
-//! A line whose LF has not come yet.
+//! A line whose LF is still to come.
 
 ghost use Rattle.std.specs.Prelude.{◌≡◌, ◌<◌, ◌++◌, ℕ, List, [], length, MatchOption};
 ghost use Rattle.srcp_tool.specs.Mirroring.{IsBegun};
 
 use srcp_text::LineBuf;
 
-/// The bytes of a line that has begun, as far as they may be those of an information line.
+/// Holds the bytes of a line that has begun, as far as they may be those of an information line.
 #[derive(Drop)]
 pub(super) struct BegunLine {
     bytes: LineBuf,
@@ -13,7 +13,7 @@ pub(super) struct BegunLine {
 }
 
 impl BegunLine {
-    /// No byte.
+    /// Makes a line of no byte.
     pub(super) fn new() -> BegunLine
         ensures { IsBegun result [] }
     {
@@ -23,7 +23,7 @@ impl BegunLine {
         }
     }
 
-    /// More bytes of the line.
+    /// Appends more bytes of the line.
     pub(super) fn add(&mut self, text: &[u8])
         ensures { (front : List ℕ) → IsBegun self.old front → IsBegun self.new (front ++ text.now) }
     {
@@ -32,7 +32,7 @@ impl BegunLine {
         }
     }
 
-    /// The line, unless it is too long to be that of a change.
+    /// Returns the line, unless it is too long to be that of a change.
     pub(super) fn line(&self) -> Option<&[u8]>
         ensures { (text : List ℕ) → IsBegun self.now text
             → MatchOption result (256 < length text) (λ line. line.now ≡ text) }

@@ -9,8 +9,8 @@ use srcp_info::{Mirror, MirrorFault};
 use srcp_script::cut_at;
 use std::alloc::Global;
 
-/// The rows that the whole lines of a stream make, how many lines those were, and the line that has
-/// begun after them.
+/// Holds the rows that the whole lines of a stream make, the number of those lines, and the line that has begun after
+/// them.
 #[derive(Drop)]
 pub(super) struct MirroredLines {
     mirror: Mirror,
@@ -19,7 +19,7 @@ pub(super) struct MirroredLines {
 }
 
 impl MirroredLines {
-    /// Makes the rows of no line. Takes no memory.
+    /// Makes the rows of no line. Allocates no memory.
     pub(super) fn new(alloc: Global) -> MirroredLines
         ensures taken { HasTaken result [] }
         ensures count { result.count ≡ 0 }
@@ -31,14 +31,14 @@ impl MirroredLines {
         }
     }
 
-    /// How many lines were applied.
+    /// Returns how many lines were applied.
     pub(super) fn count(&self) -> usize
         ensures { result ≡ self.now.count }
     {
         self.count
     }
 
-    /// The rows.
+    /// Returns the rows.
     pub(super) fn into_mirror(self) -> Mirror
         ensures { result ≡ self.mirror }
     {
@@ -48,8 +48,8 @@ impl MirroredLines {
     /// Applies the lines that end in a piece of the stream.
     ///
     /// # Errors
-    /// `NotInfo` if the line that follows those that were applied is no information line, `Memory`
-    /// if memory is refused.
+    /// Returns `NotInfo` if the first line that is not applied is no information line, and `Memory` if memory is
+    /// refused.
     pub(super) fn take(&mut self, piece: &[u8]) -> Result<(), MirrorFault>
         requires { self.old.count + length piece.now < 2 ^ 64 }
         ensures taken { OnOk result
