@@ -21,10 +21,10 @@ use std::time::Clock;
 use std::vec::Vec;
 use std::{env, fs, io};
 
-/// How long a turn waits at most if the words say how many turns are made, in milliseconds.
+/// The longest wait of a turn if the words give a number of turns, in milliseconds.
 const LONGEST_TURN: u64 = 8;
 
-/// Does what the words ask for. A fault is printed on the standard error, and the status says which kind it is.
+/// Does what the words ask for. A fault is printed on standard error, and its status is returned.
 fn main(rt: HostRuntime) -> ExitCode {
     let words = match words_given(&rt) {
         Ok(words) => words,
@@ -46,12 +46,12 @@ fn main(rt: HostRuntime) -> ExitCode {
     }
 }
 
-/// The program's name and the words behind it.
+/// Returns the program's name and the words behind it.
 fn words_given<R: Env + AllocGlobal>(rt: &R) -> io::Result<Vec<String>> {
     Ok(env::args(rt)?.collect(rt.alloc())?)
 }
 
-/// Prints why the words cannot be had. For a word that is no UTF-8 it prints what `clap` would.
+/// Prints why the words cannot be read. For a word that is no UTF-8 it prints what `clap` would.
 fn print_no_words<R: Eprint>(rt: &R, fault: &io::Error) -> ExitCode {
     if fault.kind() == io::ErrorKind::OutOfMemory {
         return print_fault(rt, ToolFault::Memory);
@@ -111,7 +111,7 @@ fn replay_input<R: Files + AllocGlobal, I: Read, W: Write>(
     replay::<Nested, I, W>(rt.alloc(), &layout, reader, writer)
 }
 
-/// The layout of a server that was given none: bus 1 with POWER alone.
+/// Makes the layout of a server without a configuration: bus 1 with POWER alone.
 fn built_in_layout(alloc: Global) -> Result<Layout, ToolFault> {
     let mut layout = Layout::new(alloc);
     let bus = Bus {
@@ -146,7 +146,7 @@ fn serve_layout<R: Files + AllocGlobal + Net + Clock>(
     Ok(())
 }
 
-/// The program's fault for a door that cannot listen, with the same text.
+/// Returns the program's fault for a door that cannot listen, with the same text.
 fn tool_fault(fault: ListenFault) -> ToolFault
     ensures text { fault_text result ≡ listen_text fault }
     ensures status { fault_status result ≡ 1 }
