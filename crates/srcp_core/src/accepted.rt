@@ -7,7 +7,8 @@ ghost use Rattle.srcp_info.specs.declared.change.Reply.{Reply};
 use srcp_info::{InfoLine, LONGEST_SHORT_REPLY, Reply, write_reply};
 use std::marker::Model;
 
-/// The line of `200 OK` at a moment, which is made once for all commands of that moment. Contracts see the moment.
+/// Holds the line of `200 OK` at a moment, which is written once for all commands of that moment. Contracts see the
+/// moment.
 #[derive(Drop)]
 pub(crate) struct Accepted {
     moment: u64,
@@ -29,7 +30,7 @@ impl Model for Accepted {
 }
 
 impl Accepted {
-    /// Makes the line of a moment.
+    /// Writes the line of a moment.
     pub(crate) fn at(moment: u64) -> Accepted
         ensures { result ≡ moment }
     {

@@ -1,4 +1,4 @@
-//! What is kept of one connection.
+//! One connection.
 ghost use Rattle.std.specs.Prelude.{◌≡◌, ◌≤◌, ◌+◌, ◌++◌, ◌⊎◌, [], length, drop, true, ◌&&◌, ◌||◌, IfOk, Some};
 ghost use Rattle.std.specs.Prelude.{vec_capacity};
 ghost use Rattle.srcp_rules.specs.State.{shown_rows};
@@ -24,22 +24,22 @@ use srcp_text::{Fed, LineReader};
 use std::alloc::Global;
 use std::marker::Model;
 
-/// What the server says first: the welcome line of SRCP 0.8, with our own name and version.
+/// The welcome line of SRCP 0.8, with this server's name and version.
 const WELCOME: &[u8] = b"srcp_server 1.0; SRCP 0.8.4; SRCPOTHER 0.8.3\n";
 
-/// Which changes a connection is told.
+/// Says which changes a connection is told.
 #[derive(Drop)]
 pub(crate) enum Panel {
-    /// Nothing: it has no information session.
+    /// None: it has no information session.
     Absent,
-    /// What the feed of its information session gives.
+    /// Those of the feed of its information session.
     Listening(InfoFeed),
-    /// Nothing any more: more changes came upon its information session than may wait.
+    /// None: the change queue of its information session overflowed.
     Overran,
 }
 
 impl Panel {
-    /// Takes the memory of a feed for an information session, at its beginning; a command session has none.
+    /// Allocates a feed for an information session, at its beginning. A command session needs none.
     pub(crate) fn of_mode<R: Rows>(alloc: Global, mode: Mode, rows: &R) -> Result<Panel, Memory>
         ensures { IfOk result (λ panel. panel ≡ panel_for mode) }
     {
@@ -57,8 +57,8 @@ pub struct Connection {
     mode: Mode,
     session: u32,
     ended: bool,
-    // The line of an information session, or else the replies: one of the two is
-    // empty. The bytes from `start` on are unsent.
+    // The line of an information session, or else the replies: one of the two is empty. The bytes from `start` on are
+    // unsent.
     line: PanelLine,
     reply: Vec<u8>,
     start: usize,
@@ -91,7 +91,7 @@ impl Model for Connection {
 }
 
 impl Connection {
-    /// Takes the memory of the whole reply buffer. The welcome line stands in it.
+    /// Allocates the whole reply buffer, and puts the welcome line into it.
     pub(crate) fn new(alloc: Global) -> Result<Connection, Memory>
         ensures { IfOk result (λ c. c ≡ fresh_place) }
     {
@@ -109,28 +109,28 @@ impl Connection {
         })
     }
 
-    /// Whether no more is taken of it: it ended, or it overran.
+    /// Returns whether it accepts no more bytes: it ended, or it overran.
     pub(crate) fn is_over(&self) -> bool
         ensures { result ≡ (self.now.ended || has_overrun self.now.panel) }
     {
         self.ended || self.overran()
     }
 
-    /// Whether more changes came upon it than may wait.
+    /// Returns whether its change queue overflowed.
     pub(crate) fn overran(&self) -> bool
         ensures { result ≡ has_overrun self.now.panel }
     {
         matches!(self.panel, Panel::Overran)
     }
 
-    /// Whether its session ended by its own command and all its replies are sent.
+    /// Returns whether its session ended by its own command and all its replies are sent.
     pub(crate) fn is_done(&self) -> bool
         ensures { result ≡ (self.now.ended && is_nil self.now.unsent) }
     {
         self.ended && self.unsent().is_empty()
     }
 
-    /// Its session, where that began and did not end by its own command.
+    /// Returns the session, if it began and did not end by its own command.
     pub(crate) fn live_session(&self) -> Option<u32>
         ensures { result ≡ live_session_of (Some self.now) }
     {
@@ -140,7 +140,7 @@ impl Connection {
         Some(self.session)
     }
 
-    /// The bytes that are to be sent.
+    /// Returns the unsent bytes.
     pub(crate) fn unsent(&self) -> &[u8]
         ensures bytes { result.now ≡ self.now.unsent }
         ensures most { length result.now ≤ MOST_UNSENT }
@@ -152,7 +152,7 @@ impl Connection {
         }
     }
 
-    /// Puts bytes at the end of what is to be sent.
+    /// Appends a line to the unsent bytes.
     pub(crate) fn put(&mut self, line: &[u8])
         requires { length self.old.unsent + length line.now ≤ MOST_UNSENT }
         ensures { self.new ≡ with_unsent line.now self.old }
@@ -162,7 +162,7 @@ impl Connection {
         self.reply.extend_from_slice(line).unwrap();
     }
 
-    /// Puts a reply at the end of what is to be sent, stamped with the moment. `accepted` keeps the line of `200 OK`.
+    /// Appends a reply to the unsent bytes, stamped with the moment. `accepted` keeps the line of `200 OK`.
     pub(crate) fn reply(&mut self, moment: u64, reply: &Reply, accepted: &mut Accepted)
         requires well_formed { IsWellFormedReply reply.now }
         requires room { length self.old.unsent + longest reply.now ≤ MOST_UNSENT }
@@ -180,7 +180,7 @@ impl Connection {
         self.put(line.as_slice());
     }
 
-    /// Drops so many of the unsent bytes, which were sent.
+    /// Drops the first `count` unsent bytes, since they were sent.
     pub(crate) fn took(&mut self, count: usize)
         requires { count ≤ length self.old.unsent }
         ensures { self.new ≡ without_sent count self.old }
@@ -188,8 +188,8 @@ impl Connection {
         self.start += count;
     }
 
-    /// Tells an information session a change. Where it would have to wait and can not, the session is over: what
-    /// waits, the listing and the unsent bytes are given up.
+    /// Tells an information session a change. If its queue is full the session overruns: the waiting changes, the
+    /// listing and the unsent bytes are dropped.
     pub(crate) fn tell(&mut self, change: &ChangeLine)
         requires { IsWellFormed change.now }
         ensures { self.new ≡ told_place change.now self.old }
@@ -205,7 +205,7 @@ impl Connection {
         }
     }
 
-    /// Reads a piece on from `start`: the offset after its next line, and what that asks for.
+    /// Reads a piece on from `start`. Returns the offset after its next line, and what that asks for.
     #[inline(always)]
     pub(crate) fn hear(
         &mut self,
@@ -223,7 +223,7 @@ impl Connection {
         }
     }
 
-    /// What the line that was found asks for.
+    /// Returns what the line that was found asks for.
     fn asked(&self, layout: &Layout) -> Asked
         ensures { result ≡ asked_of layout.now self.now (Line self.now.reader.line) }
     {
@@ -244,7 +244,7 @@ impl Connection {
         }
     }
 
-    /// What a line of more than 1,000 bytes is answered as.
+    /// Returns what a line of more than 1,000 bytes asks for: its refusal.
     fn asked_too_long(&self) -> Asked
         ensures { result ≡ asked_of [] self.now TooLong }
     {
@@ -264,14 +264,15 @@ impl Connection {
         }
     }
 
-    /// Whether it has an information session.
+    /// Returns whether it has an information session.
     pub(crate) fn is_panel(&self) -> bool
         ensures { result ≡ is_panel self.now.panel }
     {
         !matches!(self.panel, Panel::Absent)
     }
 
-    /// How many more changes may come before its information session overruns, if it has one; 256 after an overrun.
+    /// Returns how many more changes its information session can queue, if it has one. The answer is 256 after an
+    /// overrun.
     pub(crate) fn slack(&self) -> Option<usize>
         ensures { result ≡ slack_in self.now.panel }
     {
@@ -282,14 +283,14 @@ impl Connection {
         }
     }
 
-    /// Chooses the mode of its session to come.
+    /// Sets the mode of its session to come.
     pub(crate) fn choose(&mut self, mode: Mode)
         ensures { self.new ≡ record self.old { mode = mode } }
     {
         self.mode = mode;
     }
 
-    /// Its session begins under the id.
+    /// Begins its session under the id.
     pub(crate) fn enter(&mut self, id: u32, panel: Panel)
         requires { queue_of panel ≡ [] }
         ensures { self.new ≡ entered_place id panel self.old }
@@ -298,14 +299,14 @@ impl Connection {
         self.panel = panel;
     }
 
-    /// Its session ended by its own command.
+    /// Ends its session by its own command.
     pub(crate) fn end(&mut self)
         ensures { self.new ≡ record self.old { ended = true } }
     {
         self.ended = true;
     }
 
-    /// Puts in the next line of an information session, if nothing is unsent.
+    /// Appends the next line of an information session, if nothing is unsent.
     #[inline(always)]
     pub(crate) fn fill<R: Rows>(&mut self, rows: &R)
         requires { AllByRecursion IsWellFormedShown (shown_rows (R.state rows.now)) }
@@ -323,7 +324,7 @@ impl Connection {
         give(feed, rows, &mut self.line);
     }
 
-    /// Returns what `fill` would put in, if anything.
+    /// Returns what `fill` would append, if anything.
     pub(crate) fn item<R: Rows>(&self, rows: &R) -> Option<Next>
         ensures { result ≡ item_from (shown_rows (R.state rows.now)) self.now.unsent (feed_in self.now.panel) }
     {
@@ -337,7 +338,7 @@ impl Connection {
     }
 }
 
-/// Puts in the line of what the session is given next, or no bytes if nothing is left.
+/// Writes the line that the session is given next, or no bytes if nothing is left.
 #[inline(always)]
 fn give<R: Rows>(feed: &mut InfoFeed, rows: &R, line: &mut PanelLine)
     requires well_formed { AllByRecursion IsWellFormed feed.old.queue }
@@ -357,7 +358,7 @@ fn give<R: Rows>(feed: &mut InfoFeed, rows: &R, line: &mut PanelLine)
     }
 }
 
-/// Moves what is unsent, which are the bytes from `start` on, to the front of the replies.
+/// Moves the unsent bytes, from `start` on, to the beginning of the reply buffer.
 fn compact(line: &mut PanelLine, reply: &mut Vec<u8>, start: usize)
     requires one { (line.old ≡ []) ⊎ (reply.old.items ≡ []) }
     requires within { start ≤ length (line.old ++ reply.old.items) }

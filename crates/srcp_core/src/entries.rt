@@ -1,10 +1,12 @@
+//! A list in a record of a run.
+
 ghost use Rattle.std.specs.Prelude.{◌≡◌, ◌∷◌, ◌++◌, [], OnOk, OnErr};
 
 use std::alloc::{AllocError, Global};
 use std::marker::Model;
 use std::vec::Vec;
 
-/// A list that a run gives, in order.
+/// A list in a record, in order.
 #[derive(Drop)]
 pub struct Entries<T: Drop> {
     entries: Vec<T>,
@@ -19,7 +21,7 @@ impl<T: Drop> Model for Entries<T> {
 }
 
 impl<T: Drop> Entries<T> {
-    /// No entry. Takes no memory.
+    /// Makes a list of no entry. Allocates no memory.
     pub(crate) fn new(alloc: Global) -> Entries<T>
         ensures { result ≡ [] }
     {
@@ -28,14 +30,14 @@ impl<T: Drop> Entries<T> {
         }
     }
 
-    /// These entries.
+    /// Makes a list of these entries.
     pub(crate) fn of(entries: Vec<T>) -> Entries<T>
         ensures { result ≡ entries.items }
     {
         Entries { entries }
     }
 
-    /// One more entry at the end. Where memory is refused, the list is as before and the entry is dropped.
+    /// Appends an entry. If memory is refused, the list is as it was and the entry is dropped.
     pub(crate) fn push(&mut self, entry: T) -> Result<(), AllocError>
         ensures ok { OnOk result (self.new ≡ self.old ++ entry ∷ []) }
         ensures err { OnErr result (self.new ≡ self.old) }
@@ -43,7 +45,7 @@ impl<T: Drop> Entries<T> {
         Ok(self.entries.push(entry)?)
     }
 
-    /// The entries.
+    /// Lends the entries.
     pub fn as_slice(&self) -> &[T]
         ensures { result.now ≡ self.now }
     {
@@ -52,7 +54,7 @@ impl<T: Drop> Entries<T> {
 }
 
 impl<T: Copy + Drop> Entries<T> {
-    /// More entries at the end. Where memory is refused, the list is as before.
+    /// Appends entries. If memory is refused, the list is as it was.
     pub(crate) fn extend(&mut self, more: &[T]) -> Result<(), AllocError>
         ensures ok { OnOk result (self.new ≡ self.old ++ more.now) }
         ensures err { OnErr result (self.new ≡ self.old) }

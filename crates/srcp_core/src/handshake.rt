@@ -1,4 +1,4 @@
-//! What a line before the session asks for: the handshake of SRCP 0.8.
+//! A line of the handshake of SRCP 0.8, which comes before the session.
 ghost use Rattle.std.specs.Prelude.{◌≡◌};
 ghost use Rattle.std.specs.Char.{is_ascii_digit};
 ghost use Rattle.std.specs.List.{list_all};
@@ -8,10 +8,10 @@ ghost use Rattle.srcp_core.specs.Handshake.{is_version, greets_protocol, greets_
 use srcp_info::{Code, Mode};
 use srcp_text::{Words, is_keyword, words};
 
-/// What a line before the session asks for.
+/// Says what a line of the handshake asks for.
 #[derive(Clone, Copy)]
 pub(crate) enum Greeting {
-    /// It names the protocol that is spoken.
+    /// It names the protocol of this server.
     Speaks,
     /// It chooses the mode of the session to come.
     Chooses(Mode),
@@ -21,8 +21,8 @@ pub(crate) enum Greeting {
     Refuses(Code),
 }
 
-/// Returns what the line asks for, or the refusal that answers it. The lines and their codes are of SRCP 0.8. They may
-/// come in any order.
+/// Returns what the line asks for, or its refusal. The lines and their codes are those of SRCP 0.8. They may come in
+/// any order.
 pub(crate) fn greet(line: &[u8]) -> Greeting
     ensures { result ≡ greets (Line line.now) }
 {
@@ -49,7 +49,7 @@ pub(crate) fn greet(line: &[u8]) -> Greeting
     Greeting::Refuses(Code::UNKNOWN_COMMAND)
 }
 
-/// The words after `SET PROTOCOL`.
+/// Reads the words after `SET PROTOCOL`.
 fn greet_protocol(mut words: Words<'_>) -> Greeting
     ensures { result ≡ greets_protocol words.entry }
 {
@@ -69,7 +69,7 @@ fn greet_protocol(mut words: Words<'_>) -> Greeting
     }
 }
 
-/// The words after `SET CONNECTIONMODE`.
+/// Reads the words after `SET CONNECTIONMODE`.
 fn greet_mode(mut words: Words<'_>) -> Greeting
     ensures { result ≡ greets_mode words.entry }
 {
@@ -94,7 +94,7 @@ fn greet_mode(mut words: Words<'_>) -> Greeting
     Greeting::Refuses(Code::UNSUPPORTED_MODE)
 }
 
-/// Whether the word is `0.8`, or `0.8.` and digits.
+/// Returns whether the word is `0.8`, or `0.8.` and digits.
 fn is_version(word: &[u8]) -> bool
     ensures { result ≡ is_version word.now }
 {
@@ -107,7 +107,7 @@ fn is_version(word: &[u8]) -> bool
     are_digits(&word[4..])
 }
 
-/// Whether the text has no byte but ASCII digits.
+/// Returns whether the text has only ASCII digits.
 fn are_digits(text: &[u8]) -> bool
     ensures { result ≡ list_all is_ascii_digit text.now }
 {

@@ -1,13 +1,13 @@
 //! The limits of a core. SRCP 0.8 has none of them.
 
-/// How many connections may be open at once.
+/// The most connections that are open at once.
 pub const MOST_CONNECTIONS: usize = 64;
 
-/// How many bytes a piece may have.
+/// The most bytes of a piece.
 pub const MOST_IN_PIECE: usize = 256;
 
-/// How many bytes of a connection may be unsent: 64 for each byte of a piece, and
-/// 256 for a line that was begun before it.
+/// The most unsent bytes of a connection: 64 for each byte of a piece, and 256 for a line that began in an earlier
+/// one.
 pub const MOST_UNSENT: usize = 16_640;
 
 /// The greatest session id.

@@ -1,4 +1,4 @@
-//! What a line asks for, and what a recorded run notes of it.
+//! The task of a line, and the record of it in a run.
 ghost use Rattle.std.specs.Prelude.{◌≡◌, true, false, Some, None};
 
 use crate::handshake::Greeting;
@@ -6,10 +6,10 @@ use crate::record::Step;
 use srcp_info::{Code, Mode};
 use srcp_rules::Command;
 
-/// What a line asks for, by how its connection stands.
+/// Says what a line asks for, by the state of its connection.
 #[derive(Clone, Copy)]
 pub(crate) enum Asked {
-    /// Nothing: lines to an information session, or after a session's end.
+    /// Nothing: the session is an information session, or it ended.
     Dropped,
     /// A line before the session, with the mode that was chosen last.
     Greets {
@@ -23,19 +23,19 @@ pub(crate) enum Asked {
     },
 }
 
-/// What a recorded run notes of a line.
+/// Holds what a recorded run keeps of a line.
 #[derive(Clone, Copy)]
 pub(crate) struct LineRecord {
-    /// Whether memory was given to the line; true where it asked for none.
+    /// False if memory was refused to the line.
     pub granted: bool,
-    /// The command that was obeyed or the session that began, if any.
+    /// The command that was carried out or the session that began, if any.
     pub step: Option<Step>,
-    /// The end of the session, where its own command ended it.
+    /// The end of the session, if its own command ended it.
     pub end: Option<Step>,
 }
 
 impl LineRecord {
-    /// Tells of a line that leaves the registry as it was.
+    /// Makes the record of a line that leaves the registry as it was.
     pub(crate) fn nothing() -> LineRecord
         ensures { result ≡ record { granted = true; step = None; end = None } }
     {
@@ -46,7 +46,7 @@ impl LineRecord {
         }
     }
 
-    /// Tells of a session that was to begin and was refused memory.
+    /// Makes the record of a session that was to begin, and was refused memory.
     pub(crate) fn denied() -> LineRecord
         ensures { result ≡ record { granted = false; step = None; end = None } }
     {
@@ -56,7 +56,7 @@ impl LineRecord {
         }
     }
 
-    /// Tells of a step that the registry took.
+    /// Makes the record of a line that made this step.
     pub(crate) fn of(step: Step) -> LineRecord
         ensures { result ≡ record { granted = true; step = Some step; end = None } }
     {

@@ -1,4 +1,4 @@
-//! The line that is sent to an information session.
+//! The line of an information session that is sent.
 
 ghost use Rattle.std.specs.Prelude.{◌≡◌, ◌≤◌, ◌==◌, [], length};
 ghost use Rattle.srcp_info.specs.Line.{line};
@@ -9,8 +9,8 @@ use srcp_feed::{ChangeLine, WrittenLine};
 use srcp_info::{InfoLine, LONGEST_LINE, Shown, write_change, write_shown};
 use std::marker::Model;
 
-/// The line that is sent to an information session: that of a change, which is copied, or that of a row, which is
-/// written here. Contracts see it as the list of its bytes.
+/// Holds the line that is sent to an information session. The line of a change is copied; that of a row is written
+/// here. Contracts see the list of its bytes.
 #[derive(Drop)]
 pub(crate) struct PanelLine {
     // One of the two is empty.
@@ -29,7 +29,7 @@ impl Model for PanelLine {
 }
 
 impl PanelLine {
-    /// Returns the line of no bytes.
+    /// Makes the line of no bytes.
     pub(crate) fn new() -> PanelLine
         ensures { result ≡ [] }
     {
@@ -68,7 +68,7 @@ impl PanelLine {
         }
     }
 
-    /// Puts in the line of a change. It writes one only if none stands beside the change.
+    /// Puts in the line of a change. It is written here only if the change has no line.
     pub(crate) fn put_change(&mut self, change: &ChangeLine)
         requires { IsWellFormed change.now }
         ensures line { self.new ≡ line change.now }

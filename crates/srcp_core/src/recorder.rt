@@ -1,4 +1,4 @@
-//! What a run tells, as it is put together.
+//! The record of a run while the run goes on.
 ghost use Rattle.std.specs.Prelude.{◌≡◌, ◌∷◌, ◌++◌, [], OnOk, IfOk};
 ghost use Rattle.std.specs.List.{AllByRecursion};
 ghost use Rattle.srcp_info.specs.WellFormed.{IsWellFormedShown};
@@ -23,11 +23,11 @@ pub(crate) trait Detail {
 
     ghost IN_FULL: { Bool };
 
-    /// Whether steps and items are kept, and of each connection all else that its record has.
+    /// True if all of a record is kept: steps and items, and each field of a connection.
     const IN_FULL: bool;
 }
 
-/// All that a record has.
+/// All of a record.
 pub(crate) struct Full;
 
 impl Detail for Full {
@@ -49,7 +49,7 @@ impl Detail for Outline {
     const IN_FULL: bool = false;
 }
 
-/// What a run has told so far. A connection is named by its number, from 1 on.
+/// Keeps the record of a run. A connection is named by its number, from 1 on.
 #[derive(Drop)]
 pub(crate) struct Recorder<D: Detail> {
     alloc: Global,
@@ -76,7 +76,7 @@ impl<D: Detail> Model for Recorder<D> {
 }
 
 impl<D: Detail> Recorder<D> {
-    /// Nothing yet.
+    /// Makes an empty record.
     pub(crate) fn new(alloc: Global) -> Recorder<D>
         ensures { result ≡ nothing_recorded }
     {
@@ -90,7 +90,7 @@ impl<D: Detail> Recorder<D> {
         }
     }
 
-    /// The key of a connection, while it is open.
+    /// Returns the key of a connection that is open.
     pub(crate) fn key(&self, conn: usize) -> Option<usize>
         ensures { result ≡ key_of conn self.now.keys }
     {
@@ -98,7 +98,7 @@ impl<D: Detail> Recorder<D> {
         *self.keys.get(index)?
     }
 
-    /// A connection was opened under a key.
+    /// Records that a connection was opened under a key.
     pub(crate) fn opened(&mut self, key: usize) -> Result<(), Memory>
         ensures { OnOk result (Becomes D.IN_FULL (opened key) self.old self.new) }
     {
@@ -114,7 +114,7 @@ impl<D: Detail> Recorder<D> {
         Ok(())
     }
 
-    /// A connection was shut.
+    /// Records that a connection was hung up.
     pub(crate) fn shut(&mut self, conn: usize)
         ensures { Becomes D.IN_FULL (shut conn) self.old self.new }
     {
@@ -122,14 +122,14 @@ impl<D: Detail> Recorder<D> {
         finish(&mut self.connections, conn, Finish::Shut);
     }
 
-    /// The event of that number was refused.
+    /// Records that the event of that number was refused.
     pub(crate) fn refused(&mut self, event: usize, fault: CoreFault) -> Result<(), Memory>
         ensures { OnOk result (Becomes D.IN_FULL (with_refusal event fault) self.old self.new) }
     {
         Ok(self.refused.push(Refusal { event, fault })?)
     }
 
-    /// The registry took a step.
+    /// Records a step of the registry.
     pub(crate) fn step(&mut self, step: &Step) -> Result<(), Memory>
         ensures { OnOk result (Becomes D.IN_FULL (stepped (step.now ∷ [])) self.old self.new) }
     {
@@ -139,7 +139,7 @@ impl<D: Detail> Recorder<D> {
         Ok(self.steps.extend_from_slice(&[*step])?)
     }
 
-    /// A line of a connection was answered.
+    /// Records that a line of a connection was answered.
     pub(crate) fn answered(&mut self, conn: usize, line: &LineRecord) -> Result<(), Memory>
         ensures { OnOk result (Becomes D.IN_FULL (noted conn (steps_in line.now)) self.old self.new) }
     {
@@ -152,7 +152,7 @@ impl<D: Detail> Recorder<D> {
         Ok(())
     }
 
-    /// The registry took a step at a line of a connection.
+    /// Records a step of the registry at a line of a connection.
     fn note(&mut self, conn: usize, step: &Step) -> Result<(), Memory>
         ensures { OnOk result (Becomes D.IN_FULL (noted conn (step.now ∷ [])) self.old self.new) }
     {
@@ -161,7 +161,7 @@ impl<D: Detail> Recorder<D> {
         Ok(())
     }
 
-    /// A session began, where the step was that.
+    /// Records that a session began, if the step says so.
     fn began(&mut self, conn: usize, step: &Step)
         ensures { Becomes D.IN_FULL (began conn step.now) self.old self.new }
     {
@@ -174,7 +174,7 @@ impl<D: Detail> Recorder<D> {
         }
     }
 
-    /// An information session is given what comes next, if anything. That nothing is left is no line.
+    /// Records what an information session is given next. Nothing is recorded if nothing is left.
     pub(crate) fn gave<R: Rows>(
         &mut self,
         conn: usize,
@@ -192,14 +192,14 @@ impl<D: Detail> Recorder<D> {
         }
     }
 
-    /// These bytes were taken of a connection.
+    /// Records that these bytes of a connection were sent.
     pub(crate) fn took(&mut self, conn: usize, bytes: &[u8]) -> Result<(), Memory>
         ensures { OnOk result (Becomes D.IN_FULL (took conn bytes.now) self.old self.new) }
     {
         take(&mut self.connections, conn, bytes)
     }
 
-    /// The record of the run, by how the core stands at the end.
+    /// Returns the record of the run, with the state of the core at its end.
     pub(crate) fn record<R: Rows>(mut self, core: &Core<'_, R>) -> Result<Record, Memory>
         ensures well_formed { IfOk result (λ run. AllByRecursion (λ row. IsWellFormedShown row.shown) run.rows) }
         ensures steps { IfOk result (λ run. run.steps ≡ self.steps) }
@@ -219,7 +219,7 @@ impl<D: Detail> Recorder<D> {
     }
 }
 
-/// How each open connection stands at the end.
+/// Records how each open connection is at the end.
 fn finish_all<R: Rows>(
     keys: &[Option<usize>],
     connections: &mut Vec<ConnRecord>,
@@ -234,7 +234,7 @@ fn finish_all<R: Rows>(
     }
 }
 
-/// The connection of the number has no key any more.
+/// Drops the key of the connection of the number.
 fn free(keys: &mut Vec<Option<usize>>, conn: usize)
     ensures { keys.new.items ≡ without_key conn keys.old.items }
 {
@@ -246,7 +246,7 @@ fn free(keys: &mut Vec<Option<usize>>, conn: usize)
     }
 }
 
-/// A session of the connection of the number began.
+/// Records that a session of the connection of the number began.
 fn begin(connections: &mut Vec<ConnRecord>, conn: usize, session: u32, mode: Mode, go_step: usize)
     ensures { connections.new.items
         ≡ changed_record conn (λ one. record one { session = session; info = is_info mode; go_step = go_step })
@@ -262,7 +262,7 @@ fn begin(connections: &mut Vec<ConnRecord>, conn: usize, session: u32, mode: Mod
     }
 }
 
-/// The connection of the number was given a line.
+/// Records that the connection of the number was given a line.
 fn give(
     connections: &mut Vec<ConnRecord>,
     conn: usize,
@@ -280,7 +280,7 @@ fn give(
     }
 }
 
-/// Bytes of the connection of the number were taken.
+/// Records that bytes of the connection of the number were sent.
 fn take(connections: &mut Vec<ConnRecord>, conn: usize, bytes: &[u8]) -> Result<(), Memory>
     ensures { OnOk result
         (connections.new.items
@@ -295,7 +295,7 @@ fn take(connections: &mut Vec<ConnRecord>, conn: usize, bytes: &[u8]) -> Result<
     }
 }
 
-/// How the connection of the number stands.
+/// Records how the connection of the number is.
 fn finish(connections: &mut Vec<ConnRecord>, conn: usize, finish: Finish)
     ensures { connections.new.items
         ≡ changed_record conn (λ one. record one { finish = finish }) connections.old.items }

@@ -15,10 +15,10 @@ use crate::table::Core;
 use srcp_rules::{Layout, Memory, Rows};
 use std::alloc::Global;
 
-/// Why a run gives no record.
+/// Says why a run returns no record.
 #[derive(Clone, Copy, Debug, PartialEq, Eq)]
 pub enum RunFault {
-    /// Memory was refused where the core or the record was made.
+    /// Memory for the core or the record is refused.
     Memory,
 }
 
@@ -28,24 +28,22 @@ impl From<Memory> for RunFault {
     }
 }
 
-/// Carries out the events over the registry of the layout, from moment 0 on and with session ids from 1 on, and returns
-/// what came of them. An event that is refused changes nothing, and the run goes on.
+/// Carries out the events over the registry of the layout, and returns the record of the run. It begins at moment 0,
+/// and session ids at 1. A refused event changes nothing, and the run goes on.
 ///
-/// `promised` says of every run that there is what memory answered in each event
-/// (`grants`), and of the events under it:
+/// `promised` says that memory answered each event in some way (`grants`), and of the events under these answers:
 /// - The record is that of their course (`is`).
-/// - Each information session was told rightly, however its writes were cut (`sessions`). On a still registry it
-///   was sent its listing, each device that was there all the time is listed exactly once, and a client that
-///   applies all lines holds the registry once it is settled.
-/// - Each connection was served rightly (`connections`). One that is no information session was sent its replies
-///   alone, rooms add up, and nothing was sent after an overrun.
-/// - The registry stayed whole (`registry`).
-/// - The record counts exactly the answers that refused (`counted`), each of which was
-///   asked for (`asked`). If it counts none, memory gave in each event (`given`), and the
-///   course is the one with ample memory (`laws::ample_memory`).
+/// - Each information session is told rightly, however its writes are cut (`sessions`). On a registry that stays the
+///   same, its listing is sent, and each device that is there all the time is listed exactly once. A client that applies
+///   all lines holds the registry once the session is settled.
+/// - Each connection is served rightly (`connections`). One that is no information session is sent its replies alone,
+///   rooms add up, and nothing is sent after an overrun.
+/// - The registry stays whole (`registry`).
+/// - The record counts exactly the answers that refused (`counted`), each of which was asked for (`asked`). If it counts
+///   none, memory gave in each event (`given`), and the course is the one with ample memory (`laws::ample_memory`).
 ///
 /// # Errors
-/// `Memory` if memory was refused to the core when it was made, or to the record.
+/// Returns `Memory` if memory is refused to the core when it is made, or to the record.
 pub fn run<R: Rows>(alloc: Global, layout: &Layout, events: &[Event]) -> Result<Record, RunFault>
     ensures well_formed { IfOk result (λ run. AllByRecursion (λ row. IsWellFormedShown row.shown) run.rows) }
     ensures promised { IfOk result (λ run. IsPromised layout.now events.now run) }
@@ -53,13 +51,13 @@ pub fn run<R: Rows>(alloc: Global, layout: &Layout, events: &[Event]) -> Result<
     carry_out::<R, Full>(alloc, layout, events)
 }
 
-/// Carries out the events as `run` does, and returns the outline of its record: no steps, and of each connection only
-/// what it was sent and how it stands. The rows and the refused events are the same.
+/// Carries out the events as `run` does, and returns the outline of its record. It has no steps, and of each
+/// connection only what was sent to it and how it is. The rows and the refused events are the same.
 ///
-/// It takes less memory, since it keeps no change beside each line that a panel was sent.
+/// It allocates less, since it keeps no change beside each line of a panel.
 ///
 /// # Errors
-/// `Memory` if memory was refused to the core when it was made, or to the record.
+/// Returns `Memory` if memory is refused to the core when it is made, or to the record.
 pub fn run_in_outline<R: Rows>(
     alloc: Global,
     layout: &Layout,
@@ -71,7 +69,7 @@ pub fn run_in_outline<R: Rows>(
     carry_out::<R, Outline>(alloc, layout, events)
 }
 
-/// Carries out all events. The record is kept in that detail.
+/// Carries out all events, and keeps the record in that detail.
 fn carry_out<R: Rows, D: Detail>(
     alloc: Global,
     layout: &Layout,
@@ -92,7 +90,7 @@ fn carry_out<R: Rows, D: Detail>(
     Ok(recorder.record(&core)?)
 }
 
-/// Carries out the event of that number, and notes where it is refused.
+/// Carries out the event of that number, and records a refusal.
 fn follow<R: Rows, D: Detail>(
     core: &mut Core<'_, R>,
     recorder: &mut Recorder<D>,
@@ -108,7 +106,7 @@ fn follow<R: Rows, D: Detail>(
     Ok(())
 }
 
-/// Carries out an event, and answers why it is refused, if it is.
+/// Carries out an event. Returns why it is refused, if it is.
 fn happen<R: Rows, D: Detail>(
     core: &mut Core<'_, R>,
     recorder: &mut Recorder<D>,
@@ -127,7 +125,7 @@ fn happen<R: Rows, D: Detail>(
     }
 }
 
-/// Opens a connection, and notes its key. Answers why it is refused, if it is, as each of these does.
+/// Opens a connection, and records its key. Returns why it is refused, if it is, as each of these functions does.
 fn open<R: Rows, D: Detail>(
     core: &mut Core<'_, R>,
     recorder: &mut Recorder<D>,
@@ -144,7 +142,7 @@ fn open<R: Rows, D: Detail>(
     }
 }
 
-/// Takes a piece line by line, and notes the steps of each.
+/// Takes a piece line by line, and records the steps of each.
 fn bytes<R: Rows, D: Detail>(
     core: &mut Core<'_, R>,
     recorder: &mut Recorder<D>,
@@ -169,7 +167,7 @@ fn bytes<R: Rows, D: Detail>(
     Ok(None)
 }
 
-/// Takes bytes of a connection until it took so many, or nothing is owed to it.
+/// Sends `bytes` bytes of a connection, or all that is owed to it if that is less.
 fn room<R: Rows, D: Detail>(
     core: &mut Core<'_, R>,
     recorder: &mut Recorder<D>,
@@ -192,8 +190,8 @@ fn room<R: Rows, D: Detail>(
     }
 }
 
-/// Takes bytes of a connection, at most so many, after the next line is put in where nothing is unsent. Answers how
-/// many they are.
+/// Sends at most `bytes` bytes of a connection, once the next line is appended if nothing is unsent. Returns how many
+/// were sent.
 fn take<R: Rows, D: Detail>(
     core: &mut Core<'_, R>,
     recorder: &mut Recorder<D>,
@@ -223,7 +221,7 @@ fn take<R: Rows, D: Detail>(
     Ok(count)
 }
 
-/// Takes a moment, and notes it as a step.
+/// Advances to a moment, and records the step.
 fn advance<R: Rows, D: Detail>(
     core: &mut Core<'_, R>,
     recorder: &mut Recorder<D>,
@@ -238,7 +236,7 @@ fn advance<R: Rows, D: Detail>(
     Ok(None)
 }
 
-/// Hangs up a connection, and notes the end of its session, where that goes on.
+/// Hangs up a connection, and records the end of its session if that goes on.
 fn shut<R: Rows, D: Detail>(
     core: &mut Core<'_, R>,
     recorder: &mut Recorder<D>,

@@ -21,7 +21,7 @@ use srcp_rules::{Layout, Memory, Obeyed, Rows};
 use std::alloc::Global;
 use std::marker::Model;
 
-/// The registry of a layout, and the connections to it with their sessions.
+/// Holds the registry of a layout, and the connections to it with their sessions.
 ///
 /// A server calls it in this order, over and over:
 /// 1. `advance` with the present moment;
@@ -50,12 +50,12 @@ pub struct Core<'a, R: Rows> {
     moment: u64,
     last_id: u32,
     connections: Slab<Connection>,
-    // Whether a connection has an information session.
+    // True if a connection has an information session.
     panels: bool,
     denied: u64,
-    /// The line of `200 OK` at the moment of the last one.
+    /// The line of `200 OK` at the moment of the last reply that had it.
     accepted: Accepted,
-    /// What came of the last command, kept so that its room is made once.
+    /// The result of the last command, kept so that its buffers are allocated once.
     obeyed: Obeyed,
 }
 
@@ -92,12 +92,12 @@ impl<'a, R: Rows> Model for Core<'a, R> {
 }
 
 impl<'a, R: Rows> Core<'a, R> {
-    /// Returns a core with the registry of the layout as it begins, at a moment in milliseconds, and with no
-    /// connection. Each bus with power has it off and each feedback port is 0, stamped with that moment. `last_id` is
-    /// the session id that was used last, or 0. Its law is `first` of `laws::calls_follow`.
+    /// Makes a core with no connection, and with the registry of the layout at a moment in milliseconds. Each bus with
+    /// power has it off, and each feedback port is 0, stamped with that moment. `last_id` is the session id that was
+    /// used last, or 0. Its law is `first` of `laws::calls_follow`.
     ///
     /// # Errors
-    /// `Memory` if memory is refused to the registry or to the 64 places of connections.
+    /// Returns `Memory` if memory is refused to the registry or to the 64 slots of connections.
     pub fn new(
         alloc: Global,
         layout: &'a Layout,
@@ -125,12 +125,13 @@ impl<'a, R: Rows> Core<'a, R> {
         })
     }
 
-    /// Opens a connection, and returns its key. Its reply buffer holds the welcome line, which is of SRCP 0.8,
-    /// and takes all its memory before anything changes. Its laws are `opened`, `not_opened`, `accepts`,
-    /// `refuses`, `named` and `counted` of `laws::calls_follow`.
+    /// Opens a connection, and returns its key. Its reply buffer is allocated whole before anything changes, and holds
+    /// the welcome line of SRCP 0.8. Its laws are `opened`, `not_opened`, `accepts`, `refuses`, `named` and `counted`
+    /// of `laws::calls_follow`.
     ///
     /// # Errors
-    /// `Full` if 64 connections are open, and `Memory` if memory is refused, which is counted. All else stays as it is.
+    /// Returns `Full` if 64 connections are open, and `Memory` if memory is refused, which is counted. All else stays
+    /// as it is.
     #[tactic(auto, using(crate::proofs::Invariants::PanelsStay::panels_inserted))]
     pub fn connect(&mut self) -> Result<usize, CoreFault>
         ensures admitted { IfOk result (λ key. IsAdmitted key self.old self.new) }
@@ -148,8 +149,8 @@ impl<'a, R: Rows> Core<'a, R> {
         }
     }
 
-    /// Returns whether `receive` would take a piece of at most 256 bytes: the connection is there, goes on and has
-    /// nothing unsent. Its laws are `bytes` and `takes` of `laws::calls_follow`.
+    /// Returns whether `receive` accepts a piece of at most 256 bytes: the connection is open, did not end or overrun,
+    /// and has no unsent bytes. Its laws are `bytes` and `takes` of `laws::calls_follow`.
     pub fn ready(&self, conn: usize) -> bool
         ensures { result ≡ is_none (bytes_fault conn [] self.now) }
     {
@@ -159,8 +160,8 @@ impl<'a, R: Rows> Core<'a, R> {
         }
     }
 
-    /// Returns whether the connection is to be closed: it overran, or its session ended by its own command and all
-    /// replies are taken. False if there is no such connection. Its law is `closes` of `laws::calls_follow`.
+    /// Returns whether the connection is to be closed: it overran, or its session ended by its own command and all its
+    /// replies are sent. Returns false if there is no such connection. Its law is `closes` of `laws::calls_follow`.
     pub fn closing(&self, conn: usize) -> bool
         ensures { result ≡ is_last (finish_at conn self.now) }
     {

@@ -1,4 +1,4 @@
-//! What answers a line: the handshake before the session, and commands after it.
+//! Answers to lines: the handshake before the session, and commands after it.
 ghost use Rattle.std.specs.Prelude.{◌≡◌, ◌≢◌, ◌+◌, ◌≤◌, [], ◌∷◌, true, false, length, Ok, OnOk, OnErr, OnSome, IfNone};
 ghost use Rattle.std.specs.Prelude.{IfSome, IfOk};
 ghost use Rattle.srcp_info.specs.WellFormed.{IsWellFormedReply};
@@ -24,16 +24,16 @@ use crate::record::Step;
 use srcp_info::{Code, LONGEST_LINE, LONGEST_SHORT_REPLY, Mode, Reply};
 use srcp_rules::{Command, Memory, Rows, begin_session, obey_into};
 
-/// What is left to do of a command whose changes were told.
+/// Holds what is left to do of a command once its changes are told.
 #[derive(Drop)]
 struct Outcome {
     reply: Reply,
-    /// Whether the command ends its session.
+    /// True if the command ends its session.
     ends: bool,
 }
 
 impl<'a, R: Rows> Core<'a, R> {
-    /// Answers what a line asks for.
+    /// Answers a line. Returns the record of it.
     #[inline(always)]
     pub(super) fn answer(&mut self, conn: usize, asked: Asked) -> LineRecord
         requires asked { IsAsked conn asked self.old }
@@ -42,7 +42,7 @@ impl<'a, R: Rows> Core<'a, R> {
         ensures steps { steps_in result ≡ steps_answered result.granted asked self.old }
         ensures counted { self.new.denied ≡ denied_by self.old.denied (result.granted ∷ []) }
     {
-        // Used for the invariant of the type, which says that the core is sound.
+        // Read for the invariant of the type, which says that the core is sound.
         let _ = &self.layout;
         match asked {
             Asked::Dropped => LineRecord::nothing(),
@@ -70,7 +70,7 @@ impl<'a, R: Rows> Core<'a, R> {
         LineRecord::nothing()
     }
 
-    /// Chooses the mode of the session to come.
+    /// Sets the mode of the session to come.
     fn choose(&mut self, conn: usize, mode: Mode)
         ensures { self.new ≡ changed_at conn (λ p. record p { mode = mode }) self.old }
     {
@@ -109,8 +109,8 @@ impl<'a, R: Rows> Core<'a, R> {
         }
     }
 
-    /// Begins a session under the next id. The memory is taken first, that of the feed and then that of the
-    /// session's row; where it is refused nothing changes.
+    /// Begins a session under the next id. The feed is allocated first, and then the session's row. If memory is
+    /// refused, nothing changes.
     fn begin(&mut self, conn: usize, id: u32, mode: Mode) -> Result<(), Memory>
         requires { id ≡ self.old.last_id + 1 }
         ensures ok { OnOk result (self.new ≡ session_begun conn id mode self.old) }
@@ -184,8 +184,8 @@ impl<'a, R: Rows> Core<'a, R> {
         }
     }
 
-    /// Carries out a command, and tells every connection its changes. Returns `None` if a growth was refused, and then
-    /// nothing changes.
+    /// Carries out a command, and tells every connection its changes. Returns `None` if an allocation was refused, and
+    /// then nothing changes.
     fn carry_out(&mut self, session: u32, command: &Command) -> Option<Outcome>
         requires row { is_there (session_device session) self.old.rows ≡ true }
         requires command { IsCommandOf self.old.buses command.now }
@@ -220,7 +220,7 @@ impl<'a, R: Rows> Core<'a, R> {
         })
     }
 
-    /// Ends a session by its own command: its locks are taken out, and its own row.
+    /// Ends a session by its own command: removes its locks, and then its own row.
     fn end(&mut self, conn: usize, session: u32)
         requires { IsSessionAt session conn self.old }
         ensures { self.new ≡ freed_of session (changed_at conn (λ p. record p { ended = true }) self.old) }
@@ -238,7 +238,7 @@ impl<'a, R: Rows> Core<'a, R> {
         );
     }
 
-    /// Puts a reply at the end of what is to be sent.
+    /// Appends a reply to the unsent bytes.
     fn reply(&mut self, conn: usize, reply: &Reply)
         requires well_formed { IsWellFormedReply reply.now }
         requires room { length (unsent_at conn self.old) + longest reply.now ≤ MOST_UNSENT }
@@ -259,7 +259,7 @@ impl<'a, R: Rows> Core<'a, R> {
         self.reply(conn, &Reply::Refused(Code::OUT_OF_RESOURCES));
     }
 
-    /// Counts one more growth that was refused.
+    /// Counts one more refused allocation.
     pub(super) fn count_denied(&mut self)
         ensures { self.new ≡ one_denied self.old }
     {
@@ -267,7 +267,7 @@ impl<'a, R: Rows> Core<'a, R> {
     }
 }
 
-/// Whether the reply says that memory was refused.
+/// Returns whether the reply says that memory was refused.
 fn is_denied(reply: &Reply) -> bool
     ensures denied { result ≡ true → reply.now ≡ Refused C500 }
     ensures given { result ≡ false → reply.now ≢ Refused C500 }

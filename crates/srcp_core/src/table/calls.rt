@@ -11,9 +11,9 @@ use crate::record::CoreFault;
 use srcp_rules::Rows;
 
 impl<'a, R: Rows> Core<'a, R> {
-    /// Takes the moment, in milliseconds, and carries out every row that is due then, in key order: accessories fall
-    /// back and locks end, as SRCP 0.8 has it. A moment before the last one counts as that. Its law is `moment` of
-    /// `laws::calls_follow`.
+    /// Advances to the moment, in milliseconds, and carries out every row that is due then, in key order. Accessories
+    /// fall back and locks end, as SRCP 0.8 has it. A moment that is earlier than the last counts as the last. Its law
+    /// is `moment` of `laws::calls_follow`.
     pub fn advance(&mut self, moment: u64)
         ensures { self.new ≡ advanced moment self.old }
     {
@@ -26,8 +26,8 @@ impl<'a, R: Rows> Core<'a, R> {
         );
     }
 
-    /// Returns the moment at which the first of the rows falls due, in milliseconds; none if no row has a due moment.
-    /// Until then `advance` changes no row, if nothing else is called meanwhile. Its law is `due` of
+    /// Returns the moment at which the first of the rows falls due, in milliseconds, or `None` if no row has a due
+    /// moment. Until then `advance` changes no row, if nothing else is called meanwhile. Its law is `due` of
     /// `laws::calls_follow`.
     pub fn earliest_due(&self) -> Option<u64>
         ensures { IsEarliestDue result self.now.rows }
@@ -35,9 +35,9 @@ impl<'a, R: Rows> Core<'a, R> {
         self.rows.earliest_due()
     }
 
-    /// Returns how many more changes may come before an information session overruns: 256 less the changes that wait,
-    /// the least over all of these sessions; none if there is no such session. No change waits for a session that
-    /// overran, so it counts 256 until it is hung up. Its law is `slack` of `laws::calls_follow`.
+    /// Returns how many more changes each information session can queue: 256 less the most that wait for one. Returns
+    /// `None` if there is no such session. No change waits for a session that overran, so it counts as 256 until it is
+    /// hung up. Its law is `slack` of `laws::calls_follow`.
     pub fn slack(&self) -> Option<usize>
         ensures { result ≡ least (map slack_at self.now.places) }
     {
@@ -47,12 +47,12 @@ impl<'a, R: Rows> Core<'a, R> {
         least_slack(&self.connections)
     }
 
-    /// Takes a connection out. Its session then ends, if it has one that did not end: its locks are taken out in key
-    /// order, and then its own row. That locks end with their session is of SRCP 0.8. Its laws are `shut`, `shuts` and
-    /// `there` of `laws::calls_follow`.
+    /// Removes a connection. Its session then ends, if it has one that did not end: its locks are removed in key
+    /// order, and then its own row. Locks end with their session in SRCP 0.8. Its laws are `shut`, `shuts` and `there`
+    /// of `laws::calls_follow`.
     ///
     /// # Errors
-    /// `NoSuch` if there is no such connection, and then nothing changes.
+    /// Returns `NoSuch` if there is no such connection, and then nothing changes.
     pub fn hangup(&mut self, conn: usize) -> Result<(), CoreFault>
         ensures absent { MatchResult result (λ _. IsSome (at self.old conn))
             (λ fault. (fault ≡ CoreFault.NoSuch) × (at self.old conn ≡ None)) }

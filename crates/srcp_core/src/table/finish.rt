@@ -1,4 +1,4 @@
-//! How the core and its connections stand.
+//! The status of the core and of its connections.
 ghost use Rattle.std.specs.Prelude.{◌≡◌, IfOk};
 ghost use Rattle.std.specs.List.{AllByRecursion};
 ghost use Rattle.srcp_info.specs.WellFormed.{IsWellFormedShown};
@@ -14,7 +14,7 @@ use srcp_rules::{Memory, Rows};
 use std::alloc::Global;
 
 impl<'a, R: Rows> Core<'a, R> {
-    /// How many growths were refused since `new`. The count stays at the greatest u64.
+    /// Returns how many allocations were refused since `new`. The count stops at the greatest u64.
     pub fn denied(&self) -> u64
         ensures count { result ≡ self.now.denied }
         ensures laid_out { IsLayout self.now.buses }
@@ -22,7 +22,7 @@ impl<'a, R: Rows> Core<'a, R> {
         self.denied
     }
 
-    /// Returns the moment that was taken last, in milliseconds.
+    /// Returns the last moment, in milliseconds.
     pub(crate) fn moment(&self) -> u64
         ensures { result ≡ self.now.moment }
     {
@@ -36,7 +36,7 @@ impl<'a, R: Rows> Core<'a, R> {
         self.connections.get(conn)?.live_session()
     }
 
-    /// Returns how a connection stands: `Shut` if there is none of that key.
+    /// Returns the state of a connection, which is `Shut` if none has that key.
     pub(crate) fn finish(&self, conn: usize) -> Finish
         ensures { result ≡ finish_at conn self.now }
     {

@@ -13,13 +13,12 @@ impl<'a, R: Rows> Core<'a, R> {
     ghost use Rattle.std.specs.Borrow.{sem};
     ghost use Rattle.srcp_core.specs.Lending.{EndsAs};
 
-    /// Lends the bytes that are to be sent of a connection, from its own buffer and without a copy. If an information
-    /// session's buffer is empty, its next line is put in first, which has at most 126 bytes. Once all replies are
-    /// taken, no more than one line is lent. Its laws are `lent`, `lends`, `lends_none`, `lends_line` and `there` of
-    /// `laws::calls_follow`.
+    /// Lends the unsent bytes of a connection, from its own buffer and without a copy. If an information session has
+    /// none, its next line is appended first, which has at most 126 bytes. Once all replies are sent, at most one line
+    /// is lent. Its laws are `lent`, `lends`, `lends_none`, `lends_line` and `there` of `laws::calls_follow`.
     ///
     /// # Errors
-    /// `NoSuch` if there is no such connection, and then nothing changes.
+    /// Returns `NoSuch` if there is no such connection, and then nothing changes.
     pub fn outgoing(&mut self, conn: usize) -> Result<&[u8], CoreFault>
         ensures* ends { sem 𝓛 (EndsAs R.row R.Rows self.entry (let_out conn self.old)) }
         ensures absent { MatchResult result (λ _. IsSome (at self.old conn))
@@ -31,7 +30,7 @@ impl<'a, R: Rows> Core<'a, R> {
         self.unsent(conn)
     }
 
-    /// Puts in the next line of an information session, if nothing is unsent.
+    /// Appends the next line of an information session, if nothing is unsent.
     #[inline(always)]
     pub(crate) fn fill(&mut self, conn: usize) -> Result<(), CoreFault>
         ensures absent { IsErr result ↔ (at self.old conn ≡ None) }
@@ -46,14 +45,14 @@ impl<'a, R: Rows> Core<'a, R> {
         Ok(())
     }
 
-    /// Returns what `fill` would put in, if anything.
+    /// Returns what `fill` would append, if anything.
     pub(crate) fn item(&self, conn: usize) -> Option<Next>
         ensures { result ≡ item_at conn self.now }
     {
         self.connections.get(conn)?.item(&self.rows)
     }
 
-    /// Returns the bytes that are to be sent of a connection.
+    /// Returns the unsent bytes of a connection.
     pub(crate) fn unsent(&self, conn: usize) -> Result<&[u8], CoreFault>
         ensures absent { IsErr result ↔ (at self.now conn ≡ None) }
         ensures fault { IfErr result (λ fault. fault ≡ CoreFault.NoSuch) }
@@ -65,8 +64,8 @@ impl<'a, R: Rows> Core<'a, R> {
         }
     }
 
-    /// Drops so many of the bytes that are to be sent of a connection, since they were sent. The connection has to be
-    /// there, and to lend no fewer bytes. Its laws are `sent`, `none_sent` and `lent_and_sent` of `laws::calls_follow`.
+    /// Drops the first `count` unsent bytes of a connection, since they were sent. The connection has to be open, and
+    /// to have as many. Its laws are `sent`, `none_sent` and `lent_and_sent` of `laws::calls_follow`.
     pub fn sent(&mut self, conn: usize, count: usize)
         requires open { IsSome (at self.old conn) }
         requires unsent { count ≤ length (unsent_at conn self.old) }

@@ -10,13 +10,13 @@ use crate::record::CoreFault;
 use srcp_rules::Rows;
 
 impl<'a, R: Rows> Core<'a, R> {
-    /// Takes bytes that came in on a connection, of any part of a line, and answers each line that ends in them: before
-    /// the session by the handshake of SRCP 0.8, and after that by its commands. Lines to an information session are
-    /// dropped. Its laws are `accepted`, `refused`, `bytes` and `takes` of `laws::calls_follow`.
+    /// Reads bytes that came in on a connection, of any part of a line, and answers each line that ends in them.
+    /// Before the session that is the handshake of SRCP 0.8, and after it a command. Lines to an information session
+    /// are dropped. Its laws are `accepted`, `refused`, `bytes` and `takes` of `laws::calls_follow`.
     ///
     /// # Errors
-    /// The first of these that applies, and then nothing changes: `NoSuch` if there is no such connection, `Closing` if
-    /// it ended or overran, `Busy` while bytes of it are unsent, `PieceTooLong` for more than 256 bytes.
+    /// Returns the first of these that applies, and then nothing changes: `NoSuch` if there is no such connection,
+    /// `Closing` if it ended or overran, `Busy` while bytes of it are unsent, `PieceTooLong` for more than 256 bytes.
     pub fn receive(&mut self, conn: usize, piece: &[u8]) -> Result<(), CoreFault>
         ensures fault { MatchResult result (λ _. bytes_fault conn piece.now self.old ≡ None)
             (λ fault. bytes_fault conn piece.now self.old ≡ Some fault) }
@@ -30,7 +30,7 @@ impl<'a, R: Rows> Core<'a, R> {
         Ok(())
     }
 
-    /// Returns why bytes are refused: the first cause.
+    /// Returns the first cause for which bytes are refused, if there is one.
     pub(crate) fn bytes_fault(&self, conn: usize, piece: &[u8]) -> Option<CoreFault>
         ensures { result ≡ bytes_fault conn piece.now self.now }
     {
@@ -61,8 +61,8 @@ impl<'a, R: Rows> Core<'a, R> {
         }
     }
 
-    /// Reads the piece on from `start` and answers its next line. Returns the offset after that line, and what came of
-    /// it. It is inlined with all that it calls, so that the record of a line is not made where no run is recorded.
+    /// Reads the piece on from `start` and answers its next line. Returns the offset after that line, and the record
+    /// of it. It is inlined with all that it calls, so that no record is made if no run is recorded.
     #[inline(always)]
     pub(crate) fn answer_line(
         &mut self,

@@ -6,7 +6,7 @@ ghost use Rattle.srcp_rules.specs.State.{opening};
 use srcp_info::Cursor;
 use srcp_rules::Rows;
 
-/// Stamps each row of an opening registry with the moment.
+/// Stamps each row of a new registry with the moment.
 pub(super) fn stamp_all<R: Rows>(rows: &mut R, moment: u64)
     requires laid_out { IsLayout (R.buses rows.old) }
     requires opens { R.state rows.old ≡ opening (R.buses rows.old) 0 }

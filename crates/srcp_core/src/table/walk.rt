@@ -26,7 +26,7 @@ pub(crate) fn any_panel(connections: &Slab<Connection>) -> bool
     false
 }
 
-/// Returns how many more changes may come before an information session overruns, the least over all.
+/// Returns how many more changes each information session can queue, if there is one.
 pub(crate) fn least_slack(connections: &Slab<Connection>) -> Option<usize>
     ensures { result ≡ least (map slack_at connections.now.slots) }
 {
@@ -48,7 +48,7 @@ fn lesser(one: Option<usize>, other: Option<usize>) -> Option<usize>
     }
 }
 
-/// Tells every connection the change. Where none has an information session, it walks over no places.
+/// Tells every connection the change. If none has an information session, it walks over no connection.
 pub(crate) fn tell_all(connections: &mut Slab<Connection>, panels: bool, change: &Change)
     requires panels { panels ≡ list_any has_panel connections.old.slots }
     requires change { IsWellFormed change.now }
@@ -67,7 +67,7 @@ pub(crate) fn tell_all(connections: &mut Slab<Connection>, panels: bool, change:
     }
 }
 
-/// Returns one more than the greatest key of a connection; 0 if there is none.
+/// Returns one more than the greatest key of a connection, or 0 if there is none.
 fn end_of_keys(connections: &Slab<Connection>) -> usize
     ensures { (change : Change)
         → told_upto change result connections.now.slots ≡ told_all change connections.now.slots }
@@ -93,7 +93,7 @@ pub(crate) fn tell_each(connections: &mut Slab<Connection>, panels: bool, change
     }
 }
 
-/// A session ends: its locks are taken out, then its own row, and every connection is told.
+/// Ends a session: its locks are removed, then its own row, and every connection is told.
 pub(crate) fn free_all<R: Rows>(
     rows: &mut R,
     connections: &mut Slab<Connection>,
@@ -114,7 +114,7 @@ pub(crate) fn free_all<R: Rows>(
     }
 }
 
-/// What is due at the moment is carried out in key order, and every connection is told.
+/// Carries out the rows that are due at the moment, in key order. Every connection is told.
 pub(crate) fn carry_out_due<R: Rows>(
     rows: &mut R,
     connections: &mut Slab<Connection>,
