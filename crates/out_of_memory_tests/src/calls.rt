@@ -1,4 +1,4 @@
-//! Single calls that can want memory.
+//! Calls that allocate memory, one by one.
 use crate::outcome::{Outcome, Refused};
 use circular_buffer::HeapCircularBuffer;
 use clap::error::ErrorKind;
@@ -13,7 +13,7 @@ use std::alloc::Global;
 use std::string::String;
 use std::vec::Vec;
 
-/// How many changes may wait for a panel.
+/// The most changes that wait for a panel.
 const MOST_WAITING: usize = 256;
 
 /// A configuration of one bus.
@@ -33,7 +33,7 @@ const LINES: [&[u8]; 6] = [
     b"0.000 100 INFO 1 FB 1 0",
 ];
 
-/// A bus with every group.
+/// Makes a bus with every group.
 pub(crate) fn bus(number: u8) -> Bus {
     Bus {
         number,
@@ -45,14 +45,14 @@ pub(crate) fn bus(number: u8) -> Bus {
     }
 }
 
-/// A layout of one bus.
+/// Makes a layout of one bus.
 pub(crate) fn one_bus(alloc: Global) -> Result<Layout, Refused> {
     let mut layout = Layout::new(alloc);
     layout.add(bus(1))?;
     Ok(layout)
 }
 
-/// Making a ring of as many changes as may wait. With memory the same call succeeds, here and below.
+/// Makes a ring of as many changes as may wait. With memory the same call succeeds, here and below.
 pub(crate) fn ring(alloc: Global) -> Outcome {
     let makes = || HeapCircularBuffer::<Change>::with_capacity(alloc, MOST_WAITING).is_ok();
     if makes() {
@@ -62,7 +62,7 @@ pub(crate) fn ring(alloc: Global) -> Outcome {
     }
 }
 
-/// Beginning the feed of a panel.
+/// Begins the feed of a panel.
 pub(crate) fn feed(alloc: Global) -> Result<Outcome, Refused> {
     let layout = one_bus(alloc)?;
     let rows = Flat::empty(alloc, &layout)?;
@@ -72,7 +72,7 @@ pub(crate) fn feed(alloc: Global) -> Result<Outcome, Refused> {
     })
 }
 
-/// Applying lines to a mirror: what is refused leaves it as it was, and is done by the same call with memory.
+/// Applies lines to a mirror. A refusal leaves the mirror as it was, and the same call with memory succeeds.
 pub(crate) fn mirror(alloc: Global) -> Outcome {
     let mut mirror = Mirror::new(alloc);
     let mut outcome = Outcome::Granted;
@@ -91,7 +91,7 @@ pub(crate) fn mirror(alloc: Global) -> Outcome {
     }
 }
 
-/// Adding buses to a layout, in the same way.
+/// Adds buses to a layout, in the same way.
 pub(crate) fn layout(alloc: Global) -> Outcome {
     let mut layout = Layout::new(alloc);
     let mut outcome = Outcome::Granted;
@@ -110,7 +110,7 @@ pub(crate) fn layout(alloc: Global) -> Outcome {
     }
 }
 
-/// Opening a connection, in the same way: the refusal is counted.
+/// Opens a connection, in the same way. The refusal is counted.
 pub(crate) fn connect(alloc: Global) -> Result<Outcome, Refused> {
     let layout = one_bus(alloc)?;
     let mut core = Core::<Nested>::new(alloc, &layout, 0, 0)?;
@@ -124,7 +124,7 @@ pub(crate) fn connect(alloc: Global) -> Result<Outcome, Refused> {
     })
 }
 
-/// Reading a configuration.
+/// Reads a configuration.
 pub(crate) fn configuration(alloc: Global) -> Outcome {
     match read_layout(alloc, CONFIGURATION) {
         Ok(config) => Outcome::granted_if(config.layout.buses().len() == 1),
@@ -135,7 +135,7 @@ pub(crate) fn configuration(alloc: Global) -> Outcome {
     }
 }
 
-/// Reading a script.
+/// Reads a script.
 pub(crate) fn script(alloc: Global) -> Outcome {
     match read_script(alloc, SCRIPT) {
         Ok(events) => Outcome::granted_if(events.len() == 3),
@@ -146,7 +146,7 @@ pub(crate) fn script(alloc: Global) -> Outcome {
     }
 }
 
-/// Reading the words of the program.
+/// Reads the words of the program.
 pub(crate) fn words(alloc: Global) -> Result<Outcome, Refused> {
     let mut words = Vec::new(alloc);
     for word in ["srcp_server", "check", "--config", "f"] {

@@ -1,4 +1,4 @@
-//! A run over a script that the trial is handed, with its whole record printed.
+//! A run over the script of a trial, with its whole record printed.
 ghost use Rattle.std.specs.List.{AllByRecursion};
 ghost use Rattle.srcp_info.specs.WellFormed.{IsWellFormedShown};
 
@@ -32,7 +32,7 @@ pub(crate) fn listing<R: Rows, W: Write>(
     })
 }
 
-/// Prints a record: the steps, what it says of each connection, the refused events, and the rows. Takes no memory.
+/// Prints a record: the steps, each connection, the refused events, and the rows. Allocates no memory.
 fn print_record<W: Write>(run: &Record, out: &mut W) -> io::Result<()>
     requires { AllByRecursion (λ row. IsWellFormedShown row.shown) run.now.rows }
 {
@@ -54,7 +54,7 @@ fn print_record<W: Write>(run: &Record, out: &mut W) -> io::Result<()>
     Ok(())
 }
 
-/// Prints what a record says of one connection, and the bytes that it was sent.
+/// Prints the record of one connection, and the bytes that it was sent.
 fn print_connection<W: Write>(
     connection: &ConnRecord,
     rows: &[Row],

@@ -1,7 +1,7 @@
-//! One trial of what is left if memory is refused, for `tests/run_out_of_memory.py`. Standard input names the trial and
-//! says how many allocations are made before it. `rt try --fail-alloc N` refuses the Nth allocation of a program, so
-//! this says which allocation of the trial is refused. The program prints the outcome. The lines after the first are
-//! the script of a listing, which prints its record before that. Without a name all trials that want no script are
+//! One trial of what is left if memory is refused, for `tests/run_out_of_memory.py`. Standard input names the trial
+//! and the number of allocations that come first. `rt try --fail-alloc N` refuses the Nth allocation of a program, so
+//! that number says which allocation of the trial is refused. The program prints the outcome. The lines after the
+//! first are the script of a listing, whose record is printed first. Without a name all trials without a script are
 //! made, and each has to be granted.
 #![tactic(auto)]
 
@@ -19,10 +19,10 @@ use std::io::{Read, Write};
 use std::process::ExitCode;
 use std::vec::Vec;
 
-/// How many allocations may be made before a trial.
+/// The most allocations before a trial.
 const MOST_BEFORE: u32 = 10_000;
 
-/// The names of the trials that want no script.
+/// The names of the trials without a script.
 const TRIALS: [&[u8]; 11] = [
     b"ring",
     b"feed",
@@ -63,7 +63,7 @@ fn main(rt: HostRuntime) -> ExitCode {
     ExitCode::SUCCESS
 }
 
-/// What stands before the first LF, and what follows it.
+/// Returns what stands before the first LF, and what follows it.
 fn cut_at_line_feed(text: &[u8]) -> (&[u8], &[u8]) {
     match text.iter().position(|byte| *byte == b'\n') {
         Some(place) => (&text[..place], &text[place + 1..]),

@@ -7,18 +7,18 @@ use std::fmt;
 /// The outcome of a trial.
 #[derive(Clone, Copy, Debug, PartialEq, Eq)]
 pub(crate) enum Outcome {
-    /// No allocation of the call was refused, and it answered what it should.
+    /// No allocation of the call was refused, and its answer is right.
     Granted,
     /// An allocation was refused outside of the call.
     Unprepared,
-    /// An allocation of the call was refused, and it answered so and left what it should.
+    /// An allocation of the call was refused, and its answer and what it left are right.
     Refused,
-    /// The call answered or left something else.
+    /// The call's answer, or what it left, is wrong.
     Broken,
 }
 
 impl Outcome {
-    /// Granted if this holds, else broken.
+    /// Returns `Granted` if this holds, else `Broken`.
     pub(crate) fn granted_if(holds: bool) -> Outcome {
         if holds {
             Outcome::Granted
@@ -27,7 +27,7 @@ impl Outcome {
         }
     }
 
-    /// Refused if this holds, else broken.
+    /// Returns `Refused` if this holds, else `Broken`.
     pub(crate) fn refused_if(holds: bool) -> Outcome {
         if holds {
             Outcome::Refused

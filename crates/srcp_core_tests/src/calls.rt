@@ -1,3 +1,5 @@
+//! Calls of a core, one by one.
+
 use crate::fixture::{
     assert_all, assert_answer, assert_refused, assert_state, one_bus, open, open_command, take_all,
     take_lent,
@@ -11,7 +13,7 @@ use std::vec::Vec;
 
 const WELCOME: &[u8] = b"srcp_server 1.0; SRCP 0.8.4; SRCPOTHER 0.8.3\n";
 
-/// Takes these bytes one by one. Until the last of them is taken the connection is neither ready nor closing, and
+/// Sends these bytes one by one. Until the last of them is sent the connection is neither ready nor closing, and
 /// refuses the piece.
 fn take_byte_by_byte(
     rt: &impl Abort,
@@ -32,7 +34,7 @@ fn take_byte_by_byte(
     Ok(())
 }
 
-/// Opens a connection, and takes its welcome line byte by byte.
+/// Opens a connection, and sends its welcome line byte by byte.
 fn welcome(rt: &impl Abort, alloc: Global, core: &mut Core<'_, Flat>) -> Result<(), Fail> {
     let conn = core.connect()?;
     take_byte_by_byte(rt, alloc, core, conn, WELCOME, b"GO\n", CoreFault::Busy)?;
@@ -59,7 +61,7 @@ const PIECES: [(&[u8], &[u8]); 5] = [
     ),
 ];
 
-/// Hands in a piece and takes the replies to it. The connection is ready where there are none, and once they are taken.
+/// Sends a piece in and its replies out. The connection is ready if there are none, and once they are sent.
 fn take_replies(
     rt: &impl Abort,
     alloc: Global,
@@ -75,7 +77,7 @@ fn take_replies(
     Ok(())
 }
 
-/// Hands in all pieces.
+/// Sends all pieces in.
 fn hold_session(rt: &impl Abort, alloc: Global, core: &mut Core<'_, Flat>) -> Result<(), Fail> {
     let conn = open(alloc, core)?;
     for (piece, replies) in PIECES {
@@ -92,7 +94,7 @@ fn ready_once_the_replies_are_taken(rt: HostRuntime) -> Result<(), Fail> {
     hold_session(&rt, rt.alloc(), &mut core)
 }
 
-/// The connection is to be closed: it takes no piece, and nothing is sent of it.
+/// Asserts that the connection is to be closed: it accepts no piece, and nothing of it is sent.
 fn assert_closing(
     rt: &impl Abort,
     alloc: Global,
@@ -105,7 +107,7 @@ fn assert_closing(
     assert_all(rt, alloc, core, conn, b"")
 }
 
-/// A command session ends by its own command, and its reply is taken.
+/// Ends a command session by its own command, and sends its reply.
 fn end_session(rt: &impl Abort, alloc: Global, core: &mut Core<'_, Flat>) -> Result<(), Fail> {
     let conn = open_command(alloc, core)?;
     let piece = b"TERM 0 SESSION\nGET 1 POWER\n";
@@ -123,7 +125,7 @@ fn closing_once_the_last_reply_is_taken(rt: HostRuntime) -> Result<(), Fail> {
     end_session(&rt, rt.alloc(), &mut core)
 }
 
-/// Nothing is found under the key.
+/// Asserts that nothing is found under the key.
 fn assert_absent(rt: &impl Abort, core: &mut Core<'_, Flat>, conn: usize) {
     assert_eq!(rt; core.hangup(conn), Err(CoreFault::NoSuch));
     assert_refused(rt, core, conn, &[0; 257], CoreFault::NoSuch);
@@ -131,7 +133,7 @@ fn assert_absent(rt: &impl Abort, core: &mut Core<'_, Flat>, conn: usize) {
     assert_state(rt, core, conn, false, false);
 }
 
-/// A connection is hung up; no other has a key so large.
+/// Hangs up a connection. No other has a key so large.
 fn hang_up(rt: &impl Abort, alloc: Global, core: &mut Core<'_, Flat>) -> Result<(), Fail> {
     let conn = open_command(alloc, core)?;
     assert_eq!(rt; core.hangup(conn), Ok(()));
@@ -148,7 +150,7 @@ fn no_call_finds_a_connection_after_its_hang_up(rt: HostRuntime) -> Result<(), F
     hang_up(&rt, rt.alloc(), &mut core)
 }
 
-/// The connection takes no piece of 257 bytes, but any number of 256 each.
+/// Asserts that the connection refuses a piece of 257 bytes, and accepts any number of 256 each.
 fn take_long_pieces(rt: &impl Abort, core: &mut Core<'_, Flat>, conn: usize) {
     let long = [b'x'; 257];
     assert_refused(rt, core, conn, &long, CoreFault::PieceTooLong);
@@ -159,7 +161,7 @@ fn take_long_pieces(rt: &impl Abort, core: &mut Core<'_, Flat>, conn: usize) {
     }
 }
 
-/// Pieces of a line that ends at last.
+/// Sends pieces of a line that ends at last.
 fn send_long_line(rt: &impl Abort, alloc: Global, core: &mut Core<'_, Flat>) -> Result<(), Fail> {
     let conn = core.connect()?;
     assert_refused(rt, core, conn, &[b'x'; 257], CoreFault::Busy);

@@ -1,4 +1,4 @@
-//! Lists of events, and what two runs tell.
+//! Lists of events, and a comparison of two runs.
 use srcp_core::{ConnRecord, Event, Item, Piece};
 use srcp_feed::Next;
 use srcp_info::{Change, Group, Key, Mode, Shown, Text, Value};
@@ -6,7 +6,7 @@ use std::alloc::Global;
 use std::test::Fail;
 use std::vec::Vec;
 
-/// These bytes of a connection come in.
+/// Returns the event that these bytes of a connection come in.
 pub(crate) fn bytes(alloc: Global, conn: usize, text: &[u8]) -> Result<Event, Fail> {
     Ok(Event::Bytes {
         conn,
@@ -14,7 +14,7 @@ pub(crate) fn bytes(alloc: Global, conn: usize, text: &[u8]) -> Result<Event, Fa
     })
 }
 
-/// A connection is opened, and its session begins with these lines; their replies are taken.
+/// Opens a connection and begins its session by these lines. Their replies are sent.
 pub(crate) fn begin(
     alloc: Global,
     events: &mut Vec<Event>,
@@ -31,7 +31,7 @@ pub(crate) fn begin(
     Ok(())
 }
 
-/// Returns whether a record says the same of two connections.
+/// Returns whether two records of connections are the same.
 pub(crate) fn is_same_connection(one: &ConnRecord, other: &ConnRecord) -> bool {
     one.session == other.session
         && one.info == other.info
@@ -41,7 +41,7 @@ pub(crate) fn is_same_connection(one: &ConnRecord, other: &ConnRecord) -> bool {
         && one.finish == other.finish
 }
 
-/// The row of a session.
+/// Returns the row of a session.
 pub(crate) fn session_row(session: u32, mode: Mode) -> Shown {
     Shown {
         key: Key {
@@ -55,7 +55,7 @@ pub(crate) fn session_row(session: u32, mode: Mode) -> Shown {
     }
 }
 
-/// The row of a sensor.
+/// Returns the row of a sensor.
 pub(crate) fn sensor_row(port: u32, on: bool) -> Shown {
     Shown {
         key: Key {
@@ -83,7 +83,7 @@ pub(crate) fn told(steps: usize, row: Shown) -> Item {
     }
 }
 
-/// The row of the power of the bus, which is off.
+/// Returns the row of the power of the bus, which is off.
 pub(crate) fn power_row() -> Shown {
     Shown {
         key: Key {

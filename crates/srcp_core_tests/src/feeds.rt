@@ -1,3 +1,5 @@
+//! The feed of an information session.
+
 use crate::events::{power_row, sensor_row};
 use crate::fixture::one_bus;
 use srcp_feed::{InfoFeed, Next, Told};
@@ -6,19 +8,19 @@ use srcp_rules::{Flat, Rows};
 use std::process::Abort;
 use std::test::Fail;
 
-/// The feed gives the row, and has then come so far.
+/// Asserts that the feed gives the row, and has then listed it.
 fn assert_listed(rt: &impl Abort, feed: &mut InfoFeed, rows: &Flat, row: &Shown) {
     assert!(rt; matches!(feed.next(rows), Next::Listed(listed) if listed == *row));
     assert_eq!(rt; feed.cursor(), Cursor::After(row.key));
 }
 
-/// Nothing is left that the feed could give.
+/// Asserts that nothing is left that the feed could give.
 fn assert_settled(rt: &impl Abort, feed: &mut InfoFeed, rows: &Flat) {
     assert!(rt; matches!(feed.next(rows), Next::Settled));
     assert_eq!(rt; feed.cursor(), Cursor::Done);
 }
 
-/// A new feed lists all rows, also one that it was told of before.
+/// Asserts that a new feed lists all rows, also one whose change it was told.
 fn assert_lists(rt: &impl Abort, feed: &mut InfoFeed, rows: &Flat) {
     assert_eq!(rt; feed.cursor(), Cursor::Start);
     assert_eq!(rt; feed.waiting(), 0);
@@ -40,7 +42,7 @@ fn a_feed_begins_before_the_first_row(rt: HostRuntime) -> Result<(), Fail> {
     Ok(())
 }
 
-/// Changes of the first row wait up to 256, and those of the next row not at all.
+/// Asserts that at most 256 changes of the first row wait, and none of the next row.
 fn tell_changes(rt: &impl Abort, feed: &mut InfoFeed, power: &Change, sensor: &Change) {
     for waiting in 0..256 {
         assert_eq!(rt; feed.waiting(), waiting);
@@ -52,7 +54,7 @@ fn tell_changes(rt: &impl Abort, feed: &mut InfoFeed, power: &Change, sensor: &C
     assert_eq!(rt; feed.waiting(), 256);
 }
 
-/// The changes that wait are given before the next row.
+/// Asserts that the changes that wait are given before the next row.
 fn take_changes(rt: &impl Abort, feed: &mut InfoFeed, rows: &Flat, power: &Change) {
     for _ in 0..256 {
         assert!(rt; matches!(feed.next(rows), Next::Told(change) if change == *power));
@@ -60,7 +62,7 @@ fn take_changes(rt: &impl Abort, feed: &mut InfoFeed, rows: &Flat, power: &Chang
     assert!(rt; matches!(feed.next(rows), Next::Listed(row) if row == sensor_row(1, false)));
 }
 
-/// The first row is listed, and then as many changes are told as may wait.
+/// Lists the first row, and then queues as many changes as may wait.
 fn fill_ring(rt: &impl Abort, feed: &mut InfoFeed, rows: &Flat) {
     assert!(rt; matches!(feed.next(rows), Next::Listed(_)));
     let power = Change::Put(power_row());

@@ -1,3 +1,5 @@
+//! A core that begins at a later moment.
+
 use crate::fixture::{assert_all, assert_answer, one_bus, open_command, open_panel};
 use srcp_core::Core;
 use srcp_rules::Flat;
@@ -12,7 +14,7 @@ const LISTING: &[u8] = b"12.050 101 INFO 0 SESSION 1 COMMAND
 12.050 100 INFO 1 FB 2 0
 ";
 
-/// The lines of rows that were there from the beginning, told at a later moment.
+/// Asserts the lines of rows that were there from the beginning, listed at a later moment.
 fn assert_told_later(
     rt: &impl Abort,
     alloc: Global,

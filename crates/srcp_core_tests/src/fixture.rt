@@ -1,5 +1,5 @@
 //! Layouts, connections and sessions that the tests begin with, and what several of them assert. A test holds the
-//! layout and the core, and leaves the rest to functions that borrow them: so each is proved in a few seconds.
+//! layout and the core, and leaves the rest to functions that borrow them, so that each is proved in a few seconds.
 use srcp_core::{Core, CoreFault};
 use srcp_info::Mirror;
 use srcp_rules::{Bus, Flat, Layout};
@@ -8,10 +8,10 @@ use std::process::Abort;
 use std::test::Fail;
 use std::vec::Vec;
 
-/// How many lines are taken at once, at most.
+/// The most lines that are sent at once.
 const MOST_LINES: usize = 1000;
 
-/// Bus 1 with power, locomotives, accessories of two ports and 2 feedback ports.
+/// Makes bus 1 with power, locomotives, accessories of two ports and 2 feedback ports.
 pub(crate) fn one_bus(alloc: Global) -> Result<Layout, Fail> {
     let mut layout = Layout::new(alloc);
     layout.add(Bus {
@@ -25,7 +25,7 @@ pub(crate) fn one_bus(alloc: Global) -> Result<Layout, Fail> {
     Ok(layout)
 }
 
-/// Takes the bytes that are lent, at most so many, and answers how many these are.
+/// Sends at most `most` of the bytes that are lent. Returns how many these are.
 pub(crate) fn take_lent(
     core: &mut Core<'_, Flat>,
     conn: usize,
@@ -39,7 +39,7 @@ pub(crate) fn take_lent(
     Ok(count)
 }
 
-/// Takes all that is lent, until nothing is.
+/// Sends all that is lent, until nothing is.
 pub(crate) fn take_all(
     alloc: Global,
     core: &mut Core<'_, Flat>,
@@ -54,7 +54,7 @@ pub(crate) fn take_all(
     Ok(taken)
 }
 
-/// Hands in a piece, and takes what is lent once after it.
+/// Sends a piece in, and what is lent once after it out.
 pub(crate) fn answer(
     alloc: Global,
     core: &mut Core<'_, Flat>,
@@ -67,7 +67,7 @@ pub(crate) fn answer(
     Ok(taken)
 }
 
-/// Opens a connection, and takes its welcome line.
+/// Opens a connection, and sends its welcome line.
 pub(crate) fn open(alloc: Global, core: &mut Core<'_, Flat>) -> Result<usize, Fail> {
     let conn = core.connect()?;
     let mut taken = Vec::new(alloc);
@@ -75,21 +75,21 @@ pub(crate) fn open(alloc: Global, core: &mut Core<'_, Flat>) -> Result<usize, Fa
     Ok(conn)
 }
 
-/// Opens a command session, and takes its replies.
+/// Opens a command session, and sends its replies.
 pub(crate) fn open_command(alloc: Global, core: &mut Core<'_, Flat>) -> Result<usize, Fail> {
     let conn = open(alloc, core)?;
     answer(alloc, core, conn, b"GO\n")?;
     Ok(conn)
 }
 
-/// Opens an information session, and takes its replies and no byte more.
+/// Opens an information session, and sends its replies and no byte more.
 pub(crate) fn open_panel(alloc: Global, core: &mut Core<'_, Flat>) -> Result<usize, Fail> {
     let conn = open(alloc, core)?;
     answer(alloc, core, conn, b"SET CONNECTIONMODE SRCP INFO\nGO\n")?;
     Ok(conn)
 }
 
-/// Hands in a piece, and asserts what is lent once after it.
+/// Sends a piece in, and asserts what is lent once after it.
 pub(crate) fn assert_answer(
     rt: &impl Abort,
     alloc: Global,
@@ -103,7 +103,7 @@ pub(crate) fn assert_answer(
     Ok(())
 }
 
-/// Takes all that is lent, and asserts what that is.
+/// Sends all that is lent, and asserts what that is.
 pub(crate) fn assert_all(
     rt: &impl Abort,
     alloc: Global,
@@ -116,7 +116,7 @@ pub(crate) fn assert_all(
     Ok(())
 }
 
-/// Asserts whether a connection takes a piece, and whether it is to be closed.
+/// Asserts whether a connection is ready, and whether it is to be closed.
 pub(crate) fn assert_state(
     rt: &impl Abort,
     core: &Core<'_, Flat>,
@@ -139,7 +139,7 @@ pub(crate) fn assert_refused(
     assert_eq!(rt; core.receive(conn, piece), Err(fault));
 }
 
-/// The mirror of these lines, but for so many at their beginning.
+/// Returns the mirror of these lines, without the first `skipped` of them.
 pub(crate) fn mirror_of(alloc: Global, lines: &[u8], skipped: usize) -> Result<Mirror, Fail> {
     let mut mirror = Mirror::new(alloc);
     for line in lines.split(|byte| *byte == b'\n').skip(skipped) {

@@ -1,3 +1,5 @@
+//! Sessions up to the last id.
+
 use crate::fixture::{assert_answer, one_bus, open};
 use srcp_core::Core;
 use srcp_rules::Flat;
@@ -18,7 +20,7 @@ const LINES: [(&[u8], &[u8]); 5] = [
     (b"go\n", REFUSED),
 ];
 
-/// No line begins a session, and the connection goes on.
+/// Asserts that no line begins a session, and that the connection goes on.
 fn assert_no_session(
     rt: &impl Abort,
     alloc: Global,
@@ -40,7 +42,7 @@ fn no_session_begins_after_the_last_id(rt: HostRuntime) -> Result<(), Fail> {
     assert_no_session(&rt, rt.alloc(), &mut core)
 }
 
-/// The first session has the id, and the second none.
+/// Asserts that the first session has the id, and the second none.
 fn assert_given_once(
     rt: &impl Abort,
     alloc: Global,

@@ -1,3 +1,5 @@
+//! Memory that is given to all.
+
 use crate::fixture::{assert_answer, mirror_of, one_bus, open_command, open_panel, take_all};
 use srcp_core::Core;
 use srcp_rules::Flat;
@@ -5,7 +7,7 @@ use std::alloc::Global;
 use std::process::Abort;
 use std::test::Fail;
 
-/// A locomotive and an accessory are made and locked.
+/// Makes a locomotive and an accessory, and locks both.
 fn make_devices(
     rt: &impl Abort,
     alloc: Global,
@@ -23,7 +25,7 @@ fn make_devices(
     Ok(())
 }
 
-/// A mirror of all that a panel is sent has so many rows.
+/// Asserts that the mirror of all lines of a panel has that many rows.
 fn assert_mirrored(
     rt: &impl Abort,
     alloc: Global,
@@ -37,7 +39,7 @@ fn assert_mirrored(
     Ok(())
 }
 
-/// Devices are made, a panel gets their rows, and no growth is refused.
+/// Asserts that devices are made, a panel gets their rows, and no allocation is refused.
 fn assert_granted(rt: &impl Abort, alloc: Global, core: &mut Core<'_, Flat>) -> Result<(), Fail> {
     let command = open_command(alloc, core)?;
     make_devices(rt, alloc, core, command)?;
@@ -47,7 +49,7 @@ fn assert_granted(rt: &impl Abort, alloc: Global, core: &mut Core<'_, Flat>) -> 
 }
 
 #[test]
-fn nothing_is_refused_where_there_is_memory(rt: HostRuntime) -> Result<(), Fail> {
+fn nothing_is_refused_if_there_is_memory(rt: HostRuntime) -> Result<(), Fail> {
     let layout = one_bus(rt.alloc())?;
     let mut core = Core::<Flat>::new(rt.alloc(), &layout, 0, 0)?;
     assert_granted(&rt, rt.alloc(), &mut core)

@@ -1,3 +1,5 @@
+//! A mirror of what a panel is sent.
+
 use crate::events::{begin, bytes};
 use crate::fixture::{mirror_of, one_bus};
 use srcp_core::{Event, Record, run};
@@ -21,7 +23,7 @@ const PIECES: [(&[u8], u64); 3] = [
     (b"TERM 1 GA 5\nSET 1 FB 2 1\nINIT 1 GL 3 N 2 28 1\n", 11_000),
 ];
 
-/// The command session sends a piece, the panel is given a little room after it, and then a moment comes.
+/// Appends the events that the command session sends a piece, the panel has a little room, and a moment comes.
 fn send(alloc: Global, events: &mut Vec<Event>, lines: &[u8], moment: u64) -> Result<(), Fail> {
     events.push(bytes(alloc, 1, lines)?)?;
     events.push(Event::Room {
@@ -33,7 +35,7 @@ fn send(alloc: Global, events: &mut Vec<Event>, lines: &[u8], moment: u64) -> Re
     Ok(())
 }
 
-/// A command session and a panel, which is settled in the end.
+/// Returns the events of a command session and of a panel that is settled in the end.
 fn a_settled_panel(alloc: Global) -> Result<Vec<Event>, Fail> {
     let mut events = Vec::new(alloc);
     begin(alloc, &mut events, 1, b"GO\n")?;
@@ -48,7 +50,7 @@ fn a_settled_panel(alloc: Global) -> Result<Vec<Event>, Fail> {
     Ok(events)
 }
 
-/// The mirror holds the same rows.
+/// Asserts that the mirror holds the same rows.
 fn assert_same_rows(rt: &impl Abort, mirror: &Mirror, rows: &[Row]) {
     assert_eq!(rt; mirror.rows().len(), rows.len());
     for (shown, row) in mirror.rows().zip(rows) {
@@ -56,7 +58,7 @@ fn assert_same_rows(rt: &impl Abort, mirror: &Mirror, rows: &[Row]) {
     }
 }
 
-/// The mirror of what the panel was sent after its three replies holds the ten rows.
+/// Asserts that the mirror of the panel's lines after its three replies holds the ten rows.
 fn assert_mirrored(rt: &impl Abort, alloc: Global, record: &Record) -> Result<(), Fail> {
     let [_, panel] = record.connections.as_slice() else {
         return Err(Fail::from("not two connections"));

@@ -1,3 +1,5 @@
+//! The limit of 64 connections.
+
 use crate::fixture::one_bus;
 use srcp_core::{Core, CoreFault};
 use srcp_rules::Flat;
@@ -6,7 +8,7 @@ use std::process::Abort;
 use std::test::Fail;
 use std::vec::Vec;
 
-/// Opens 64 connections, and answers their keys.
+/// Opens 64 connections, and returns their keys.
 fn open_all(alloc: Global, core: &mut Core<'_, Flat>) -> Result<Vec<usize>, Fail> {
     let mut open = Vec::new(alloc);
     for _ in 0..64 {
@@ -15,19 +17,19 @@ fn open_all(alloc: Global, core: &mut Core<'_, Flat>) -> Result<Vec<usize>, Fail
     Ok(open)
 }
 
-/// No more may be open.
+/// Asserts that no more can be opened.
 fn assert_full(rt: &impl Abort, core: &mut Core<'_, Flat>) {
     assert_eq!(rt; core.connect(), Err(CoreFault::Full));
 }
 
-/// One more may be opened after a hang-up, and no second.
+/// Asserts that one more can be opened after a hang-up, and no second.
 fn open_anew(rt: &impl Abort, core: &mut Core<'_, Flat>, conn: usize) {
     assert_eq!(rt; core.hangup(conn), Ok(()));
     assert!(rt; core.connect().is_ok());
     assert_full(rt, core);
 }
 
-/// One after the other is hung up, and another opened for it.
+/// Hangs up one after the other, and opens another for it.
 fn assert_limit(rt: &impl Abort, alloc: Global, core: &mut Core<'_, Flat>) -> Result<(), Fail> {
     let open = open_all(alloc, core)?;
     assert_full(rt, core);

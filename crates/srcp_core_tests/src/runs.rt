@@ -1,3 +1,5 @@
+//! Runs over lists of events, and their records.
+
 use crate::events::{
     begin, bytes, is_same_connection, listed, power_row, sensor_row, session_row, told,
 };
@@ -32,19 +34,20 @@ const COMMAND_SENT: &[u8] = b"srcp_server 1.0; SRCP 0.8.4; SRCPOTHER 0.8.3
 0.007 200 OK
 ";
 
-/// What a run over the events tells.
+/// Returns the record of a run over the events.
 fn carried_out(alloc: Global, events: &[Event]) -> Result<Record, Fail> {
     let layout = one_bus(alloc)?;
     Ok(run::<Flat>(alloc, &layout, events)?)
 }
 
-/// Room for a connection.
+/// Appends the event that a connection has room.
 fn give_room(events: &mut Vec<Event>, conn: usize, bytes: usize) -> Result<(), Fail> {
     events.push(Event::Room { conn, bytes })?;
     Ok(())
 }
 
-/// A command session sets two sensors and sends a line that is none, and a moment comes and an earlier one.
+/// Appends events: a command session sets two sensors and sends a line that is none, and a moment comes and an earlier
+/// one.
 fn set_two_sensors(alloc: Global, events: &mut Vec<Event>) -> Result<(), Fail> {
     events.push(bytes(alloc, 2, b"SET 1 FB 2 1\nSET 1 FB 1 1\nNOISE\n")?)?;
     events.push(Event::At(7))?;
@@ -52,18 +55,18 @@ fn set_two_sensors(alloc: Global, events: &mut Vec<Event>) -> Result<(), Fail> {
     Ok(())
 }
 
-/// It ends by its own command.
+/// Appends the event that the command session ends by its own command.
 fn end_session(alloc: Global, events: &mut Vec<Event>) -> Result<(), Fail> {
     events.push(bytes(alloc, 2, b"TERM 0 SESSION\n")?)?;
     give_room(events, 2, 13)
 }
 
-/// A panel that is given room now and then, and a command session that sets two sensors, sends a line that is none, and
-/// ends by its own command.
-fn an_evening(alloc: Global) -> Result<Vec<Event>, Fail> {
+/// Returns the events of a panel that has room now and then, and of a command session. That sets two sensors, sends a
+/// line that is none, and ends by its own command.
+fn a_panel_and_a_throttle(alloc: Global) -> Result<Vec<Event>, Fail> {
     let mut events = Vec::new(alloc);
     begin(alloc, &mut events, 1, PANEL)?;
-    // the rows of the session and of the power, and ten bytes of the first sensor's
+    // The rows of the session and of the power, and ten bytes of the first sensor's.
     give_room(&mut events, 1, 69)?;
     begin(alloc, &mut events, 2, b"GO\n")?;
     set_two_sensors(alloc, &mut events)?;
@@ -73,7 +76,7 @@ fn an_evening(alloc: Global) -> Result<Vec<Event>, Fail> {
     Ok(events)
 }
 
-/// Session 2 gives a command.
+/// Returns the step that session 2 gave a command.
 fn obeyed(moment: u64, command: Command) -> Step {
     Step::Obeyed {
         session: 2,
@@ -82,7 +85,7 @@ fn obeyed(moment: u64, command: Command) -> Step {
     }
 }
 
-/// A sensor of bus 1 is set.
+/// Returns the command that sets a sensor of bus 1.
 fn set_fb(port: u32) -> Command {
     Command::SetFb {
         bus: 1,
@@ -91,8 +94,8 @@ fn set_fb(port: u32) -> Command {
     }
 }
 
-/// What the registry goes through in that evening.
-fn steps_of_the_evening() -> [Step; 8] {
+/// Returns the steps of the registry in these events.
+fn expected_steps() -> [Step; 8] {
     [
         Step::Began {
             session: 1,
@@ -116,8 +119,8 @@ fn steps_of_the_evening() -> [Step; 8] {
     ]
 }
 
-/// What the panel is given in that evening.
-fn items_of_the_evening() -> [Item; 6] {
+/// Returns the lines of the panel in these events.
+fn expected_items() -> [Item; 6] {
     [
         listed(1, session_row(1, Mode::Info)),
         listed(1, power_row()),
@@ -128,14 +131,14 @@ fn items_of_the_evening() -> [Item; 6] {
     ]
 }
 
-/// The record of the panel.
+/// Asserts the record of the panel.
 fn assert_panel(rt: &impl Abort, panel: &ConnRecord) {
     assert_eq!(rt; (panel.session, panel.info, panel.go_step), (1, true, 1));
-    assert_eq!(rt; panel.items.as_slice(), items_of_the_evening().as_slice());
+    assert_eq!(rt; panel.items.as_slice(), expected_items().as_slice());
     assert_eq!(rt; panel.sent.as_slice(), PANEL_SENT);
 }
 
-/// The record of the command session.
+/// Asserts the record of the command session.
 fn assert_command(rt: &impl Abort, command: &ConnRecord) {
     assert_eq!(rt;
         (command.session, command.info, command.go_step),
@@ -145,7 +148,7 @@ fn assert_command(rt: &impl Abort, command: &ConnRecord) {
     assert_eq!(rt; command.sent.as_slice(), COMMAND_SENT);
 }
 
-/// The records of both.
+/// Asserts the records of both.
 fn assert_sessions(rt: &impl Abort, record: &Record) -> Result<(), Fail> {
     let [panel, command] = record.connections.as_slice() else {
         return Err(Fail::from("not two connections"));
@@ -155,22 +158,22 @@ fn assert_sessions(rt: &impl Abort, record: &Record) -> Result<(), Fail> {
     Ok(())
 }
 
-/// The steps of the evening, and nothing was refused.
+/// Asserts the steps of these events, and that nothing was refused.
 fn assert_steps(rt: &impl Abort, record: &Record) {
-    assert_eq!(rt; record.steps.as_slice(), steps_of_the_evening().as_slice());
+    assert_eq!(rt; record.steps.as_slice(), expected_steps().as_slice());
     assert_eq!(rt; record.denied, 0);
     assert!(rt; record.refused.as_slice().is_empty());
 }
 
 #[test]
 fn a_run_tells_steps_and_items(rt: HostRuntime) -> Result<(), Fail> {
-    let events = an_evening(rt.alloc())?;
+    let events = a_panel_and_a_throttle(rt.alloc())?;
     let record = carried_out(rt.alloc(), &events)?;
     assert_steps(&rt, &record);
     assert_sessions(&rt, &record)
 }
 
-/// A panel that is given more room than its listing needs.
+/// Returns the events of a panel with more room than its listing needs.
 fn a_listing_with_room_left(alloc: Global) -> Result<Vec<Event>, Fail> {
     let mut events = Vec::new(alloc);
     begin(alloc, &mut events, 1, PANEL)?;
@@ -180,7 +183,7 @@ fn a_listing_with_room_left(alloc: Global) -> Result<Vec<Event>, Fail> {
     Ok(events)
 }
 
-/// The panel is given its four rows, and nothing else.
+/// Asserts that the panel was given its four rows, and nothing else.
 fn assert_rows_alone(rt: &impl Abort, record: &Record) -> Result<(), Fail> {
     let [panel] = record.connections.as_slice() else {
         return Err(Fail::from("not one connection"));
@@ -202,7 +205,8 @@ fn no_item_says_that_nothing_is_left(rt: HostRuntime) -> Result<(), Fail> {
     assert_rows_alone(&rt, &record)
 }
 
-/// A connection that is opened, and room for the number 0, which no connection has and no script can write.
+/// Returns the events that a connection is opened, and that number 0 has room. No connection has that number, and no
+/// script can write it.
 fn room_for_none(alloc: Global) -> Result<Vec<Event>, Fail> {
     let mut events = Vec::new(alloc);
     events.push(Event::Open)?;
@@ -210,7 +214,7 @@ fn room_for_none(alloc: Global) -> Result<Vec<Event>, Fail> {
     Ok(events)
 }
 
-/// The second event is refused, and no growth.
+/// Asserts that the second event is refused, and no allocation.
 fn assert_second_refused(rt: &impl Abort, record: &Record) -> Result<(), Fail> {
     let [refusal] = record.refused.as_slice() else {
         return Err(Fail::from("not one refused event"));
@@ -227,8 +231,8 @@ fn refusals_are_told_by_the_numbers_of_their_events(rt: HostRuntime) -> Result<(
     assert_second_refused(&rt, &record)
 }
 
-/// Connection 1 sets the first sensor, its reply is taken, and the third connection is given room, as is the second
-/// where it says so.
+/// Appends the events that connection 1 sets the first sensor and its reply is sent. The third connection then has
+/// room, and with `with_room` the second too.
 fn set_sensor(alloc: Global, events: &mut Vec<Event>, with_room: bool) -> Result<(), Fail> {
     events.push(bytes(alloc, 1, b"SET 1 FB 1 1\n")?)?;
     give_room(events, 1, 13)?;
@@ -239,7 +243,7 @@ fn set_sensor(alloc: Global, events: &mut Vec<Event>, with_room: bool) -> Result
     Ok(())
 }
 
-/// A command session and two settled panels, 2 and 3.
+/// Appends the events of a command session and of two settled panels, 2 and 3.
 fn two_panels(alloc: Global, events: &mut Vec<Event>) -> Result<(), Fail> {
     begin(alloc, events, 1, b"GO\n")?;
     begin(alloc, events, 2, PANEL)?;
@@ -248,8 +252,8 @@ fn two_panels(alloc: Global, events: &mut Vec<Event>) -> Result<(), Fail> {
     give_room(events, 3, 10_000)
 }
 
-/// What a run tells of a command session, and of two panels of which the second is settled and, where it says so,
-/// given room after each of 300 changes. The third is given room after each.
+/// Returns the record of a command session and two panels, of which the second is settled. There are 300 changes. The
+/// third has room after each of them, and with `with_room` the second too.
 fn beside_a_panel(alloc: Global, with_room: bool) -> Result<Record, Fail> {
     let mut events = Vec::new(alloc);
     two_panels(alloc, &mut events)?;
@@ -259,14 +263,14 @@ fn beside_a_panel(alloc: Global, with_room: bool) -> Result<Record, Fail> {
     carried_out(alloc, &events)
 }
 
-/// Both runs have the same 303 steps and the same rows.
+/// Asserts that both runs have the same 303 steps and the same rows.
 fn assert_same_registry(rt: &impl Abort, quick: &Record, slow: &Record) {
     assert_eq!(rt; quick.steps.as_slice(), slow.steps.as_slice());
     assert_eq!(rt; quick.steps.as_slice().len(), 303);
     assert_eq!(rt; quick.rows.as_slice(), slow.rows.as_slice());
 }
 
-/// A panel was told 300 changes with room, and was sent their lines more than without, where it overran.
+/// Asserts that a panel with room was sent the lines of 300 changes more than the slow one, which overran.
 fn assert_told(rt: &impl Abort, panel: &ConnRecord, slow: &ConnRecord) {
     assert_eq!(rt; panel.finish, Finish::Live);
     assert_eq!(rt; slow.finish, Finish::Overrun);
@@ -282,7 +286,7 @@ fn assert_told(rt: &impl Abort, panel: &ConnRecord, slow: &ConnRecord) {
     );
 }
 
-/// Of three connections the second alone differs.
+/// Asserts that of three connections the second alone differs.
 fn assert_same_others(rt: &impl Abort, quick: &Record, slow: &Record) -> Result<(), Fail> {
     let [command, panel, third] = quick.connections.as_slice() else {
         return Err(Fail::from("not three connections"));

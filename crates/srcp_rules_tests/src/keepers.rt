@@ -7,8 +7,8 @@ use std::alloc::Global;
 use std::process::Abort;
 use std::test::Fail;
 
-/// Appends all rows of each keeper before the first line and after each of them, where both keepers
-/// have to tell the same at it.
+/// Appends all rows of each keeper before the first line and after each line. Both keepers have to answer the same at
+/// it.
 fn walk_at_each(
     served: &mut Served,
     alloc: Global,
@@ -24,8 +24,8 @@ fn walk_at_each(
     Ok(())
 }
 
-/// The keepers tell the same at each line, and before the first and after each of them they have the
-/// same rows, at least `least` in all.
+/// Asserts that the keepers answer the same at each line. Before the first and after each of them they have the same
+/// rows, at least `least` in all.
 fn keep_the_same(
     rt: &impl Abort,
     alloc: Global,

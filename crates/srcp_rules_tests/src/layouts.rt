@@ -1,4 +1,4 @@
-//! Layouts, and the registry that begins with one.
+//! Layouts, and the registries that begin with them.
 
 use crate::served::bus;
 use srcp_info::{Cursor, Device, Group};
@@ -32,7 +32,7 @@ fn buses_stand_by_their_numbers(rt: HostRuntime) -> Result<(), Fail> {
 }
 
 #[test]
-fn ports_count_only_where_there_are_accessories(rt: HostRuntime) -> Result<(), Fail> {
+fn ports_count_only_if_there_are_accessories(rt: HostRuntime) -> Result<(), Fail> {
     let mut layout = Layout::new(rt.alloc());
     let nine = Bus {
         ga_ports: 9,

@@ -1,4 +1,4 @@
-//! What moments bring, just before and at the moment, and what the end of a session brings.
+//! Moments: what they bring, just before and on time, and what the end of a session brings.
 
 use crate::served::{bus, tells};
 use std::test::Fail;

@@ -1,4 +1,4 @@
-//! How many ports an accessory has.
+//! Accessories with several ports.
 
 use crate::served::{bus, tells};
 use srcp_rules::Bus;

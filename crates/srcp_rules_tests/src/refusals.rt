@@ -5,7 +5,7 @@ use srcp_info::Code;
 use srcp_rules::Bus;
 use std::test::Fail;
 
-/// A bus with accessories alone.
+/// Makes a bus with accessories alone.
 fn accessories(number: u8) -> Bus {
     Bus {
         power: false,
@@ -15,7 +15,7 @@ fn accessories(number: u8) -> Bus {
     }
 }
 
-/// A bus with feedback ports alone.
+/// Makes a bus with feedback ports alone.
 fn feedback(number: u8) -> Bus {
     Bus {
         power: false,

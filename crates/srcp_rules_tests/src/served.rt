@@ -1,4 +1,4 @@
-//! A registry for tests, kept by both kinds of keepers, and what it says to its sessions.
+//! A registry for tests, kept by both kinds of keepers, and its answers to sessions.
 
 use crate::told::{push_begun, push_due, push_end, push_line, push_reply, push_rows};
 use srcp_info::{Code, Reply, Row};
@@ -8,7 +8,7 @@ use std::marker::Model;
 use std::process::Abort;
 use std::test::Fail;
 
-/// A bus with power, 10239 locomotives, 2044 accessories of two ports and 2 feedback ports.
+/// Makes a bus with power, 10239 locomotives, 2044 accessories of two ports and 2 feedback ports.
 pub(crate) fn bus(number: u8) -> Bus {
     Bus {
         number,
@@ -20,7 +20,7 @@ pub(crate) fn bus(number: u8) -> Bus {
     }
 }
 
-/// What both keepers said.
+/// Returns what both keepers answered.
 fn agreed(said: Vec<u8>, other: &[u8]) -> Result<Vec<u8>, Fail> {
     if said.as_slice() == other {
         Ok(said)
@@ -29,7 +29,7 @@ fn agreed(said: Vec<u8>, other: &[u8]) -> Result<Vec<u8>, Fail> {
     }
 }
 
-/// A registry of a layout, kept twice.
+/// Holds a registry of a layout, kept twice.
 #[derive(Drop)]
 pub(crate) struct Served {
     layout: Layout,
@@ -53,7 +53,7 @@ impl Model for Served {
 }
 
 impl Served {
-    /// The opening registry of these buses.
+    /// Makes the first registry of these buses.
     pub(crate) fn open(alloc: Global, buses: &[Bus]) -> Result<Served, Fail> {
         let mut layout = Layout::new(alloc);
         for bus in buses {
@@ -68,7 +68,7 @@ impl Served {
         })
     }
 
-    /// The change that the beginning of a command session brings, as its line.
+    /// Returns the change that the beginning of a command session brings, as its line.
     fn begin(&mut self, alloc: Global, session: u32, moment: u64) -> Result<Vec<u8>, Fail> {
         let mut said = Vec::new(alloc);
         push_begun(&mut said, &mut self.flat, session, moment)?;
@@ -77,8 +77,8 @@ impl Served {
         agreed(said, &other)
     }
 
-    /// The reply to a session's line and the changes that it makes, each as its line, and a last
-    /// line where the session is to end.
+    /// Returns the reply to a session's line and the changes that it makes, each as its line. A last line follows if
+    /// the session is to end.
     fn say(
         &mut self,
         alloc: Global,
@@ -107,7 +107,7 @@ impl Served {
         agreed(said, &other)
     }
 
-    /// The changes that the moment brings, each as its line.
+    /// Returns the changes that the moment brings, each as its line.
     fn at(&mut self, alloc: Global, moment: u64) -> Result<Vec<u8>, Fail> {
         let mut said = Vec::new(alloc);
         push_due(&mut said, &mut self.flat, moment)?;
@@ -116,7 +116,7 @@ impl Served {
         agreed(said, &other)
     }
 
-    /// The changes that the end of a session brings, each as its line.
+    /// Returns the changes that the end of a session brings, each as its line.
     fn end(&mut self, alloc: Global, session: u32, moment: u64) -> Result<Vec<u8>, Fail> {
         let mut said = Vec::new(alloc);
         push_end(&mut said, &mut self.flat, session, moment)?;
@@ -125,8 +125,8 @@ impl Served {
         agreed(said, &other)
     }
 
-    /// What a line tells at its moment, where `go` begins its session, `end` ends it, and `now` is
-    /// the moment alone.
+    /// Returns the lines that a line brings at its moment. `go` begins its session, `end` ends it, and `now` is the
+    /// moment alone.
     fn tell(
         &mut self,
         alloc: Global,
@@ -142,7 +142,7 @@ impl Served {
         }
     }
 
-    /// What the moment of a line brings and then the line itself.
+    /// Carries out the moment of a line, and then the line itself.
     pub(crate) fn take(&mut self, alloc: Global, line: &(u32, u64, &str)) -> Result<(), Fail> {
         let (session, moment, text) = *line;
         let _ = self.at(alloc, moment)?;
@@ -156,7 +156,7 @@ impl Served {
         push_rows(nested, &self.nested)
     }
 
-    /// Each line of a session at its moment, one after another, tells this.
+    /// Asserts what each line of a session brings at its moment, one after another.
     fn tells(
         &mut self,
         rt: &impl Abort,
@@ -170,7 +170,7 @@ impl Served {
         Ok(())
     }
 
-    /// Each line of the session 1 at the moment 1000 is refused so, and nothing else is told.
+    /// Asserts that each line of the session 1 at the moment 1000 is refused so, and nothing else follows.
     fn refuses(
         &mut self,
         rt: &impl Abort,
@@ -187,9 +187,9 @@ impl Served {
     }
 }
 
-/// Over these buses each line of a session at its moment, one after another, tells this: a reply and
-/// the changes, each as its line, and a last line where the session is to end. A line `go` begins its
-/// session, `end` ends it, and `now` is the moment alone.
+/// Asserts over these buses what each line of a session brings at its moment, one after another. That is a reply and
+/// the changes, each as its line, and a last line if the session is to end. A line `go` begins its session, `end` ends
+/// it, and `now` is the moment alone.
 pub(crate) fn tells(
     rt: &impl Abort,
     alloc: Global,
@@ -200,7 +200,7 @@ pub(crate) fn tells(
     served.tells(rt, alloc, table)
 }
 
-/// Over these buses each line of a session at the moment 1000 is refused so, and nothing else is told.
+/// Asserts over these buses that each line of a session at the moment 1000 is refused so, and nothing else follows.
 pub(crate) fn refuses(
     rt: &impl Abort,
     alloc: Global,

@@ -1,4 +1,4 @@
-//! What a keeper of any kind tells its sessions.
+//! The answers of a keeper of any kind to its sessions.
 
 ghost use Rattle.std.specs.Prelude.{◌≡◌};
 ghost use Rattle.std.specs.List.{AllByRecursion};
@@ -56,7 +56,7 @@ pub(crate) fn push_rows<R: Rows>(walked: &mut Vec<Row>, rows: &R) -> Result<(), 
     }
 }
 
-/// Whether the session has a row.
+/// Returns whether the session has a row.
 fn has_session<R: Rows>(rows: &R, session: u32) -> bool
     ensures { result ≡ is_there (session_device session) (R.state rows.now) }
 {
@@ -88,8 +88,7 @@ pub(crate) fn push_begun<R: Rows>(
     }
 }
 
-/// Appends the reply to a session's line and the changes that it makes, and a last line where the
-/// session is to end.
+/// Appends the reply to a session's line and the changes that it makes, and a last line if the session is to end.
 pub(crate) fn push_line<R: Rows>(
     said: &mut Vec<u8>,
     layout: &Layout,

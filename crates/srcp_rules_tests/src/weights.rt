@@ -1,4 +1,4 @@
-//! How many changes a line can bring.
+//! The weights of lines.
 
 use srcp_rules::{MOST_CHANGES, weight};
 use std::test::Fail;

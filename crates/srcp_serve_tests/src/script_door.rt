@@ -11,17 +11,17 @@ use srcp_serve::{Door, DoorFault, Got};
 use std::alloc::{AllocError, Global};
 use std::vec::Vec;
 
-/// A peer, with what it sends and what was written to it.
+/// Holds a peer, with what it sends and what was written to it.
 #[derive(Drop)]
 pub(crate) struct ScriptPeer<'a> {
-    /// What the reads return, one after another. An empty piece is the end; after the last one there is nothing.
+    /// The answers to reads, one after another. An empty piece is the end, and after the last piece nothing comes.
     pieces: &'a [&'a [u8]],
     /// The most bytes that a write takes.
     at_once: usize,
-    /// How many pieces were read.
+    /// The number of pieces that were read.
     reads: usize,
     written: Vec<u8>,
-    /// How many times the peer was closed.
+    /// The number of times that the peer was closed.
     closes: u32,
 }
 
@@ -64,21 +64,21 @@ impl<'a> ScriptPeer<'a> {
     }
 }
 
-/// A door to peers that come in their order, one a call. One call of the door may fail. The door keeps its calls, up to
-/// the first one for which memory is refused.
+/// A door to peers that come in their order, one a call. One call of the door may fail. The door keeps its calls, up
+/// to the first one for which memory is refused.
 #[derive(Drop)]
 pub(crate) struct ScriptDoor<'a> {
     alloc: Global,
-    /// The moments of the turns; 0 after them.
+    /// The moments of the turns, and 0 after them.
     moments: &'a [u64],
     peers: Vec<ScriptPeer<'a>>,
-    /// Which call fails, counted from 1; 0 if none does.
+    /// The number of the call that fails, counted from 1, or 0 if none does.
     failing: u32,
-    /// How many peers have come.
+    /// The number of peers that have come.
     arrived: u32,
     pub calls: u32,
     faults: u64,
-    /// The calls so far, unless memory for one was refused.
+    /// The calls with their answers, unless memory for one was refused.
     told: Option<Vec<Asked>>,
 }
 
@@ -105,7 +105,7 @@ impl<'a> ScriptDoor<'a> {
         Ok(())
     }
 
-    /// Returns what was written to the peer that came in this place; no bytes if there is none.
+    /// Returns what was written to the peer of this index, or no bytes if there is none.
     pub(crate) fn written(&self, place: usize) -> &[u8] {
         match self.peers.get(place) {
             Some(peer) => peer.written.as_slice(),
@@ -113,7 +113,7 @@ impl<'a> ScriptDoor<'a> {
         }
     }
 
-    /// Returns how many times the peer that came in this place was closed.
+    /// Returns how many times the peer of this index was closed.
     pub(crate) fn closes(&self, place: usize) -> u32 {
         match self.peers.get(place) {
             Some(peer) => peer.closes,
@@ -121,10 +121,10 @@ impl<'a> ScriptDoor<'a> {
         }
     }
 
-    /// Returns the events that the calls so far make.
+    /// Returns the events that the calls make.
     ///
     /// # Errors
-    /// If memory is refused, or was refused to a call.
+    /// Fails if memory is refused, or was refused to a call.
     pub(crate) fn events(&self) -> Result<Vec<Event>, AllocError> {
         match &self.told {
             Some(calls) => events_of(self.alloc, calls),
@@ -132,7 +132,7 @@ impl<'a> ScriptDoor<'a> {
         }
     }
 
-    /// Counts one more call. It fails if it is the one that is to fail.
+    /// Counts one more call. It fails if `failing` is its number.
     fn call(&mut self, fault: DoorFault) -> Result<(), DoorFault>
         ensures ok { OnOk result (self.new.faults ≡ self.old.faults) }
         ensures err { OnErr result (self.new.faults ≡ one_more self.old.faults) }

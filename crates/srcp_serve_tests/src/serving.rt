@@ -45,7 +45,7 @@ fn serve_and_run(
     Ok((served, told))
 }
 
-/// Returns what a connection of a run was sent; no bytes if there is no such connection.
+/// Returns what a connection of a run was sent, or no bytes if there is no such connection.
 fn sent(told: &Record, place: usize) -> &[u8] {
     match told.connections.as_slice().get(place) {
         Some(conn) => conn.sent.as_slice(),
@@ -160,8 +160,8 @@ fn lets_64_peers_in(rt: HostRuntime) -> Result<(), Fail> {
 }
 
 #[test]
-fn gives_a_place_to_the_next(rt: HostRuntime) -> Result<(), Fail> {
-    // The first peer ends in turn 2; the third has its place from turn 3 on, and all three are told the same.
+fn gives_a_slot_to_the_next(rt: HostRuntime) -> Result<(), Fail> {
+    // The first peer ends in turn 2. The third has its slot from turn 3 on, and all three are sent the same.
     let layout = Layout::new(rt.alloc());
     let mut door = ScriptDoor::new(rt.alloc(), &[], 0);
     door.add(ScriptPeer::new(rt.alloc(), &[b""], 1000))?;

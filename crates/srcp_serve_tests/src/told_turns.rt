@@ -23,7 +23,7 @@ pub(crate) enum Asked {
         answer: Result<Got, DoorFault>,
         buffer: Vec<u8>,
     },
-    /// The bytes that were handed over.
+    /// The bytes that were to be written.
     Write {
         peer: u32,
         bytes: Vec<u8>,
@@ -46,7 +46,7 @@ impl Asked {
         }
     }
 
-    /// Returns whether the peer is lost by the call, or took less than it was handed.
+    /// Returns whether the peer is lost by the call, or took fewer bytes than were to be written.
     fn stops_writing(&self) -> bool {
         match self {
             Asked::Read { answer, .. } => matches!(answer, Ok(Got::Ended) | Err(_)),
@@ -76,7 +76,7 @@ impl Asked {
     }
 }
 
-/// A peer that has a place, and the number of its connection.
+/// A peer that has a slot, and the number of its connection.
 #[derive(Clone, Copy)]
 struct Seat {
     peer: u32,
@@ -104,13 +104,13 @@ pub(crate) fn events_of(alloc: Global, calls: &[Asked]) -> Result<Vec<Event>, Al
     Ok(events)
 }
 
-/// Returns whether the newcomer is closed before anything else is asked of it.
+/// Returns whether the peer that was accepted is closed before anything else is asked of it.
 fn turns_away(turn: &[Asked], newcomer: u32) -> bool {
     let first = turn.iter().find(|call| call.is_about(newcomer));
     first.is_some_and(|call| matches!(call, Asked::Close { .. }))
 }
 
-/// Gives the first free place to a peer.
+/// Gives the first free slot to a peer.
 fn take_place(places: &mut Vec<Option<Seat>>, peer: u32, conn: usize) -> Result<(), AllocError> {
     let seat = Seat { peer, conn };
     match places.iter_mut().find(|place| place.is_none()) {
@@ -133,7 +133,8 @@ fn push_visits(
     Ok(())
 }
 
-/// Appends the events of the visit of the peer that has the place, if one does. Frees the place if the visit closes it.
+/// Appends the events of the visit of the peer of the slot, if it has one. Frees the slot if the visit closes the
+/// peer.
 fn push_visit(
     alloc: Global,
     turn: &[Asked],

@@ -1,4 +1,4 @@
-//! Reading the words that the program is given.
+//! Words of the command line.
 
 use clap::error::ErrorKind;
 use srcp_tool::{Tool, read_words};
@@ -7,7 +7,7 @@ use std::string::String;
 use std::test::Fail;
 use std::vec::Vec;
 
-/// The program's name and these words, as the program is given them.
+/// Returns the program's name and these words, as a command line has them.
 fn given(alloc: Global, words: &[&str]) -> Result<Vec<String>, AllocError> {
     let mut given = Vec::new(alloc);
     given.push(String::from_str(alloc, "srcp_server")?)?;
@@ -81,7 +81,7 @@ fn serves_so_many_turns(rt: HostRuntime) -> Result<(), Fail> {
     Ok(())
 }
 
-/// What is wrong with the words, and the status of that.
+/// Returns what is wrong with the words, and the status of that.
 fn refused(alloc: Global, words: &[&str]) -> Option<(ErrorKind, i32)> {
     let words = given(alloc, words).ok()?;
     let error = read_words(alloc, &words).err()?;

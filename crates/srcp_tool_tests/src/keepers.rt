@@ -31,7 +31,7 @@ open\nroom 2 1000\nbytes 2 GO\\n\nroom 2 1000
 bytes 2 INIT 1 GL 30 N 1 28 5\\nINIT 1 GA 7 N\\nINIT 1 GL 3 N 1 28 2\\nSET 1 LOCK GL 3 9\\n\nroom 2 1000
 bytes 2 SET 1 GL 3 1 12 28 1\\nSET 1 GA 7 3 1 400\\nSET 3 FB 1 1\\nSET 1 LOCK GA 7 2\\n\nroom 2 1000
 room 1 120\nat 400\nroom 1 10000\nat 2000\nroom 1 10000\nat 9000\nroom 1 10000\n",
-    // Devices go while a listing stands between their rows, and come again.
+    // Devices go while a listing is between their rows, and come again.
     b"open\nroom 1 1000\nbytes 1 GO\\nINIT 1 GA 5 N\\nINIT 1 GL 9 N 1 28 1\\nSET 1 LOCK GA 5 0\\n\nroom 1 1000
 open\nroom 2 1000\nbytes 2 SET CONNECTIONMODE SRCP INFO\\nGO\\n\nroom 2 300
 bytes 1 TERM 1 GA 5\\nINIT 1 GA 5 M\\nTERM 1 GL 9\\nINIT 1 GL 8 N 1 28 3\\n\nroom 1 1000\nroom 2 10000\n",
@@ -46,7 +46,7 @@ room 1 1000
 bytes 1 INIT 1 GA 9 N\\nGET 1 GA 9 3\\nGET 1 GA 9 4\\nGET 0 SESSION 1\\nTERM 0 SESSION 1\\n\nroom 1 1000\nroom 9 1\n",
 ];
 
-/// What is printed of a run of the script.
+/// Returns what is printed of a run of the script.
 fn printed<R: Rows>(alloc: Global, layout: &Layout, script: &[u8]) -> Result<Vec<u8>, ToolFault> {
     let mut reader = Source {
         bytes: script,

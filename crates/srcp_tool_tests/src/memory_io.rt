@@ -26,7 +26,7 @@ impl Read for Source<'_> {
     }
 }
 
-/// Takes a byte at a time while it has room; then it takes nothing, or fails.
+/// Takes a byte at a time while it has room. Then it takes nothing, or fails.
 #[derive(Drop)]
 pub(crate) struct Sink {
     pub taken: Vec<u8>,

@@ -1,4 +1,4 @@
-//! Streams that fail after so many bytes, and inputs that are cut after so many.
+//! Streams that fail after some bytes, and inputs that end after some.
 
 use crate::memory_io::{Sink, Source};
 use crate::mirroring::ROWS;
@@ -22,7 +22,7 @@ const CONFIG: &[u8] = b"bus = [{number = 9, groups = [\"GA\"], ga_max = 1}]";
 
 const CHECKED: &[u8] = b"port 4303\nbus 9 GA 1\n";
 
-/// A reader that fails after these bytes.
+/// Makes a reader that fails after these bytes.
 fn failing(bytes: &[u8]) -> Source<'_> {
     Source {
         bytes,
@@ -31,7 +31,7 @@ fn failing(bytes: &[u8]) -> Source<'_> {
     }
 }
 
-/// A reader that ends after these bytes.
+/// Makes a reader that ends after these bytes.
 fn ending(bytes: &[u8]) -> Source<'_> {
     Source {
         bytes,
@@ -41,7 +41,7 @@ fn ending(bytes: &[u8]) -> Source<'_> {
 }
 
 #[test]
-fn replays_nothing_where_a_read_fails(rt: HostRuntime) {
+fn replays_nothing_if_a_read_fails(rt: HostRuntime) {
     let layout = Layout::new(rt.alloc());
     for front in 0..SCRIPT.len() + 1 {
         let mut script = failing(&SCRIPT[..front]);
@@ -58,7 +58,7 @@ fn replays_nothing_where_a_read_fails(rt: HostRuntime) {
 }
 
 #[test]
-fn replays_a_front_where_a_write_fails(rt: HostRuntime) {
+fn replays_a_prefix_if_a_write_fails(rt: HostRuntime) {
     let layout = Layout::new(rt.alloc());
     for room in 0..RECORD.len() + 1 {
         let mut script = ending(SCRIPT);
@@ -70,7 +70,7 @@ fn replays_a_front_where_a_write_fails(rt: HostRuntime) {
 }
 
 #[test]
-fn mirrors_nothing_where_a_read_fails(rt: HostRuntime) {
+fn mirrors_nothing_if_a_read_fails(rt: HostRuntime) {
     for front in 0..ROWS.len() + 1 {
         let mut lines = failing(&ROWS[..front]);
         let mut output = Vec::new(rt.alloc());
@@ -81,7 +81,7 @@ fn mirrors_nothing_where_a_read_fails(rt: HostRuntime) {
 }
 
 #[test]
-fn mirrors_a_front_where_a_write_fails(rt: HostRuntime) {
+fn mirrors_a_prefix_if_a_write_fails(rt: HostRuntime) {
     for room in 0..ROWS.len() + 1 {
         let mut lines = ending(ROWS);
         let mut sink = Sink::new(rt.alloc(), room, room % 2 == 0);
@@ -92,7 +92,7 @@ fn mirrors_a_front_where_a_write_fails(rt: HostRuntime) {
 }
 
 #[test]
-fn reads_no_configuration_where_a_read_fails(rt: HostRuntime) {
+fn reads_no_configuration_if_a_read_fails(rt: HostRuntime) {
     for front in 0..CONFIG.len() + 1 {
         let answer = read_config(rt.alloc(), &mut failing(&CONFIG[..front])).err();
         assert_eq!(rt; answer, Some(ToolFault::Unreadable));
@@ -100,7 +100,7 @@ fn reads_no_configuration_where_a_read_fails(rt: HostRuntime) {
 }
 
 #[test]
-fn checks_a_front_where_a_write_fails(rt: HostRuntime) {
+fn checks_a_prefix_if_a_write_fails(rt: HostRuntime) {
     for room in 0..CHECKED.len() + 1 {
         let mut sink = Sink::new(rt.alloc(), room, room % 2 == 0);
         let answer = check(rt.alloc(), CONFIG, &mut sink);
@@ -109,7 +109,7 @@ fn checks_a_front_where_a_write_fails(rt: HostRuntime) {
     }
 }
 
-/// The result of writing a text into `room` bytes.
+/// Returns the result of writing a text into `room` bytes.
 fn written(room: usize, text: &[u8]) -> Result<(), ToolFault> {
     if room < text.len() {
         Err(ToolFault::Output)
@@ -119,7 +119,7 @@ fn written(room: usize, text: &[u8]) -> Result<(), ToolFault> {
 }
 
 #[test]
-fn reads_each_front_of_a_script(rt: HostRuntime) {
+fn reads_each_prefix_of_a_script(rt: HostRuntime) {
     let fronts = [
         (b"".as_slice(), Ok(0)),
         (b"o".as_slice(), Err((1, Cause::Word))),
@@ -145,7 +145,7 @@ fn reads_each_front_of_a_script(rt: HostRuntime) {
 }
 
 #[test]
-fn mirrors_each_front_of_a_listing(rt: HostRuntime) -> Result<(), Fail> {
+fn mirrors_each_prefix_of_a_listing(rt: HostRuntime) -> Result<(), Fail> {
     let mut whole = b"".as_slice();
     for count in 0..ROWS.len() + 1 {
         let front = &ROWS[..count];
