@@ -1,4 +1,4 @@
-//! Peers that were let go, over a network in memory.
+//! Lingering: closed peers with output left, over a network in memory.
 
 use crate::network::{Happens, Network, at};
 use crate::record::{closed_at, shuts, took_of};
@@ -6,8 +6,8 @@ use crate::scene::{AMPLE, all_served, serve_events, told};
 use std::test::Fail;
 use std::vec::Vec;
 
-/// How many bytes a session is sent that begins and ends itself in the first ten milliseconds: the welcome line and two
-/// replies.
+/// The bytes that are sent to a session that begins and ends itself in the first ten milliseconds: the welcome line
+/// and two replies.
 const ALL: usize = 76;
 
 #[test]
@@ -84,7 +84,7 @@ fn gives_up_nobody_who_is_owed_for_one_who_is_not(rt: HostRuntime) -> Result<(),
     assert_eq!(rt; served, all_served(65));
     let lines = "srcp_server 1.0; SRCP 0.8.4; SRCPOTHER 0.8.3\n200 OK GO 1\n200 OK\n";
     assert_eq!(rt; told(rt.alloc(), &door, 1)?.as_slice(), lines.as_bytes());
-    // The first who was turned away went for one who came later.
+    // The first peer that was turned away was dropped for one that came later.
     let first = closed_at(door.system().entries()?, 66).unwrap_or(u64::MAX);
     assert!(rt; first < 1_000, "it was closed at {first} ms");
     Ok(())

@@ -27,7 +27,7 @@ impl Clock for Still {
     }
 }
 
-/// A clock whose hands are set, in milliseconds.
+/// A clock that is set by hand, in milliseconds.
 #[derive(Drop)]
 struct Hands {
     wall: Cell<u64>,
@@ -58,7 +58,7 @@ impl Clock for Broken {
     }
 }
 
-/// A port that nobody listens at.
+/// Returns a port on which no program listens.
 fn free_port<N: Net>(net: &N) -> io::Result<u16> {
     let listener = TcpListener::bind(net, SocketAddr::from((Ipv4Addr::LOCALHOST, 0)))?;
     Ok(listener.local_addr()?.port())
@@ -112,8 +112,8 @@ fn time_goes_forward_in_steps_where_something_falls_due(rt: HostRuntime) -> Resu
     };
     let mut door = SocketDoor::listen(&rt, rt.alloc(), free_port(&rt)?, &clock)?;
     door.wait_at_most(0);
-    // The wall clock is set back by an hour. Nothing runs for 32 milliseconds in which nothing falls due, for 32 in
-    // which something does, and for an hour in which something does at once.
+    // The wall clock is set back by an hour. The loop is stopped for 32 milliseconds without a deadline, for 32 with
+    // one, and for an hour with a deadline at once.
     for (wall, elapsed, due, moment) in [
         (10_000_000, 500, None, 10_000_000),
         (6_400_007, 507, None, 10_000_007),

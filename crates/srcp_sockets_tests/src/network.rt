@@ -13,7 +13,7 @@ const LOOKS: u64 = 4;
 /// What happens to a socket.
 #[derive(Clone, Copy)]
 pub(crate) enum Happens<'a> {
-    /// Its client wants in.
+    /// Its client connects.
     Connects,
     /// Its client sends bytes.
     Sends(&'a [u8]),
@@ -23,13 +23,13 @@ pub(crate) enum Happens<'a> {
     HalfCloses,
     /// Its client is gone: no call finds anything of it.
     Resets,
-    /// Its client makes room for so many more bytes.
+    /// Its client makes room for that many more bytes.
     Receives(usize),
-    /// The server stands still for so many milliseconds, whatever the socket.
+    /// The server stands still for that many milliseconds, whatever the socket.
     StandsStill(u64),
 }
 
-/// What happens when, in milliseconds.
+/// An event and its time, in milliseconds.
 #[derive(Clone, Copy)]
 pub(crate) struct Event<'a> {
     pub at: u64,
@@ -37,46 +37,46 @@ pub(crate) struct Event<'a> {
     pub what: Happens<'a>,
 }
 
-/// Has something happen to a socket, at so many milliseconds.
+/// Makes an event of a socket at a time in milliseconds.
 pub(crate) fn at(at: u64, socket: u32, what: Happens<'_>) -> Event<'_> {
     Event { at, socket, what }
 }
 
-/// A socket, as its client and the server left it.
+/// A socket, with what its client and the server did to it.
 #[derive(Drop)]
 struct Socket {
     number: u32,
     accepted: bool,
-    // What the client sent; the server has read the front of it.
+    // What the client sent. The server has read a prefix of it.
     sent: Vec<u8>,
     read: usize,
-    // In front of which byte the urgent data stands that came last.
+    // The index of the byte that comes behind the last urgent data.
     mark: usize,
     over: bool,
     reset: bool,
     // The server shut it for writing, and closed it.
     shut: bool,
     closed: bool,
-    // For how many bytes there is room.
+    // The number of bytes that have room.
     room: usize,
-    // What it was found ready for since the last wait.
+    // Its readiness since the last wait.
     edge: Option<Ready>,
 }
 
-/// The sockets of a server, to which things happen in their time. Behind the last of them nothing happens.
+/// The sockets of a server, with events at their times. After the last event nothing happens.
 #[derive(Drop)]
 pub(crate) struct Network<'a> {
     alloc: Global,
     events: &'a [Event<'a>],
-    // How many of them have happened.
+    // The number of events that have happened.
     happened: usize,
     now: u64,
     looks: u64,
-    // Whether each second call of a socket is interrupted.
+    // True if each second call of a socket is interrupted.
     interrupts: bool,
     calls: u64,
     sockets: Vec<Socket>,
-    // The edge of the listener, which is socket 0.
+    // The readiness of the listener, which is socket 0.
     wanted: bool,
 }
 
@@ -138,7 +138,7 @@ impl Socket {
         Ok(count)
     }
 
-    /// Does what happens to it, and notes what it is ready for since.
+    /// Applies an event, and records its readiness.
     fn take(&mut self, what: Happens<'_>) -> Result<(), AllocError> {
         match what {
             Happens::Connects => self.ready(true, false, false, true),
@@ -204,7 +204,7 @@ impl<'a> Network<'a> {
         }
     }
 
-    /// Lets in the client that wants in first.
+    /// Accepts the first client that connects.
     pub(crate) fn accept(&mut self) -> Result<(), ErrorKind> {
         if self.is_interrupted() {
             return Err(ErrorKind::Interrupted);
@@ -242,21 +242,21 @@ impl<'a> Network<'a> {
         }
     }
 
-    /// Has a socket take no more.
+    /// Shuts a socket for writing.
     pub(crate) fn shutdown(&mut self, number: u32) {
         if let Some(socket) = self.sockets.get_mut(place(number)) {
             socket.shut = true;
         }
     }
 
-    /// Has a socket take and give no more.
+    /// Closes a socket.
     pub(crate) fn close(&mut self, number: u32) {
         if let Some(socket) = self.sockets.get_mut(place(number)) {
             socket.closed = true;
         }
     }
 
-    /// Waits until a socket is ready, so many milliseconds at most if that is said. Returns how many were found ready.
+    /// Waits until a socket is ready, at most `most` milliseconds if that is given. Returns how many are ready.
     pub(crate) fn wait(&mut self, most: Option<u64>, ready: &mut [Ready]) -> usize
         ensures { result ≤ length ready.new }
     {
@@ -277,7 +277,7 @@ impl<'a> Network<'a> {
         self.take_edges(ready)
     }
 
-    /// Reads the clock, which goes on as it is read.
+    /// Reads the clock, which advances with each read.
     pub(crate) fn clock(&mut self) -> u64 {
         self.looks = self.looks.saturating_add(1);
         if self.looks % LOOKS == 0 {
@@ -286,7 +286,7 @@ impl<'a> Network<'a> {
         self.now
     }
 
-    /// Has all happen whose time has come.
+    /// Applies all events whose time has come.
     fn happen(&mut self) {
         for _ in 0..self.events.len() {
             let Some(event) = self.events.get(self.happened) else {
@@ -318,7 +318,7 @@ impl<'a> Network<'a> {
         }
     }
 
-    /// Moves what was found ready since the last wait in front of `ready`, and returns how many those are.
+    /// Writes the readiness since the last wait to the beginning of `ready`. Returns how many sockets that is.
     fn take_edges(&mut self, ready: &mut [Ready]) -> usize
         ensures { result ≤ length ready.new }
     {
@@ -352,7 +352,7 @@ impl<'a> Network<'a> {
     }
 }
 
-/// Returns the place of a socket: they are numbered from 1 on, as they come.
+/// Returns the index of a socket. Sockets are numbered from 1 on, as they come.
 fn place(number: u32) -> usize {
     (number as usize).saturating_sub(1)
 }

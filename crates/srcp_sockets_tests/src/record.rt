@@ -1,4 +1,4 @@
-//! What a system was asked and answered, and what its door told it.
+//! The calls of a system with their answers, and those of its door.
 
 use srcp_serve::{DoorFault, Got};
 use srcp_sockets::Ready;
@@ -6,7 +6,7 @@ use std::alloc::{AllocError, Global};
 use std::io::ErrorKind;
 use std::vec::Vec;
 
-/// A call of the system with its answer, or a call of the door.
+/// Holds a call of the system with its answer, or a call of the door.
 #[derive(Drop)]
 pub(crate) enum Entry {
     Accepts {
@@ -19,7 +19,7 @@ pub(crate) enum Entry {
         buffer: Vec<u8>,
         answer: Result<usize, ErrorKind>,
     },
-    /// The bytes that were handed over.
+    /// The bytes that were to be written.
     Writes {
         socket: u32,
         bytes: Vec<u8>,
@@ -50,7 +50,7 @@ pub(crate) enum Entry {
         answer: Result<Got, DoorFault>,
         buffer: Vec<u8>,
     },
-    /// The bytes that were handed over.
+    /// The bytes that were to be written.
     Write {
         peer: u32,
         bytes: Vec<u8>,
@@ -62,7 +62,7 @@ pub(crate) enum Entry {
     },
 }
 
-/// Returns what a socket took, all writes joined.
+/// Returns the bytes that a socket took, all writes joined.
 pub(crate) fn took_of(
     alloc: Global,
     entries: &[Entry],
@@ -83,7 +83,7 @@ pub(crate) fn took_of(
     Ok(took)
 }
 
-/// Returns what the clock showed when a socket took the last bytes in which that line stands, if it took such bytes.
+/// Returns what the clock showed when a socket took the last bytes with that line, if it took such bytes.
 pub(crate) fn time_of(entries: &[Entry], number: u32, line: &[u8]) -> Option<u64> {
     let mut shown = None;
     let mut time = None;
@@ -108,7 +108,7 @@ fn has_line(bytes: &[u8], end: &[u8]) -> bool {
         .any(|line| line.ends_with(end))
 }
 
-/// Returns how many lines were handed out in the turn in which most were.
+/// Returns the most lines that were handed out in one turn.
 pub(crate) fn most_lines(entries: &[Entry]) -> usize {
     let mut most = 0;
     let mut lines = 0usize;

@@ -1,4 +1,4 @@
-//! A system that keeps what it was asked and told.
+//! A system that records its calls.
 
 ghost use Rattle.std.specs.Prelude.{◌≡◌, ◌∷◌, ◌++◌, [], None, IfSome, MatchOption};
 
@@ -10,7 +10,7 @@ use std::alloc::{AllocError, Global};
 use std::io::ErrorKind;
 use std::vec::Vec;
 
-/// A network, and all that it was asked and told, up to the first for which memory is refused.
+/// Holds a network and all calls, up to the first for which memory is refused.
 #[derive(Drop)]
 pub(crate) struct Recorder<'a> {
     alloc: Global,
@@ -37,10 +37,10 @@ impl<'a> Recorder<'a> {
         }
     }
 
-    /// Returns all that was asked and told.
+    /// Returns all calls.
     ///
     /// # Errors
-    /// Where memory was refused for one of them.
+    /// Fails if memory was refused for one of them.
     pub(crate) fn entries(&self) -> Result<&[Entry], AllocError> {
         match &self.told {
             Some(entries) => Ok(entries.as_slice()),

@@ -1,4 +1,4 @@
-//! Serving what happens in a network.
+//! A scene: a server over a network with events.
 
 use crate::network::Network;
 use crate::record::took_of;
@@ -11,10 +11,10 @@ use std::alloc::{AllocError, Global};
 use std::test::Fail;
 use std::vec::Vec;
 
-/// How many turns are made: more than it takes until nothing happens any more.
+/// The number of turns, which is more than all events need.
 const TURNS: u64 = 2_000;
 
-/// How many bytes a client makes room for that reads.
+/// The bytes for which a client that reads makes room.
 pub(crate) const AMPLE: usize = 100_000;
 
 const BUS: Bus = Bus {
@@ -26,7 +26,7 @@ const BUS: Bus = Bus {
     fb_ports: 1,
 };
 
-/// Serves what happens.
+/// Serves a network with these events.
 pub(crate) fn serve_events<'a>(
     alloc: Global,
     network: Network<'a>,
@@ -39,7 +39,7 @@ pub(crate) fn serve_events<'a>(
     Ok((served, door))
 }
 
-/// Returns what became of serving without a failure, if so many were let in.
+/// Returns the counts of serving without a failure, if `opened` peers were let in.
 pub(crate) fn all_served(opened: u64) -> Served {
     Served {
         turns: TURNS,
@@ -48,7 +48,7 @@ pub(crate) fn all_served(opened: u64) -> Served {
     }
 }
 
-/// Returns lines without the stamps in front of them. The line of the welcome has none, and stays as it is.
+/// Returns lines without their stamps. The welcome line has none, and stays as it is.
 fn without_stamps(alloc: Global, lines: &[u8]) -> Result<Vec<u8>, AllocError> {
     let mut rest = Vec::new(alloc);
     for line in lines.split_inclusive(|byte| *byte == b'\n') {

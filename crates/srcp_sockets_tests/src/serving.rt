@@ -38,7 +38,7 @@ fn serves_all_who_come(rt: HostRuntime) -> Result<(), Fail> {
             "to client {client}"
         );
     }
-    // Then nothing happens, and nothing wakes it.
+    // Then nothing happens, and no event wakes it.
     assert!(rt; sleeps(door.system().entries()?) > 300);
     Ok(())
 }
@@ -131,7 +131,7 @@ fn turns_away_who_finds_no_place(rt: HostRuntime) -> Result<(), Fail> {
     }
     let (served, door) = serve_events(rt.alloc(), Network::new(rt.alloc(), &events, false))?;
     assert_eq!(rt; served, all_served(64));
-    // Those who were turned away go, and then nothing wakes it.
+    // The peers that were turned away go, and then no event wakes it.
     assert!(rt; sleeps(door.system().entries()?) > 200);
     Ok(())
 }
@@ -139,7 +139,7 @@ fn turns_away_who_finds_no_place(rt: HostRuntime) -> Result<(), Fail> {
 #[test]
 fn hands_out_as_many_lines_as_panels_take(rt: HostRuntime) -> Result<(), Fail> {
     let mut commands = Vec::new(rt.alloc());
-    // Lines of 16 bytes: no piece of 256 ends within one.
+    // Lines of 16 bytes, so that no piece of 256 ends within one.
     for _ in 0..96 {
         commands.extend_from_slice(b"SET 1 FB 1 1   \n")?;
     }
