@@ -72,7 +72,7 @@ def pulse_ends_in_time(program):
 
 
 def end_of_a_session_is_answered(program):
-    """The reply comes before the end of the stream, also where commands follow that nobody answers."""
+    """The reply comes before the end of the stream, also if commands follow that are not answered."""
     with served(program) as (port, _):
         for rest in (0, 100, 10_000):
             leaver = Client(port, "COMMAND")
@@ -109,7 +109,7 @@ def slow_reader_gets_every_byte(program):
 
 
 def peers_that_reset_leave_their_places(program):
-    """Also where the server finds that out by a write, since each second peer has sent commands."""
+    """This holds too if the server finds that out by a write, since each second peer has sent commands."""
     with served(program) as (port, _):
         for count in range(160):
             peer = Client(port, "COMMAND")
@@ -159,7 +159,7 @@ def half_closed_panel_is_served(program):
 
 
 def reads_to_the_end(panel, ended):
-    """Reads what a panel is told; notes the panel where the server closes it."""
+    """Reads all that is sent to a panel. Appends the panel to `ended` if the server closes it."""
     try:
         while panel.socket.recv(1 << 20):
             pass
@@ -175,7 +175,7 @@ def pipelines(throttle, address, end):
 
 
 def closed_panels(program, count, seconds):
-    """How many of so many panels that read are closed while sessions send for so long."""
+    """Returns how many of the panels that read are closed while sessions send for some seconds."""
     with served(program) as (port, _):
         first = Client(port, "COMMAND")
         first.asks(*(f"INIT 1 GL {address} N 1 28 5" for address in range(1, SESSIONS + 1)))
@@ -214,7 +214,7 @@ def changes_without_end(throttle, command=b"SET 1 FB 1 %d\n"):
 
 
 def panels_that_leave_in_midst_of_changes(program):
-    """They half-close and then close. Each place is free again, though no turn has nothing to write to its panel."""
+    """They half-close and then close. Each slot is free again, though each turn has output for its panel."""
     with served(program) as (port, _):
         throttle = Client(port, "COMMAND")
         threads = [threading.Thread(target=changes_without_end, args=(throttle,)),

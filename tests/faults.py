@@ -1,4 +1,4 @@
-"""What the server does where the system refuses a call: a signal ends it, waiting fails, or no descriptor is left."""
+"""What the server does if the system refuses a call: a signal ends it, waiting fails, or no descriptor is left."""
 import ctypes
 import errno
 import fcntl
@@ -39,7 +39,7 @@ def filter_of(calls):
 
 
 def ask_about(calls, to):
-    """Has the system ask about these calls of this process from now on; sends the descriptor at which it asks."""
+    """Has the system ask about these calls of this process. Sends the descriptor at which it asks."""
     c = ctypes.CDLL(None, use_errno=True)
     c.prctl(NO_NEW_PRIVILEGES, 1, 0, 0, 0)
     asked = c.syscall(SECCOMP, SET_FILTER, NEW_LISTENER, ctypes.byref(filter_of(calls)))
@@ -49,7 +49,7 @@ def ask_about(calls, to):
 
 
 def may_ask():
-    """Whether the system lets itself be asked so. Not every machine does: a container may forbid it."""
+    """Returns whether the system can be set to ask so. Not every machine can: a container may forbid it."""
     here, there = socket.socketpair()
     with here, there:
         child = os.fork()
@@ -64,7 +64,7 @@ def may_ask():
 
 
 def asks_the_system(case):
-    """The case, where the system may be asked about calls; elsewhere it says that it tried nothing."""
+    """Returns the case if the system can ask about calls. If it cannot, the case says that it tried nothing."""
     @functools.wraps(case)
     def asks(program):
         if may_ask():
@@ -75,7 +75,7 @@ def asks_the_system(case):
 
 
 def answer_calls(here, fault_of, ended):
-    """Answers each call by the error that `fault_of` gives for its number; where that is 0, the call is carried out."""
+    """Answers each call by the error that `fault_of` gives for its number. If that is 0, the call is carried out."""
     _, (asked,), _, _ = socket.recv_fds(here, 1, 1)
     ready = select.poll()
     ready.register(asked, select.POLLIN)
@@ -181,7 +181,7 @@ def waits_in_vain(program, refusal):
     with served_with_faults(program, (WAIT,), fault_of) as (port, server):
         throttle = Client(port, "COMMAND")
         refuses.set()
-        # the wait that began before that ends by a command
+        # a command ends the wait that began earlier
         throttle.socket.sendall(b"CHECK 1 POWER\n")
         before = calls[WAIT]
         busy = work_without_rest(server, 1)
@@ -195,7 +195,7 @@ def waits_in_vain(program, refusal):
 
 
 def accept_that_is_refused(program):
-    """Where no descriptor is left, those who are in are served, and who waits is let in once there is one."""
+    """If no descriptor is left, open peers are served, and a pending one is let in once there is one."""
     with served(program) as (port, server):
         throttle = Client(port, "COMMAND")
         limits = resource.prlimit(server.pid, resource.RLIMIT_NOFILE)

@@ -37,7 +37,7 @@ def check_document(program, document):
 
 
 def fault_of_document(document):
-    """The fault of a front of DOCUMENT, or None."""
+    """Returns the fault of a prefix of DOCUMENT, or None."""
     try:
         read = tomllib.loads(document.decode())
     except tomllib.TOMLDecodeError:
@@ -64,7 +64,7 @@ def document_cut_after_each_byte(program):
 
 
 def fault_of_line(line):
-    """Why a line of a front of the stored run is no event, or None."""
+    """Returns why a line of a prefix of the stored run is no event, or None."""
     word, space, rest = line.partition(b" ")
     if word not in (b"open", b"room", b"bytes"):
         return "unknown event"

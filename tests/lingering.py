@@ -96,7 +96,7 @@ def kept_by_the_system(port, client):
 
 
 def replies_that_the_system_keeps(port):
-    """How many replies fill the buffers of a session that does not read, until the server sends it no more."""
+    """Returns how many replies fill the buffers of a session that does not read, until the server stops sending."""
     with small_socket(port) as probe:
         sender = threading.Thread(target=send_as_far_as_it_goes, args=(probe, COMMAND_SESSION + QUESTION * 120_000))
         sender.start()
@@ -158,7 +158,7 @@ def half_closed_session_that_does_not_read(program):
 
 
 def clients_at_all_places(port):
-    """64 sessions, as soon as their places are free."""
+    """Opens 64 sessions, as soon as their slots are free."""
     sessions, end = [], time.monotonic() + SECONDS
     while len(sessions) < 64:
         try:
@@ -203,8 +203,8 @@ def end_of_a_session_with_much_behind_it(program):
 
 
 def clients_at_64_places(program):
-    """Clients that find no place are turned away. If they stay all the same they cost no work, and the next one is let in
-    once a place is free."""
+    """Clients that find no free slot are turned away. If they stay they cost no work, and the next one is let in once a slot
+    is free."""
     with served(program) as (port, server):
         sessions = [Client(port, "COMMAND") for _ in range(64)]
         turned_away = [socket.create_connection(("127.0.0.1", port), timeout=SECONDS) for _ in range(10)]

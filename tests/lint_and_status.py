@@ -113,7 +113,7 @@ def silent_server():
 
 
 def status_of_no_server(program):
-    """If nobody listens, if nobody answers, and if all places are taken, the status is 1."""
+    """If nobody listens, if nobody answers, and if all slots are in use, the status is 1."""
     with silent_server() as port, served(program) as (full, _):
         clients = [Client(full, "COMMAND") for _ in range(64)]
         told = [status_at(free_port()), status_at(port, "--seconds", "0.2"), status_at(full)]

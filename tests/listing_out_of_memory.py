@@ -1,4 +1,4 @@
-"""listing_out_of_memory.py: the record of the script of cases/listing-whole where one growth of its run is refused.
+"""listing_out_of_memory.py: the record of the script of cases/listing-whole if one allocation of its run is refused.
 
 No program computes these records. Each follows from what is promised of the one event that is refused its memory: an `open`
 gives no connection, and the next one gets its number; a line that is refused is answered 500 and changes nothing.
@@ -8,7 +8,7 @@ from serving import expected_text
 
 SCRIPT = (CASES / "listing-whole" / "stdin").read_text()
 OUTPUT = expected_text((CASES / "listing-whole" / "stdout").read_bytes())
-# the lines that the throttle and the panel are sent where nothing is refused, without the listing, and the rows at the end
+# the lines that the throttle and the panel are sent if nothing is refused, without the listing, and the rows at the end
 THROTTLE = parse_record(OUTPUT)[0]["1"]["sent"].splitlines()
 PANEL = parse_record(OUTPUT)[0]["2"]["sent"].splitlines()[:3]
 ROWS = OUTPUT.decode().partition("rows 13\n")[2].splitlines()
@@ -18,7 +18,7 @@ STEPS = ["Moment(1000)", "Began { session: 1, moment: 1000, mode: Command }"] + 
         "InitGl { bus: 1, address: 7, letter: P, version: 1, steps: 28, functions: 5 }",
         "InitGa { bus: 1, address: 5, letter: M, ports: 2 }",
         "SetLock { bus: 1, group: Gl, address: 3, seconds: 60 }")] + ["Began { session: 2, moment: 1000, mode: Info }"]
-# a connection's session, whether that is an information session, and how many steps there were once it had begun
+# a connection's session, `true` if that is an information session, and the number of steps once it had begun
 NO_SESSION, THROTTLE_SESSION, PANEL_SESSION = "0 false 0", "1 false 2", "2 true 7"
 NO_MEMORY = "1.000 500 ERROR out of resources"
 NO_DATA = "1.000 416 ERROR no data"
@@ -38,7 +38,7 @@ def printed(steps=STEPS, throttle=(THROTTLE_SESSION, THROTTLE), panel=(PANEL_SES
 
 
 def throttle_sent(changes):
-    """What the throttle is sent, with other replies at some places."""
+    """Returns what the throttle is sent, with other replies at some indices."""
     return THROTTLE_SESSION, [changes.get(place, line) for place, line in enumerate(THROTTLE)]
 
 
@@ -49,7 +49,7 @@ def rows_without(word):
 
 FIRST_ROWS = [row for row in ROWS if row.startswith("0.000 ")]
 PANEL_GONE = [f"{event} NoSuch" for event in range(15, 21)]
-# The record where the event of that number is refused its memory; at 0 none is.
+# The record if the event of that number is refused its memory. At 0 none is.
 RECORDS = {
     0: printed(),
     # the panel's `open` gives connection 1 then, and no event behind it names that
@@ -70,11 +70,11 @@ RECORDS = {
 
 
 def event_refused(record):
-    """The number of the event that is refused its memory in this record, 0 where none is, or None where it is none of RECORDS."""
+    """Returns the event that is refused its memory in this record, 0 if none is, or None if it is none of RECORDS."""
     return next((event for event, expected in RECORDS.items() if expected == record), None)
 
 
 def is_expected(outcome, record):
-    """Whether the record goes with the outcome. Where memory was refused to the record itself, there is none."""
+    """Returns whether the record goes with the outcome. If memory was refused to the record itself, there is none."""
     event = event_refused(record)
     return {"granted": event == 0, "refused": bool(event) or record == ""}.get(outcome, record == "")

@@ -85,7 +85,7 @@ def sending_without_end(throttles, command=b"SET 1 FB 1 %d\n"):
 
 
 def in_a_process(reads, *words):
-    """What a function returns in a process of its own, where no thread of this one holds it up."""
+    """Returns what a function returns in a process of its own, so that no thread of this one delays it."""
     told, tells = os.pipe()
     child = os.fork()
     if child == 0:
@@ -101,7 +101,7 @@ def in_a_process(reads, *words):
 
 
 def sessions_on_both_sides(program):
-    """Sessions that send without end have places before the panels and behind them: no panel that reads is closed."""
+    """Sessions that send without end have slots before the panels and behind them: no panel that reads is closed."""
     for before, behind in ((16, 16), (24, 8)):
         with served(program) as (port, _):
             first = Client(port, "COMMAND")
@@ -183,7 +183,7 @@ def panels_that_pause(program):
 
 
 def panels_closed_by_pauses(program, senders, seconds):
-    """Which pauses close a panel while so many sessions send without end for so long."""
+    """Returns which pauses close a panel while sessions send without end for some seconds."""
     with served(program) as (port, _):
         throttles = [Client(port, "COMMAND") for _ in range(senders)]
         with panel_that_pauses(port, 0.15, seconds / 2) as once, panel_that_pauses(port, 0.05, 1) as often:
@@ -209,7 +209,7 @@ def end_of_a_session_with_locks(program):
 
 
 def told_to_the_end(client, seconds):
-    """All that comes, and whether the stream ends within so many seconds."""
+    """Returns all that comes, and whether the stream ends within some seconds."""
     end, pieces = time.monotonic() + seconds, [b"-"]
     while pieces[-1]:
         client.settimeout(max(end - time.monotonic(), 0.001))

@@ -123,7 +123,7 @@ class Reader:
         return None
 
     def finds_port(self, port):
-        """Whether somebody listens at the port, once the newest program runs."""
+        """Returns whether somebody listens at the port, once the newest program runs."""
         try:
             wait_for(port, self.programs[-1].process)
             return True
@@ -131,7 +131,7 @@ class Reader:
             return False
 
     def finds(self, program, wanted, is_last):
-        """Why the program does not print these lines next, and all of them where it ends by itself, or None."""
+        """Returns why the program does not print these lines next, and all of them if it ends by itself, or None."""
         may_skip = False
         stays = program.command.startswith(STAYS)
         if is_last and not stays:
@@ -211,7 +211,7 @@ def rows_of_tables(page, first):
 
 
 def unlike_the_table(rows, client_of):
-    """The first row whose last answer is another than the table says, or None where there are rows and none is."""
+    """Returns the first row whose last answer is another than the table says, or None if there are rows and none is."""
     for sent, want in rows:
         got = client_of().asks(*sent)
         if not (got.startswith(want[:-2]) if want.endswith(" ..") else got == want):
@@ -295,7 +295,7 @@ def gate_that_proves_what_is_new(_):
 
 
 def older_pythons():
-    """The Pythons before that of the README that run here, if they know the syntax: 3.7 and those before stop at it."""
+    """Returns the Pythons below that of the README that run here, if they know the syntax: 3.7 and lower ones do not."""
     names = [name for minor in range(8, python_of_the_readme()) if (name := shutil.which(f"python3.{minor}"))]
     return [name for name in names if not subprocess.run([name, "--version"], capture_output=True).returncode]
 
@@ -306,7 +306,7 @@ def python_of_the_readme():
 
 
 def programs_that_ask_for_python(_):
-    """Each program of examples/ and bridges/, and the tests, refuse a Python before that of the README, and say which one
+    """Each program of examples/ and bridges/, and the tests, refuse a Python below that of the README, and say which one
     they take: one that claims to be older, and the older ones that are here. This Python they accept."""
     minor = python_of_the_readme()
     older = f"import runpy, sys; sys.modules['tomllib'], sys.version_info = None, (3, {minor - 1}, 9, 'final', 0); " \

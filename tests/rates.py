@@ -19,8 +19,7 @@ FALLS = 10
 
 @contextmanager
 def panel_reading(port, lines_a_second):
-    """The session of a panel in a process of its own, for which the system keeps little, and that reads so many lines of a
-    change a second."""
+    """Runs a panel in a process of its own, for which the system keeps little. It reads some lines of a change a second."""
     panel, told = small_socket(port), b""
     panel.sendall(b"SET CONNECTIONMODE SRCP INFO\nGO\n")
     while told.count(b"\n") < 3:
@@ -106,7 +105,7 @@ def changes_at_one_moment_beside_many(program):
 
 
 def falls_heard(panel, most):
-    """How many falls a panel is told of until they are so many or it is closed."""
+    """Returns how many falls a panel is told of until they are enough or it is closed."""
     heard, rest = 0, panel.begun
     while heard < most and (piece := panel.socket.recv(1 << 20)):
         *lines, rest = (rest + piece).split(b"\n")

@@ -61,7 +61,7 @@ def parse_record(out):
 
 
 def difference(name, got, want):
-    """The first place at which two texts differ, or None."""
+    """Returns the first line at which two texts differ, or None."""
     if got == want:
         return None
     at = next((i for i, (a, b) in enumerate(zip(got, want)) if a != b), min(len(got), len(want)))
@@ -253,7 +253,7 @@ def cases_by_name():
 
 
 def fault_of(case, program):
-    """Why a case fails, or None. One that stops, as where nothing comes for too long, fails at the line where it stood."""
+    """Returns why a case fails, or None. One that stops, as when nothing comes for too long, fails at its current line."""
     try:
         return case(program)
     except TriedNothing as missing:

@@ -1,11 +1,11 @@
 #!/usr/bin/env python3
-"""run_out_of_memory.py: refuses each growth of memory in turn, to every call that can want memory and to a whole run.
+"""run_out_of_memory.py: refuses each allocation in turn, to every call that can want memory and to a whole run.
 
-`rt try` builds the program of crates/out_of_memory_tests once, without a proof, and refuses the growth of the same number in each
-case. A case names a trial and how many growths are made before it, so that each growth of the trial is refused in one of
-them. What came of it is `refused` or `granted` where the promises were kept, `unprepared` where the growth is none of the
-call's, and `broken` else. The trials of a listing are handed its script and print the whole record of the run; one that is no
-record of listing_out_of_memory.py is `broken` too. The last line counts the cases; the status is 0 only where all of them pass.
+`rt try` builds the program of crates/out_of_memory_tests once, without a proof, and refuses the allocation of the same number in each
+case. A case names a trial and how many allocations come first, so that each allocation of the trial is refused in one of
+them. Its outcome is `refused` or `granted` if the promises were kept, `unprepared` if the allocation is none of the call's,
+and `broken` else. The trials of a listing get its script and print the whole record of the run. One that is no record of
+listing_out_of_memory.py is `broken` too. The last line counts the cases; the status is 0 only if all of them pass.
 """
 import re
 import subprocess
@@ -16,11 +16,11 @@ from pathlib import Path
 from listing_out_of_memory import RECORDS, SCRIPT, event_refused, is_expected
 
 CRATE = Path(__file__).resolve().parent.parent / "crates" / "out_of_memory_tests"
-# how many growths each trial is tried with, which is more than it has
+# how many allocations each trial is tried with, which is more than it has
 TRIALS = {"ring": 3, "feed": 5, "mirror": 4, "layout": 5, "connect": 8, "configuration": 18, "script": 4, "words": 66,
           "serve": 9, "play-flat": 62, "play-nested": 66, "listing-flat": 39, "listing-nested": 48}
 LISTINGS = ("listing-flat", "listing-nested")
-# how many growths of a listing's trial are left out: they read its script, which is not its run
+# how many allocations of a listing's trial are left out: they read its script, which is not its run
 READING = 11
 BEFORE = 200
 OUTCOME = re.compile(r"^== (\S+)-(\d+)\n((?:.*\n)*?)(\w+)\n(?=== |\Z)", re.M)
@@ -35,8 +35,8 @@ def write_cases(folder):
 
 
 def outcomes_of_all():
-    """For each trial, what came of it with its first growth refused, its second, and so on; and for each listing the events
-    that were refused in its records, in that order."""
+    """Returns for each trial its outcomes with its first allocation refused, its second, and so on. Returns for each listing
+    the events that were refused in its records, in that order."""
     with tempfile.TemporaryDirectory() as cases:
         write_cases(cases)
         # one step for the interpreter: the run that is compiled with checks is what counts

@@ -24,7 +24,7 @@ SECONDS = 20
 
 
 def expected_text(text):
-    """What a case expects, with the texts of the program in place of their words."""
+    """Returns what a case expects, with the texts of the program instead of their words."""
     for word in TEXTS:
         text = text.replace(word, TEXTS[word])
     return text
@@ -49,8 +49,8 @@ class Client:
     """A connection to a server, with the lines that came of it."""
 
     def __init__(self, port, mode, receives=None):
-        """In the handshake still where the mode is None. `receives` is how many bytes the socket is to keep that were not
-        read, where the system is not to choose."""
+        """Stays in the handshake if the mode is None. `receives` is how many unread bytes the socket is to keep, if the system
+        is not to choose."""
         self.socket = socket.socket()
         self.socket.settimeout(SECONDS)
         if receives:
@@ -79,7 +79,7 @@ class Client:
         return reply.split(b" ", 1)[1].decode().strip()
 
     def asks_many(self, commands):
-        """Sends all commands before it reads a reply; answers how many replies each text had, without their stamps."""
+        """Sends all commands before it reads a reply. Returns how many replies each text had, without their stamps."""
         self.socket.sendall(b"".join(command.encode() + b"\n" for command in commands))
         return Counter(self.line().split(b" ", 1)[1].decode().strip() for _ in commands)
 
@@ -230,7 +230,7 @@ def client_that_half_closes(program):
 
 
 def limit_memory(server, more):
-    """Leaves a server so many bytes of address space more than it has."""
+    """Leaves a server `more` bytes of address space more than it has."""
     pages = int(Path(f"/proc/{server.pid}/statm").read_text().split()[0])
     limit = pages * resource.getpagesize() + more
     resource.prlimit(server.pid, resource.RLIMIT_AS, (limit, resource.RLIM_INFINITY))

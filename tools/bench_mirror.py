@@ -23,13 +23,13 @@ def lines(addresses):
 
 
 def falling(rows):
-    """A state of each of so many locomotives, over as many buses as they need, the greatest key first."""
+    """Returns a state of each locomotive, over as many buses as they need, the greatest key first."""
     for left in range(rows - 1, -1, -1):
         yield b"1.000 100 INFO %d GL %d 1 5 28\n" % (left // ADDRESSES + 1, left % ADDRESSES + 1)
 
 
 def peak_of(process):
-    """The most memory in KiB that a running process has held, 0 where it has just ended."""
+    """Returns the most memory in KiB that a running process has held, or 0 if it has just ended."""
     try:
         with open(f"/proc/{process.pid}/status") as status:
             return next((int(line.split()[1]) for line in status if line.startswith("VmHWM:")), 0)

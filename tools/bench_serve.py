@@ -24,7 +24,7 @@ COMMAND = b"SET 1 GL 3 1 5 28" + b" 0 1" * 9 + b"\n"
 
 
 def processor_seconds(server):
-    """What a server of one thread has taken, to the nanosecond where the system tells that."""
+    """Returns the time that a server of one thread has taken, to the nanosecond if the system tells that."""
     try:
         return int(Path(f"/proc/{server.pid}/schedstat").read_text().split()[0]) / 1e9
     except OSError:

@@ -50,7 +50,7 @@ def counted_server(program: str):
 
 
 def wait_for_lines(counted: list, wanted: int):
-    """Until so many lines were read, which ends where none comes for a while."""
+    """Waits until `wanted` lines were read, or none comes for a while."""
     had, end = 0, time.monotonic() + SECONDS_WITHOUT_A_LINE
     while (now := sum(counted)) < wanted:
         if now > had:
@@ -74,7 +74,7 @@ def listening(port: int, panels: int) -> list[Client]:
 
 @cache
 def commanding(program: str, panels: int, commands: int) -> int:
-    """The instructions of so many SETs of a locomotive with 18 functions, each told to the panels, which read all."""
+    """Returns the instructions of SETs of a locomotive with 18 functions, each sent to the panels, which read all."""
     with counted_server(program) as (port, count):
         throttle = Client(port, "COMMAND")
         throttle.asks("INIT 1 GL 3 N 1 28 18")
@@ -93,7 +93,7 @@ def commanding(program: str, panels: int, commands: int) -> int:
 
 @cache
 def listing(program: str, panels: int, rows: int) -> int:
-    """The instructions of a registry of so many rows of locomotives, listed to so many panels."""
+    """Returns the instructions of listing a registry of `rows` rows of locomotives to `panels` panels."""
     with counted_server(program) as (port, count):
         throttle = Client(port, "COMMAND")
         pipelined(throttle, [b"INIT 1 GL %d N 1 28 18\n" % address for address in range(1, rows // 2 + 1)])
@@ -102,7 +102,7 @@ def listing(program: str, panels: int, rows: int) -> int:
 
 
 def replaying(program: str, events: int) -> int:
-    """The instructions of the replay of the first events of a long evening."""
+    """Returns the instructions of the replay of the first events of a long run."""
     with tempfile.TemporaryDirectory() as room:
         config, source = Path(room, "layout.toml"), Path(room, "script")
         config.write_bytes(CONFIG)

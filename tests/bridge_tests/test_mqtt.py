@@ -208,7 +208,7 @@ class MqttCase(Case):
             until(lambda: joined in self.bridge.told(), joined)
 
     def shows(self):
-        """Whether the broker retains what the registry has, and nothing else."""
+        """Returns whether the broker retains what the registry has, and nothing else."""
         has_now = retained(self.broker.port)
         topics = {topic: payload for topic, payload in has_now.items() if topic.startswith("srcp/")
                   and not topic.endswith(("/position", "/online"))}

@@ -61,7 +61,7 @@ class Following(Case):
         asyncio.run(main())
 
     def same(self):
-        """Whether the mirror holds what the server does; the sessions aside, of which the snapshot is one."""
+        """Returns whether the mirror holds what the server does, without the sessions, of which the snapshot is one."""
         ours = {key: row._replace(stamp=0) for key, row in self.mirror.rows.copy().items() if key[1] != "SESSION"}
         return ours == parsed(rows(self.server.port))
 

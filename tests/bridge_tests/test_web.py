@@ -102,7 +102,7 @@ class WebCase(Case):
         return answer, text
 
     def same(self, *pages):
-        """Whether the pages have the rows of the server; the sessions aside, of which the snapshot is one."""
+        """Returns whether the pages have the rows of the server, without the sessions, of which the snapshot is one."""
         theirs = {key: json.loads(json.dumps(row._asdict())) for key, row in parsed(rows(self.server.port)).items()}
         return all({key: {**row, "stamp": 0} for key, row in page.rows.copy().items() if key[1] != "SESSION"} == theirs
                    for page in pages)
