@@ -41,7 +41,7 @@ module _ (buses : List Bus) where
   abbrev pub TakesPieces : World → ℕ → Type 0
   TakesPieces w n = (piece : Piece) → length piece.bytes ≤ 256 → fault buses w (Bytes n piece) ≡ None
 
-  -- what a connection lends: what is unsent of it, and nothing where it overran
+  -- what a connection lends: its unsent bytes, or none if it overran
   abbrev pub lent_of : World → Connection → List ℕ
   lent_of w conn = if overran conn (history buses w) then [] else unsent conn
 
@@ -50,7 +50,7 @@ module _ (buses : List Bus) where
   lent w n = option_map_or (lent_of w) (open_connection w n) []
 
   -- nothing is lent of a connection: it overran, or all its replies are taken and,
-  -- where it is an information session, it is settled
+  -- if it is an information session, it is settled
   abbrev pub lends_none_of : World → Connection → Bool
   lends_none_of w conn =
       overran conn (history buses w)

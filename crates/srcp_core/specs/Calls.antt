@@ -20,8 +20,8 @@ use Rattle.srcp_core.specs.Stands.{StandsFor}
 use Rattle.srcp_core.specs.Under.{Open, Bytes, Room, At, Shut, Piece}
 use Rattle.srcp_core.specs.declared.record.CoreFault.{CoreFault}
 
--- as it begins, a core stands for no events; where it stands for the course of any events, it stands after a call
--- for that with the call's event, under what memory answered
+-- a new core stands for no events; if it stands for the course of any events, it stands after a call for these and the
+-- call's event, under what memory answered
 pub record CallsLead : Type 0 where
   pub first : (buses : List Bus) (held : Held) → held ≡ opening_held buses 0 0
       → StandsFor buses [] held (course buses [])
@@ -37,7 +37,7 @@ pub record CallsLead : Type 0 where
   pub sent : (key count : ℕ) (old new : Held) → count ≤ length (unsent_at key old)
       → new ≡ changed_at key (without_sent count) old
       → 0 < count → LeadsAt key (λ n. Room n count) old new
-  -- where no bytes were sent, nothing changes
+  -- if no bytes were sent, nothing changes
   pub none_sent : (key count : ℕ) (old new : Held) → new ≡ changed_at key (without_sent count) old → count ≡ 0
       → new ≡ old
   -- of bytes that were just lent, lending and sending are one event, for no bytes too

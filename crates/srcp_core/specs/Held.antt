@@ -1,5 +1,5 @@
--- The model of the code: what is seen of a core: the registry, and a place for each
--- connection. The key of a connection is the index of its place.
+-- The model of the code: what is seen of a core: the registry, and a slot for each
+-- connection. The key of a connection is the index of its slot.
 use Rattle.std.specs.Prelude.{◌≡◌, ℕ, ◌<◌, ◌≤◌, Bool, true, false, List, Option, Some, None, is_some, count_by}
 use Rattle.std.specs.Prelude.{slice_index_or}
 use Rattle.srcp_info.specs.WellFormed.{IsMoment}
@@ -25,13 +25,13 @@ pub record Held : Type 0 where
   pub moment : ℕ  -- the moment that was told last
   pub last_id : ℕ  -- the session id that was given last
   pub places : List (Option Place)
-  pub denied : ℕ  -- how many growths were refused
+  pub denied : ℕ  -- how many allocations were refused
 
--- the place of that key
+-- the slot of that key
 abbrev pub place_at : List (Option Place) → ℕ → Option Place
 place_at places key = slice_index_or places key None
 
--- the place of that key in the core
+-- the slot of that key in the core
 abbrev pub at : Held → ℕ → Option Place
 at held key = place_at held.places key
 
@@ -39,12 +39,12 @@ at held key = place_at held.places key
 abbrev pub open_count : Held → ℕ
 open_count held = count_by is_some held.places
 
--- the session of a place began and did not end
+-- the session of a slot began and did not end
 pub record IsLive (place : Place) : Type 0 where
   pub began : 0 < place.session
   pub not_ended : place.ended ≡ false
 
--- the sessions of the places: each has an id of its own, and its row until it ends; a later id has none
+-- the sessions of the slots: each has an id of its own, and its row until it ends; a later id has none
 pub record AreSessions (last_id : ℕ) (rows : State) (places : List (Option Place)) : Type 0 where
   pub ids : (key : ℕ) (place : Place) → place_at places key ≡ Some place → place.session ≤ last_id
   pub apart : (m n : ℕ) (p q : Place) → place_at places m ≡ Some p → place_at places n ≡ Some q → 0 < p.session

@@ -46,7 +46,7 @@ use Rattle.srcp_core.specs.declared.record.CoreFault.{CoreFault}
 use Rattle.srcp_core.specs.declared.record.CoreFault.TheVariants.{Full, Memory as MemoryFault, NoSuch, Busy}
 use Rattle.srcp_core.specs.declared.record.CoreFault.TheVariants.{PieceTooLong, Closing}
 
--- ---- one place
+-- ---- one slot
 
 -- a connection that was just opened
 abbrev pub fresh_place : Place
@@ -63,11 +63,11 @@ fresh_place = record {
 abbrev pub with_unsent : List ℕ → Place → Place
 with_unsent bytes p = record p { unsent = p.unsent ++ bytes }
 
--- so many bytes were sent
+-- that many bytes were sent
 abbrev pub without_sent : ℕ → Place → Place
 without_sent count p = record p { unsent = drop count p.unsent }
 
--- a session of the mode is told changes from its beginning on, where it is an information session
+-- a session of the mode is told changes from its beginning on, if it is an information session
 abbrev pub panel_for : Mode → Panel
 panel_for CommandMode = Absent
 panel_for Info = Listening beginning
@@ -78,24 +78,24 @@ is_panel Absent = false
 is_panel (Listening feed) = true
 is_panel Overran = true
 
--- the connection of a place has an information session
+-- the connection of a slot has an information session
 abbrev pub has_panel : Option Place → Bool
 has_panel None = false
 has_panel (Some p) = is_panel p.panel
 
--- more changes came upon it than may wait
+-- its change queue overflowed
 abbrev pub has_overrun : Panel → Bool
 has_overrun Absent = false
 has_overrun (Listening feed) = false
 has_overrun Overran = true
 
--- how many more changes may come before it overruns; 256 where it did, since none wait then
+-- how many more changes it can queue; 256 if it overran, since none wait then
 abbrev pub slack_in : Panel → Option ℕ
 slack_in Absent = None
 slack_in (Listening feed) = Some (256 - length feed.queue)
 slack_in Overran = Some 256
 
--- and upon the connection of a place
+-- and of the connection of a slot
 abbrev pub slack_at : Option Place → Option ℕ
 slack_at None = None
 slack_at (Some p) = slack_in p.panel
@@ -110,7 +110,7 @@ feed_in Overran = None
 abbrev pub entered_place : ℕ → Panel → Place → Place
 entered_place id panel p = record p { session = id; panel = panel }
 
--- a change is told: what waits, the listing and the unsent bytes are given up where it would have to wait and can not
+-- a change is told: if the queue is full, what waits, the listing and the unsent bytes are dropped
 abbrev pub told_feed : Change → Place → Option Feed → Place
 told_feed change p None = p
 told_feed change p (Some feed) =
@@ -122,7 +122,7 @@ told_feed change p (Some feed) =
 abbrev pub told_place : Change → Place → Place
 told_place change p = told_feed change p (feed_in p.panel)
 
--- the next line is put in, where nothing is unsent
+-- the next line is appended, if nothing is unsent
 abbrev pub filled_from : List Shown → Place → List ℕ → Option Feed → Place
 filled_from rows p (byte ∷ bytes) feed = p
 filled_from rows p [] None = p
@@ -181,9 +181,9 @@ line_begun_of (Some p) = p.reader.begun
 abbrev pub line_begun_at : ℕ → Held → Option (List ℕ)
 line_begun_at key held = line_begun_of (at held key)
 
--- ---- all places
+-- ---- all slots
 
--- the connection of that key is changed, where there is one
+-- the connection of that key is changed, if there is one
 abbrev pub changed_in : ℕ → (Place → Place) → List (Option Place) → Option Place → List (Option Place)
 changed_in key change places None = places
 changed_in key change places (Some p) = slice_set places key (Some (change p))
@@ -217,7 +217,7 @@ carried updates held = record held {
   places = told_each (map (λ update. update.change) updates) held.places;
 }
 
--- the bytes to be sent of a place
+-- the bytes to be sent of a slot
 abbrev pub unsent_of : Option Place → List ℕ
 unsent_of None = []
 unsent_of (Some place) = place.unsent
@@ -228,7 +228,7 @@ unsent_at key held = unsent_of (at held key)
 
 -- ---- answers
 
--- one more growth was refused; the count stays at its greatest value
+-- one more allocation was refused; the count stops at its greatest value
 abbrev pub one_denied : Held → Held
 one_denied held = record held { denied = min (held.denied + 1) 18446744073709551615 }
 
@@ -266,7 +266,7 @@ greeted granted key mode (Refuses code) held = replied key (Refused code) held
 abbrev pub freed_of : ℕ → Held → Held
 freed_of session held = carried (freed held.rows session held.moment) held
 
--- the session ends where its own command ends it
+-- the session ends if its own command ends it
 abbrev pub finished : Bool → ℕ → ℕ → Held → Held
 finished ends key session held =
     if ends then freed_of session (changed_at key (λ p. record p { ended = true }) held) else held
@@ -276,7 +276,7 @@ abbrev pub obeyed : ℕ → ℕ → Effect → Held → Held
 obeyed key session result held =
     finished result.ends key session (replied key result.reply (carried result.updates held))
 
--- a command, by whether memory was given to it, where it wants memory
+-- a command, by whether memory was given to it, if it wants memory
 abbrev pub commanded : Bool → ℕ → ℕ → Result Command Code → Held → Held
 commanded granted key session (Err code) held = replied key (Refused code) held
 commanded granted key session (Ok command) held =
@@ -295,7 +295,7 @@ answered granted key (Commands session command) held = commanded granted key ses
 abbrev pub steps_in : LineRecord → List Step
 steps_in line = option_to_list line.step ++ option_to_list line.end
 
--- the steps of GO: the beginning of a session, where an id is left and memory was given
+-- the steps of GO: the beginning of a session, if an id is left and memory was given
 abbrev pub steps_gone : Bool → Mode → Held → List Step
 steps_gone granted mode held =
     if nat_lt held.last_id 4294967295 && granted then Began (held.last_id + 1) held.moment mode ∷ [] else []
@@ -374,7 +374,7 @@ pub record IsAsked (key : ℕ) (asked : Asked) (held : Held) : Type 0 where
   pub is : asked ≡ asked_of held.buses place mark
 
 -- a piece is read on from that offset: the offset after the next line with what that
--- asks for, or nothing where none ends
+-- asks for, or none if no line ends
 abbrev pub heard_in : ℕ → List ℕ → ℕ → Held → Option Place → Option (ℕ × Asked) × Held
 heard_in key piece start held None = (None, held)
 heard_in key piece start held (Some p) = (
@@ -386,8 +386,8 @@ heard_in key piece start held (Some p) = (
 abbrev pub heard_at : ℕ → List ℕ → ℕ → Held → Option (ℕ × Asked) × Held
 heard_at key piece start held = heard_in key piece start held (at held key)
 
--- the next line is answered, by whether memory was given to it, and the offset after
--- it is where to go on; nothing where none ends
+-- the next line is answered, by whether memory was given to it, and the next one begins
+-- at the offset after it; none if no line ends
 abbrev pub line_answered : ℕ → Bool → ℕ × Held → Option (ℕ × Asked) × Held → ℕ × Held
 line_answered key granted before (None, held) = before
 line_answered key granted before (Some (stop, asked), held) = (stop, answered granted key asked held)
@@ -417,7 +417,7 @@ pub record IsLineAnswered (key : ℕ) (piece : List ℕ) (start stop : ℕ) (did
   pub steps : steps_in did ≡ steps_of_line did.granted (heard_at key piece start old)
   pub counted : new.denied ≡ denied_by old.denied (did.granted ∷ [])
 
--- each answer to the lines that follow is counted where it refuses
+-- each answer to the lines that follow is counted if it refuses
 abbrev pub CountsEach : ℕ → List ℕ → ℕ × Held → List Bool → Type 0
 CountsEach key piece before [] = ⊤
 CountsEach key piece before (granted ∷ grants) =
@@ -426,14 +426,14 @@ CountsEach key piece before (granted ∷ grants) =
     × CountsEach key piece (line_answered key granted before (heard_at key piece before.0 before.1)) grants
 
 -- each line that ends in the piece is answered in turn, by whether memory was given
--- to it, and then the front of a line is left
+-- to it, and then the beginning of a line is left
 pub record IsReceived (key : ℕ) (piece : List ℕ) (old new : Held) : Type 0 where
   pub grants : List Bool
   pub counted : CountsEach key piece (0, old) grants
   pub rest : (None, new)
       ≡ heard_at key piece (lines_answered key piece grants old).0 (lines_answered key piece grants old).1
 
--- the session of a connection, where it has one that did not end
+-- the session of a connection, if it has one that did not end
 abbrev pub live_session_of : Option Place → Option ℕ
 live_session_of None = None
 live_session_of (Some p) = if (p.session == 0) || p.ended then None else Some p.session
@@ -464,7 +464,7 @@ item_of rows (Some p) = item_from rows p.unsent (feed_in p.panel)
 abbrev pub item_at : ℕ → Held → Option Next
 item_at key held = item_of (shown_rows held.rows) (at held key)
 
--- the place is free, and the session of its connection ends where it has one that did not end
+-- the slot is free, and the session of its connection ends if it has one that did not end
 abbrev pub freed_place : ℕ → Held → Held
 freed_place key held = record held { places = slice_set held.places key None }
 

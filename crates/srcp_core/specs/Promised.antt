@@ -41,7 +41,7 @@ module _ (buses : List Bus) where
 
 -- what memory answered in each event, with which the record is that of the course of the events, and tells of it what
 -- it promises; the record counts exactly the answers that refused, up to the greatest u64, and these are all asked for
--- in that course; where it counts none each answer gave, and the course is that of the events where memory gives all
+-- in that course; if it counts none each answer gave, and the course is that of the events with ample memory
 pub record IsPromised (buses : List Bus) (events : List PlainEvent) (run : Record) : Type 0 where
   pub grants : List (List Bool)
   pub count : length grants ≡ length events

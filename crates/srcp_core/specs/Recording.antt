@@ -44,7 +44,7 @@ record_of conn = record {
   finish = if is_open conn then Live else Shut;
 }
 
--- what is told of the connection of that number is changed, where there is one
+-- the record of the connection of that number is changed, if there is one
 abbrev pub changed_in : ℕ → (ConnRecord → ConnRecord) → List ConnRecord → Option ConnRecord → List ConnRecord
 changed_in index change records None = records
 changed_in index change records (Some one) = slice_set records index (change one)
@@ -78,7 +78,7 @@ shut n r = changed n (λ one. record one { finish = Shut }) (record r { keys = w
 abbrev pub stepped : List Step → Recording → Recording
 stepped steps r = record r { steps = r.steps ++ steps }
 
--- a session began, where the step is that
+-- a session began, if the step says so
 abbrev pub began : ℕ → Step → Recording → Recording
 began n (Obeyed session moment command) r = r
 began n (Began session moment mode) r =
@@ -90,11 +90,11 @@ began n (Ended session moment) r = r
 abbrev pub noted : ℕ → List Step → Recording → Recording
 noted n steps r = fold (λ before step. began n step (stepped (step ∷ []) before)) r steps
 
--- a line was given, after so many steps
+-- a line was given, after that many steps
 abbrev pub with_item : ℕ → Next → ConnRecord → ConnRecord
 with_item steps what one = record one { items = one.items ++ record { steps = steps; what = what } ∷ [] }
 
--- an information session was given this, if anything; where nothing is left there is no line
+-- an information session was given this, if anything; if nothing is left there is no line
 abbrev pub gave : ℕ → Option Next → Recording → Recording
 gave n None r = r
 gave n (Some (Told change)) r = changed n (with_item (length r.steps) (Told change)) r

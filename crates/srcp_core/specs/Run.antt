@@ -16,7 +16,7 @@ use Rattle.srcp_core.specs.Under.{Event, Shut, Open, Bytes, step_told, under, al
 use Rattle.srcp_core.specs.declared.event.Event.{Event as PlainEvent}
 use Rattle.srcp_core.specs.declared.record.CoreFault.{CoreFault}
 
--- how many bytes of a connection are taken at once, at most so many, after the next line was put in
+-- how many bytes of a connection are sent at once, at most `most`, after the next line was appended
 abbrev pub count_at : ℕ → ℕ → Held → ℕ
 count_at key most held = min (length (unsent_at key (let_out key held))) most
 
@@ -46,7 +46,7 @@ module _ (buses : List Bus) where
   Happened event None r held w = (fault buses w event ≡ None) × Runs r held (accepted buses event w)
   Happened event (Some cause) r held w = (fault buses w event ≡ Some cause) × Runs r held w
 
--- where no memory was refused by then, each answer gave
+-- if no memory was refused by then, each answer gave
 abbrev pub GivesAll : List Bool → Held → Type 0
 GivesAll grants held = held.denied ≡ 0 → AllByRecursion IsTrue grants
 
@@ -66,7 +66,7 @@ pub record HappensAs (event : PlainEvent) (refusal : Option CoreFault) (r : Reco
   pub counted : later.denied ≡ denied_by held.denied grants
   pub asked : CountsAsked r held later (under grants event)
 
--- and so with the number of the event, which is noted where it is refused
+-- and so with the number of the event, which is recorded if it is refused
 pub record FollowsAs (number : ℕ) (event : PlainEvent) (r : Recording) (held : Held) (later_r : Recording)
     (later : Held) : Type 0 where
   pub grants : List Bool
@@ -127,7 +127,7 @@ LeadsToOpen key old new =
     → StandsFor buses keys old (course buses events)
     → StandsFor buses (keys ++ Some key ∷ []) new (course buses (events ++ Open true ∷ []))
 
--- what memory answered in each event of a run, where the core stands for the course of the events under these answers
+-- what memory answered in each event of a run, if the core stands for the course of the events under these answers
 pub record RunsUnder (buses : List Bus) (events : List PlainEvent) (r : Recording) (held : Held) : Type 0 where
   pub grants : List (List Bool)
   pub count : length grants ≡ length events
@@ -135,7 +135,7 @@ pub record RunsUnder (buses : List Bus) (events : List PlainEvent) (r : Recordin
   pub asked : held.denied ≡ denied_over buses 0 start (all_under grants events)
   pub runs : Runs buses r held (course buses (all_under grants events))
 
--- what memory answered in each event of a run, where its record is that of the course of the events under these answers
+-- what memory answered in each event of a run, if its record is that of the course of the events under these answers
 pub record RunsRecord (buses : List Bus) (events : List PlainEvent) (run : Record) : Type 0 where
   pub grants : List (List Bool)
   pub count : length grants ≡ length events

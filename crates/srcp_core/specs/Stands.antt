@@ -14,13 +14,13 @@ use Rattle.srcp_core.specs.declared.connection.Panel.{Panel}
 use Rattle.srcp_core.specs.declared.connection.Panel.TheVariants.{Absent, Listening, Overran}
 
 -- what an information session is told of changes, by the cursor and the queue of its
--- feed: nothing where more wait than may
+-- feed: none if more wait than may
 abbrev pub panel_at : (info : Bool) → Cursor → List Change → Panel
 panel_at false cursor queue = Absent
 panel_at true cursor queue =
     if nat_lt 256 (length queue) then Overran else Listening (record { cursor = cursor; queue = queue })
 
--- what is held of a connection; where more changes wait than may, the unsent bytes are given up
+-- what is held of a connection; if more changes wait than may, the unsent bytes are dropped
 abbrev pub placed : Reading → Mode → ℕ → Bool → Bool → List ℕ → Cursor → List Change → Place
 placed reader mode session info ended bytes cursor queue =
     record {
@@ -38,7 +38,7 @@ place_of reader history conn =
     placed reader conn.mode conn.session conn.info conn.ended (unsent conn) (cursor_at conn (length history))
     (untold conn history)
 
--- the connection of that number has a place, and its reader has read these bytes
+-- the connection of that number has a slot, and its reader has read these bytes
 pub record IsAt (keys : List (Option ℕ)) (places : List (Option Place)) (history : History) (n : ℕ) (conn : Connection)
     (bytes : List ℕ) : Type 0 where
   pub key : ℕ
@@ -47,13 +47,13 @@ pub record IsAt (keys : List (Option ℕ)) (places : List (Option Place)) (histo
   pub place : place_at places key ≡ Some (place_of reader history conn)
   pub reads : StandsAt bytes reader
 
--- the place is that of a number
+-- the slot is that of a number
 pub record IsOwned (keys : List (Option ℕ)) (key : ℕ) : Type 0 where
   pub number : ℕ
   pub named : key_of number keys ≡ Some key
 
 module _ (buses : List Bus) where
-  -- the keys of the connections by their numbers, and the core, stand for that course, where of the bytes that were
+  -- the keys of the connections by their numbers, and the core, stand for that course, if of the bytes that were
   -- accepted of a number these were read
   pub record StandsBy (read : ℕ → List ℕ → List ℕ) (keys : List (Option ℕ)) (held : Held) (w : World) : Type 0 where
     pub layout : held.buses ≡ buses

@@ -36,12 +36,12 @@ pub data Event : Type 0 where
 abbrev pub giving : List ℕ → Piece
 giving bytes = record { bytes = bytes; grants = [] }
 
--- the first answer, and that it gives where there is none
+-- the first answer, and that it gives if there is none
 abbrev pub first_of : List Bool → Bool
 first_of [] = true
 first_of (granted ∷ grants) = granted
 
--- how many growths were refused, after these answers too; the count stays at the greatest u64
+-- how many allocations were refused, after these answers too; the count stops at the greatest u64
 abbrev pub denied_by : ℕ → List Bool → ℕ
 denied_by denied grants =
     fold (λ count granted. if granted then count else min (count + 1) 18446744073709551615) denied grants
@@ -73,7 +73,7 @@ lines_under grants [] = []
 lines_under [] (mark ∷ marks) = record { mark = mark; granted = true } ∷ lines_under [] marks
 lines_under (granted ∷ grants) (mark ∷ marks) = record { mark = mark; granted = granted } ∷ lines_under grants marks
 
--- GO is refused where memory is refused to it
+-- GO is refused if memory is refused to it
 abbrev pub greeting_under : Bool → Greeting → Greeting
 greeting_under false Goes = Refuses C500
 greeting_under granted greeting = greeting
@@ -109,7 +109,7 @@ abbrev pub reading_wants : State → (session moment : ℕ) → Result Command C
 reading_wants state session moment (Err code) = false
 reading_wants state session moment (Ok command) = wants_memory state session moment command
 
--- what the command does: nothing where it wants memory, which is refused to it
+-- what the command does: nothing if it wants memory, which is refused to it
 abbrev pub effect : State → (session moment : ℕ) → Order → Effect
 effect state session moment order =
     if order.granted || not (wants_memory state session moment order.command)

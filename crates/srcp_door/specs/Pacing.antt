@@ -81,8 +81,8 @@ pub record IsOneLine (line : Line) (piece : List ℕ) (count : ℕ) : Type 0 whe
   pub longest : IsLongest line first piece count
 
 -- how much may be let through in a turn: what the slack of the panels leaves beside the 160 changes of moments and ends
--- of sessions, where the slack is 256 if no panel is there, since one may begin; if that is less than any line can
--- weigh, one line at each tick of the clock
+-- of sessions; the slack is 256 if no panel is there, since one may begin; if that leaves less than any line can weigh,
+-- one line at each tick of the clock
 abbrev pub pace_of : (slack : Option ℕ) (tick : Bool) → Pace
 pace_of slack tick =
     let left = unwrap_or slack 256 - 160 in cond (tick && nat_lt left 11) OneLine (Paced left)

@@ -28,7 +28,7 @@ beginning = record { cursor = Start; queue = [] }
 abbrev pub is_full : Feed → Bool
 is_full feed = not (nat_lt (length feed.queue) 256)
 
--- what becomes of a change: the listing will meet it, it waits, or there is no place for it
+-- what becomes of a change: the listing will meet it, it waits, or the queue is full
 abbrev pub told_answer : Change → Feed → Told
 told_answer change feed = if concerns feed.cursor change then (if is_full feed then Overrun else Queued) else Skipped
 

@@ -1,4 +1,4 @@
--- How the places of a server follow the course, and what each function of a turn does to them.
+-- How the slots of a server follow the course, and what each function of a turn does to them.
 use Rattle.std.specs.Prelude.{Bool, ⊤, ◌≡◌, ◌⊎◌, ℕ, ◌+◌, ◌≤◌, drop, slice_set, true, false, ◌==◌, if◌then◌else◌, List}
 use Rattle.std.specs.Prelude.{[], ◌∷◌, ◌++◌, map, length, filter_map, flat_map, count_by, is_some, Option, Some}
 use Rattle.std.specs.Prelude.{None, Result, Ok}
@@ -20,11 +20,11 @@ use Rattle.srcp_serve.specs.Visits.{AddsGiven, AreAbout, CountsAsked}
 use Rattle.srcp_serve.specs.declared.door.DoorFault.{DoorFault}
 use Rattle.srcp_serve.specs.declared.serving.visit.Seat.{Seat as Own}
 
--- all places from this one on are free
+-- all slots from this one on are free
 abbrev pub AreFreeFrom : ℕ → List (Option Own) → Type 0
 AreFreeFrom place owns = AllByRecursion (λ own. own ≡ None) (drop place owns)
 
--- at most this place was freed, and no other changed
+-- at most this slot was freed, and no other changed
 abbrev pub MayFree : ℕ → (old new : List (Option Own)) → Type 0
 MayFree place old new = (new ≡ old) ⊎ (new ≡ slice_set old place None)
 
@@ -52,11 +52,11 @@ asked_by buses events (v ∷ visits) =
 abbrev pub AreOwn : List Visit → Type 0
 AreOwn visits = AllByRecursion (λ v. AreAbout v.0.peer v.1) visits
 
--- the visits of a round; a round has one entry for each place, `None` if nobody has it
+-- the visits of a round; a round has one entry for each slot, `None` if nobody has it
 abbrev pub visits_of : List (Option Visit) → List Visit
 visits_of round = filter_map (λ place. place) round
 
--- who has the place before the visit
+-- who has the slot before the visit
 abbrev pub seat_of : Option Visit → Option Seat
 seat_of None = None
 seat_of (Some v) = Some v.0
@@ -66,39 +66,39 @@ abbrev pub left_by : Option Visit → Option Seat
 left_by None = None
 left_by (Some v) = if list_any is_close v.1 then None else Some v.0
 
--- ---- places
+-- ---- slots
 
--- a place of the server is that of the state: it has the same peer, and the key of its connection
+-- a slot of the server is that of the state: it has the same peer, and the key of its connection
 abbrev pub SitsAt : List (Option ℕ) → Option Own → Option Seat → Type 0
 SitsAt keys None None = ⊤
 SitsAt keys (Some own) (Some seat) = (own.peer ≡ seat.peer) × (key_of seat.conn keys ≡ Some own.key)
 SitsAt keys None (Some seat) = ⊥
 SitsAt keys (Some own) None = ⊥
 
--- so it is of all places
+-- so it is of all slots
 abbrev pub Sit : List (Option ℕ) → List (Option Own) → List (Option Seat) → Type 0
 Sit keys [] [] = ⊤
 Sit keys (own ∷ owns) (place ∷ places) = SitsAt keys own place × Sit keys owns places
 Sit keys [] (place ∷ places) = ⊥
 Sit keys (own ∷ owns) [] = ⊥
 
--- the place is free, or another peer on another connection has it
+-- the slot is free, or another peer on another connection has it
 abbrev pub IsApartFrom : Seat → Option Seat → Type 0
 IsApartFrom seat None = ⊤
 IsApartFrom seat (Some other) = ((seat.conn == other.conn) ≡ false) × ((seat.peer == other.peer) ≡ false)
 
--- no connection and no peer has two places
+-- no connection and no peer has two slots
 abbrev pub SeatsDiffer : List (Option Seat) → Type 0
 SeatsDiffer [] = ⊤
 SeatsDiffer (None ∷ places) = SeatsDiffer places
 SeatsDiffer (Some seat ∷ places) = AllByRecursion (IsApartFrom seat) places × SeatsDiffer places
 
--- the peer does not have the place
+-- the peer does not have the slot
 abbrev pub IsNotOf : ℕ → Option Seat → Type 0
 IsNotOf peer None = ⊤
 IsNotOf peer (Some seat) = (peer == seat.peer) ≡ false
 
--- the place is free, or one of these peers has it
+-- the slot is free, or one of these peers has it
 abbrev pub IsOneOf : List ℕ → Option Seat → Type 0
 IsOneOf peers None = ⊤
 IsOneOf peers (Some seat) = list_any (λ peer. peer == seat.peer) peers ≡ true
@@ -107,12 +107,12 @@ IsOneOf peers (Some seat) = list_any (λ peer. peer == seat.peer) peers ≡ true
 abbrev pub IsOther : ℕ → List Call → Type 0
 IsOther peer calls = AllByRecursion (λ call. is_about peer call ≡ false) calls
 
--- the place is free, or no call is about who has it
+-- the slot is free, or no call is about who has it
 abbrev pub IsLeftOut : List Call → Option Seat → Type 0
 IsLeftOut calls None = ⊤
 IsLeftOut calls (Some seat) = IsOther seat.peer calls
 
--- the core and the server's places are as the state says; `keys` are the keys of the core's connections
+-- the core and the server's slots are as the state says; `keys` are the keys of the core's connections
 pub record IsHosting (buses : List Bus) (stand : Stand) (keys : List (Option ℕ)) (held : Held)
     (owns : List (Option Own)) : Type 0 where
   pub layout : IsLayout buses
@@ -150,7 +150,7 @@ module _ (buses : List Bus) (stand : Stand) (old : Option (List DoorCall)) (told
     pub stands : StandsFor buses keys held (course buses (timed buses stand (NowCall answer ∷ [])).events)
 
   module _ (owns : List (Option Own)) (core_old : Held) where
-    -- the newcomer has a place, or was closed
+    -- the newcomer has a slot, or was closed
     pub record IsWelcomed (guest : Guest) (opens : Bool) : Type 0 where
       pub early : List Call
       pub keys : List (Option ℕ)
@@ -167,7 +167,7 @@ module _ (buses : List Bus) (stand : Stand) (old : Option (List DoorCall)) (told
       pub granted : Bool
       pub welcomes : IsWelcomed (record { peer = peer; granted = granted }) opens
 
-    -- the door was asked for a newcomer; if there was one, it has a place or was closed
+    -- the door was asked for a newcomer; if there was one, it has a slot or was closed
     pub record IsBegun (opens : Bool) : Type 0 where
       pub answer : Result (Option ℕ) DoorFault
       pub granted : Bool
@@ -183,7 +183,7 @@ module _ (buses : List Bus) (stand : Stand) (old : Option (List DoorCall)) (told
       pub hosting : IsHosting buses (accepted buses stand (AcceptCall answer granted)) keys held owns
       pub opened : length (accepted buses stand (AcceptCall answer granted)).guests ≡ length stand.guests + one_if opens
 
-    -- the peers at `seats` were visited in the order of the places; `front` and `ahead` are the places around them
+    -- the peers at `seats` were visited in the order of the slots; `front` and `ahead` are the slots around them
     pub record AreVisited (front seats ahead : List (Option Seat)) : Type 0 where
       pub round : List (Option Visit)
       pub keys : List (Option ℕ)
@@ -201,7 +201,7 @@ module _ (buses : List Bus) (stand : Stand) (old : Option (List DoorCall)) (told
           })
           keys held owns
 
-    -- a turn was made; each place is free, or has one of these peers or one that came in since
+    -- a turn was made; each slot is free, or has one of these peers or one that came in since
     pub record IsTurnMade (peers : List ℕ) (opens : Bool) : Type 0 where
       pub calls : List Call
       pub keys : List (Option ℕ)
@@ -215,7 +215,7 @@ module _ (buses : List Bus) (stand : Stand) (old : Option (List DoorCall)) (told
       pub hosting : IsHosting buses (turned buses stand calls) keys held owns
       pub opened : length (turned buses stand calls).guests ≡ length stand.guests + one_if opens
 
--- if the door keeps its calls, `After` holds of every state that the core and the places had before
+-- if the door keeps its calls, `After` holds of every state that the core and the slots had before
 abbrev pub HostsOn : (List Bus → Stand → List (Option ℕ) → List DoorCall → Type 0)
     → (old : Held) (owns : List (Option Own)) (told_new : Option (List DoorCall)) → Type 0
 HostsOn After old owns told_new = (buses : List Bus) (stand : Stand) (keys : List (Option ℕ)) (told : List DoorCall)
@@ -227,7 +227,7 @@ abbrev pub TakesMoment : (old : Held) (told_old : Option (List DoorCall))
 TakesMoment old told_old new told_new = (owns : List (Option Own))
     → HostsOn (λ buses stand keys told. IsTimed buses stand told_old told new keys) old owns told_new
 
--- a newcomer that has no place gets one, or is closed
+-- a newcomer that has no slot gets one, or is closed
 abbrev pub SeatsPeer : (peer : ℕ) (old : Held) (told_old : Option (List DoorCall)) (owns_old : List (Option Own))
     (new : Held) (told_new : Option (List DoorCall)) (owns_new : List (Option Own)) (opens : Bool) → Type 0
 SeatsPeer peer old told_old owns_old new told_new owns_new opens = HostsOn
@@ -244,7 +244,7 @@ LetsIn old told_old owns_old new told_new owns_new opens = HostsOn
     → AllByRecursion (IsOneOf peers) stand.places → IsBegun buses stand told_old told new owns_new old opens)
     old owns_old told_new
 
--- whoever has that place is visited
+-- whoever has that slot is visited
 abbrev pub VisitsPlace : (place : ℕ) (old : Held) (told_old : Option (List DoorCall)) (owns_old : List (Option Own))
     (new : Held) (told_new : Option (List DoorCall)) (owns_new : List (Option Own)) → Type 0
 VisitsPlace place old told_old owns_old new told_new owns_new = HostsOn
@@ -253,7 +253,7 @@ VisitsPlace place old told_old owns_old new told_new owns_new = HostsOn
     → AreVisited buses stand told_old told new owns_new old front (seat ∷ []) ahead)
     old owns_old told_new
 
--- this many places were visited
+-- this many slots were visited
 pub record AreVisitedSoFar (buses : List Bus) (stand : Stand) (old : Option (List DoorCall)) (told : List DoorCall)
     (held : Held)
     (owns : List (Option Own)) (core_old : Held) (count : ℕ) : Type 0 where
@@ -263,13 +263,13 @@ pub record AreVisitedSoFar (buses : List Bus) (stand : Stand) (old : Option (Lis
   pub many : length seats ≡ count
   pub visited : AreVisited buses stand old told held owns core_old [] seats ahead
 
--- this many places are visited, in their order
+-- this many slots are visited, in their order
 abbrev pub VisitsSoFar : (count : ℕ) (old : Held) (told_old : Option (List DoorCall)) (owns_old : List (Option Own))
     (now : Held) (told_now : Option (List DoorCall)) (owns_now : List (Option Own)) → Type 0
 VisitsSoFar count old told_old owns_old now told_now owns_now = HostsOn
     (λ buses stand keys told. AreVisitedSoFar buses stand told_old told now owns_now old count) old owns_old told_now
 
--- all places are visited, in their order
+-- all slots are visited, in their order
 abbrev pub VisitsPlaces : (old : Held) (told_old : Option (List DoorCall)) (owns_old : List (Option Own))
     (new : Held) (told_new : Option (List DoorCall)) (owns_new : List (Option Own)) → Type 0
 VisitsPlaces old told_old owns_old new told_new owns_new = HostsOn
@@ -287,7 +287,7 @@ MakesTurn old told_old owns_old new told_new owns_new opens = HostsOn
 
 -- ---- serving
 
--- the calls are those of this many turns, and the core and the places are as the answers say
+-- the calls are those of this many turns, and the core and the slots are as the answers say
 pub record IsServing (buses : List Bus) (count opens : ℕ) (told : List DoorCall) (old held : Held)
     (owns : List (Option Own)) : Type 0 where
   pub calls : List Call

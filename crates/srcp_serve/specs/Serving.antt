@@ -1,5 +1,5 @@
 -- What a server asks of its door, turn by turn, and which events the answers make.
--- A turn tells the door what to expect, asks for the time, accepts one peer, and visits each peer that has a place.
+-- A turn tells the door what to expect, asks for the time, accepts one peer, and visits each peer that has a slot.
 -- A peer is handed exactly what the course of these events leaves unsent of its connection. So each peer took what the
 -- course says that it was sent: that is SentIsTaken, which `laws::sent_is_taken` ensures.
 use Rattle.std.specs.Prelude.{⊤, ◌≡◌, ℕ, ◌+◌, Bool, true, false, not, ◌&&◌, ◌||◌, ◌==◌, nat_lt, if◌then◌else◌, List, []}
@@ -116,7 +116,7 @@ taken_in peer other = []
 abbrev pub taken : ℕ → List Call → List ℕ
 taken peer told = flat_map (taken_in peer) told
 
--- ---- peers and places
+-- ---- peers and slots
 
 -- a peer that has a connection, and the number of that connection
 pub record Seat : Type 0 where
@@ -129,25 +129,25 @@ pub record Stand : Type 0 where
   pub guests : List ℕ  -- the peers that were let in: the first has connection 1, the next 2, and so on
   pub places : List (Option Seat)  -- who has which place
 
--- the state before the first turn: no event, no guest, all 64 places free
+-- the state before the first turn: no event, no guest, all 64 slots free
 abbrev pub empty_stand : Stand
 empty_stand = record { events = []; guests = []; places = replicate 64 None }
 
--- those that have a place, in the order of the places
+-- those that have a slot, in the order of the slots
 abbrev pub seats : List (Option Seat) → List Seat
 seats places = filter_map (λ place. place) places
 
--- a newcomer takes the first free place
+-- a newcomer takes the first free slot
 abbrev pub seated : Seat → List (Option Seat) → List (Option Seat)
 seated seat [] = []
 seated seat (None ∷ places) = Some seat ∷ places
 seated seat (Some other ∷ places) = Some other ∷ seated seat places
 
--- the calls of a turn about a peer that has a place: its visit
+-- the calls of a turn about a peer that has a slot: its visit
 abbrev pub visit : List Call → Seat → List Call
 visit calls seat = filter (is_about seat.peer) calls
 
--- a place is free after a visit that closes its peer
+-- a slot is free after a visit that closes its peer
 abbrev pub kept : List Call → Option Seat → Option Seat
 kept calls None = None
 kept calls (Some seat) = if list_any is_close (visit calls seat) then None else Some seat
@@ -190,7 +190,7 @@ module _ (buses : List Bus) where
   abbrev pub is_let_in : List Event → Bool → Bool
   is_let_in events granted = is_none (fault buses (course buses events) (Open granted))
 
-  -- the state after a newcomer was let in: it has the next connection and the first free place
+  -- the state after a newcomer was let in: it has the next connection and the first free slot
   abbrev pub let_in : Stand → Guest → Stand
   let_in stand guest = record {
     events = stand.events ++ Open guest.granted ∷ [];

@@ -52,7 +52,7 @@ module _ (buses : List Bus) where
   abbrev pub after_turns : List (List Call) → Stand
   after_turns all = fold (turned buses) empty_stand all
 
-  -- over any layout, the session of a peer that has a place is settled after turns without a change, in each of which
+  -- over any layout, the session of a peer that has a slot is settled after turns without a change, in each of which
   -- its peer took all, if 300 times their number is at least what was left
   abbrev pub SettlesSoon : Type 0
   SettlesSoon = IsLayout buses → (count : ℕ) (told : List Call) → IsServed buses count told → PeersDiffer buses told

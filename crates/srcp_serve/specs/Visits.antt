@@ -35,7 +35,7 @@ pub record IsClosed (peer : ℕ) (old : Option (List DoorCall)) (told : List Doo
 abbrev pub Closes : (peer : ℕ) (old new : Option (List DoorCall)) → Type 0
 Closes peer old new = (told : List DoorCall) → new ≡ Some told → IsClosed peer old told
 
--- ---- a peer that has a place
+-- ---- a peer that has a slot
 
 -- the core stands for the course of the events, and has connection `n` at this key
 pub record IsSeated (buses : List Bus) (events : List Event) (keys : List (Option ℕ)) (n key : ℕ)
@@ -136,7 +136,7 @@ module _ (buses : List Bus) (events : List Event) (keys : List (Option ℕ)) (n 
     pub closed : IsClosed peer old told
     pub stands : StandsFor buses (without_key n keys) new (course buses (events ++ Shut n ∷ []))
 
-  -- the peer was visited, and has its place still or was closed
+  -- the peer was visited, and has its slot still or was closed
   pub record IsVisited (core_old : Held) (stays : Bool) : Type 0 where
     pub calls : List Call
     pub adds : AddsGiven old told calls
