@@ -127,7 +127,7 @@ pub record Seat : Type 0 where
 pub record Stand : Type 0 where
   pub events : List Event  -- the events so far
   pub guests : List ℕ  -- the peers that were let in: the first has connection 1, the next 2, and so on
-  pub places : List (Option Seat)  -- who has which place
+  pub places : List (Option Seat)  -- who has which slot
 
 -- the state before the first turn: no event, no guest, all 64 slots free
 abbrev pub empty_stand : Stand
