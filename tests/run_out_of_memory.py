@@ -30,8 +30,8 @@ def write_cases(folder):
     """Writes the standard input of each case."""
     for trial, most in TRIALS.items():
         left_out, script = (READING, SCRIPT) if trial in LISTINGS else (0, "")
-        for growth in range(1, most + 1):
-            Path(folder, f"{trial}-{growth:03}").write_text(f"{trial} {BEFORE - left_out - growth}\n{script}")
+        for allocation in range(1, most + 1):
+            Path(folder, f"{trial}-{allocation:03}").write_text(f"{trial} {BEFORE - left_out - allocation}\n{script}")
 
 
 def outcomes_of_all():
@@ -43,16 +43,16 @@ def outcomes_of_all():
         done = subprocess.run(["rt", "try", "--steps", "1", "--fail-alloc", str(BEFORE + 1), "--cases", cases],
                               cwd=CRATE, capture_output=True, text=True, stdin=subprocess.DEVNULL)
     came, events = {trial: [] for trial in TRIALS}, {trial: [] for trial in LISTINGS}
-    for trial, growth, record, outcome in OUTCOME.findall(done.stdout):
+    for trial, allocation, record, outcome in OUTCOME.findall(done.stdout):
         expected = is_expected(outcome, record) if trial in LISTINGS else record == ""
         came[trial].append(outcome if expected else "broken")
-        assert len(came[trial]) == int(growth), f"{trial} {growth} is out of order"
+        assert len(came[trial]) == int(allocation), f"{trial} {allocation} is out of order"
         if not expected:
-            print(f"{trial} {growth} printed before {outcome}:\n{record}")
+            print(f"{trial} {allocation} printed before {outcome}:\n{record}")
         elif event := event_refused(record):
             events[trial].append(event)
     if done.returncode != 0 or any(len(came[trial]) != most for trial, most in TRIALS.items()):
-        sys.exit(f"growths: rt try ended with {done.returncode}\n{(done.stdout + done.stderr)[-4000:]}")
+        sys.exit(f"allocations: rt try ended with {done.returncode}\n{(done.stdout + done.stderr)[-4000:]}")
     return came, events
 
 
@@ -60,25 +60,25 @@ def faults_of_listings(came, events):
     """What is wrong with the listings beside their records, one line each."""
     for trial in LISTINGS:
         if came[trial][0] != "unprepared":
-            yield f"{trial}: growths of its run are left out"
+            yield f"{trial}: allocations of its run are left out"
         if events[trial] != sorted(events[trial]):
-            yield f"{trial}: its growths are refused in the events {events[trial]}, in this order"
+            yield f"{trial}: its allocations are refused in the events {events[trial]}, in this order"
     met = set().union(*events.values())
     if met != set(RECORDS) - {0}:
-        yield f"listings: growths are refused in the events {sorted(met)} alone"
+        yield f"listings: allocations are refused in the events {sorted(met)} alone"
 
 
 def faults_of(came):
     """What is wrong with the outcomes, one line each."""
     for trial, outcomes in came.items():
         if "broken" in outcomes:
-            yield f"{trial}: broken where growth {outcomes.index('broken') + 1} is refused"
+            yield f"{trial}: broken if allocation {outcomes.index('broken') + 1} is refused"
         if outcomes[-1] != "granted":
-            yield f"{trial}: {outcomes[-1]} where no growth is left to refuse"
+            yield f"{trial}: {outcomes[-1]} if no allocation is left to refuse"
         if set(outcomes[outcomes.index("granted"):] if "granted" in outcomes else ()) - {"granted"}:
             yield f"{trial}: granted before its last refusal"
         if "refused" not in outcomes:
-            yield f"{trial}: no growth of it was refused"
+            yield f"{trial}: no allocation of it was refused"
     if came["feed"].count("refused") != came["ring"].count("refused"):
         yield "feed: it grows otherwise than its ring alone"
 
@@ -87,10 +87,10 @@ def main():
     came, events = outcomes_of_all()
     faults = [*faults_of(came), *faults_of_listings(came, events)]
     for trial, outcomes in came.items():
-        print(f"{trial}: {outcomes.count('refused')} growths refused")
+        print(f"{trial}: {outcomes.count('refused')} allocations refused")
     for fault in faults:
         print(f"FAILED {fault}")
-    print(f"growths: {sum(map(len, came.values()))} cases, {len(faults)} failed")
+    print(f"allocations: {sum(map(len, came.values()))} cases, {len(faults)} failed")
     return 1 if faults else 0
 
 
