@@ -25,7 +25,7 @@ use std::marker::Model;
 ///
 /// A server calls it in this order, over and over:
 /// 1. `advance` with the present moment;
-/// 2. `connect` for a newcomer, which returns the key of its connection;
+/// 2. `connect` for a new peer, which returns the key of its connection;
 /// 3. for each connection, `receive` with at most 256 bytes that came in, if `ready` says that it takes them;
 /// 4. `outgoing` for the bytes to send and `sent` with how many of them were taken, until it lends none;
 /// 5. `hangup` if the peer is gone, or if `closing` says that the connection is to be closed.

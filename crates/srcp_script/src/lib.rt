@@ -1,6 +1,6 @@
-//! Scripts, and what is printed of their run. It reads a script into the events of a run (`read_script`), names its
-//! first fault (`ScriptFault`), and prints the record of a run and the row of a registry (`print_shown`). Of a record
-//! it prints the line of each connection (`connection_line`), what ends the last line that was sent to it
+//! Scripts, and what is printed of their run. It reads a script into the events of a run (`read_script`), and names
+//! its first fault (`ScriptFault`). It prints the row of a registry (`print_shown`) and parts of the record of a run.
+//! These are the line of each connection (`connection_line`), the end of the last line that was sent to it
 //! (`line_end`), and what follows the connections (`print_end`). `cut_at` cuts a text at a byte, as the lines and
 //! words of a script are cut.
 //!

@@ -1,4 +1,4 @@
-//! Serves the peers of a door. `Door` is what a server asks of the outside, `serve` serves its peers turn by turn, and
+//! Serves the peers of a door. `Door` is what a server asks of the outside, and `serve` serves its peers turn by turn.
 //! `laws` says what holds of every list of calls of a door.
 //!
 //! The crate reads no configuration and prints nothing: `srcp_tool` does. `srcp_core` makes the replies to peers.

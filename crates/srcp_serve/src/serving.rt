@@ -33,7 +33,7 @@ struct Server<'d, D: Door> {
 ///
 /// Each turn advances the core to the door's time, accepts one peer, and visits each peer that has a slot. A visit
 /// reads the peer if its connection accepts bytes, and writes what the core lends. It closes the peer if that is lost
-/// or its connection is to be closed. Serving goes on after a call that fails, and if memory is refused. A newcomer is
+/// or its connection is to be closed. Serving goes on after a call that fails, and if memory is refused. A new peer is
 /// closed then, or a line is answered 500.
 pub fn serve<R: Rows, D: Door>(core: &mut Core<'_, R>, door: &mut D, turns: u64) -> Served
     ensures turns { result.turns ≡ turns }

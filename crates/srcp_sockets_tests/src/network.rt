@@ -17,7 +17,7 @@ pub(crate) enum Happens<'a> {
     Connects,
     /// Its client sends bytes.
     Sends(&'a [u8]),
-    /// The same, with urgent data in front of them: a read ends at it.
+    /// Its client sends bytes behind urgent data: a read ends at that.
     SendsUrgently(&'a [u8]),
     /// Its client sends no more.
     HalfCloses,

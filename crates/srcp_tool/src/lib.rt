@@ -1,6 +1,6 @@
-//! The program but for serving. It reads its words (`read_words`) and a configuration's bytes (`read_config`), replays
-//! a script (`replay`), mirrors the lines of a panel (`mirror`), and checks a configuration (`check`). `ToolFault`
-//! says why it stops, with which text and which status.
+//! The program but for serving. It reads its words (`read_words`) and a configuration's bytes (`read_config`). It
+//! replays a script (`replay`), mirrors the lines of a panel (`mirror`), and checks a configuration (`check`).
+//! `ToolFault` says why it stops, with which text and which status.
 //!
 //! `check_text` is what `check` writes, as bytes in memory.
 //!
