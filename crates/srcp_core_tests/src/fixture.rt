@@ -1,5 +1,6 @@
 //! Layouts, connections and sessions that the tests begin with, and what several of them assert. A test holds the
-//! layout and the core, and leaves the rest to functions that borrow them, so that each is proved in a few seconds.
+//! layout and the core, and leaves the rest to functions that borrow them. So each function is proved in a few
+//! seconds.
 use srcp_core::{Core, CoreFault};
 use srcp_info::Mirror;
 use srcp_rules::{Bus, Flat, Layout};
