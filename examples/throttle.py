@@ -2,7 +2,8 @@
 """throttle.py [--host HOST] [--port PORT] [--bus BUS] [--address ADDRESS] [WORD ..]: a throttle for one locomotive.
 
 Each word is a step: `faster`, `slower`, `turn`, `light`, `stop`. Without words it reads them from the keyboard, one a
-line, until the input ends (Ctrl-D). However it ends, it stops the locomotive if that drives as this throttle said.
+line, until the input ends (Ctrl-D). Then, and at SIGINT, SIGTERM or SIGHUP, it stops the locomotive if that drives as this
+throttle said.
 """
 import argparse
 import signal

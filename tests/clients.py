@@ -33,7 +33,7 @@ def panel_at(port):
 
 
 def printed_until(panel, end):
-    """What the panel prints up to a line with that end: its own lines, and what information lines tell after INFO."""
+    """Returns what the panel prints up to a line with that end: its own lines, and those behind INFO."""
     lines = []
     while not (lines and lines[-1].endswith(end)):
         line = panel.stdout.readline()
@@ -44,7 +44,7 @@ def printed_until(panel, end):
 
 
 def drives_by(port, *words, typed=""):
-    """What the throttle of examples/ prints of the locomotive, given these words, or else these lines to read."""
+    """Returns what the throttle of examples/ prints of the locomotive, by these words, or else these lines to read."""
     done = subprocess.run([sys.executable, EXAMPLES / "throttle.py", "--port", str(port), *words], input=typed,
                           capture_output=True, text=True, timeout=SECONDS)
     return [line.partition(" INFO ")[2] or line for line in (done.stdout + done.stderr).splitlines()]

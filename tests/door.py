@@ -27,7 +27,7 @@ def listens_on_the_loopback_alone(program):
 
 
 def stamps_are_the_time(program):
-    """Also after a rest: then nothing fell due, so no time has to be made up in steps."""
+    """This holds after a rest too: nothing fell due, so no time is caught up in steps."""
     with served(program) as (port, _):
         throttle = Client(port, "COMMAND")
         for pause in (0, 0.5, 3):
@@ -54,7 +54,7 @@ def server_that_rests_is_not_woken(program):
 
 
 def sleeps(server):
-    """How many times the server went to sleep so far."""
+    """Returns how many times the server went to sleep."""
     status = Path(f"/proc/{server.pid}/status").read_text()
     return int(re.search(r"^voluntary_ctxt_switches:\s+(\d+)", status, re.M)[1])
 

@@ -113,7 +113,7 @@ def served_with_faults(program, calls, fault_of):
 
 
 def processor_seconds(pid):
-    """How much of a processor a process took so far."""
+    """Returns how much of a processor a process took."""
     fields = Path(f"/proc/{pid}/stat").read_text().rsplit(")", 1)[1].split()
     return (int(fields[11]) + int(fields[12])) / os.sysconf("SC_CLK_TCK")
 
@@ -131,7 +131,7 @@ def process_that_never_rests():
 
 
 def work_without_rest(server, seconds):
-    """How much of a processor a server takes for so long, as a text, if that is a fifth of one, or on a busy machine half of
+    """Returns how much of a processor a server takes, as a text, if that is a fifth of one, or on a busy machine half of
     what a process takes that never rests; or None."""
     with process_that_never_rests() as other:
         before, begun = (processor_seconds(server.pid), processor_seconds(other)), time.monotonic()
@@ -171,7 +171,7 @@ def wait_that_fails(program):
 
 
 def waits_in_vain(program, refusal):
-    """What is wrong with a server whose waits end by that error for a second, or None."""
+    """Returns what is wrong with a server whose waits end by that error for a second, or None."""
     calls, refuses = Counter(), threading.Event()
 
     def fault_of(call):

@@ -84,7 +84,7 @@ def fall_after_a_long_wait(program):
 
 
 def kept_by_the_system(port, client):
-    """How many bytes the system keeps of what the server at the port sent to the client."""
+    """Returns how many bytes the system keeps of what the server at the port sent to the client."""
     mine, kept = client.getsockname()[1], 0
     with open("/proc/net/tcp", encoding="ascii") as table:
         next(table)
@@ -117,7 +117,7 @@ def send_as_far_as_it_goes(client, piece):
 
 
 def lines_to_the_end(client):
-    """How many lines come until the end, and what ended them if it was not the end of the stream. Then it closes."""
+    """Returns how many lines come until the end, and what ended them if not the end of the stream. Then it closes."""
     count = 0
     with client:
         try:

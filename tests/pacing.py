@@ -163,7 +163,7 @@ def send_all(client, commands):
 
 
 def told_until(panel, end):
-    """How many changes of a locomotive's speed a panel is told until the line that ends so, or until it is closed."""
+    """Returns how many changes of a speed a panel is told until the line that ends so, or until it is closed."""
     count, rest = 0, panel.begun
     while piece := panel.socket.recv(1 << 20):
         lines, _, rest = (rest + piece).rpartition(b"\n")

@@ -13,7 +13,7 @@ def rows_under(page, heading):
 
 
 def quoted(cell):
-    """What stands between backticks in a cell."""
+    """Returns what stands between backticks in a cell."""
     return re.findall(r"`([^`]*)`", cell)
 
 
@@ -82,7 +82,7 @@ def limits_of_the_architecture_page(_):
 
 
 def refusals_of_the_architecture_page(_):
-    """What refuses a wrong limit is there: a file of the proof, a name in the crates, or a case."""
+    """Asserts that what refuses a wrong limit is there: a file of the proof, a name in the crates, or a case."""
     cases = "".join(file.read_text() for file in (TOP / "tests").glob("*.py"))
     code = "".join(file.read_text() for part in ("src", "specs", "proofs") for file in CRATES.glob(f"*/{part}/**/*.*t*"))
     for limit, *_, refuses in rows_under("architecture.md", "Limits"):

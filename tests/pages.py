@@ -91,7 +91,7 @@ class Reader:
         return re.sub("|".join(self.ports), lambda named: str(self.ports[named[0]]), text)
 
     def follows(self, block):
-        """What of a block is not as the page says, or None."""
+        """Returns what of a block is not as the page says, or None."""
         wanted = []
         for line in [self.at_ports(line) for line in block] + ["$"]:
             is_step = line == "$" or line == "^C" or line.startswith(("$ ", "> "))
@@ -193,7 +193,7 @@ def take_bridges(reader):
 
 
 def follow(page, program):
-    """What of a page is not as it says, or None."""
+    """Returns what of a page is not as it says, or None."""
     blocks, fault = console_blocks(page)
     if fault:
         return fault

@@ -69,7 +69,7 @@ def difference(name, got, want):
 
 
 def unexpected_record(out, want):
-    """What of a record differs from the connections and refused events that are expected, or None."""
+    """Returns what of a record differs from the connections and refused events that are expected, or None."""
     connections, refused = parse_record(out)
     for number, part in want["connections"].items():
         if number not in connections:
@@ -81,7 +81,7 @@ def unexpected_record(out, want):
 
 
 def run_case(folder, program):
-    """Why the case fails, or None."""
+    """Returns why the case fails, or None."""
     def content(name):
         path = folder / name
         return path.read_bytes() if path.exists() else None
@@ -105,7 +105,7 @@ def run_case(folder, program):
 
 
 def ended(done, status, text, out=b""):
-    """Why a run did not end with this status, this fault text and this output, or None."""
+    """Returns why a run did not end with this status, this fault text and this output, or None."""
     want = (status, b"srcp_server: " + text + b"\n" if text else b"", out)
     got = (done.returncode, done.stderr, done.stdout if done.stdout is not None else out)
     return None if got == want else f"got {got!r}, want {want!r}"[:400]

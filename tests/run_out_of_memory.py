@@ -57,7 +57,7 @@ def outcomes_of_all():
 
 
 def faults_of_listings(came, events):
-    """What is wrong with the listings beside their records, one line each."""
+    """Yields what is wrong with the listings beside their records, one line each."""
     for trial in LISTINGS:
         if came[trial][0] != "unprepared":
             yield f"{trial}: allocations of its run are left out"
@@ -69,7 +69,7 @@ def faults_of_listings(came, events):
 
 
 def faults_of(came):
-    """What is wrong with the outcomes, one line each."""
+    """Yields what is wrong with the outcomes, one line each."""
     for trial, outcomes in came.items():
         if "broken" in outcomes:
             yield f"{trial}: broken if allocation {outcomes.index('broken') + 1} is refused"

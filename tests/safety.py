@@ -109,7 +109,7 @@ def refused_command_is_told_to_nobody_else(program):
 
 
 def turnout_lies_as_the_newest_stamp_says(program):
-    """Also when both ports are 0 again after a pulse; both stamps are those of INIT while it was not thrown."""
+    """This holds too if both ports are 0 again after a pulse. Both stamps are those of INIT while it was not thrown."""
     script = ("open\nroom 1 1000\nat 1000\nbytes 1 GO\\nINIT 250 GA 5 N\\nINIT 250 GA 6 N\\n\nroom 1 1000\n"
               "at 2000\nbytes 1 SET 250 GA 5 1 1 100\\n\nroom 1 1000\nat 2100\n")
     with tempfile.NamedTemporaryFile("w", suffix=".toml") as config:
@@ -176,7 +176,7 @@ def greatest(client, command, most):
 
 
 def learned(client):
-    """What `check` would print of the layout, learned by GET alone."""
+    """Returns what `check` would print of the layout, learned by GET alone."""
     lines = []
     for bus in range(1, 251):
         power = client.asks(f"GET {bus} POWER")

@@ -35,7 +35,7 @@ class TriedNothing(Exception):
 
 
 def free_ports(count):
-    """So many ports that nobody listens at, each another."""
+    """Returns different ports on which no program listens."""
     with ExitStack() as stack:
         listeners = [stack.enter_context(socket.create_server(("127.0.0.1", 0))) for _ in range(count)]
         return [listener.getsockname()[1] for listener in listeners]

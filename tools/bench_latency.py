@@ -19,7 +19,7 @@ SECONDS_AT_MOST = 60
 
 
 def waits_beside(port: int, panel: Client) -> tuple[dict[str, list[float]], float]:
-    """How long each question and each change of a lone session waits for its reply, until a second after the panel's session
+    """Returns how long each question and change of a lone session waits for its reply, until a second after the panel's session
     has ended, and when that was."""
     lone, waits, begun, closed = Client(port, "COMMAND"), {"question": [], "change": []}, time.monotonic(), 0.0
     while not closed or time.monotonic() < begun + closed + 1:

@@ -21,7 +21,7 @@ MOMENTS = 100
 
 
 def devices(count):
-    """So many devices of a bus, of both groups in the share that a full bus has, in an order drawn from a fixed seed."""
+    """Returns devices of a bus, of both groups in the share of a full bus, in an order drawn from a fixed seed."""
     locomotives = round(count * LOCOMOTIVES / (LOCOMOTIVES + ACCESSORIES))
     drawn = [(b"GL", address) for address in range(1, locomotives + 1)]
     drawn += [(b"GA", address) for address in range(1, count - locomotives + 1)]

@@ -47,7 +47,7 @@ def pulses(program: str):
 
 
 def waits_until_gone(asker: Client, session: int) -> list[float]:
-    """How long each question for a session waits for its reply, up to the one that finds the session gone."""
+    """Returns how long each question for a session waits for its reply, up to the one that finds the session gone."""
     waits, reply = [], ""
     while reply != GONE:
         begun = time.monotonic()

@@ -61,7 +61,7 @@ def wait_for_lines(counted: list, wanted: int):
 
 
 def listening(port: int, panels: int) -> list[Client]:
-    """So many panels, which have read all that there is."""
+    """Opens panels, which have read all that there is."""
     listeners: list[Client] = []
     for _ in range(panels):
         newest = Client(port, "INFO")

@@ -133,7 +133,7 @@ class Evening:
         return dict(srcp.parse(line) for line in text.decode("latin-1").split("\n")[3:-1])
 
     def track(self, rows):
-        """What the station should know."""
+        """Returns what the station should know."""
         import srcp
         cabs, functions, turnouts = {}, set(), {}
         for (bus, group, address, part), row in rows.items():

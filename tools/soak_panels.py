@@ -26,7 +26,7 @@ LAST = b" 100 INFO 1 POWER ON last\n"
 
 
 def closings_of_the_example(program: str) -> int:
-    """How often examples/panel.py says that it was closed until it has printed the last of many changes."""
+    """Returns how often examples/panel.py says that it was closed until it has printed the last of many changes."""
     with served(program) as (port, _), tempfile.NamedTemporaryFile() as out:
         throttle = Client(port, "COMMAND")
         throttle.asks("INIT 1 GL 3 N 1 28 5")

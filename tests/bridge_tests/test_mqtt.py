@@ -71,7 +71,7 @@ class Client:
 
 
 def retained(port):
-    """What a client that comes now is sent: a mark of its own tells where it ends."""
+    """Returns what a new client is sent. A mark of its own says where that ends."""
     client = Client(port)
     mark = f"srcp/mark/{id(client)}"
     client.say(mark, "x")
@@ -81,7 +81,7 @@ def retained(port):
 
 
 def registry(port):
-    """What the broker should retain, from a snapshot of the server; made here anew."""
+    """Returns what the broker should retain, made here from a snapshot of the server."""
     wanted, snapshot = {}, rows(port)
     snapshot.remove([row for row in snapshot if " SESSION " in row][-1])  # its own session
     for row in snapshot:
