@@ -81,16 +81,6 @@ module _ {X : Type 0} (lt : X → X → Bool) where
       both [] h = c.0
       both (z ∷ zs) h = (h.0, both zs h.1)
 
-  pub ranked_take : (n : ℕ) (xs : List X) → IsRanked lt xs → IsRanked lt (take n xs)
-  ranked_take zero xs h = tt
-  ranked_take (suc n) [] h = tt
-  ranked_take (suc n) (x ∷ xs) h = (front n xs h.0, ranked_take n xs h.1)
-    where
-      front : (k : ℕ) (zs : List X) → AllByRecursion (λ y. lt y x ≡ false) zs → AllByRecursion (λ y. lt y x ≡ false) (take k zs)
-      front zero zs h = tt
-      front (suc k) [] h = tt
-      front (suc k) (z ∷ zs) h = (h.0, front k zs h.1)
-
   pub ranked_drop : (n : ℕ) (xs : List X) → IsRanked lt xs → IsRanked lt (drop n xs)
   ranked_drop zero xs h = h
   ranked_drop (suc n) [] h = tt
@@ -240,10 +230,6 @@ module _ {X : Type 0} (lt : X → X → Bool) (weak : IsStrictWeakOrder lt) wher
         let e = sum-ranked lt (hit z) (xs ++ ys) in
         let f = sum_by-append (hit z) xs ys in
         omega arith)
-
-    -- and taken out
-    pub taken-middle : (xs : List X) (x : X) (ys : List X) → taken lt x (ranked lt (xs ++ x ∷ ys)) ≡ ranked lt (xs ++ ys)
-    taken-middle xs x ys = ap (taken lt x) (ranked-middle xs x ys) ∙ taken-put x (ranked lt (xs ++ ys))
 
     -- the order that a list was brought into before makes no difference
     pub ranked-ranked : (other : X → X → Bool) (xs : List X) → ranked lt (ranked other xs) ≡ ranked lt xs

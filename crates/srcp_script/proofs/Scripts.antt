@@ -17,22 +17,6 @@ behind_events events (Err fault) = Err fault
 abbrev pub events_from : (before : ℕ) → List (List ℕ) → Result (List Event) ScriptFault
 events_from before parts = events_in (filter (λ line. not (is_skipped line.1)) (enumerate_from (before + 1) parts))
 
-pub script-events_from : (bytes : List ℕ) → script bytes ≡ behind_events [] (events_from 0 (slice_split is_lf bytes))
-script-events_from bytes = same (events_from 0 (slice_split is_lf bytes))
-  where
-    same : (all : Result (List Event) ScriptFault) → all ≡ behind_events [] all
-    same (Ok events) = refl
-    same (Err fault) = refl
-
-pub line_skipped : (before : ℕ) (line : List ℕ) (lines : List (List ℕ)) → is_skipped line ≡ true
-    → events_from before (line ∷ lines) ≡ events_from (before + 1) lines
-line_skipped before line lines skipped = rw skipped refl
-
-pub line_faulty : (before : ℕ) (line : List ℕ) (lines : List (List ℕ)) (events : List Event) (cause : Cause) → is_skipped line ≡ false
-    → event_of line ≡ Err cause
-    → behind_events events (events_from before (line ∷ lines)) ≡ Err (record { line = before + 1; cause = cause })
-line_faulty before line lines events cause counts wrong = rw (counts, wrong) refl
-
 pub line_read : (before : ℕ) (line : List ℕ) (lines : List (List ℕ)) (events : List Event) (event : Event) → is_skipped line ≡ false
     → event_of line ≡ Ok event
     → behind_events events (events_from before (line ∷ lines)) ≡ behind_events (events ++ event ∷ []) (events_from (before + 1) lines)

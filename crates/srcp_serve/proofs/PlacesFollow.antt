@@ -27,10 +27,6 @@ use Rattle.srcp_serve.proofs.RefusalsWereAskedFor.{asked_none, asked_then}
 use Rattle.srcp_serve.proofs.CallsAreAdded.{adds_none, given_then, refusals_then}
 use Rattle.srcp_serve.proofs.VisitsAreSeenAgain.{asked_by-append}
 
-pub no_one : (o : Option Own) → ((own : Own) → o ≡ Some own → ⊥) → o ≡ None
-no_one None h = refl
-no_one (Some own) h = absurd (h own refl)
-
 pub place_free : (place : ℕ) (d : Option Own) (old : Held) (told_old : Option (List DoorCall)) (owns : List (Option Own))
     → slice_index_or owns place d ≡ None → VisitsPlace place old told_old owns old told_old owns
 place_free place d old told_old owns here buses stand keys told hosting is front None ahead e at = record {

@@ -145,10 +145,6 @@ key_push_is (suc zero) (k ∷ keys) key other e = inl e
 key_push_is (suc (suc n)) (k ∷ keys) key other e =
     ⊎_elim (λ h. inl h) (λ h. inr (ap (λ k. suc k) h.0, h.1)) (key_push_is (suc n) keys key other e)
 
-pub numbered_last : (xs : List Connection) (x : Connection) → numbered (suc (length xs)) (xs ++ x ∷ []) ≡ Some x
-numbered_last [] x = refl
-numbered_last (y ∷ xs) x = numbered_last xs x
-
 pub numbered_push_is : (n : ℕ) (xs : List Connection) (x y : Connection) → numbered n (xs ++ x ∷ []) ≡ Some y
     → (numbered n xs ≡ Some y) ⊎ ((n ≡ suc (length xs)) × (x ≡ y))
 numbered_push_is zero xs x y e = cc

@@ -156,14 +156,6 @@ pub unsent_reply : (conn : Connection) (line : List ℕ) → conn.items ≡ [] �
     → unsent (record conn { out = conn.out ++ line }) ≡ unsent conn ++ line
 unsent_reply conn line none within = ap (drop conn.taken) (given_reply conn line none) ∙ drop-append-le conn.taken (given conn) line within
 
-pub replied_place : (reader : Reading) (history : History) (conn : Connection) (line : List ℕ) → conn.info ≡ false → conn.items ≡ []
-    → conn.taken ≤ length (given conn)
-    → with_unsent line (place_of reader history conn) ≡ place_of reader history (record conn { out = conn.out ++ line })
-replied_place reader history conn line plain none within =
-    ap (with_unsent line) (plain_is reader history conn plain)
-    ∙ ap (plain_place reader conn.mode conn.session conn.ended) (sym (unsent_reply conn line none within))
-    ∙ sym (plain_is reader history (record conn { out = conn.out ++ line }) plain)
-
 pub chosen_place : (reader : Reading) (history : History) (conn : Connection) (mode : Mode) → conn.info ≡ false
     → record (place_of reader history conn) { mode = mode } ≡ place_of reader history (record conn { mode = mode })
 chosen_place reader history conn mode plain =

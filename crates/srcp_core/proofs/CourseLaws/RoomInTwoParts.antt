@@ -103,11 +103,6 @@ fitting_adds a b left nexts rest pa pb e =
         omega arith in
         ap (λ n. front n nexts) x ∙ front_adds (a - length left) b nexts rest e ∙ ap (λ n. front (a - length left) nexts ++ front n rest) y
 
--- the lines that a piece completes are those of the begun line and the piece
-pub new_marks_is : (buses : List Bus) (fed piece : List ℕ) → new_marks buses fed piece ≡ marks (begun fed ++ piece)
-new_marks_is buses fed piece =
-    ap (drop (length (marks fed))) (marks-append fed piece) ∙ drop_at (marks fed) (marks (begun fed ++ piece)) (length (marks fed)) refl
-
 pub no_bytes : (other : Bool) (n bytes : ℕ) → 0 < bytes → (nat_lt n bytes || ((bytes == 0) && other)) ≡ nat_lt n bytes
 no_bytes other n bytes h = let z = pos-eqb bytes h in rw z (or-false (nat_lt n bytes))
 

@@ -290,11 +290,6 @@ over_ended key held p e began ended s m q f live same =
 
 -- ---- as the calls find it
 
-pub sound_set : (held : Held) (places : List (Option Place)) (key : ℕ) (change : Place → Place) → ((p : Place) → IsMild p (change p))
-    → places ≡ changed_places key change held.places → IsSound held → IsSound (record held { places = places })
-sound_set held places key change mild is s =
-    subst (λ (ps : List (Option Place)). IsSound (record held { places = ps })) (sym is) (sound_changed_at key change held mild s)
-
 pub begun_is : (held : Held) (key id : ℕ) (mode : Mode) (panel : Panel) (rows : State) (change : Change) (told places : List (Option Place))
     → panel ≡ panel_for mode → rows ≡ updated (began id held.moment mode) held.rows → change ≡ (began id held.moment mode).change
     → told ≡ told_all change held.places → places ≡ changed_places key (entered_place id panel) told

@@ -301,12 +301,3 @@ line_added key piece first start stop did held new l t = record {
       ∙ sym (fold-append (λ before granted. line_answered key granted before (heard_at key piece before.0 before.1)) (0, first) t.grants
       (did.granted ∷ []));
 }
-
-pub lines_end : (key : ℕ) (piece : List ℕ) (first : Held) (start : ℕ) (held new : Held)
-    → ◌≡◌ {A = Option (ℕ × Asked) × Held} (None, new) (heard_at key piece start held) → AreAnswered key piece first start held
-    → IsReceived key piece first new
-lines_end key piece first start held new e t = record {
-  grants = t.grants;
-  counted = t.counted;
-  rest = e ∙ ap (λ (b : ℕ × Held). heard_at key piece b.0 b.1) t.is;
-}

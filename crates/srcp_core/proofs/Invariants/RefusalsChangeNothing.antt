@@ -144,14 +144,6 @@ never_denied state session moment (CheckLock bus group address seconds) =
 never_denied state session moment (TermLock bus group address) = never_done _ (refuses _ C416 _ c416 (refuses _ C414 _ c414 (fine _)))
 
 module _ (state after : State) (session moment : ℕ) (command : Command) (obeyed : Obeyed) where
-  -- where 500 was answered, the command wanted memory
-  pub denied_wants : IsObeyed state after session moment command obeyed → obeyed.reply ≡ Refused C500
-      → wants_memory state session moment command ≡ true
-  denied_wants (inl took) e = absurd (never_denied state session moment command (sym took.told.reply ∙ e))
-  denied_wants (inr wants) e =
-      ap (λ t. t && is_accepted (effect state session moment command).reply) wants.0 ∙ ap is_accepted wants.1.accepts
-
-module _ (state after : State) (session moment : ℕ) (command : Command) (obeyed : Obeyed) where
   -- where 500 was answered, the registry is as it was
   pub denied_same : IsObeyed state after session moment command obeyed → obeyed.reply ≡ Refused C500 → after ≡ state
   denied_same (inl took) e =
