@@ -140,7 +140,7 @@ RefusalsChangeNothing = (state : State) (session moment : ℕ) (command : Comman
 -- the SET that a CHECK is about
 abbrev pub set_of : Command → Option Command
 set_of (CheckPower bus on text) = Some (SetPower bus on text)
-set_of (CheckGl bus address mode v vmax functions) = Some (SetGl bus address mode v vmax functions)
+set_of (CheckGl drive) = Some (SetGl drive)
 set_of (CheckGa bus address port on time) = Some (SetGa bus address port on time)
 set_of (CheckFb bus port on) = Some (SetFb bus port on)
 set_of (CheckLock bus group address seconds) = Some (SetLock bus group address seconds)

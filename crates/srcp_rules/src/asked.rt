@@ -64,28 +64,8 @@ fn gl_asked(operation: Operation, bus: &Bus, words: Words<'_>) -> Result<Command
             bus: number,
             address: address(bus.gl_max, words)?,
         }),
-        Operation::Set => {
-            let drive = driven(bus, words)?;
-            Ok(Command::SetGl {
-                bus: number,
-                address: drive.address,
-                mode: drive.mode,
-                v: drive.v,
-                vmax: drive.vmax,
-                functions: drive.functions,
-            })
-        }
-        Operation::Check => {
-            let drive = driven(bus, words)?;
-            Ok(Command::CheckGl {
-                bus: number,
-                address: drive.address,
-                mode: drive.mode,
-                v: drive.v,
-                vmax: drive.vmax,
-                functions: drive.functions,
-            })
-        }
+        Operation::Set => Ok(Command::SetGl(driven(bus, words)?)),
+        Operation::Check => Ok(Command::CheckGl(driven(bus, words)?)),
         Operation::Init => init_gl(bus, words),
         Operation::Term => Ok(Command::TermGl {
             bus: number,

@@ -4,17 +4,17 @@ ghost use Rattle.std.specs.Prelude.{◌≡◌, ℕ, Bool, List, Option, Ok, Err,
 ghost use Rattle.srcp_rules.specs.declared.command.Lockable.{Lockable};
 ghost use Rattle.srcp_rules.specs.declared.command.Command.{Command};
 ghost use Rattle.srcp_rules.specs.Layout.{address_max};
-ghost use Rattle.srcp_rules.specs.Grammar.{addressed, ga_port, get_ga, get_session, init_ga, init_gl, named_lock};
-ghost use Rattle.srcp_rules.specs.Grammar.{set_fb, set_ga, set_gl, set_lock, set_power, term_session};
+ghost use Rattle.srcp_rules.specs.Grammar.{addressed, driven, ga_port, get_ga, get_session, init_ga, init_gl};
+ghost use Rattle.srcp_rules.specs.Grammar.{named_lock, set_fb, set_ga, set_lock, set_power, term_session};
 
-use crate::command::{Command, Lockable};
+use crate::command::{Command, Drive, Lockable};
 use crate::counted::{next_word, no_more};
 use crate::functions::read_functions;
 use crate::layout::Bus;
 use crate::power_text::text_of;
 use crate::read::{bit_of, letter_of, lockable_on, number_in, switch_of, time_of};
 use srcp_info::{
-    Bits, Code, DriveMode, GREATEST_SPEED, GREATEST_VERSION, Letter, MOST_FUNCTIONS, MOST_SECONDS,
+    Code, DriveMode, GREATEST_SPEED, GREATEST_VERSION, Letter, MOST_FUNCTIONS, MOST_SECONDS,
     MOST_STEPS, Text,
 };
 use srcp_text::{Words, is_keyword};
@@ -211,23 +211,10 @@ pub(crate) fn powered(mut words: Words<'_>) -> Result<(bool, Text), Code>
     Ok((on, text_of(words)?))
 }
 
-/// What a locomotive is driven as.
-#[derive(Clone, Copy)]
-pub(crate) struct Drive {
-    pub(crate) address: u32,
-    pub(crate) mode: u32,
-    pub(crate) v: u32,
-    pub(crate) vmax: u32,
-    pub(crate) functions: Bits,
-}
-
 /// Address, mode, V, Vmax, and at most 29 functions.
 #[inline(always)]
 pub(crate) fn driven(bus: &Bus, mut words: Words<'_>) -> Result<Drive, Code>
-    ensures { (make : ℕ → ℕ → ℕ → ℕ → List Bool → Command)
-        → MatchResult result (λ d. set_gl bus.now make words.entry
-        ≡ Ok (make d.address d.mode d.v d.vmax d.functions))
-        (λ code. set_gl bus.now make words.entry ≡ Err code) }
+    ensures { result ≡ driven bus.now words.entry }
 {
     let first = next_word(&mut words)?;
     let second = next_word(&mut words)?;
@@ -242,6 +229,7 @@ pub(crate) fn driven(bus: &Bus, mut words: Words<'_>) -> Result<Drive, Code>
         return Err(Code::WRONG_VALUE);
     }
     Ok(Drive {
+        bus: bus.number,
         address,
         mode,
         v,

@@ -51,8 +51,8 @@ refused_changes code state session moment (SetPower bus on text) = accepts code 
 refused_changes code state session moment (CheckPower bus on text) = accepts code _
 refused_changes code state session moment (InitPower bus) = accepts code _
 refused_changes code state session moment (GetGl bus address) = shows code _
-refused_changes code state session moment (SetGl bus address mode v vmax functions) = does code _
-refused_changes code state session moment (CheckGl bus address mode v vmax functions) = checks code _
+refused_changes code state session moment (SetGl drive) = does code _
+refused_changes code state session moment (CheckGl drive) = checks code _
 refused_changes code state session moment (InitGl bus address letter version steps functions) = does code _
 refused_changes code state session moment (TermGl bus address) = does code _
 refused_changes code state session moment (GetGa bus address port) = shows code _
@@ -119,10 +119,10 @@ never_denied state session moment (SetPower bus on text) = λ e. cc
 never_denied state session moment (CheckPower bus on text) = λ e. cc
 never_denied state session moment (InitPower bus) = λ e. cc
 never_denied state session moment (GetGl bus address) = never_shown _
-never_denied state session moment (SetGl bus address mode v vmax functions) =
+never_denied state session moment (SetGl drive) =
     never_done _ (refuses _ C416 _ c416 (refuses _ C418 _ c418 (refuses _ C414 _ c414 (fine _))))
-never_denied state session moment (CheckGl bus address mode v vmax functions) =
-    never_checked (set_gl state session moment bus address mode v vmax functions)
+never_denied state session moment (CheckGl drive) =
+    never_checked (set_gl state session moment drive)
     (refuses _ C416 _ c416 (refuses _ C418 _ c418 (refuses _ C414 _ c414 (fine _))))
 never_denied state session moment (InitGl bus address letter version steps functions) = never_done _ (refuses _ C414 _ c414 (fine _))
 never_denied state session moment (TermGl bus address) = never_done _ (refuses _ C416 _ c416 (refuses _ C414 _ c414 (fine _)))
