@@ -63,8 +63,8 @@ refused_calm state session moment (InitGl bus address letter version steps funct
 refused_calm state session moment (TermGl bus address) = calm_done (term_device state session moment lockable.Gl bus address)
 refused_calm state session moment (GetGa bus address port) =
     calm_showing (row_at (key_at (device_in lockable.Ga bus address) (1 + port)) state)
-refused_calm state session moment (SetGa bus address port on time) = calm_done (set_ga state session moment bus address port on time)
-refused_calm state session moment (CheckGa bus address port on time) = calm_checked (set_ga state session moment bus address port on time)
+refused_calm state session moment (SetGa switch) = calm_done (set_ga state session moment switch)
+refused_calm state session moment (CheckGa switch) = calm_checked (set_ga state session moment switch)
 refused_calm state session moment (InitGa bus address letter ports) =
     calm_done (init_device state session moment lockable.Ga bus address (value.GaInit letter) (fresh_ga moment bus address letter ports))
 refused_calm state session moment (TermGa bus address) = calm_done (term_device state session moment lockable.Ga bus address)
@@ -86,8 +86,7 @@ pub check_as_set : (state : State) (session moment : ℕ) (command : Command)
     → IfSome (set_of command) (λ set. AnswersAs (effect state session moment command) (effect state session moment set))
 check_as_set state session moment (CheckPower bus on text) = record { reply = refl; nothing = record { updates = refl; ends = refl } }
 check_as_set state session moment (CheckGl drive) = checked_as_done (set_gl state session moment drive)
-check_as_set state session moment (CheckGa bus address port on time) =
-    checked_as_done (set_ga state session moment bus address port on time)
+check_as_set state session moment (CheckGa switch) = checked_as_done (set_ga state session moment switch)
 check_as_set state session moment (CheckFb bus port on) = record { reply = refl; nothing = record { updates = refl; ends = refl } }
 check_as_set state session moment (CheckLock bus g address seconds) = checked_as_done (set_lock state session moment g bus address seconds)
 check_as_set state session moment other = tt

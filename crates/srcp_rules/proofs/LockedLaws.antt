@@ -22,8 +22,9 @@ use Rattle.srcp_rules.specs.declared.command.Command.TheVariants.{SetGl, CheckGl
 use Rattle.srcp_rules.specs.declared.command.Command.TheVariants.{GetFb, SetFb, CheckFb, InitFb, GetLock, SetLock, CheckLock, TermLock}
 use Rattle.srcp_rules.specs.State.{State, Update, row_at, is_there, key_at, session_device, power_device, fb_device, device_in}
 use Rattle.srcp_rules.specs.State.{device_group, lock_on, lock_group, updated, updated_by, updated_all}
-use Rattle.srcp_rules.specs.Effect.{effect, refused, done, refusals, is_locked, put_at, gone_at, removal, removals, lock_end, port_end}
-use Rattle.srcp_rules.specs.Effect.{set_gl, set_ga, set_lock, fresh_gl, fresh_ga, init_device, has_init, gl_put, gl_refusals, term_device}
+use Rattle.srcp_rules.specs.Effect.{effect, refused, done, refusals, is_locked, put_at, gone_at, removal, removals, lock_end}
+use Rattle.srcp_rules.specs.Effect.{set_gl, set_ga, set_lock, fresh_gl, fresh_ga, init_device, has_init, ga_put, gl_put, gl_refusals}
+use Rattle.srcp_rules.specs.Effect.{term_device}
 use Rattle.srcp_rules.specs.Effect.{term_session}
 use Rattle.srcp_rules.specs.Laws.{IsKept}
 use Rattle.srcp_rules.proofs.KeyLaws.{same_key, same_key-true}
@@ -215,11 +216,11 @@ module _ (state : State) (session moment : ℕ) (g : Lockable) (bus address : �
       (λ other. (row_apart lockable.Gl b a 0 other, (row_apart lockable.Gl b a 1 other, tt)))
   effect_apart (TermGl b a) = term_apart lockable.Gl b a
   effect_apart (GetGa b a port) = showing_updates AllApart tt (row_at (key_at (device_in lockable.Ga b a) (1 + port)) state)
-  effect_apart (SetGa b a port on time) =
-      accepted_updates AllApart tt (refusals state session lockable.Ga b a)
-      (put_at moment (key_at (device_in lockable.Ga b a) (1 + port)) (value.GaPort on) (port_end moment on time) ∷ [])
-      (λ none. (row_apart lockable.Ga b a (1 + port) (other_device lockable.Ga b a none.1.0), tt))
-  effect_apart (CheckGa b a port on time) = checked_updates AllApart tt (set_ga state session moment b a port on time)
+  effect_apart (SetGa switch) =
+      accepted_updates AllApart tt (refusals state session lockable.Ga switch.bus switch.address) (ga_put moment switch ∷ [])
+      (λ none.
+      (row_apart lockable.Ga switch.bus switch.address (1 + switch.port) (other_device lockable.Ga switch.bus switch.address none.1.0), tt))
+  effect_apart (CheckGa switch) = checked_updates AllApart tt (set_ga state session moment switch)
   effect_apart (InitGa b a letter ports) =
       init_apart lockable.Ga b a (value.GaInit letter) (fresh_ga moment b a letter ports)
       (λ other. (row_apart lockable.Ga b a 0 other, ports_apart b a 1 ports other))

@@ -16,6 +16,7 @@ use Rattle.srcp_rules.specs.Command.{kept_v}
 use Rattle.srcp_rules.specs.declared.command.Lockable.{Lockable}
 use Rattle.srcp_rules.specs.declared.command.Lockable.TheVariants as lockable
 use Rattle.srcp_rules.specs.declared.command.Drive.{Drive}
+use Rattle.srcp_rules.specs.declared.command.Switch.{Switch}
 use Rattle.srcp_rules.specs.declared.command.Command.TheVariants.{SetPower, SetGl, SetGa, SetFb, SetLock}
 use Rattle.srcp_rules.specs.State.{State, Update, IsRowOf, IsWhole, has_row, row_at, is_there, key_at, power_device, fb_device, device_in}
 use Rattle.srcp_rules.specs.State.{lock_on, functions_of, row_put}
@@ -117,11 +118,14 @@ module _ (buses : List Bus) (state : State) (session moment : ℕ) (now : IsMome
   port_there device whole there port place = whole.complete (first_key device) there port place
 
   -- the row of an accessory's port
-  pub ga_row : (bus address port : ℕ) (on : Bool) (time : Option ℕ) → MayObey buses state session (SetGa bus address port on time)
-      → IsRowOf buses (row_put moment (key_at (device_in lockable.Ga bus address) (1 + port)) (value.GaPort on) (port_end moment on time))
-  ga_row bus address port on time may =
-      IsRowOf-put buses may.whole.laid_out (key_at (device_in lockable.Ga bus address) (1 + port)) moment (value.GaPort on)
-      (port_end moment on time) may.of.0.0 now may.of.0.1 (port_end_fits moment on time)
+  pub ga_row : (switch : Switch) → MayObey buses state session (SetGa switch)
+      → IsRowOf buses
+      (row_put moment (key_at (device_in lockable.Ga switch.bus switch.address) (1 + switch.port)) (value.GaPort switch.on)
+      (port_end moment switch.on switch.time))
+  ga_row switch may =
+      IsRowOf-put buses may.whole.laid_out (key_at (device_in lockable.Ga switch.bus switch.address) (1 + switch.port)) moment
+      (value.GaPort switch.on) (port_end moment switch.on switch.time) may.of.0.0 now may.of.0.1
+      (port_end_fits moment switch.on switch.time)
 
   -- a device that may be set is there
   pub set_there : (device : Device) (others : List (Bool × Code)) → None ≡ first_refusal ((not (is_there device state), C416) ∷ others)

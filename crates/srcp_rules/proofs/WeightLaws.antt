@@ -30,11 +30,11 @@ use Rattle.srcp_rules.specs.declared.command.Command.TheVariants.{CheckLock}
 use Rattle.srcp_rules.specs.Layout.{bus_at, has_group, address_max}
 use Rattle.srcp_rules.specs.State.{State, Update, row_at, key_at, session_device, power_device, fb_device, device_in, lock_on}
 use Rattle.srcp_rules.specs.Command.{IsCommandOf}
-use Rattle.srcp_rules.specs.Grammar.{◌>>=◌, number_in, bit_of, switch_of, text_of, time_of, lockable_on, groups, named_in, alone}
-use Rattle.srcp_rules.specs.Grammar.{addressed, get_session, term_session, set_power, driven, ga_port, get_ga, set_ga, set_fb, named_lock}
+use Rattle.srcp_rules.specs.Grammar.{◌>>=◌, number_in, bit_of, switch_of, text_of, lockable_on, groups, named_in, alone}
+use Rattle.srcp_rules.specs.Grammar.{addressed, get_session, term_session, set_power, driven, ga_port, get_ga, switched, set_fb, named_lock}
 use Rattle.srcp_rules.specs.Grammar.{set_lock, asked, directed, commanded}
-use Rattle.srcp_rules.specs.Effect.{effect, refused, done, checked, shown_at, unless_refused, refusals, gl_refusals, put_at, port_end}
-use Rattle.srcp_rules.specs.Effect.{lock_end, gl_put, set_gl, set_ga as switched, set_lock as locked}
+use Rattle.srcp_rules.specs.Effect.{effect, refused, done, checked, shown_at, unless_refused, refusals, gl_refusals, put_at}
+use Rattle.srcp_rules.specs.Effect.{lock_end, ga_put, gl_put, set_gl, set_ga, set_lock as locked}
 use Rattle.srcp_rules.specs.Weight.{names_session, weight_of, weight, LinesWeighEnough, WeightsAreSmall, GoesWeighOne}
 use Rattle.srcp_rules.proofs.GrammarLaws.{read_any, then_ok, reads_fits}
 use Rattle.srcp_rules.proofs.CountLaws.{effect_few}
@@ -84,25 +84,6 @@ module _ (P : Command → Type 0) where
       read_any P (number_in 1 bus.ga_max a) (λ address. ga_port bus p >>= (λ port. Ok (GetGa bus.number address port)))
       (λ address. read_any P (ga_port bus p) (λ port. Ok (GetGa bus.number address port)) (h address))
   get_ga_all bus (a ∷ p ∷ w ∷ ws) h = tt
-
-  set_ga_all : (bus : Bus) (make : ℕ → ℕ → Bool → Option ℕ → Command) (words : List (List ℕ))
-      → ((a p : ℕ) (on : Bool) (t : Option ℕ) → P (make a p on t)) → All (set_ga bus make words)
-  set_ga_all bus make [] h = tt
-  set_ga_all bus make (a ∷ []) h = tt
-  set_ga_all bus make (a ∷ p ∷ []) h = tt
-  set_ga_all bus make (a ∷ p ∷ v ∷ []) h = tt
-  set_ga_all bus make (a ∷ p ∷ v ∷ t ∷ []) h =
-      read_any P (number_in 1 bus.ga_max a) (λ address. ga_port bus p >>= with_port address) (λ address.
-      read_any P (ga_port bus p) (with_port address) (λ port.
-      read_any P (bit_of v) (with_value address port) (λ on.
-      read_any P (time_of t) (λ milliseconds. Ok (make address port on milliseconds)) (h address port on))))
-    where
-      with_value : (address port : ℕ) (on : Bool) → Result Command Code
-      with_value address port on = time_of t >>= (λ milliseconds. Ok (make address port on milliseconds))
-
-      with_port : (address port : ℕ) → Result Command Code
-      with_port address port = bit_of v >>= with_value address port
-  set_ga_all bus make (a ∷ p ∷ v ∷ t ∷ w ∷ ws) h = tt
 
   set_fb_all : (bus : Bus) (make : ℕ → Bool → Command) (words : List (List ℕ))
       → ((p : ℕ) (on : Bool) → P (make p on)) → All (set_fb bus make words)
@@ -179,8 +160,8 @@ module _ (state : State) (session moment : ℕ) where
   checks_none Power bus words = set_power_all (Brings 0) (CheckPower bus.number) words (λ on t. none 0)
   checks_none Gl bus words =
       read_any (Brings 0) (driven bus words) (λ drive. Ok (CheckGl drive)) (λ drive. tried (set_gl state session moment drive))
-  checks_none Ga bus words = set_ga_all (Brings 0) bus (CheckGa bus.number) words
-      (λ a p on t. tried (switched state session moment bus.number a p on t))
+  checks_none Ga bus words =
+      read_any (Brings 0) (switched bus words) (λ switch. Ok (CheckGa switch)) (λ switch. tried (set_ga state session moment switch))
   checks_none Fb bus words = set_fb_all (Brings 0) bus (CheckFb bus.number) words (λ p on. none 0)
   checks_none Lock bus words = set_lock_all (Brings 0) bus (CheckLock bus.number) words
       (λ g a s. tried (locked state session moment g bus.number a s))
@@ -195,9 +176,8 @@ module _ (state : State) (session moment : ℕ) where
       read_any (Brings 1) (driven bus words) (λ drive. Ok (SetGl drive))
       (λ drive. one (gl_refusals state session drive) (gl_put state moment drive))
   sets_one Ga bus words =
-      set_ga_all (Brings 1) bus (SetGa bus.number) words (λ a p on t.
-      one (refusals state session lockable.Ga bus.number a)
-      (put_at moment (key_at (device_in lockable.Ga bus.number a) (1 + p)) (value.GaPort on) (port_end moment on t)))
+      read_any (Brings 1) (switched bus words) (λ switch. Ok (SetGa switch))
+      (λ switch. one (refusals state session lockable.Ga switch.bus switch.address) (ga_put moment switch))
   sets_one Fb bus words = set_fb_all (Brings 1) bus (SetFb bus.number) words (λ p on. omega arith)
   sets_one Lock bus words =
       set_lock_all (Brings 1) bus (SetLock bus.number) words (λ g a s.

@@ -81,26 +81,8 @@ fn ga_asked(operation: Operation, bus: &Bus, words: Words<'_>) -> Result<Command
     let number = bus.number;
     match operation {
         Operation::Get => get_ga(bus, words),
-        Operation::Set => {
-            let switch = switched(bus, words)?;
-            Ok(Command::SetGa {
-                bus: number,
-                address: switch.address,
-                port: switch.port,
-                on: switch.on,
-                time: switch.time,
-            })
-        }
-        Operation::Check => {
-            let switch = switched(bus, words)?;
-            Ok(Command::CheckGa {
-                bus: number,
-                address: switch.address,
-                port: switch.port,
-                on: switch.on,
-                time: switch.time,
-            })
-        }
+        Operation::Set => Ok(Command::SetGa(switched(bus, words)?)),
+        Operation::Check => Ok(Command::CheckGa(switched(bus, words)?)),
         Operation::Init => init_ga(bus, words),
         Operation::Term => Ok(Command::TermGa {
             bus: number,

@@ -12,7 +12,7 @@ ghost use Rattle.srcp_rules.specs.Effect.{accepted, put_at, shown_at, term_sessi
 ghost use Rattle.srcp_rules.specs.Obeyed.{IsObeyed, IsTold, MayObey, Took};
 ghost use Rattle.srcp_rules.specs.State.{IsWhole, device_in, fb_device, is_there, key_at, power_device, session_device};
 
-use crate::command::{Command, Lockable, Named, Sender};
+use crate::command::{Command, Lockable, Named, Sender, Switch};
 use crate::device::{
     BusAddress, device_in, fb_device, key_at, lock_on, power_device, session_device,
 };
@@ -170,22 +170,8 @@ fn answer_ga<R: Rows>(rows: &mut R, sender: Sender, command: &Command, obeyed: &
                 obeyed,
             )
         }
-        Command::SetGa {
-            bus,
-            address,
-            port,
-            on,
-            time,
-        } => set_ga(
-            rows,
-            sender,
-            BusAddress { bus, address },
-            port,
-            on,
-            time,
-            obeyed,
-        ),
-        Command::CheckGa { bus, address, .. } => {
+        Command::SetGa(ref switch) => set_ga(rows, sender, switch, obeyed),
+        Command::CheckGa(Switch { bus, address, .. }) => {
             let place = BusAddress { bus, address };
             checked(refusal(rows, sender.session, Lockable::Ga, place), obeyed)
         }

@@ -9,7 +9,7 @@ ghost use Rattle.srcp_rules.specs.Effect.{set_ga, set_gl};
 ghost use Rattle.srcp_rules.specs.Obeyed.{IsTold, MayObey, Took};
 ghost use Rattle.srcp_rules.specs.State.{IsWhole, device_in, functions_of, is_there};
 
-use crate::command::{Command, Drive, Lockable, Sender};
+use crate::command::{Command, Drive, Lockable, Sender, Switch};
 use crate::device::{BusAddress, device_in, key_at};
 use crate::lock::{is_locked, moment_after, refusal};
 use crate::obeyed::Obeyed;
@@ -128,23 +128,21 @@ fn port_end(moment: u64, on: bool, time: Option<u32>) -> Option<u64>
 }
 
 /// SET of an accessory's port.
-pub(crate) fn set_ga<R: Rows>(
-    rows: &mut R,
-    sender: Sender,
-    place: BusAddress,
-    port: u8,
-    on: bool,
-    time: Option<u32>,
-    obeyed: &mut Obeyed,
-)
+pub(crate) fn set_ga<R: Rows>(rows: &mut R, sender: Sender, switch: &Switch, obeyed: &mut Obeyed)
     requires blank { IsTold (accepted []) obeyed.old }
-    requires may { MayObey (R.buses rows.old) (R.state rows.old) sender.session
-        (Command.SetGa place.bus place.address port on time) }
-    ensures took { Took (done
-        (set_ga (R.state rows.old) sender.session sender.moment place.bus place.address port on time))
+    requires may { MayObey (R.buses rows.old) (R.state rows.old) sender.session (Command.SetGa switch.now) }
+    ensures took { Took (done (set_ga (R.state rows.old) sender.session sender.moment switch.now))
         (R.state rows.old) (R.state rows.new) obeyed.new }
     ensures layout { R.buses rows.new ≡ R.buses rows.old }
 {
+    let Switch {
+        bus,
+        address,
+        port,
+        on,
+        time,
+    } = *switch;
+    let place = BusAddress { bus, address };
     if let Some(code) = refusal(rows, sender.session, Lockable::Ga, place) {
         return obeyed.refuse(code);
     }
