@@ -55,18 +55,16 @@ refused_calm state session moment (SetPower bus on text) = calm_accepted (effect
 refused_calm state session moment (CheckPower bus on text) = calm_accepted []
 refused_calm state session moment (InitPower bus) = calm_accepted []
 refused_calm state session moment (GetGl bus address) = calm_showing (row_at (key_at (device_in lockable.Gl bus address) 1) state)
-refused_calm state session moment (SetGl bus address mode v vmax functions) =
-    calm_done (set_gl state session moment bus address mode v vmax functions)
-refused_calm state session moment (CheckGl bus address mode v vmax functions) =
-    calm_checked (set_gl state session moment bus address mode v vmax functions)
+refused_calm state session moment (SetGl drive) = calm_done (set_gl state session moment drive)
+refused_calm state session moment (CheckGl drive) = calm_checked (set_gl state session moment drive)
 refused_calm state session moment (InitGl bus address letter version steps functions) =
     calm_done (init_device state session moment lockable.Gl bus address (value.GlInit letter version steps functions)
     (fresh_gl moment bus address letter version steps functions))
 refused_calm state session moment (TermGl bus address) = calm_done (term_device state session moment lockable.Gl bus address)
 refused_calm state session moment (GetGa bus address port) =
     calm_showing (row_at (key_at (device_in lockable.Ga bus address) (1 + port)) state)
-refused_calm state session moment (SetGa bus address port on time) = calm_done (set_ga state session moment bus address port on time)
-refused_calm state session moment (CheckGa bus address port on time) = calm_checked (set_ga state session moment bus address port on time)
+refused_calm state session moment (SetGa switch) = calm_done (set_ga state session moment switch)
+refused_calm state session moment (CheckGa switch) = calm_checked (set_ga state session moment switch)
 refused_calm state session moment (InitGa bus address letter ports) =
     calm_done (init_device state session moment lockable.Ga bus address (value.GaInit letter) (fresh_ga moment bus address letter ports))
 refused_calm state session moment (TermGa bus address) = calm_done (term_device state session moment lockable.Ga bus address)
@@ -87,10 +85,8 @@ checked_as_done (Err code) = record { reply = refl; nothing = record { updates =
 pub check_as_set : (state : State) (session moment : ℕ) (command : Command)
     → IfSome (set_of command) (λ set. AnswersAs (effect state session moment command) (effect state session moment set))
 check_as_set state session moment (CheckPower bus on text) = record { reply = refl; nothing = record { updates = refl; ends = refl } }
-check_as_set state session moment (CheckGl bus address mode v vmax functions) =
-    checked_as_done (set_gl state session moment bus address mode v vmax functions)
-check_as_set state session moment (CheckGa bus address port on time) =
-    checked_as_done (set_ga state session moment bus address port on time)
+check_as_set state session moment (CheckGl drive) = checked_as_done (set_gl state session moment drive)
+check_as_set state session moment (CheckGa switch) = checked_as_done (set_ga state session moment switch)
 check_as_set state session moment (CheckFb bus port on) = record { reply = refl; nothing = record { updates = refl; ends = refl } }
 check_as_set state session moment (CheckLock bus g address seconds) = checked_as_done (set_lock state session moment g bus address seconds)
 check_as_set state session moment other = tt

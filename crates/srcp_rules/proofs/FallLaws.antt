@@ -17,13 +17,13 @@ use Rattle.srcp_info.specs.WellFormed.{IsMoment, IsValueAt, is_lock}
 use Rattle.srcp_rules.specs.declared.layout.Bus.{Bus}
 use Rattle.srcp_rules.specs.declared.command.Lockable.{Lockable}
 use Rattle.srcp_rules.specs.declared.command.Lockable.TheVariants as lockable
-use Rattle.srcp_rules.specs.declared.command.Command.TheVariants.{SetGa, SetLock}
+use Rattle.srcp_rules.specs.declared.command.Command.TheVariants.{SetLock}
 use Rattle.srcp_rules.specs.State.{State, Update, IsWhole, IsRowOf, MayFall, row_at, key_at, device_in, lock_on, updated, updated_all}
 use Rattle.srcp_rules.specs.State.{row_put}
 use Rattle.srcp_rules.specs.Effect.{effect, done, unless_refused, refusals, put_at, port_end, lock_end, moment_after}
 use Rattle.srcp_rules.specs.Due.{due, due_change, is_due}
 use Rattle.srcp_rules.specs.Obeyed.{MayObey}
-use Rattle.srcp_rules.specs.Laws.{EndsInTime, comes_to, fallen}
+use Rattle.srcp_rules.specs.Laws.{EndsInTime, PortsAreSet, PortsFallBack, comes_to, fallen, port_on}
 use Rattle.srcp_rules.proofs.KeyLaws.{same_key, same_key-true}
 use Rattle.srcp_info.proofs.KeyLaws.{device_from_owns}
 use Rattle.srcp_rules.proofs.FindLaws.{each_filtered, each_unfiltered, found_holds}
@@ -190,14 +190,11 @@ put_there refused moment key shows ends state e =
     ap (λ us. row_at key (updated_all us state)) (accepted_done refused (put_at moment key shows ends ∷ []) e)
     ∙ row_at-put_same (row_put moment key shows ends) state
 
-pub port_set : (state : State) (session moment bus address port : ℕ) (on : Bool) (time : Option ℕ)
-    → (effect state session moment (SetGa bus address port on time)).reply ≡ Accepted
-    → row_at (key_at (device_in lockable.Ga bus address) (1 + port))
-    (updated_all (effect state session moment (SetGa bus address port on time)).updates state)
-    ≡ Some (row_put moment (key_at (device_in lockable.Ga bus address) (1 + port)) (value.GaPort on) (port_end moment on time))
-port_set state session moment bus address port on time e =
-    put_there (refusals state session lockable.Ga bus address) moment (key_at (device_in lockable.Ga bus address) (1 + port))
-    (value.GaPort on) (port_end moment on time) state e
+pub port_set : PortsAreSet
+port_set state session moment switch e =
+    put_there (refusals state session lockable.Ga switch.bus switch.address) moment
+    (key_at (device_in lockable.Ga switch.bus switch.address) (1 + switch.port))
+    (value.GaPort switch.on) (port_end moment switch.on switch.time) state e
 
 pub lock_set : (state : State) (session moment : ℕ) (g : Lockable) (bus address seconds : ℕ)
     → (effect state session moment (SetLock bus g address seconds)).reply ≡ Accepted
@@ -215,22 +212,15 @@ some_time moment n some = ap (λ b. cond b (Some (moment_after moment n)) None) 
 some_seconds : (moment n : ℕ) → 0 < n → lock_end moment n ≡ Some (moment_after moment (1000 * n))
 some_seconds moment n some = ap (λ b. cond b (Some (moment_after moment (1000 * n))) None) (lt-ltb 0 n some)
 
-pub port_falls : (buses : List Bus) (state : State) (session moment later bus address port milliseconds : ℕ)
-    → MayObey buses state session (SetGa bus address port true (Some milliseconds)) → IsMoment moment → IsMoment later
-    → 0 < milliseconds → (effect state session moment (SetGa bus address port true (Some milliseconds))).reply ≡ Accepted
-    → (after : State) → after ≡ updated_all (effect state session moment (SetGa bus address port true (Some milliseconds))).updates state
-    → row_at (key_at (device_in lockable.Ga bus address) (1 + port)) (updated_all (due after later) after)
-    ≡ (if nat_le (moment_after moment milliseconds) later
-    then Some (row_put later (key_at (device_in lockable.Ga bus address) (1 + port)) (value.GaPort false) None)
-    else Some (row_put moment (key_at (device_in lockable.Ga bus address) (1 + port)) (value.GaPort true)
-    (Some (moment_after moment milliseconds))))
+pub port_falls : PortsFallBack
 port_falls buses state session moment later bus address port milliseconds may begins now some e after is =
     let key = key_at (device_in lockable.Ga bus address) (1 + port) in
     let whole : IsWhole buses after =
     subst (IsWhole buses) (sym is)
-    (effect_kept buses state may.whole session moment may.begun begins (SetGa bus address port true (Some milliseconds)) may.of) in
+    (effect_kept buses state may.whole session moment may.begun begins (port_on bus address port milliseconds) may.of) in
     let there : row_at key after ≡ Some (row_put moment key (value.GaPort true) (Some (moment_after moment milliseconds))) =
-    ap (row_at key) is ∙ port_set state session moment bus address port true (Some milliseconds) e
+    ap (row_at key) is ∙ port_set state session moment
+    (record { bus = bus; address = address; port = port; on = true; time = Some milliseconds }) e
     ∙ ap (λ ends. Some (row_put moment key (value.GaPort true) ends)) (some_time moment milliseconds some) in
     due_rows buses later now after whole key ∙ ap (λ o. option_map_or (comes_to later) o None) there
 

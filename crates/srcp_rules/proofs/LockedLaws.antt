@@ -1,5 +1,5 @@
 -- No command of a session touches a device that another session has locked.
-use Rattle.std.specs.Prelude.{◌≡◌, ℕ, zero, suc, ◌+◌, Bool, true, false, not, cond, nat_lt, ◌==◌, ◌&&◌, length, map, List, [], ◌∷◌, ◌++◌}
+use Rattle.std.specs.Prelude.{◌≡◌, ℕ, zero, suc, ◌+◌, Bool, true, false, not, cond, ◌==◌, ◌&&◌, map, List, [], ◌∷◌, ◌++◌}
 use Rattle.std.specs.Prelude.{Option, Some, None}
 use Rattle.std.proofs.Common.{refl, sym, ap, ◌∙◌, true≢false}
 use Rattle.std.specs.List.{AllByRecursion, range_with_len}
@@ -9,7 +9,7 @@ use Rattle.srcp_info.specs.declared.value.Value.{Value}
 use Rattle.srcp_info.specs.declared.value.Value.TheVariants as value
 use Rattle.srcp_info.specs.declared.change.Change.{Change}
 use Rattle.srcp_info.specs.declared.change.Change.TheVariants.{Put, Gone}
-use Rattle.srcp_info.specs.declared.change.Code.TheVariants.{C414, C415, C416, C418}
+use Rattle.srcp_info.specs.declared.change.Code.TheVariants.{C414, C415, C416}
 use Rattle.srcp_info.specs.declared.change.Reply.TheVariants.{Accepted}
 use Rattle.srcp_info.specs.Key.{group_place, first_key, key_of, owns}
 use Rattle.srcp_info.proofs.KeyLaws.{owns-device_of, device_from_owns}
@@ -21,10 +21,10 @@ use Rattle.srcp_rules.specs.declared.command.Command.TheVariants.{GetSession, Te
 use Rattle.srcp_rules.specs.declared.command.Command.TheVariants.{SetGl, CheckGl, InitGl, TermGl, GetGa, SetGa, CheckGa, InitGa, TermGa}
 use Rattle.srcp_rules.specs.declared.command.Command.TheVariants.{GetFb, SetFb, CheckFb, InitFb, GetLock, SetLock, CheckLock, TermLock}
 use Rattle.srcp_rules.specs.State.{State, Update, row_at, is_there, key_at, session_device, power_device, fb_device, device_in}
-use Rattle.srcp_rules.specs.State.{device_group, lock_on, lock_group, functions_of, updated, updated_by, updated_all}
-use Rattle.srcp_rules.specs.Command.{kept_v}
-use Rattle.srcp_rules.specs.Effect.{effect, refused, done, refusals, is_locked, put_at, gone_at, removal, removals, lock_end, port_end}
-use Rattle.srcp_rules.specs.Effect.{set_gl, set_ga, set_lock, fresh_gl, fresh_ga, init_device, has_init, functions_after, term_device}
+use Rattle.srcp_rules.specs.State.{device_group, lock_on, lock_group, updated, updated_by, updated_all}
+use Rattle.srcp_rules.specs.Effect.{effect, refused, done, refusals, is_locked, put_at, gone_at, removal, removals, lock_end}
+use Rattle.srcp_rules.specs.Effect.{set_gl, set_ga, set_lock, fresh_gl, fresh_ga, init_device, has_init, ga_put, gl_put, gl_refusals}
+use Rattle.srcp_rules.specs.Effect.{term_device}
 use Rattle.srcp_rules.specs.Effect.{term_session}
 use Rattle.srcp_rules.specs.Laws.{IsKept}
 use Rattle.srcp_rules.proofs.KeyLaws.{same_key, same_key-true}
@@ -207,25 +207,20 @@ module _ (state : State) (session moment : ℕ) (g : Lockable) (bus address : �
   effect_apart (CheckPower b on text) = tt
   effect_apart (InitPower b) = tt
   effect_apart (GetGl b a) = showing_updates AllApart tt (row_at (key_at (device_in lockable.Gl b a) 1) state)
-  effect_apart (SetGl b a mode v vmax functions) =
-      accepted_updates AllApart tt
-      ((not (is_there (device_in lockable.Gl b a) state), C416) ∷ (nat_lt (length (functions_of b a state)) (length functions), C418)
-      ∷ (is_locked state session lockable.Gl b a, C414) ∷ [])
-      (put_at moment (key_at (device_in lockable.Gl b a) 1)
-      (value.GlState mode (kept_v mode v) vmax (functions_after functions (functions_of b a state))) None
-      ∷ [])
-      (λ none. (row_apart lockable.Gl b a 1 (other_device lockable.Gl b a none.1.1.0), tt))
-  effect_apart (CheckGl b a mode v vmax functions) = checked_updates AllApart tt (set_gl state session moment b a mode v vmax functions)
+  effect_apart (SetGl drive) =
+      accepted_updates AllApart tt (gl_refusals state session drive) (gl_put state moment drive ∷ [])
+      (λ none. (row_apart lockable.Gl drive.bus drive.address 1 (other_device lockable.Gl drive.bus drive.address none.1.1.0), tt))
+  effect_apart (CheckGl drive) = checked_updates AllApart tt (set_gl state session moment drive)
   effect_apart (InitGl b a letter version steps functions) =
       init_apart lockable.Gl b a (value.GlInit letter version steps functions) (fresh_gl moment b a letter version steps functions)
       (λ other. (row_apart lockable.Gl b a 0 other, (row_apart lockable.Gl b a 1 other, tt)))
   effect_apart (TermGl b a) = term_apart lockable.Gl b a
   effect_apart (GetGa b a port) = showing_updates AllApart tt (row_at (key_at (device_in lockable.Ga b a) (1 + port)) state)
-  effect_apart (SetGa b a port on time) =
-      accepted_updates AllApart tt (refusals state session lockable.Ga b a)
-      (put_at moment (key_at (device_in lockable.Ga b a) (1 + port)) (value.GaPort on) (port_end moment on time) ∷ [])
-      (λ none. (row_apart lockable.Ga b a (1 + port) (other_device lockable.Ga b a none.1.0), tt))
-  effect_apart (CheckGa b a port on time) = checked_updates AllApart tt (set_ga state session moment b a port on time)
+  effect_apart (SetGa switch) =
+      accepted_updates AllApart tt (refusals state session lockable.Ga switch.bus switch.address) (ga_put moment switch ∷ [])
+      (λ none.
+      (row_apart lockable.Ga switch.bus switch.address (1 + switch.port) (other_device lockable.Ga switch.bus switch.address none.1.0), tt))
+  effect_apart (CheckGa switch) = checked_updates AllApart tt (set_ga state session moment switch)
   effect_apart (InitGa b a letter ports) =
       init_apart lockable.Ga b a (value.GaInit letter) (fresh_ga moment b a letter ports)
       (λ other. (row_apart lockable.Ga b a 0 other, ports_apart b a 1 ports other))

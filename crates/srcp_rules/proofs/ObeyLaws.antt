@@ -15,6 +15,8 @@ use Rattle.srcp_rules.specs.Layout.{IsKeyOf, row_count}
 use Rattle.srcp_rules.specs.Command.{kept_v}
 use Rattle.srcp_rules.specs.declared.command.Lockable.{Lockable}
 use Rattle.srcp_rules.specs.declared.command.Lockable.TheVariants as lockable
+use Rattle.srcp_rules.specs.declared.command.Drive.{Drive}
+use Rattle.srcp_rules.specs.declared.command.Switch.{Switch}
 use Rattle.srcp_rules.specs.declared.command.Command.TheVariants.{SetPower, SetGl, SetGa, SetFb, SetLock}
 use Rattle.srcp_rules.specs.State.{State, Update, IsRowOf, IsWhole, has_row, row_at, is_there, key_at, power_device, fb_device, device_in}
 use Rattle.srcp_rules.specs.State.{lock_on, functions_of, row_put}
@@ -116,11 +118,14 @@ module _ (buses : List Bus) (state : State) (session moment : ℕ) (now : IsMome
   port_there device whole there port place = whole.complete (first_key device) there port place
 
   -- the row of an accessory's port
-  pub ga_row : (bus address port : ℕ) (on : Bool) (time : Option ℕ) → MayObey buses state session (SetGa bus address port on time)
-      → IsRowOf buses (row_put moment (key_at (device_in lockable.Ga bus address) (1 + port)) (value.GaPort on) (port_end moment on time))
-  ga_row bus address port on time may =
-      IsRowOf-put buses may.whole.laid_out (key_at (device_in lockable.Ga bus address) (1 + port)) moment (value.GaPort on)
-      (port_end moment on time) may.of.0.0 now may.of.0.1 (port_end_fits moment on time)
+  pub ga_row : (switch : Switch) → MayObey buses state session (SetGa switch)
+      → IsRowOf buses
+      (row_put moment (key_at (device_in lockable.Ga switch.bus switch.address) (1 + switch.port)) (value.GaPort switch.on)
+      (port_end moment switch.on switch.time))
+  ga_row switch may =
+      IsRowOf-put buses may.whole.laid_out (key_at (device_in lockable.Ga switch.bus switch.address) (1 + switch.port)) moment
+      (value.GaPort switch.on) (port_end moment switch.on switch.time) may.of.0.0 now may.of.0.1
+      (port_end_fits moment switch.on switch.time)
 
   -- a device that may be set is there
   pub set_there : (device : Device) (others : List (Bool × Code)) → None ≡ first_refusal ((not (is_there device state), C416) ∷ others)
@@ -128,21 +133,23 @@ module _ (buses : List Bus) (state : State) (session moment : ℕ) (now : IsMome
   set_there device others e = is_not (is_there device state) (none_applies ((not (is_there device state), C416) ∷ others) e).0
 
   -- the row of a locomotive's state
-  pub gl_row : (bus address mode v vmax : ℕ) (functions : List Bool) → MayObey buses state session (SetGl bus address mode v vmax functions)
-      → length functions ≤ length (functions_of bus address state)
+  pub gl_row : (drive : Drive) → MayObey buses state session (SetGl drive)
+      → length drive.functions ≤ length (functions_of drive.bus drive.address state)
       → IsRowOf buses
-      (row_put moment (key_at (device_in lockable.Gl bus address) 1)
-      (value.GlState mode (kept_v mode v) vmax (functions_after functions (functions_of bus address state))) None)
-  gl_row bus address mode v vmax functions may short =
-      let device = device_in lockable.Gl bus address in
-      let before = functions_of bus address state in
-      let after = functions_after functions before in
-      let same : length after ≡ length before = as_many buses state may.whole session moment may.begun now functions before short in
+      (row_put moment (key_at (device_in lockable.Gl drive.bus drive.address) 1)
+      (value.GlState drive.mode (kept_v drive.mode drive.v) drive.vmax
+      (functions_after drive.functions (functions_of drive.bus drive.address state))) None)
+  gl_row drive may short =
+      let device = device_in lockable.Gl drive.bus drive.address in
+      let before = functions_of drive.bus drive.address state in
+      let after = functions_after drive.functions before in
+      let same : length after ≡ length before = as_many buses state may.whole session moment may.begun now drive.functions before short in
       let most : length before ≤ 29 =
       found_few buses state may.whole session moment may.begun now (key_at device 1) (row_at (key_at device 1) state) refl in
       let few : length after ≤ 29 = omega (arith, most, same) in
       let fits = may.of.1 in
-      IsRowOf-put buses may.whole.laid_out (key_at device 1) moment (value.GlState mode (kept_v mode v) vmax after) None may.of.0 now
+      IsRowOf-put buses may.whole.laid_out (key_at device 1) moment
+      (value.GlState drive.mode (kept_v drive.mode drive.v) drive.vmax after) None may.of.0 now
       (fits.0, fits.1, fits.2, few) tt
 
   pub power_row : (bus : ℕ) (on : Bool) (text : List ℕ) → MayObey buses state session (SetPower bus on text)

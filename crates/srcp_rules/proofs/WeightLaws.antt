@@ -1,5 +1,5 @@
 -- A line brings at most its weight.
-use Rattle.std.specs.Prelude.{codes, ◌≡◌, ℕ, ◌+◌, ◌≤◌, Bool, true, false, cond, ◌&&◌, ◌||◌, ◌==◌, nat_le, nat_lt, length, find, List, []}
+use Rattle.std.specs.Prelude.{codes, ◌≡◌, ℕ, ◌+◌, ◌≤◌, Bool, true, false, cond, ◌&&◌, ◌==◌, length, find, List, []}
 use Rattle.std.specs.Prelude.{◌∷◌, Option, Some, None, Result, Ok, Err, IfOk}
 use Rattle.std.proofs.Common.{refl, sym, ap, subst, ◌∙◌, arith}
 use Rattle.std.proofs.lemmas.Bool.{false_from_ne_true}
@@ -14,7 +14,7 @@ use Rattle.srcp_info.specs.declared.value.Value.TheVariants as value
 use Rattle.srcp_info.specs.declared.change.Reply.TheVariants.{Accepted}
 use Rattle.srcp_info.specs.Key.{first_key}
 use Rattle.srcp_info.specs.declared.change.Code.{Code}
-use Rattle.srcp_info.specs.declared.change.Code.TheVariants.{C410, C412, C415, C418, C421, C422}
+use Rattle.srcp_info.specs.declared.change.Code.TheVariants.{C410, C412, C415, C421, C422}
 use Rattle.srcp_text.specs.Words.{number_of, is_keyword, words_of}
 use Rattle.srcp_rules.specs.declared.layout.Bus.{Bus}
 use Rattle.srcp_rules.specs.declared.command.Operation.{Operation}
@@ -28,13 +28,13 @@ use Rattle.srcp_rules.specs.declared.command.Command.TheVariants.{GetSession, Te
 use Rattle.srcp_rules.specs.declared.command.Command.TheVariants.{CheckGl, GetGa, SetGa, CheckGa, GetFb, SetFb, CheckFb, GetLock, SetLock}
 use Rattle.srcp_rules.specs.declared.command.Command.TheVariants.{CheckLock}
 use Rattle.srcp_rules.specs.Layout.{bus_at, has_group, address_max}
-use Rattle.srcp_rules.specs.State.{State, Update, row_at, key_at, session_device, power_device, fb_device, device_in, lock_on, functions_of}
-use Rattle.srcp_rules.specs.Command.{IsCommandOf, kept_v}
-use Rattle.srcp_rules.specs.Grammar.{◌>>=◌, number_in, bit_of, bits_of, switch_of, text_of, time_of, lockable_on, groups, named_in, alone}
-use Rattle.srcp_rules.specs.Grammar.{addressed, get_session, term_session, set_power, set_gl, ga_port, get_ga, set_ga, set_fb, named_lock}
+use Rattle.srcp_rules.specs.State.{State, Update, row_at, key_at, session_device, power_device, fb_device, device_in, lock_on}
+use Rattle.srcp_rules.specs.Command.{IsCommandOf}
+use Rattle.srcp_rules.specs.Grammar.{◌>>=◌, number_in, bit_of, switch_of, text_of, lockable_on, groups, named_in, alone}
+use Rattle.srcp_rules.specs.Grammar.{addressed, get_session, term_session, set_power, driven, ga_port, get_ga, switched, set_fb, named_lock}
 use Rattle.srcp_rules.specs.Grammar.{set_lock, asked, directed, commanded}
-use Rattle.srcp_rules.specs.Effect.{effect, refused, done, checked, shown_at, unless_refused, refusals, gl_refusals, put_at, port_end}
-use Rattle.srcp_rules.specs.Effect.{lock_end, functions_after, set_gl as driven, set_ga as switched, set_lock as locked}
+use Rattle.srcp_rules.specs.Effect.{effect, refused, done, checked, shown_at, unless_refused, refusals, gl_refusals, put_at}
+use Rattle.srcp_rules.specs.Effect.{lock_end, ga_put, gl_put, set_gl, set_ga, set_lock as locked}
 use Rattle.srcp_rules.specs.Weight.{names_session, weight_of, weight, LinesWeighEnough, WeightsAreSmall, GoesWeighOne}
 use Rattle.srcp_rules.proofs.GrammarLaws.{read_any, then_ok, reads_fits}
 use Rattle.srcp_rules.proofs.CountLaws.{effect_few}
@@ -77,37 +77,6 @@ module _ (P : Command → Type 0) where
   set_power_all make (w ∷ ws) h =
       read_any P (switch_of w) (λ on. text_of ws >>= (λ t. Ok (make on t))) (λ on. read_any P (text_of ws) (λ t. Ok (make on t)) (h on))
 
-  set_gl_all : (bus : Bus) (make : ℕ → ℕ → ℕ → ℕ → List Bool → Command) (words : List (List ℕ))
-      → ((a mode v vmax : ℕ) (fs : List Bool) → P (make a mode v vmax fs)) → All (set_gl bus make words)
-  set_gl_all bus make [] h = tt
-  set_gl_all bus make (a ∷ []) h = tt
-  set_gl_all bus make (a ∷ m ∷ []) h = tt
-  set_gl_all bus make (a ∷ m ∷ v ∷ []) h = tt
-  set_gl_all bus make (a ∷ m ∷ v ∷ x ∷ fs) h =
-      if_all (nat_lt 29 (length fs)) (number_in 1 bus.gl_max a >>= (λ address. number_in 0 2 m >>= (λ mode. with_mode address mode)))
-      (read_any P (number_in 1 bus.gl_max a) (λ address. number_in 0 2 m >>= (λ mode. with_mode address mode)) (λ address.
-      read_any P (number_in 0 2 m) (with_mode address) (λ mode.
-      read_any P (number_in 0 65535 v) (with_speed address mode) (λ speed.
-      read_any P (number_in 0 65535 x) (with_top address mode speed) (λ top.
-      read_any P (cond (nat_le speed top || top == 0) (Ok top) (Err C412)) (with_fitting address mode speed) (λ fitting.
-      read_any P (bits_of fs) (λ functions. Ok (make address mode speed fitting functions)) (h address mode speed fitting)))))))
-    where
-      if_all : (b : Bool) (r : Result Command Code) → All r → All (cond b (Err C418) r)
-      if_all true r h = tt
-      if_all false r h = h
-
-      with_fitting : (address mode speed fitting : ℕ) → Result Command Code
-      with_fitting address mode speed fitting = bits_of fs >>= (λ functions. Ok (make address mode speed fitting functions))
-
-      with_top : (address mode speed top : ℕ) → Result Command Code
-      with_top address mode speed top = cond (nat_le speed top || top == 0) (Ok top) (Err C412) >>= with_fitting address mode speed
-
-      with_speed : (address mode speed : ℕ) → Result Command Code
-      with_speed address mode speed = number_in 0 65535 x >>= with_top address mode speed
-
-      with_mode : (address mode : ℕ) → Result Command Code
-      with_mode address mode = number_in 0 65535 v >>= with_speed address mode
-
   get_ga_all : (bus : Bus) (words : List (List ℕ)) → ((a p : ℕ) → P (GetGa bus.number a p)) → All (get_ga bus words)
   get_ga_all bus [] h = tt
   get_ga_all bus (a ∷ []) h = tt
@@ -115,25 +84,6 @@ module _ (P : Command → Type 0) where
       read_any P (number_in 1 bus.ga_max a) (λ address. ga_port bus p >>= (λ port. Ok (GetGa bus.number address port)))
       (λ address. read_any P (ga_port bus p) (λ port. Ok (GetGa bus.number address port)) (h address))
   get_ga_all bus (a ∷ p ∷ w ∷ ws) h = tt
-
-  set_ga_all : (bus : Bus) (make : ℕ → ℕ → Bool → Option ℕ → Command) (words : List (List ℕ))
-      → ((a p : ℕ) (on : Bool) (t : Option ℕ) → P (make a p on t)) → All (set_ga bus make words)
-  set_ga_all bus make [] h = tt
-  set_ga_all bus make (a ∷ []) h = tt
-  set_ga_all bus make (a ∷ p ∷ []) h = tt
-  set_ga_all bus make (a ∷ p ∷ v ∷ []) h = tt
-  set_ga_all bus make (a ∷ p ∷ v ∷ t ∷ []) h =
-      read_any P (number_in 1 bus.ga_max a) (λ address. ga_port bus p >>= with_port address) (λ address.
-      read_any P (ga_port bus p) (with_port address) (λ port.
-      read_any P (bit_of v) (with_value address port) (λ on.
-      read_any P (time_of t) (λ milliseconds. Ok (make address port on milliseconds)) (h address port on))))
-    where
-      with_value : (address port : ℕ) (on : Bool) → Result Command Code
-      with_value address port on = time_of t >>= (λ milliseconds. Ok (make address port on milliseconds))
-
-      with_port : (address port : ℕ) → Result Command Code
-      with_port address port = bit_of v >>= with_value address port
-  set_ga_all bus make (a ∷ p ∷ v ∷ t ∷ w ∷ ws) h = tt
 
   set_fb_all : (bus : Bus) (make : ℕ → Bool → Command) (words : List (List ℕ))
       → ((p : ℕ) (on : Bool) → P (make p on)) → All (set_fb bus make words)
@@ -208,10 +158,10 @@ module _ (state : State) (session moment : ℕ) where
   checks_none : (g : Named) (bus : Bus) (words : List (List ℕ)) → IfOk (asked Check g bus words) (Brings 0)
   checks_none Session bus words = tt
   checks_none Power bus words = set_power_all (Brings 0) (CheckPower bus.number) words (λ on t. none 0)
-  checks_none Gl bus words = set_gl_all (Brings 0) bus (CheckGl bus.number) words
-      (λ a mode v vmax fs. tried (driven state session moment bus.number a mode v vmax fs))
-  checks_none Ga bus words = set_ga_all (Brings 0) bus (CheckGa bus.number) words
-      (λ a p on t. tried (switched state session moment bus.number a p on t))
+  checks_none Gl bus words =
+      read_any (Brings 0) (driven bus words) (λ drive. Ok (CheckGl drive)) (λ drive. tried (set_gl state session moment drive))
+  checks_none Ga bus words =
+      read_any (Brings 0) (switched bus words) (λ switch. Ok (CheckGa switch)) (λ switch. tried (set_ga state session moment switch))
   checks_none Fb bus words = set_fb_all (Brings 0) bus (CheckFb bus.number) words (λ p on. none 0)
   checks_none Lock bus words = set_lock_all (Brings 0) bus (CheckLock bus.number) words
       (λ g a s. tried (locked state session moment g bus.number a s))
@@ -223,13 +173,11 @@ module _ (state : State) (session moment : ℕ) where
   sets_one Session bus words = tt
   sets_one Power bus words = set_power_all (Brings 1) (SetPower bus.number) words (λ on t. omega arith)
   sets_one Gl bus words =
-      set_gl_all (Brings 1) bus (SetGl bus.number) words (λ a mode v vmax fs.
-      let set = value.GlState mode (kept_v mode v) vmax (functions_after fs (functions_of bus.number a state)) in
-      one (gl_refusals state session bus.number a fs) (put_at moment (key_at (device_in lockable.Gl bus.number a) 1) set None))
+      read_any (Brings 1) (driven bus words) (λ drive. Ok (SetGl drive))
+      (λ drive. one (gl_refusals state session drive) (gl_put state moment drive))
   sets_one Ga bus words =
-      set_ga_all (Brings 1) bus (SetGa bus.number) words (λ a p on t.
-      one (refusals state session lockable.Ga bus.number a)
-      (put_at moment (key_at (device_in lockable.Ga bus.number a) (1 + p)) (value.GaPort on) (port_end moment on t)))
+      read_any (Brings 1) (switched bus words) (λ switch. Ok (SetGa switch))
+      (λ switch. one (refusals state session lockable.Ga switch.bus switch.address) (ga_put moment switch))
   sets_one Fb bus words = set_fb_all (Brings 1) bus (SetFb bus.number) words (λ p on. omega arith)
   sets_one Lock bus words =
       set_lock_all (Brings 1) bus (SetLock bus.number) words (λ g a s.

@@ -1,5 +1,5 @@
 -- What holds of every command, every moment, and every session's beginning and end.
-use Rattle.std.specs.Prelude.{◌≡◌, ◌≢◌, ℕ, ◌+◌, ◌*◌, ◌≤◌, ◌<◌, ◌^◌, Bool, true, false, nat_le, if◌then◌else◌, List, []}
+use Rattle.std.specs.Prelude.{◌≡◌, ◌≢◌, ℕ, ◌+◌, ◌*◌, ◌≤◌, ◌<◌, ◌^◌, true, false, nat_le, if◌then◌else◌, List, []}
 use Rattle.std.specs.Prelude.{take, drop, length, IsTrue, Option, Some, None, IfSome}
 use Rattle.std.specs.List.{AllByRecursion}
 use Rattle.std.specs.Option.{option_map_or, ForSome}
@@ -15,6 +15,7 @@ use Rattle.srcp_info.specs.WellFormed.{IsMoment, IsWellFormed, IsWellFormedReply
 use Rattle.srcp_rules.specs.declared.layout.Bus.{Bus}
 use Rattle.srcp_rules.specs.declared.command.Lockable.{Lockable}
 use Rattle.srcp_rules.specs.declared.command.Lockable.TheVariants as lockable
+use Rattle.srcp_rules.specs.declared.command.Switch.{Switch}
 use Rattle.srcp_rules.specs.declared.command.Command.{Command}
 use Rattle.srcp_rules.specs.declared.command.Command.TheVariants.{SetPower, CheckPower, SetGl, CheckGl, SetGa, CheckGa}
 use Rattle.srcp_rules.specs.declared.command.Command.TheVariants.{SetFb, CheckFb, SetLock, CheckLock}
@@ -140,8 +141,8 @@ RefusalsChangeNothing = (state : State) (session moment : ℕ) (command : Comman
 -- the SET that a CHECK is about
 abbrev pub set_of : Command → Option Command
 set_of (CheckPower bus on text) = Some (SetPower bus on text)
-set_of (CheckGl bus address mode v vmax functions) = Some (SetGl bus address mode v vmax functions)
-set_of (CheckGa bus address port on time) = Some (SetGa bus address port on time)
+set_of (CheckGl drive) = Some (SetGl drive)
+set_of (CheckGa switch) = Some (SetGa switch)
 set_of (CheckFb bus port on) = Some (SetFb bus port on)
 set_of (CheckLock bus group address seconds) = Some (SetLock bus group address seconds)
 set_of other = None
@@ -218,13 +219,19 @@ MomentsCarryOut = (buses : List Bus) (state : State) (moment : ℕ) (key : Key) 
 abbrev pub port_key : (bus address port : ℕ) → Key
 port_key bus address port = key_at (device_in lockable.Ga bus address) (1 + port)
 
+-- SET of an accessory's port to 1 for some milliseconds
+abbrev pub port_on : (bus address port milliseconds : ℕ) → Command
+port_on bus address port milliseconds =
+    SetGa (record { bus = bus; address = address; port = port; on = true; time = Some milliseconds })
+
 -- after a SET that is accepted the port has its due moment or none, whatever it had
 abbrev pub PortsAreSet : Type 0
-PortsAreSet = (state : State) (session moment bus address port : ℕ) (on : Bool) (time : Option ℕ)
-    → (effect state session moment (SetGa bus address port on time)).reply ≡ Accepted
-    → row_at (port_key bus address port)
-    (updated_all (effect state session moment (SetGa bus address port on time)).updates state)
-    ≡ Some (row_put moment (port_key bus address port) (value.GaPort on) (port_end moment on time))
+PortsAreSet = (state : State) (session moment : ℕ) (switch : Switch)
+    → (effect state session moment (SetGa switch)).reply ≡ Accepted
+    → row_at (port_key switch.bus switch.address switch.port)
+    (updated_all (effect state session moment (SetGa switch)).updates state)
+    ≡ Some (row_put moment (port_key switch.bus switch.address switch.port) (value.GaPort switch.on)
+    (port_end moment switch.on switch.time))
 
 -- and so has a lock
 abbrev pub LocksAreSet : Type 0
@@ -238,11 +245,11 @@ LocksAreSet = (state : State) (session moment : ℕ) (group : Lockable) (bus add
 -- a port that was set to 1 for some milliseconds is 1 at each moment before their end, and 0 at each from it on
 abbrev pub PortsFallBack : Type 0
 PortsFallBack = (buses : List Bus) (state : State) (session moment later bus address port milliseconds : ℕ)
-    → MayObey buses state session (SetGa bus address port true (Some milliseconds)) → IsMoment moment → IsMoment later
+    → MayObey buses state session (port_on bus address port milliseconds) → IsMoment moment → IsMoment later
     → 0 < milliseconds
-    → (effect state session moment (SetGa bus address port true (Some milliseconds))).reply ≡ Accepted
+    → (effect state session moment (port_on bus address port milliseconds)).reply ≡ Accepted
     → (after : State)
-    → after ≡ updated_all (effect state session moment (SetGa bus address port true (Some milliseconds))).updates state
+    → after ≡ updated_all (effect state session moment (port_on bus address port milliseconds)).updates state
     → row_at (port_key bus address port) (updated_all (due after later) after)
     ≡ (if nat_le (moment_after moment milliseconds) later
     then Some (row_put later (port_key bus address port) (value.GaPort false) None)

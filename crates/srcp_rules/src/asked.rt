@@ -64,28 +64,8 @@ fn gl_asked(operation: Operation, bus: &Bus, words: Words<'_>) -> Result<Command
             bus: number,
             address: address(bus.gl_max, words)?,
         }),
-        Operation::Set => {
-            let drive = driven(bus, words)?;
-            Ok(Command::SetGl {
-                bus: number,
-                address: drive.address,
-                mode: drive.mode,
-                v: drive.v,
-                vmax: drive.vmax,
-                functions: drive.functions,
-            })
-        }
-        Operation::Check => {
-            let drive = driven(bus, words)?;
-            Ok(Command::CheckGl {
-                bus: number,
-                address: drive.address,
-                mode: drive.mode,
-                v: drive.v,
-                vmax: drive.vmax,
-                functions: drive.functions,
-            })
-        }
+        Operation::Set => Ok(Command::SetGl(driven(bus, words)?)),
+        Operation::Check => Ok(Command::CheckGl(driven(bus, words)?)),
         Operation::Init => init_gl(bus, words),
         Operation::Term => Ok(Command::TermGl {
             bus: number,
@@ -101,26 +81,8 @@ fn ga_asked(operation: Operation, bus: &Bus, words: Words<'_>) -> Result<Command
     let number = bus.number;
     match operation {
         Operation::Get => get_ga(bus, words),
-        Operation::Set => {
-            let switch = switched(bus, words)?;
-            Ok(Command::SetGa {
-                bus: number,
-                address: switch.address,
-                port: switch.port,
-                on: switch.on,
-                time: switch.time,
-            })
-        }
-        Operation::Check => {
-            let switch = switched(bus, words)?;
-            Ok(Command::CheckGa {
-                bus: number,
-                address: switch.address,
-                port: switch.port,
-                on: switch.on,
-                time: switch.time,
-            })
-        }
+        Operation::Set => Ok(Command::SetGa(switched(bus, words)?)),
+        Operation::Check => Ok(Command::CheckGa(switched(bus, words)?)),
         Operation::Init => init_ga(bus, words),
         Operation::Term => Ok(Command::TermGa {
             bus: number,

@@ -12,11 +12,11 @@ ghost use Rattle.srcp_rules.specs.Effect.{accepted, put_at, shown_at, term_sessi
 ghost use Rattle.srcp_rules.specs.Obeyed.{IsObeyed, IsTold, MayObey, Took};
 ghost use Rattle.srcp_rules.specs.State.{IsWhole, device_in, fb_device, is_there, key_at, power_device, session_device};
 
-use crate::command::{Command, Lockable, Named, Sender};
+use crate::command::{Command, Lockable, Named, Sender, Switch};
 use crate::device::{
     BusAddress, device_in, fb_device, key_at, lock_on, power_device, session_device,
 };
-use crate::drive::{Drive, gl_refusal, set_ga, set_gl};
+use crate::drive::{gl_refusal, set_ga, set_gl};
 use crate::fresh::{Decoder, init_ga, init_gl};
 use crate::init::term_device;
 use crate::lock::{checked, refusal, set_lock, term_lock};
@@ -126,27 +126,8 @@ fn answer_gl<R: Rows>(rows: &mut R, sender: Sender, command: &Command, obeyed: &
 {
     match *command {
         Command::GetGl { bus, address } => show_gl(rows, BusAddress { bus, address }, obeyed),
-        Command::SetGl {
-            bus,
-            address,
-            mode,
-            v,
-            vmax,
-            functions,
-        } => {
-            let place = BusAddress { bus, address };
-            let drive = Drive { mode, v, vmax };
-            set_gl(rows, sender, place, drive, &functions, obeyed)
-        }
-        Command::CheckGl {
-            bus,
-            address,
-            functions,
-            ..
-        } => {
-            let place = BusAddress { bus, address };
-            checked(gl_refusal(rows, sender.session, place, &functions), obeyed)
-        }
+        Command::SetGl(ref drive) => set_gl(rows, sender, drive, obeyed),
+        Command::CheckGl(ref drive) => checked(gl_refusal(rows, sender.session, drive), obeyed),
         Command::InitGl {
             bus,
             address,
@@ -189,22 +170,8 @@ fn answer_ga<R: Rows>(rows: &mut R, sender: Sender, command: &Command, obeyed: &
                 obeyed,
             )
         }
-        Command::SetGa {
-            bus,
-            address,
-            port,
-            on,
-            time,
-        } => set_ga(
-            rows,
-            sender,
-            BusAddress { bus, address },
-            port,
-            on,
-            time,
-            obeyed,
-        ),
-        Command::CheckGa { bus, address, .. } => {
+        Command::SetGa(ref switch) => set_ga(rows, sender, switch, obeyed),
+        Command::CheckGa(Switch { bus, address, .. }) => {
             let place = BusAddress { bus, address };
             checked(refusal(rows, sender.session, Lockable::Ga, place), obeyed)
         }

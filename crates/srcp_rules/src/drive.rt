@@ -9,7 +9,7 @@ ghost use Rattle.srcp_rules.specs.Effect.{set_ga, set_gl};
 ghost use Rattle.srcp_rules.specs.Obeyed.{IsTold, MayObey, Took};
 ghost use Rattle.srcp_rules.specs.State.{IsWhole, device_in, functions_of, is_there};
 
-use crate::command::{Command, Lockable, Sender};
+use crate::command::{Command, Drive, Lockable, Sender, Switch};
 use crate::device::{BusAddress, device_in, key_at};
 use crate::lock::{is_locked, moment_after, refusal};
 use crate::obeyed::Obeyed;
@@ -48,16 +48,20 @@ fn functions_after(given: &Bits, before: &Bits) -> Bits
 
 /// Returns the functions that the locomotive has, or why the session may not drive it. It may not where the locomotive
 /// is not there, has fewer functions than are given, or another session has its lock.
-fn drivable<R: Rows>(rows: &R, session: u32, place: BusAddress, given: &Bits) -> Result<Bits, Code>
+fn drivable<R: Rows>(rows: &R, session: u32, drive: &Drive) -> Result<Bits, Code>
     requires whole { IsWhole (R.buses rows.now) (R.state rows.now) }
-    ensures before { IfOk result (λ before. before ≡ functions_of place.bus place.address (R.state rows.now)) }
-    ensures refusal { result_err result
-        ≡ first_refusal (gl_refusals (R.state rows.now) session place.bus place.address given.now) }
+    ensures before { IfOk result
+        (λ before. before ≡ functions_of drive.now.bus drive.now.address (R.state rows.now)) }
+    ensures refusal { result_err result ≡ first_refusal (gl_refusals (R.state rows.now) session drive.now) }
 {
+    let place = BusAddress {
+        bus: drive.bus,
+        address: drive.address,
+    };
     let Some(before) = functions_of(rows, place) else {
         return Err(Code::NO_SUCH_DEVICE);
     };
-    if before.len() < given.len() {
+    if before.len() < drive.functions.len() {
         return Err(Code::TOO_LONG);
     }
     if is_locked(rows, session, Lockable::Gl, place) {
@@ -67,16 +71,11 @@ fn drivable<R: Rows>(rows: &R, session: u32, place: BusAddress, given: &Bits) ->
 }
 
 /// Returns why the session may not drive the locomotive, or none where it may.
-pub(crate) fn gl_refusal<R: Rows>(
-    rows: &R,
-    session: u32,
-    place: BusAddress,
-    functions: &Bits,
-) -> Option<Code>
+pub(crate) fn gl_refusal<R: Rows>(rows: &R, session: u32, drive: &Drive) -> Option<Code>
     requires whole { IsWhole (R.buses rows.now) (R.state rows.now) }
-    ensures { result ≡ first_refusal (gl_refusals (R.state rows.now) session place.bus place.address functions.now) }
+    ensures { result ≡ first_refusal (gl_refusals (R.state rows.now) session drive.now) }
 {
-    drivable(rows, session, place, functions).err()
+    drivable(rows, session, drive).err()
 }
 
 /// V as it is kept: in an emergency stop it is 0.
@@ -90,33 +89,15 @@ fn kept_v(mode: u32, v: u32) -> u32
     }
 }
 
-/// How a locomotive is driven: drive mode, speed and the greatest speed, as SET gives them.
-#[derive(Clone, Copy)]
-pub(crate) struct Drive {
-    pub(crate) mode: u32,
-    pub(crate) v: u32,
-    pub(crate) vmax: u32,
-}
-
 /// SET of a locomotive.
-pub(crate) fn set_gl<R: Rows>(
-    rows: &mut R,
-    sender: Sender,
-    place: BusAddress,
-    drive: Drive,
-    functions: &Bits,
-    obeyed: &mut Obeyed,
-)
+pub(crate) fn set_gl<R: Rows>(rows: &mut R, sender: Sender, drive: &Drive, obeyed: &mut Obeyed)
     requires blank { IsTold (accepted []) obeyed.old }
-    requires may { MayObey (R.buses rows.old) (R.state rows.old) sender.session
-        (Command.SetGl place.bus place.address drive.mode drive.v drive.vmax functions.now) }
-    ensures took { Took (done
-        (set_gl (R.state rows.old) sender.session sender.moment place.bus place.address drive.mode drive.v
-        drive.vmax functions.now))
+    requires may { MayObey (R.buses rows.old) (R.state rows.old) sender.session (Command.SetGl drive.now) }
+    ensures took { Took (done (set_gl (R.state rows.old) sender.session sender.moment drive.now))
         (R.state rows.old) (R.state rows.new) obeyed.new }
     ensures layout { R.buses rows.new ≡ R.buses rows.old }
 {
-    let before = match drivable(rows, sender.session, place, functions) {
+    let before = match drivable(rows, sender.session, drive) {
         Ok(before) => before,
         Err(code) => return obeyed.refuse(code),
     };
@@ -124,7 +105,11 @@ pub(crate) fn set_gl<R: Rows>(
         mode: drive.mode,
         v: kept_v(drive.mode, drive.v),
         vmax: drive.vmax,
-        functions: functions_after(functions, &before),
+        functions: functions_after(&drive.functions, &before),
+    };
+    let place = BusAddress {
+        bus: drive.bus,
+        address: drive.address,
     };
     let key = key_at(device_in(Lockable::Gl, place), 1);
     set_one(rows, sender.moment, key, driven, None, obeyed);
@@ -143,23 +128,21 @@ fn port_end(moment: u64, on: bool, time: Option<u32>) -> Option<u64>
 }
 
 /// SET of an accessory's port.
-pub(crate) fn set_ga<R: Rows>(
-    rows: &mut R,
-    sender: Sender,
-    place: BusAddress,
-    port: u8,
-    on: bool,
-    time: Option<u32>,
-    obeyed: &mut Obeyed,
-)
+pub(crate) fn set_ga<R: Rows>(rows: &mut R, sender: Sender, switch: &Switch, obeyed: &mut Obeyed)
     requires blank { IsTold (accepted []) obeyed.old }
-    requires may { MayObey (R.buses rows.old) (R.state rows.old) sender.session
-        (Command.SetGa place.bus place.address port on time) }
-    ensures took { Took (done
-        (set_ga (R.state rows.old) sender.session sender.moment place.bus place.address port on time))
+    requires may { MayObey (R.buses rows.old) (R.state rows.old) sender.session (Command.SetGa switch.now) }
+    ensures took { Took (done (set_ga (R.state rows.old) sender.session sender.moment switch.now))
         (R.state rows.old) (R.state rows.new) obeyed.new }
     ensures layout { R.buses rows.new ≡ R.buses rows.old }
 {
+    let Switch {
+        bus,
+        address,
+        port,
+        on,
+        time,
+    } = *switch;
+    let place = BusAddress { bus, address };
     if let Some(code) = refusal(rows, sender.session, Lockable::Ga, place) {
         return obeyed.refuse(code);
     }

@@ -1,20 +1,20 @@
 //! Reads the words behind the group, by what each command asks for.
 
-ghost use Rattle.std.specs.Prelude.{◌≡◌, ℕ, Bool, List, Option, Ok, Err, MatchResult};
+ghost use Rattle.std.specs.Prelude.{◌≡◌, ℕ, Bool, List, Ok, Err, MatchResult};
 ghost use Rattle.srcp_rules.specs.declared.command.Lockable.{Lockable};
 ghost use Rattle.srcp_rules.specs.declared.command.Command.{Command};
 ghost use Rattle.srcp_rules.specs.Layout.{address_max};
-ghost use Rattle.srcp_rules.specs.Grammar.{addressed, ga_port, get_ga, get_session, init_ga, init_gl, named_lock};
-ghost use Rattle.srcp_rules.specs.Grammar.{set_fb, set_ga, set_gl, set_lock, set_power, term_session};
+ghost use Rattle.srcp_rules.specs.Grammar.{addressed, driven, ga_port, get_ga, get_session, init_ga, init_gl};
+ghost use Rattle.srcp_rules.specs.Grammar.{named_lock, set_fb, set_lock, set_power, switched, term_session};
 
-use crate::command::{Command, Lockable};
+use crate::command::{Command, Drive, Lockable, Switch};
 use crate::counted::{next_word, no_more};
 use crate::functions::read_functions;
 use crate::layout::Bus;
 use crate::power_text::text_of;
 use crate::read::{bit_of, letter_of, lockable_on, number_in, switch_of, time_of};
 use srcp_info::{
-    Bits, Code, DriveMode, GREATEST_SPEED, GREATEST_VERSION, Letter, MOST_FUNCTIONS, MOST_SECONDS,
+    Code, DriveMode, GREATEST_SPEED, GREATEST_VERSION, Letter, MOST_FUNCTIONS, MOST_SECONDS,
     MOST_STEPS, Text,
 };
 use srcp_text::{Words, is_keyword};
@@ -75,20 +75,9 @@ pub(crate) fn get_ga(bus: &Bus, mut words: Words<'_>) -> Result<Command, Code>
     })
 }
 
-/// What a port is set to.
-#[derive(Clone, Copy)]
-pub(crate) struct Switch {
-    pub(crate) address: u32,
-    pub(crate) port: u8,
-    pub(crate) on: bool,
-    pub(crate) time: Option<u32>,
-}
-
 /// Address, port, value and time.
 pub(crate) fn switched(bus: &Bus, mut words: Words<'_>) -> Result<Switch, Code>
-    ensures { (make : ℕ → ℕ → Bool → Option ℕ → Command)
-        → MatchResult result (λ s. set_ga bus.now make words.entry ≡ Ok (make s.address s.port s.on s.time))
-        (λ code. set_ga bus.now make words.entry ≡ Err code) }
+    ensures { result ≡ switched bus.now words.entry }
 {
     let first = next_word(&mut words)?;
     let second = next_word(&mut words)?;
@@ -96,6 +85,7 @@ pub(crate) fn switched(bus: &Bus, mut words: Words<'_>) -> Result<Switch, Code>
     let fourth = next_word(&mut words)?;
     no_more(words)?;
     Ok(Switch {
+        bus: bus.number,
         address: number_in(1, bus.ga_max, first)?,
         port: ga_port(bus, second)?,
         on: bit_of(third)?,
@@ -211,23 +201,10 @@ pub(crate) fn powered(mut words: Words<'_>) -> Result<(bool, Text), Code>
     Ok((on, text_of(words)?))
 }
 
-/// What a locomotive is driven as.
-#[derive(Clone, Copy)]
-pub(crate) struct Drive {
-    pub(crate) address: u32,
-    pub(crate) mode: u32,
-    pub(crate) v: u32,
-    pub(crate) vmax: u32,
-    pub(crate) functions: Bits,
-}
-
 /// Address, mode, V, Vmax, and at most 29 functions.
 #[inline(always)]
 pub(crate) fn driven(bus: &Bus, mut words: Words<'_>) -> Result<Drive, Code>
-    ensures { (make : ℕ → ℕ → ℕ → ℕ → List Bool → Command)
-        → MatchResult result (λ d. set_gl bus.now make words.entry
-        ≡ Ok (make d.address d.mode d.v d.vmax d.functions))
-        (λ code. set_gl bus.now make words.entry ≡ Err code) }
+    ensures { result ≡ driven bus.now words.entry }
 {
     let first = next_word(&mut words)?;
     let second = next_word(&mut words)?;
@@ -242,6 +219,7 @@ pub(crate) fn driven(bus: &Bus, mut words: Words<'_>) -> Result<Drive, Code>
         return Err(Code::WRONG_VALUE);
     }
     Ok(Drive {
+        bus: bus.number,
         address,
         mode,
         v,

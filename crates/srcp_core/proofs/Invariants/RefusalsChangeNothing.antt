@@ -51,13 +51,13 @@ refused_changes code state session moment (SetPower bus on text) = accepts code 
 refused_changes code state session moment (CheckPower bus on text) = accepts code _
 refused_changes code state session moment (InitPower bus) = accepts code _
 refused_changes code state session moment (GetGl bus address) = shows code _
-refused_changes code state session moment (SetGl bus address mode v vmax functions) = does code _
-refused_changes code state session moment (CheckGl bus address mode v vmax functions) = checks code _
+refused_changes code state session moment (SetGl drive) = does code _
+refused_changes code state session moment (CheckGl drive) = checks code _
 refused_changes code state session moment (InitGl bus address letter version steps functions) = does code _
 refused_changes code state session moment (TermGl bus address) = does code _
 refused_changes code state session moment (GetGa bus address port) = shows code _
-refused_changes code state session moment (SetGa bus address port on time) = does code _
-refused_changes code state session moment (CheckGa bus address port on time) = checks code _
+refused_changes code state session moment (SetGa switch) = does code _
+refused_changes code state session moment (CheckGa switch) = checks code _
 refused_changes code state session moment (InitGa bus address letter ports) = does code _
 refused_changes code state session moment (TermGa bus address) = does code _
 refused_changes code state session moment (GetFb bus port) = shows code _
@@ -119,17 +119,17 @@ never_denied state session moment (SetPower bus on text) = λ e. cc
 never_denied state session moment (CheckPower bus on text) = λ e. cc
 never_denied state session moment (InitPower bus) = λ e. cc
 never_denied state session moment (GetGl bus address) = never_shown _
-never_denied state session moment (SetGl bus address mode v vmax functions) =
+never_denied state session moment (SetGl drive) =
     never_done _ (refuses _ C416 _ c416 (refuses _ C418 _ c418 (refuses _ C414 _ c414 (fine _))))
-never_denied state session moment (CheckGl bus address mode v vmax functions) =
-    never_checked (set_gl state session moment bus address mode v vmax functions)
+never_denied state session moment (CheckGl drive) =
+    never_checked (set_gl state session moment drive)
     (refuses _ C416 _ c416 (refuses _ C418 _ c418 (refuses _ C414 _ c414 (fine _))))
 never_denied state session moment (InitGl bus address letter version steps functions) = never_done _ (refuses _ C414 _ c414 (fine _))
 never_denied state session moment (TermGl bus address) = never_done _ (refuses _ C416 _ c416 (refuses _ C414 _ c414 (fine _)))
 never_denied state session moment (GetGa bus address port) = never_shown _
-never_denied state session moment (SetGa bus address port on time) = never_done _ (refuses _ C416 _ c416 (refuses _ C414 _ c414 (fine _)))
-never_denied state session moment (CheckGa bus address port on time) =
-    never_checked (set_ga state session moment bus address port on time) (refuses _ C416 _ c416 (refuses _ C414 _ c414 (fine _)))
+never_denied state session moment (SetGa switch) = never_done _ (refuses _ C416 _ c416 (refuses _ C414 _ c414 (fine _)))
+never_denied state session moment (CheckGa switch) =
+    never_checked (set_ga state session moment switch) (refuses _ C416 _ c416 (refuses _ C414 _ c414 (fine _)))
 never_denied state session moment (InitGa bus address letter ports) = never_done _ (refuses _ C414 _ c414 (fine _))
 never_denied state session moment (TermGa bus address) = never_done _ (refuses _ C416 _ c416 (refuses _ C414 _ c414 (fine _)))
 never_denied state session moment (GetFb bus port) = never_shown _

@@ -1,29 +1,18 @@
-use Rattle.std.proofs.Common.{ℕ, Bool, List, length, None, nat_lt, refl, [], ◌∷◌, subst}
+use Rattle.std.proofs.Common.{length, nat_lt, refl, [], ◌∷◌, subst}
 use Rattle.std.proofs.lemmas.Bool.{ltb-false}
 use Rattle.srcp_info.specs.declared.change.Code.TheVariants.{C414, C418}
-use Rattle.srcp_info.specs.declared.value.Value.TheVariants as value
 use Rattle.srcp_rules.specs.declared.command.Lockable.TheVariants as lockable
-use Rattle.srcp_rules.specs.declared.device.BusAddress.{BusAddress}
-use Rattle.srcp_rules.specs.declared.drive.Drive.{Drive}
-use Rattle.srcp_rules.specs.Command.{kept_v}
-use Rattle.srcp_rules.specs.Effect.{Effect, gl_refusals, functions_after, is_locked, put_at}
+use Rattle.srcp_rules.specs.Effect.{Effect, gl_put, gl_refusals, is_locked}
 use Rattle.srcp_rules.specs.Obeyed.{Took}
-use Rattle.srcp_rules.specs.State.{State, Update, device_in, functions_of, key_at}
+use Rattle.srcp_rules.specs.State.{device_in, functions_of}
 use Rattle.srcp_rules.proofs.ObeyLaws.{accepted_done, gl_row, none_applies, port_there, refused_done, set_there}
 use Rattle.srcp_rules.proofs.drive.set_gl.Goals as goal
-
--- the change that a SET makes where nothing refuses it
-abbrev updates_of : State → (moment : ℕ) → BusAddress → Drive → List Bool → List Update
-updates_of state moment place drive given =
-    let after = functions_after given (functions_of place.bus place.address state) in
-    let driven = value.GlState drive.mode (kept_v drive.mode drive.v) drive.vmax after in
-    put_at moment (key_at (device_in lockable.Gl place.bus place.address) 1) driven None ∷ []
 
 pub returns-in-Err-clause-took : goal.returns-in-Err-clause-took
 returns-in-Err-clause-took g c =
     let state = g.R.Rows.state c.args.rows.now in
-    let updates = updates_of state c.args.sender.moment c.args.place c.args.drive c.args.functions.now in
-    let refusals = gl_refusals state c.args.sender.session c.args.place.bus c.args.place.address c.args.functions.now in
+    let updates = gl_put state c.args.sender.moment c.args.drive.now ∷ [] in
+    let refusals = gl_refusals state c.args.sender.session c.args.drive.now in
     subst (λ (did : Effect). Took did state state c.refuse.new.self) (refused_done refusals updates c.in-Err.code c.in-Err.ensures.refusal)
     (record { told = c.refuse.ensures; rows = refl })
 
@@ -31,24 +20,22 @@ returns-in-Err-clause-took g c =
 pub functions_after-requires : goal.functions_after-requires
 functions_after-requires g c =
     let state = g.R.Rows.state c.args.rows.now in
-    let bus = c.args.place.bus in
-    let address = c.args.place.address in
-    let before = functions_of bus address state in
-    let given = c.args.functions.now in
-    let enough = (none_applies (gl_refusals state c.args.sender.session bus address given) c.in-Ok.ensures.refusal).1.0 in
-    rw c.in-Ok.ensures.before (ltb-false (length before) (length given) enough)
+    let drive = c.args.drive.now in
+    let before = functions_of drive.bus drive.address state in
+    let enough = (none_applies (gl_refusals state c.args.sender.session drive) c.in-Ok.ensures.refusal).1.0 in
+    rw c.in-Ok.ensures.before (ltb-false (length before) (length drive.functions) enough)
 
 pub set_one-requires-clause-there : goal.set_one-requires-clause-there
 set_one-requires-clause-there g c =
     let buses = g.R.Rows.buses c.args.rows.now in
     let state = g.R.Rows.state c.args.rows.now in
-    let bus = c.args.place.bus in
-    let address = c.args.place.address in
+    let bus = c.args.drive.now.bus in
+    let address = c.args.drive.now.address in
     let session = c.args.sender.session in
     let moment = c.args.sender.moment in
     let fits = c.args.sender.fits in
     let device = device_in lockable.Gl bus address in
-    let short = nat_lt (length (functions_of bus address state)) (length c.args.functions.now) in
+    let short = nat_lt (length (functions_of bus address state)) (length c.args.drive.now.functions) in
     let others = (short, C418) ∷ (is_locked state session lockable.Gl bus address, C414) ∷ [] in
     let there = set_there buses state session moment fits device others c.in-Ok.ensures.refusal in
     rw (c.key_at-key.ensures, c.device_in.ensures)
@@ -58,22 +45,19 @@ pub set_one-requires-clause-fits : goal.set_one-requires-clause-fits
 set_one-requires-clause-fits g c =
     let buses = g.R.Rows.buses c.args.rows.now in
     let state = g.R.Rows.state c.args.rows.now in
-    let bus = c.args.place.bus in
-    let address = c.args.place.address in
     let session = c.args.sender.session in
-    let drive = c.args.drive in
-    let before = functions_of bus address state in
-    let given = c.args.functions.now in
-    let enough = (none_applies (gl_refusals state session bus address given) c.in-Ok.ensures.refusal).1.0 in
+    let drive = c.args.drive.now in
+    let before = functions_of drive.bus drive.address state in
+    let enough = (none_applies (gl_refusals state session drive) c.in-Ok.ensures.refusal).1.0 in
     rw (c.key_at-key.ensures, c.device_in.ensures, c.kept_v.ensures, c.functions_after.ensures, c.in-Ok.ensures.before)
-    (gl_row buses state session c.args.sender.moment c.args.sender.fits bus address drive.mode drive.v drive.vmax given c.requires.may
-    (ltb-false (length before) (length given) enough))
+    (gl_row buses state session c.args.sender.moment c.args.sender.fits drive c.requires.may
+    (ltb-false (length before) (length drive.functions) enough))
 
 pub returns-clause-took : goal.returns-clause-took
 returns-clause-took g c =
     let state = g.R.Rows.state c.args.rows.now in
-    let updates = updates_of state c.args.sender.moment c.args.place c.args.drive c.args.functions.now in
-    let refusals = gl_refusals state c.args.sender.session c.args.place.bus c.args.place.address c.args.functions.now in
+    let updates = gl_put state c.args.sender.moment c.args.drive.now ∷ [] in
+    let refusals = gl_refusals state c.args.sender.session c.args.drive.now in
     let took = c.set_one.ensures.took in
     subst (λ (did : Effect). Took did state (g.R.Rows.state c.set_one.new.rows) c.set_one.new.obeyed)
     (accepted_done refusals updates c.in-Ok.ensures.refusal)
