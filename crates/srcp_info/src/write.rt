@@ -20,15 +20,13 @@ use srcp_text::{put_bytes, put_number, put_stamp};
 /// allocates no memory.
 pub type InfoLine = ArrayVec<u8, LONGEST_LINE>;
 
-/// Appends a fixed number of bytes. They are pushed one by one, which costs less than a copy.
+/// Appends bytes whose number is known when the program is built, so that the copy of them needs no call.
 #[inline(always)]
 fn put_fixed<const M: usize, const N: usize>(bytes: &[u8; M], buffer: &mut ArrayVec<u8, N>)
     requires { array_vec_len buffer.old + length bytes.now ≤ N }
     ensures { buffer.new.items ≡ buffer.old.items ++ bytes.now }
 {
-    for byte in bytes {
-        buffer.push(*byte);
-    }
+    put_bytes(bytes, buffer);
 }
 
 /// Appends a space and a word.
