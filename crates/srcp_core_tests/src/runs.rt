@@ -5,7 +5,7 @@ use crate::fixture::one_bus;
 use srcp_core::{ConnRecord, CoreFault, Event, Finish, Item, Record, Step, run};
 use srcp_feed::Next;
 use srcp_info::Mode;
-use srcp_rules::{Command, Flat};
+use srcp_rules::{Command, Flat, Sensor};
 use std::alloc::Global;
 use std::process::Abort;
 use std::test::Fail;
@@ -84,11 +84,11 @@ fn obeyed(moment: u64, command: Command) -> Step {
 
 /// A sensor of bus 1 is set.
 fn set_fb(port: u32) -> Command {
-    Command::SetFb {
+    Command::SetFb(Sensor {
         bus: 1,
         port,
         on: true,
-    }
+    })
 }
 
 /// What the registry goes through in that evening.

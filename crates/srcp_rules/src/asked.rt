@@ -8,7 +8,7 @@ ghost use Rattle.srcp_rules.specs.Grammar.{asked};
 use crate::command::{Command, Named, Operation};
 use crate::counted::no_more;
 use crate::grammar::{
-    address, driven, get_ga, get_session, init_ga, init_gl, lock, powered, sensor, switched,
+    address, driven, get_ga, get_session, init_ga, init_gl, lock, powered, sensed, switched,
     term_session, timed_lock,
 };
 use crate::layout::Bus;
@@ -34,22 +34,8 @@ fn power_asked(operation: Operation, bus: &Bus, words: Words<'_>) -> Result<Comm
             no_more(words)?;
             Ok(Command::GetPower { bus: number })
         }
-        Operation::Set => {
-            let (on, text) = powered(words)?;
-            Ok(Command::SetPower {
-                bus: number,
-                on,
-                text,
-            })
-        }
-        Operation::Check => {
-            let (on, text) = powered(words)?;
-            Ok(Command::CheckPower {
-                bus: number,
-                on,
-                text,
-            })
-        }
+        Operation::Set => Ok(Command::SetPower(powered(bus, words)?)),
+        Operation::Check => Ok(Command::CheckPower(powered(bus, words)?)),
         Operation::Init => Ok(Command::InitPower { bus: number }),
         _ => Err(Code::UNSUPPORTED_OPERATION),
     }
@@ -101,22 +87,8 @@ fn fb_asked(operation: Operation, bus: &Bus, words: Words<'_>) -> Result<Command
             bus: number,
             port: address(bus.fb_ports, words)?,
         }),
-        Operation::Set => {
-            let (port, on) = sensor(bus, words)?;
-            Ok(Command::SetFb {
-                bus: number,
-                port,
-                on,
-            })
-        }
-        Operation::Check => {
-            let (port, on) = sensor(bus, words)?;
-            Ok(Command::CheckFb {
-                bus: number,
-                port,
-                on,
-            })
-        }
+        Operation::Set => Ok(Command::SetFb(sensed(bus, words)?)),
+        Operation::Check => Ok(Command::CheckFb(sensed(bus, words)?)),
         Operation::Init => Ok(Command::InitFb { bus: number }),
         _ => Err(Code::UNSUPPORTED_OPERATION),
     }
@@ -134,24 +106,8 @@ fn lock_asked(operation: Operation, bus: &Bus, words: Words<'_>) -> Result<Comma
                 address,
             })
         }
-        Operation::Set => {
-            let (group, address, seconds) = timed_lock(bus, words)?;
-            Ok(Command::SetLock {
-                bus: bus.number,
-                group,
-                address,
-                seconds,
-            })
-        }
-        Operation::Check => {
-            let (group, address, seconds) = timed_lock(bus, words)?;
-            Ok(Command::CheckLock {
-                bus: bus.number,
-                group,
-                address,
-                seconds,
-            })
-        }
+        Operation::Set => Ok(Command::SetLock(timed_lock(bus, words)?)),
+        Operation::Check => Ok(Command::CheckLock(timed_lock(bus, words)?)),
         Operation::Term => {
             let (group, address) = lock(bus, words)?;
             Ok(Command::TermLock {

@@ -1,13 +1,13 @@
 //! Reads the words behind the group, by what each command asks for.
 
-ghost use Rattle.std.specs.Prelude.{◌≡◌, ℕ, Bool, List, Ok, Err, MatchResult};
+ghost use Rattle.std.specs.Prelude.{◌≡◌, ℕ, Ok, Err, MatchResult};
 ghost use Rattle.srcp_rules.specs.declared.command.Lockable.{Lockable};
 ghost use Rattle.srcp_rules.specs.declared.command.Command.{Command};
 ghost use Rattle.srcp_rules.specs.Layout.{address_max};
 ghost use Rattle.srcp_rules.specs.Grammar.{addressed, driven, ga_port, get_ga, get_session, init_ga, init_gl};
-ghost use Rattle.srcp_rules.specs.Grammar.{named_lock, set_fb, set_lock, set_power, switched, term_session};
+ghost use Rattle.srcp_rules.specs.Grammar.{named_lock, powered, sensed, switched, term_session, timed_lock};
 
-use crate::command::{Command, Drive, Lockable, Switch};
+use crate::command::{Command, Drive, Lockable, PowerSwitch, Sensor, Switch, TimedLock};
 use crate::counted::{next_word, no_more};
 use crate::functions::read_functions;
 use crate::layout::Bus;
@@ -15,7 +15,7 @@ use crate::power_text::text_of;
 use crate::read::{bit_of, letter_of, lockable_on, number_in, switch_of, time_of};
 use srcp_info::{
     Code, DriveMode, GREATEST_SPEED, GREATEST_VERSION, Letter, MOST_FUNCTIONS, MOST_SECONDS,
-    MOST_STEPS, Text,
+    MOST_STEPS,
 };
 use srcp_text::{Words, is_keyword};
 
@@ -108,16 +108,17 @@ pub(crate) fn init_ga(bus: &Bus, mut words: Words<'_>) -> Result<Command, Code>
 }
 
 /// Port and value.
-pub(crate) fn sensor(bus: &Bus, mut words: Words<'_>) -> Result<(u32, bool), Code>
-    ensures { (make : ℕ → Bool → Command)
-        → MatchResult result (λ s. set_fb bus.now make words.entry ≡ Ok (make s.0 s.1))
-        (λ code. set_fb bus.now make words.entry ≡ Err code) }
+pub(crate) fn sensed(bus: &Bus, mut words: Words<'_>) -> Result<Sensor, Code>
+    ensures { result ≡ sensed bus.now words.entry }
 {
     let first = next_word(&mut words)?;
     let second = next_word(&mut words)?;
     no_more(words)?;
-    let port = number_in(1, bus.fb_ports, first)?;
-    Ok((port, bit_of(second)?))
+    Ok(Sensor {
+        bus: bus.number,
+        port: number_in(1, bus.fb_ports, first)?,
+        on: bit_of(second)?,
+    })
 }
 
 /// The greatest address of the bus's locomotives or accessories.
@@ -144,18 +145,20 @@ pub(crate) fn lock(bus: &Bus, mut words: Words<'_>) -> Result<(Lockable, u32), C
 }
 
 /// Group, address and seconds.
-pub(crate) fn timed_lock(bus: &Bus, mut words: Words<'_>) -> Result<(Lockable, u32, u32), Code>
-    ensures { (make : Lockable → ℕ → ℕ → Command)
-        → MatchResult result (λ l. set_lock bus.now make words.entry ≡ Ok (make l.0 l.1 l.2))
-        (λ code. set_lock bus.now make words.entry ≡ Err code) }
+pub(crate) fn timed_lock(bus: &Bus, mut words: Words<'_>) -> Result<TimedLock, Code>
+    ensures { result ≡ timed_lock bus.now words.entry }
 {
     let first = next_word(&mut words)?;
     let second = next_word(&mut words)?;
     let third = next_word(&mut words)?;
     no_more(words)?;
     let group = lockable_on(bus, first)?;
-    let address = number_in(1, address_max(bus, group), second)?;
-    Ok((group, address, number_in(0, MOST_SECONDS, third)?))
+    Ok(TimedLock {
+        bus: bus.number,
+        group,
+        address: number_in(1, address_max(bus, group), second)?,
+        seconds: number_in(0, MOST_SECONDS, third)?,
+    })
 }
 
 /// Address, letter, version, steps and number of functions, of which P alone stands for P 1 28 5.
@@ -191,14 +194,15 @@ pub(crate) fn init_gl(bus: &Bus, mut words: Words<'_>) -> Result<Command, Code>
 }
 
 /// ON or OFF, then the words of the text.
-pub(crate) fn powered(mut words: Words<'_>) -> Result<(bool, Text), Code>
-    ensures { (make : Bool → List ℕ → Command)
-        → MatchResult result (λ p. set_power make words.entry ≡ Ok (make p.0 p.1))
-        (λ code. set_power make words.entry ≡ Err code) }
+pub(crate) fn powered(bus: &Bus, mut words: Words<'_>) -> Result<PowerSwitch, Code>
+    ensures { result ≡ powered bus.now words.entry }
 {
     let first = next_word(&mut words)?;
-    let on = switch_of(first)?;
-    Ok((on, text_of(words)?))
+    Ok(PowerSwitch {
+        bus: bus.number,
+        on: switch_of(first)?,
+        text: text_of(words)?,
+    })
 }
 
 /// Address, mode, V, Vmax, and at most 29 functions.
