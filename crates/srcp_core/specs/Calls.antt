@@ -3,7 +3,7 @@
 use Rattle.std.specs.Prelude.{◌≡◌, ℕ, ◌<◌, ◌≤◌, true, false, List, [], ◌∷◌, ◌++◌, map, length, Option, Some, None}
 use Rattle.std.specs.Prelude.{is_none, IsSome}
 use Rattle.srcp_info.specs.declared.limits.TheConstants.{LONGEST_LINE}
-use Rattle.srcp_rules.specs.declared.layout.Bus.{Bus}
+use Rattle.srcp_grammar.specs.declared.layout.Bus.{Bus}
 use Rattle.srcp_core.specs.Agrees.{OfCourse, OfConnection, NamesNewest, CountsOpen, TakesPieces, replies_taken}
 use Rattle.srcp_core.specs.Agrees.{closes as closes_in, lent as lent_in, lends_none as lends_none_in}
 use Rattle.srcp_core.specs.Connection.{is_nil, is_last}

@@ -5,8 +5,9 @@ use Rattle.std.specs.Prelude.{slice_index_or}
 use Rattle.srcp_info.specs.WellFormed.{IsMoment}
 use Rattle.srcp_info.specs.declared.value.Mode.{Mode}
 use Rattle.srcp_text.specs.Reading.{Reading}
-use Rattle.srcp_rules.specs.declared.layout.Bus.{Bus}
-use Rattle.srcp_rules.specs.State.{State, IsWhole, session_device, is_there}
+use Rattle.srcp_grammar.specs.declared.layout.Bus.{Bus}
+use Rattle.srcp_grammar.specs.Devices.{session_device}
+use Rattle.srcp_rules.specs.State.{State, IsWhole, is_there}
 use Rattle.srcp_core.specs.declared.connection.Panel.{Panel}
 
 -- what is held of a connection

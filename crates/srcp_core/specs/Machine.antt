@@ -14,8 +14,8 @@ use Rattle.srcp_info.specs.declared.change.Reply.TheVariants.{Protocol, Mode as 
 use Rattle.srcp_info.specs.declared.change.Shown.{Shown}
 use Rattle.srcp_info.specs.declared.value.Mode.{Mode}
 use Rattle.srcp_info.specs.declared.value.Mode.TheVariants.{Command as CommandMode, Info}
-use Rattle.srcp_rules.specs.declared.layout.Bus.{Bus}
-use Rattle.srcp_rules.specs.declared.command.Command.{Command}
+use Rattle.srcp_grammar.specs.declared.layout.Bus.{Bus}
+use Rattle.srcp_grammar.specs.declared.command.Command.{Command}
 use Rattle.srcp_rules.specs.Due.{due, freed, began}
 use Rattle.srcp_rules.specs.Effect.{Effect, effect}
 use Rattle.srcp_rules.specs.State.{Update, opening, updated_all, shown_rows}

@@ -1,7 +1,7 @@
 -- To be believed: what a run promises of the connections that it tells of, and of the registry.
 use Rattle.std.specs.Prelude.{◌≡◌, ℕ, Bool, true, false, IsTrue, List, [], map, length, fold, Some}
 use Rattle.std.specs.List.{AllByRecursion}
-use Rattle.srcp_rules.specs.declared.layout.Bus.{Bus}
+use Rattle.srcp_grammar.specs.declared.layout.Bus.{Bus}
 use Rattle.srcp_rules.specs.State.{IsWhole}
 use Rattle.srcp_core.specs.Connection.{Connection, recorded}
 use Rattle.srcp_core.specs.Course.{start, course, history, numbered, denied_over}

@@ -4,7 +4,7 @@ use Rattle.std.specs.Prelude.{Some, None}
 use Rattle.srcp_info.specs.declared.change.Change.{Change}
 use Rattle.srcp_info.specs.declared.change.Cursor.{Cursor}
 use Rattle.srcp_info.specs.declared.value.Mode.{Mode}
-use Rattle.srcp_rules.specs.declared.layout.Bus.{Bus}
+use Rattle.srcp_grammar.specs.declared.layout.Bus.{Bus}
 use Rattle.srcp_text.specs.Reading.{Reading, StandsAt}
 use Rattle.srcp_core.specs.Connection.{Connection, History, cursor_at, untold, unsent, is_open}
 use Rattle.srcp_core.specs.Course.{World, numbered, state, history}

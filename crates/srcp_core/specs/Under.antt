@@ -6,7 +6,7 @@ use Rattle.srcp_info.specs.declared.change.Code.TheVariants.{C500}
 use Rattle.srcp_info.specs.declared.change.Reply.{Reply}
 use Rattle.srcp_info.specs.declared.change.Reply.TheVariants.{Accepted}
 use Rattle.srcp_info.specs.declared.value.Mode.{Mode}
-use Rattle.srcp_rules.specs.declared.command.Command.{Command}
+use Rattle.srcp_grammar.specs.declared.command.Command.{Command}
 use Rattle.srcp_rules.specs.Effect.{Effect, effect as effect_of, adds_rows, refused}
 use Rattle.srcp_rules.specs.State.{State}
 use Rattle.srcp_text.specs.Marks.{Mark}

@@ -4,10 +4,10 @@ use Rattle.std.specs.Prelude.{drop, length, flat_map, Option, Some, None}
 use Rattle.std.specs.List.{sum_by}
 use Rattle.std.specs.Option.{option_map_or}
 use Rattle.srcp_rules.specs.Due.{due, freed}
-use Rattle.srcp_rules.specs.Layout.{IsLayout}
+use Rattle.srcp_grammar.specs.Layout.{IsLayout}
 use Rattle.srcp_rules.specs.State.{State}
 use Rattle.srcp_rules.specs.Weight.{weight}
-use Rattle.srcp_rules.specs.declared.layout.Bus.{Bus}
+use Rattle.srcp_grammar.specs.declared.layout.Bus.{Bus}
 use Rattle.srcp_text.specs.Marks.{Mark, Line, TooLong}
 use Rattle.srcp_core.specs.Connection.{Connection, History, waiting, is_open, overran}
 use Rattle.srcp_core.specs.Course.{World, course, happens, history, new_marks, numbered, open_connection, state}

@@ -2,7 +2,7 @@
 ghost use Rattle.std.specs.Prelude.{◌≡◌, ◌≤◌, IfOk, OnOk};
 ghost use Rattle.std.specs.List.{AllByRecursion};
 ghost use Rattle.srcp_info.specs.WellFormed.{IsMoment, IsWellFormedShown};
-ghost use Rattle.srcp_rules.specs.Layout.{IsLayout};
+ghost use Rattle.srcp_grammar.specs.Layout.{IsLayout};
 ghost use Rattle.srcp_core.specs.Promised.{IsPromised, IsPromisedOutline};
 ghost use Rattle.srcp_core.specs.Recording.{Becomes};
 ghost use Rattle.srcp_core.specs.Run.{RunsTold, PlainMoments, HasPlainMoment};

@@ -7,7 +7,7 @@ use crate::fixture::one_bus;
 use srcp_core::{ConnRecord, CoreFault, Event, Finish, Item, Record, Step, run};
 use srcp_feed::Next;
 use srcp_info::Mode;
-use srcp_rules::{Command, Flat};
+use srcp_rules::{Command, Flat, Sensor};
 use std::alloc::Global;
 use std::process::Abort;
 use std::test::Fail;
@@ -87,11 +87,11 @@ fn obeyed(moment: u64, command: Command) -> Step {
 
 /// Returns the command that sets a sensor of bus 1.
 fn set_fb(port: u32) -> Command {
-    Command::SetFb {
+    Command::SetFb(Sensor {
         bus: 1,
         port,
         on: true,
-    }
+    })
 }
 
 /// Returns the steps of the registry in these events.

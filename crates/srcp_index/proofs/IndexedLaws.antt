@@ -19,13 +19,14 @@ use Rattle.srcp_info.specs.Key.{key_cmp, owns}
 use Rattle.srcp_info.specs.WellFormed.{IsMoment, IsValueAt, can_go, is_lock}
 use Rattle.srcp_info.proofs.ClientLaws.{all_append, all_filter, all_put, filter_every, rising_put, rising_filter}
 use Rattle.srcp_info.proofs.KeyLaws.{owns-device_of, device_from_owns}
-use Rattle.srcp_rules.specs.declared.layout.Bus.{Bus}
-use Rattle.srcp_rules.specs.Layout.{IsLayout, row_count}
-use Rattle.srcp_rules.specs.State.{State, IsRising, IsRowOf, MayFall, row_at, key_at, put_row, without, opening, opening_on, first_row}
-use Rattle.srcp_rules.specs.State.{power_device, fb_device, holder_of, holder_in}
+use Rattle.srcp_grammar.specs.declared.layout.Bus.{Bus}
+use Rattle.srcp_grammar.specs.Layout.{IsLayout, row_count}
+use Rattle.srcp_grammar.specs.Devices.{key_at, power_device, fb_device}
+use Rattle.srcp_rules.specs.State.{State, IsRising, IsRowOf, MayFall, row_at, put_row, without, opening, opening_on, first_row}
+use Rattle.srcp_rules.specs.State.{holder_of, holder_in}
 use Rattle.srcp_rules.specs.Rows.{AreNewRowsOf, put_rows}
 use Rattle.srcp_rules.proofs.KeyLaws.{same_key, same_key-itself, same_key-true}
-use Rattle.srcp_rules.proofs.FindLaws.{each-weaken}
+use Rattle.srcp_grammar.proofs.FindLaws.{each-weaken}
 use Rattle.srcp_rules.proofs.StateLaws.{at-filter, row_key, row_at_key, row_at-put_other, each_found}
 use Rattle.srcp_rules.proofs.NewDeviceLaws.{IsFrom, ports_from, ports_rise}
 use Rattle.srcp_rules.proofs.OpeningLaws.{opening_whole}

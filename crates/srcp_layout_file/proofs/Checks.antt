@@ -5,7 +5,7 @@ use Rattle.std.specs.List.{join_with_byte}
 use Rattle.std.proofs.lemmas.Grind.{flat_map-append}
 use Rattle.srcp_info.specs.Line.{after_spaces, spaced}
 use Rattle.srcp_info.proofs.LineLaws.{join-cons}
-use Rattle.srcp_rules.specs.declared.layout.Bus.{Bus}
+use Rattle.srcp_grammar.specs.declared.layout.Bus.{Bus}
 use Rattle.srcp_layout_file.specs.Output.{bus_line, group_words, port_words, power_words}
 
 -- words after others

@@ -3,7 +3,7 @@ use Rattle.std.proofs.Common.{◌≡◌, ℕ, true, false, [], ◌∷◌, Ok, Er
 use Rattle.std.specs.Prelude.{pos}
 use Rattle.std.specs.Fmt.{digits}
 use Rattle.toml.specs.Data.{Data, Items, Members, string, integer, boolean, array, table, no_items, item, no_members, member}
-use Rattle.srcp_rules.specs.declared.layout.Bus.{Bus}
+use Rattle.srcp_grammar.specs.declared.layout.Bus.{Bus}
 use Rattle.srcp_layout_file.specs.Document.{config_in}
 use Rattle.srcp_layout_file.specs.Output.{checked}
 use Rattle.srcp_layout_file.specs.declared.config.ConfigFault.TheVariants as config

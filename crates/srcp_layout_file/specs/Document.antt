@@ -4,8 +4,8 @@ use Rattle.std.specs.Prelude.{pos, codes}
 use Rattle.std.specs.Str.{bytes_eq, is_utf8}
 use Rattle.toml.specs.Parse.{parse_document}
 use Rattle.toml.specs.Data.{Data, string, integer, array, table, Items, no_items, item, Members, get_member}
-use Rattle.srcp_rules.specs.Layout.{has_number, is_within, with_bus}
-use Rattle.srcp_rules.specs.declared.layout.Bus.{Bus}
+use Rattle.srcp_grammar.specs.Layout.{has_number, is_within, with_bus}
+use Rattle.srcp_grammar.specs.declared.layout.Bus.{Bus}
 use Rattle.srcp_layout_file.specs.Faults.{field_key}
 use Rattle.srcp_layout_file.specs.Gives.{◌>>=◌}
 use Rattle.srcp_layout_file.specs.declared.config.Config.{Config}

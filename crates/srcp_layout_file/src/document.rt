@@ -2,7 +2,7 @@
 
 ghost use Rattle.std.specs.Prelude.{◌≡◌, ◌≤◌, [], false, map, IfOk};
 ghost use Rattle.toml.specs.View.{table_view, view as data_of};
-ghost use Rattle.srcp_rules.specs.Layout.{IsBus, has_number};
+ghost use Rattle.srcp_grammar.specs.Layout.{IsBus, has_number};
 ghost use Rattle.srcp_layout_file.specs.Gives.{Gives};
 ghost use Rattle.srcp_layout_file.specs.declared.config.Field.TheVariants as field;
 ghost use Rattle.srcp_layout_file.specs.Document.{config_of, config_in, buses_in, bus_in, bus_of, number_beside};
@@ -14,8 +14,8 @@ mod member;
 use crate::config::{Config, ConfigFault, Field};
 use groups::groups_in;
 use member::{array_in, given_or, number_if, number_in, required};
+use srcp_grammar::{Bus, Layout, LayoutFault};
 use srcp_info::{GREATEST_FB, GREATEST_GA, GREATEST_GL};
-use srcp_rules::{Bus, Layout, LayoutFault};
 use std::alloc::Global;
 use toml::{Table, Value};
 

@@ -6,7 +6,7 @@ ghost use Rattle.srcp_info.specs.Line.{after_spaces};
 ghost use Rattle.srcp_layout_file.specs.Output.{bus_line, checked, group_words, port_line, port_words, power_words};
 
 use crate::config::Config;
-use srcp_rules::Bus;
+use srcp_grammar::Bus;
 use std::alloc::{AllocError, Global};
 use std::string::String;
 use std::vec::Vec;

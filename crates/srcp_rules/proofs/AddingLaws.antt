@@ -8,12 +8,13 @@ use Rattle.srcp_info.specs.declared.value.Value.{Value}
 use Rattle.srcp_info.specs.declared.value.Value.TheVariants as value
 use Rattle.srcp_info.specs.Key.{first_key}
 use Rattle.srcp_info.specs.WellFormed.{IsMoment}
-use Rattle.srcp_rules.specs.declared.layout.Bus.{Bus}
-use Rattle.srcp_rules.specs.Layout.{row_count, rows_if}
-use Rattle.srcp_rules.specs.State.{State, IsWhole, IsRowOf, has_row, is_there, key_at, session_device, row_put}
+use Rattle.srcp_grammar.specs.declared.layout.Bus.{Bus}
+use Rattle.srcp_grammar.specs.Layout.{row_count, rows_if}
+use Rattle.srcp_grammar.specs.Devices.{key_at, session_device}
+use Rattle.srcp_rules.specs.State.{State, IsWhole, IsRowOf, has_row, is_there, row_put}
 use Rattle.srcp_rules.specs.Rows.{AreNewRowsOf}
 use Rattle.srcp_rules.proofs.StepLaws.{IsRowOf-put}
-use Rattle.srcp_rules.proofs.LayoutLaws.{within}
+use Rattle.srcp_grammar.proofs.LayoutLaws.{within}
 
 -- a device of the layout that is not there has no row
 pub none_there : (buses : List Bus) (state : State) → IsWhole buses state → (device : Device) → is_there device state ≡ false

@@ -18,12 +18,13 @@ use Rattle.srcp_info.specs.declared.change.Cursor.TheVariants as cursor
 use Rattle.srcp_info.specs.declared.value.Value.TheVariants as value
 use Rattle.srcp_info.specs.Key.{group_place, key_cmp, owns}
 use Rattle.srcp_info.proofs.ClientLaws.{all_filter, all_put, put_over, rising_filter, rising_put}
-use Rattle.srcp_rules.specs.State.{State, IsRising, fb_device, first_row, has_row, power_device, put_row, row_after, row_at, without}
+use Rattle.srcp_grammar.specs.Devices.{fb_device, power_device}
+use Rattle.srcp_rules.specs.State.{State, IsRising, first_row, has_row, put_row, row_after, row_at, without}
 use Rattle.srcp_rules.specs.Rows.{put_rows}
 use Rattle.srcp_rules.specs.declared.nested.bus_rows.BusRows.{BusRows}
 use Rattle.srcp_rules.specs.Nested.{AreDevices, AreOfDevice, AreOfGroup, AreRowsOfBus, AreSorted, IsIn, bus_groups, bus_rows, device_rows}
 use Rattle.srcp_rules.specs.Nested.{entry_at, group_rows}
-use Rattle.srcp_rules.proofs.FindLaws.{each-weaken}
+use Rattle.srcp_grammar.proofs.FindLaws.{each-weaken}
 use Rattle.srcp_rules.proofs.ListedLaws.{IsTagged, each-listed, row_at-listed, row_after-own}
 use Rattle.srcp_rules.proofs.KeyLaws.{same_key, same_key-true}
 use Rattle.srcp_rules.proofs.StateLaws.{row_key}

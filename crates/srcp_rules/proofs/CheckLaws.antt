@@ -7,12 +7,14 @@ use Rattle.srcp_info.specs.declared.change.Reply.TheVariants.{Accepted, Refused}
 use Rattle.srcp_info.specs.declared.change.Row.{Row}
 use Rattle.srcp_info.specs.declared.value.Value.TheVariants as value
 use Rattle.srcp_info.specs.Key.{first_key}
-use Rattle.srcp_rules.specs.declared.command.Lockable.TheVariants as lockable
-use Rattle.srcp_rules.specs.declared.command.Command.{Command}
-use Rattle.srcp_rules.specs.declared.command.Command.TheVariants.{GetSession, TermSession, GetPower, SetPower, CheckPower, InitPower, GetGl}
-use Rattle.srcp_rules.specs.declared.command.Command.TheVariants.{SetGl, CheckGl, InitGl, TermGl, GetGa, SetGa, CheckGa, InitGa, TermGa}
-use Rattle.srcp_rules.specs.declared.command.Command.TheVariants.{GetFb, SetFb, CheckFb, InitFb, GetLock, SetLock, CheckLock, TermLock}
-use Rattle.srcp_rules.specs.State.{State, Update, row_at, key_at, session_device, power_device, fb_device, device_in, lock_on}
+use Rattle.srcp_grammar.specs.declared.command.Lockable.TheVariants as lockable
+use Rattle.srcp_grammar.specs.declared.command.Command.{Command}
+use Rattle.srcp_grammar.specs.declared.command.Command.TheVariants.{GetSession, TermSession, GetPower, SetPower, CheckPower, InitPower}
+use Rattle.srcp_grammar.specs.declared.command.Command.TheVariants.{GetGl, SetGl, CheckGl, InitGl, TermGl, GetGa, SetGa, CheckGa, InitGa}
+use Rattle.srcp_grammar.specs.declared.command.Command.TheVariants.{TermGa, GetFb, SetFb, CheckFb, InitFb, GetLock, SetLock, CheckLock}
+use Rattle.srcp_grammar.specs.declared.command.Command.TheVariants.{TermLock}
+use Rattle.srcp_grammar.specs.Devices.{key_at, session_device, power_device, fb_device, device_in, lock_on}
+use Rattle.srcp_rules.specs.State.{State, Update, row_at}
 use Rattle.srcp_rules.specs.Effect.{Effect, effect, accepted, refused, showing, done, checked, set_gl, set_ga, set_lock, term_lock}
 use Rattle.srcp_rules.specs.Effect.{term_device, init_device, fresh_gl, fresh_ga, term_session}
 use Rattle.srcp_rules.specs.Laws.{ChangesNothing, AnswersAs, set_of}
@@ -51,8 +53,8 @@ pub refused_calm : (state : State) (session moment : ℕ) (command : Command) �
 refused_calm state session moment (GetSession id) = calm_showing (row_at (first_key (session_device id)) state)
 refused_calm state session moment (TermSession id) = calm_end session id
 refused_calm state session moment (GetPower bus) = calm_showing (row_at (first_key (power_device bus)) state)
-refused_calm state session moment (SetPower bus on text) = calm_accepted (effect state session moment (SetPower bus on text)).updates
-refused_calm state session moment (CheckPower bus on text) = calm_accepted []
+refused_calm state session moment (SetPower power) = calm_accepted (effect state session moment (SetPower power)).updates
+refused_calm state session moment (CheckPower power) = calm_accepted []
 refused_calm state session moment (InitPower bus) = calm_accepted []
 refused_calm state session moment (GetGl bus address) = calm_showing (row_at (key_at (device_in lockable.Gl bus address) 1) state)
 refused_calm state session moment (SetGl drive) = calm_done (set_gl state session moment drive)
@@ -69,12 +71,12 @@ refused_calm state session moment (InitGa bus address letter ports) =
     calm_done (init_device state session moment lockable.Ga bus address (value.GaInit letter) (fresh_ga moment bus address letter ports))
 refused_calm state session moment (TermGa bus address) = calm_done (term_device state session moment lockable.Ga bus address)
 refused_calm state session moment (GetFb bus port) = calm_showing (row_at (first_key (fb_device bus port)) state)
-refused_calm state session moment (SetFb bus port on) = calm_accepted (effect state session moment (SetFb bus port on)).updates
-refused_calm state session moment (CheckFb bus port on) = calm_accepted []
+refused_calm state session moment (SetFb sensor) = calm_accepted (effect state session moment (SetFb sensor)).updates
+refused_calm state session moment (CheckFb sensor) = calm_accepted []
 refused_calm state session moment (InitFb bus) = calm_accepted []
 refused_calm state session moment (GetLock bus g address) = calm_showing (row_at (first_key (lock_on g bus address)) state)
-refused_calm state session moment (SetLock bus g address seconds) = calm_done (set_lock state session moment g bus address seconds)
-refused_calm state session moment (CheckLock bus g address seconds) = calm_checked (set_lock state session moment g bus address seconds)
+refused_calm state session moment (SetLock lock) = calm_done (set_lock state session moment lock)
+refused_calm state session moment (CheckLock lock) = calm_checked (set_lock state session moment lock)
 refused_calm state session moment (TermLock bus g address) = calm_done (term_lock state session moment g bus address)
 
 -- what is checked is answered as what is done
@@ -84,9 +86,9 @@ checked_as_done (Err code) = record { reply = refl; nothing = record { updates =
 
 pub check_as_set : (state : State) (session moment : ℕ) (command : Command)
     → IfSome (set_of command) (λ set. AnswersAs (effect state session moment command) (effect state session moment set))
-check_as_set state session moment (CheckPower bus on text) = record { reply = refl; nothing = record { updates = refl; ends = refl } }
+check_as_set state session moment (CheckPower power) = record { reply = refl; nothing = record { updates = refl; ends = refl } }
 check_as_set state session moment (CheckGl drive) = checked_as_done (set_gl state session moment drive)
 check_as_set state session moment (CheckGa switch) = checked_as_done (set_ga state session moment switch)
-check_as_set state session moment (CheckFb bus port on) = record { reply = refl; nothing = record { updates = refl; ends = refl } }
-check_as_set state session moment (CheckLock bus g address seconds) = checked_as_done (set_lock state session moment g bus address seconds)
+check_as_set state session moment (CheckFb sensor) = record { reply = refl; nothing = record { updates = refl; ends = refl } }
+check_as_set state session moment (CheckLock lock) = checked_as_done (set_lock state session moment lock)
 check_as_set state session moment other = tt

@@ -20,11 +20,12 @@ use Rattle.srcp_info.specs.declared.change.Cursor.{Cursor}
 use Rattle.srcp_info.specs.declared.change.Cursor.TheVariants as at
 use Rattle.srcp_info.specs.Key.{is_after, key_cmp, device_of, has_reached, owns}
 use Rattle.srcp_info.proofs.ClientLaws.{after_from_less, all_append, all_put, rising_put}
-use Rattle.srcp_rules.specs.State.{State, IsRising, has_row, key_at, put_row, row_at, row_after, without}
+use Rattle.srcp_grammar.specs.Devices.{key_at}
+use Rattle.srcp_rules.specs.State.{State, IsRising, has_row, put_row, row_at, row_after, without}
 use Rattle.srcp_rules.specs.Rows.{put_rows}
 use Rattle.srcp_rules.specs.Numbered.{numbered}
 use Rattle.srcp_rules.specs.Nested.{AreDevices, AreOfDevice, IsIn, device_rows, entry_at}
-use Rattle.srcp_rules.proofs.FindLaws.{each-weaken, find_same}
+use Rattle.srcp_grammar.proofs.FindLaws.{each-weaken, find_same}
 use Rattle.srcp_rules.proofs.StateLaws.{row_key, row_at-first}
 use Rattle.srcp_rules.proofs.OrderLaws.{address_order, device_in_group, device_order, group_alike, owns-other, owns-own}
 use Rattle.srcp_rules.proofs.PutLaws.{find_none, find_past, put_rows-new, without-all}

@@ -1,6 +1,6 @@
 -- What a moment makes of each row, and what a timed SET leaves behind.
-use Rattle.std.specs.Prelude.{◌≡◌, ℕ, ◌+◌, ◌*◌, ◌<◌, min, Bool, true, false, cond, nat_le, map, filter, List, [], ◌∷◌, Option, Some, None}
-use Rattle.std.specs.Prelude.{Err, if◌then◌else◌}
+use Rattle.std.specs.Prelude.{◌≡◌, ℕ, ◌+◌, ◌*◌, ◌<◌, min, Bool, true, false, cond, map, filter, List, [], ◌∷◌, Option, Some, None}
+use Rattle.std.specs.Prelude.{Err}
 use Rattle.std.proofs.Common.{refl, sym, ap, subst, ◌∙◌, arith}
 use Rattle.std.proofs.lemmas.Bool.{lt-ltb}
 use Rattle.std.proofs.Math.Nat.{min-eq_left, min-eq_right}
@@ -14,19 +14,17 @@ use Rattle.srcp_info.specs.declared.change.Code.{Code}
 use Rattle.srcp_info.specs.declared.change.Reply.TheVariants.{Accepted}
 use Rattle.srcp_info.specs.Key.{device_of, first_key, owns}
 use Rattle.srcp_info.specs.WellFormed.{IsMoment, IsValueAt, is_lock}
-use Rattle.srcp_rules.specs.declared.layout.Bus.{Bus}
-use Rattle.srcp_rules.specs.declared.command.Lockable.{Lockable}
-use Rattle.srcp_rules.specs.declared.command.Lockable.TheVariants as lockable
-use Rattle.srcp_rules.specs.declared.command.Command.TheVariants.{SetLock}
-use Rattle.srcp_rules.specs.State.{State, Update, IsWhole, IsRowOf, MayFall, row_at, key_at, device_in, lock_on, updated, updated_all}
-use Rattle.srcp_rules.specs.State.{row_put}
-use Rattle.srcp_rules.specs.Effect.{effect, done, unless_refused, refusals, put_at, port_end, lock_end, moment_after}
+use Rattle.srcp_grammar.specs.declared.layout.Bus.{Bus}
+use Rattle.srcp_grammar.specs.declared.command.Lockable.TheVariants as lockable
+use Rattle.srcp_grammar.specs.declared.command.Command.TheVariants.{SetLock}
+use Rattle.srcp_grammar.specs.Devices.{key_at, device_in, lock_on}
+use Rattle.srcp_rules.specs.State.{State, Update, IsWhole, IsRowOf, MayFall, row_at, updated, updated_all, row_put}
+use Rattle.srcp_rules.specs.Effect.{done, unless_refused, refusals, put_at, port_end, lock_end, moment_after}
 use Rattle.srcp_rules.specs.Due.{due, due_change, is_due}
-use Rattle.srcp_rules.specs.Obeyed.{MayObey}
-use Rattle.srcp_rules.specs.Laws.{EndsInTime, PortsAreSet, PortsFallBack, comes_to, fallen, port_on}
+use Rattle.srcp_rules.specs.Laws.{EndsInTime, LocksAreSet, LocksRunOut, PortsAreSet, PortsFallBack, comes_to, fallen, port_on}
 use Rattle.srcp_rules.proofs.KeyLaws.{same_key, same_key-true}
 use Rattle.srcp_info.proofs.KeyLaws.{device_from_owns}
-use Rattle.srcp_rules.proofs.FindLaws.{each_filtered, each_unfiltered, found_holds}
+use Rattle.srcp_grammar.proofs.FindLaws.{each_filtered, each_unfiltered, found_holds}
 use Rattle.srcp_rules.proofs.StateLaws.{row_at-put_row, row_at-put_same, row_at-without, row_at_key, each_found}
 use Rattle.srcp_rules.proofs.DueLaws.{due_may}
 use Rattle.srcp_rules.proofs.DueStepLaws.{due_later, lock_port}
@@ -196,13 +194,10 @@ port_set state session moment switch e =
     (key_at (device_in lockable.Ga switch.bus switch.address) (1 + switch.port))
     (value.GaPort switch.on) (port_end moment switch.on switch.time) state e
 
-pub lock_set : (state : State) (session moment : ℕ) (g : Lockable) (bus address seconds : ℕ)
-    → (effect state session moment (SetLock bus g address seconds)).reply ≡ Accepted
-    → row_at (first_key (lock_on g bus address)) (updated_all (effect state session moment (SetLock bus g address seconds)).updates state)
-    ≡ Some (row_put moment (first_key (lock_on g bus address)) (value.Lock seconds session) (lock_end moment seconds))
-lock_set state session moment g bus address seconds e =
-    put_there (refusals state session g bus address) moment (first_key (lock_on g bus address)) (value.Lock seconds session)
-    (lock_end moment seconds) state e
+pub lock_set : LocksAreSet
+lock_set state session moment lock e =
+    put_there (refusals state session lock.group lock.bus lock.address) moment (first_key (lock_on lock.group lock.bus lock.address))
+    (value.Lock lock.seconds session) (lock_end moment lock.seconds) state e
 
 -- ---- and what becomes of it
 
@@ -224,22 +219,16 @@ port_falls buses state session moment later bus address port milliseconds may be
     ∙ ap (λ ends. Some (row_put moment key (value.GaPort true) ends)) (some_time moment milliseconds some) in
     due_rows buses later now after whole key ∙ ap (λ o. option_map_or (comes_to later) o None) there
 
-pub lock_runs_out : (buses : List Bus) (state : State) (session moment later : ℕ) (g : Lockable) (bus address seconds : ℕ)
-    → MayObey buses state session (SetLock bus g address seconds) → IsMoment moment → IsMoment later
-    → 0 < seconds → (effect state session moment (SetLock bus g address seconds)).reply ≡ Accepted
-    → (after : State) → after ≡ updated_all (effect state session moment (SetLock bus g address seconds)).updates state
-    → row_at (first_key (lock_on g bus address)) (updated_all (due after later) after)
-    ≡ (if nat_le (moment_after moment (1000 * seconds)) later then None
-    else Some (row_put moment (first_key (lock_on g bus address)) (value.Lock seconds session)
-    (Some (moment_after moment (1000 * seconds)))))
-lock_runs_out buses state session moment later g bus address seconds may begins now some e after is =
-    let key = first_key (lock_on g bus address) in
+pub lock_runs_out : LocksRunOut
+lock_runs_out buses state session moment later lock may begins now some e after is =
+    let key = first_key (lock_on lock.group lock.bus lock.address) in
     let whole : IsWhole buses after =
     subst (IsWhole buses) (sym is)
-    (effect_kept buses state may.whole session moment may.begun begins (SetLock bus g address seconds) may.of) in
-    let there : row_at key after ≡ Some (row_put moment key (value.Lock seconds session) (Some (moment_after moment (1000 * seconds)))) =
-    ap (row_at key) is ∙ lock_set state session moment g bus address seconds e
-    ∙ ap (λ ends. Some (row_put moment key (value.Lock seconds session) ends)) (some_seconds moment seconds some) in
+    (effect_kept buses state may.whole session moment may.begun begins (SetLock lock) may.of) in
+    let ends = moment_after moment (1000 * lock.seconds) in
+    let there : row_at key after ≡ Some (row_put moment key (value.Lock lock.seconds session) (Some ends)) =
+    ap (row_at key) is ∙ lock_set state session moment lock e
+    ∙ ap (λ due. Some (row_put moment key (value.Lock lock.seconds session) due)) (some_seconds moment lock.seconds some) in
     due_rows buses later now after whole key ∙ ap (λ o. option_map_or (comes_to later) o None) there
 
 -- ---- the greatest moment

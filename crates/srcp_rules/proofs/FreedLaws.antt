@@ -4,8 +4,9 @@ use Rattle.std.proofs.Common.{refl, sym, ap, ◌∙◌, true≢false, eqb-true}
 use Rattle.std.specs.Option.{option_map_or}
 use Rattle.srcp_info.specs.declared.key.Key.{Key}
 use Rattle.srcp_info.specs.declared.change.Row.{Row}
-use Rattle.srcp_rules.specs.declared.layout.Bus.{Bus}
-use Rattle.srcp_rules.specs.State.{State, IsWhole, row_at, is_there, session_device, holder_of, updated_all}
+use Rattle.srcp_grammar.specs.declared.layout.Bus.{Bus}
+use Rattle.srcp_grammar.specs.Devices.{session_device}
+use Rattle.srcp_rules.specs.State.{State, IsWhole, row_at, is_there, holder_of, updated_all}
 use Rattle.srcp_rules.specs.Due.{freed}
 use Rattle.srcp_rules.specs.Laws.{IsFreed}
 use Rattle.srcp_rules.proofs.DueLaws.{freed_kept}

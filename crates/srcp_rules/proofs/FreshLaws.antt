@@ -9,11 +9,12 @@ use Rattle.srcp_info.specs.declared.value.Letter.{Letter}
 use Rattle.srcp_info.specs.declared.value.Value.TheVariants as value
 use Rattle.srcp_info.specs.declared.change.Row.{Row}
 use Rattle.srcp_info.specs.WellFormed.{IsMoment}
-use Rattle.srcp_rules.specs.declared.layout.Bus.{Bus}
-use Rattle.srcp_rules.specs.declared.command.Lockable.TheVariants as lockable
-use Rattle.srcp_rules.specs.declared.command.Command.TheVariants.{InitGl, InitGa}
-use Rattle.srcp_rules.specs.Layout.{row_count}
-use Rattle.srcp_rules.specs.State.{State, IsRowOf, device_in, key_at, put_of, row_put}
+use Rattle.srcp_grammar.specs.declared.layout.Bus.{Bus}
+use Rattle.srcp_grammar.specs.declared.command.Lockable.TheVariants as lockable
+use Rattle.srcp_grammar.specs.declared.command.Command.TheVariants.{InitGl, InitGa}
+use Rattle.srcp_grammar.specs.Layout.{row_count}
+use Rattle.srcp_grammar.specs.Devices.{device_in, key_at}
+use Rattle.srcp_rules.specs.State.{State, IsRowOf, put_of, row_put}
 use Rattle.srcp_rules.specs.Effect.{put_at, fresh_ga}
 use Rattle.srcp_rules.specs.Obeyed.{MayObey}
 use Rattle.srcp_rules.specs.Rows.{AreRowsOf}

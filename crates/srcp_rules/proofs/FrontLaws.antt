@@ -6,8 +6,9 @@ use Rattle.srcp_info.specs.declared.change.Row.{Row}
 use Rattle.srcp_info.specs.Key.{device_of}
 use Rattle.srcp_info.specs.WellFormed.{IsMoment}
 use Rattle.srcp_info.proofs.ClientLaws.{all_append}
-use Rattle.srcp_rules.specs.declared.layout.Bus.{Bus}
-use Rattle.srcp_rules.specs.State.{State, Update, AddsNoRow, IsWhole, is_there, session_device, updated, updated_all}
+use Rattle.srcp_grammar.specs.declared.layout.Bus.{Bus}
+use Rattle.srcp_grammar.specs.Devices.{session_device}
+use Rattle.srcp_rules.specs.State.{State, Update, AddsNoRow, IsWhole, is_there, updated, updated_all}
 use Rattle.srcp_rules.specs.Effect.{gone_at, removal}
 use Rattle.srcp_rules.specs.Due.{due, freed, is_held_by}
 use Rattle.srcp_rules.proofs.DueStepLaws.{due_later}

@@ -7,11 +7,12 @@ use Rattle.srcp_info.specs.declared.change.Change.{Change}
 use Rattle.srcp_info.specs.declared.change.Code.TheVariants.{C414}
 use Rattle.srcp_info.specs.declared.value.Value.{Value}
 use Rattle.srcp_info.specs.Key.{first_key, owns}
-use Rattle.srcp_rules.specs.declared.layout.Bus.{Bus}
-use Rattle.srcp_rules.specs.declared.command.Lockable.{Lockable}
-use Rattle.srcp_rules.specs.declared.command.Lockable.TheVariants as lockable
-use Rattle.srcp_rules.specs.Layout.{row_count}
-use Rattle.srcp_rules.specs.State.{State, Update, IsWhole, row_at, is_there, put_of, without, device_in, lock_on, updated_all}
+use Rattle.srcp_grammar.specs.declared.layout.Bus.{Bus}
+use Rattle.srcp_grammar.specs.declared.command.Lockable.{Lockable}
+use Rattle.srcp_grammar.specs.declared.command.Lockable.TheVariants as lockable
+use Rattle.srcp_grammar.specs.Layout.{row_count}
+use Rattle.srcp_grammar.specs.Devices.{device_in, lock_on}
+use Rattle.srcp_rules.specs.State.{State, Update, IsWhole, row_at, is_there, put_of, without, updated_all}
 use Rattle.srcp_rules.specs.Effect.{accepted, done, gone_at, has_init, init_device, is_locked, removal, removals}
 use Rattle.srcp_rules.specs.Rows.{AreRowsOf, AreNewRowsOf, put_rows}
 use Rattle.srcp_rules.proofs.StateLaws.{row_at-without, updated_all-append}

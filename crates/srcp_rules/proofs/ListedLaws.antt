@@ -23,7 +23,7 @@ use Rattle.srcp_info.proofs.ClientLaws.{all_append, all_filter}
 use Rattle.srcp_info.proofs.KeyLaws.{nat_tie}
 use Rattle.srcp_rules.specs.State.{State, row_at, row_after}
 use Rattle.srcp_rules.proofs.KeyLaws.{same_key, same_key-true}
-use Rattle.srcp_rules.proofs.FindLaws.{each-weaken, each_filtered}
+use Rattle.srcp_grammar.proofs.FindLaws.{each-weaken, each_filtered}
 use Rattle.srcp_rules.specs.Nested.{listed, AreSorted, entry_at}
 use Rattle.srcp_rules.proofs.PutLaws.{find_past, find_before, find_behind}
 

@@ -14,17 +14,19 @@ use Rattle.srcp_info.specs.declared.change.Reply.TheVariants.{Accepted}
 use Rattle.srcp_info.specs.Key.{group_place, first_key, key_of, owns}
 use Rattle.srcp_info.proofs.KeyLaws.{owns-device_of, device_from_owns}
 use Rattle.srcp_info.proofs.ClientLaws.{all_append}
-use Rattle.srcp_rules.specs.declared.command.Lockable.{Lockable}
-use Rattle.srcp_rules.specs.declared.command.Lockable.TheVariants as lockable
-use Rattle.srcp_rules.specs.declared.command.Command.{Command}
-use Rattle.srcp_rules.specs.declared.command.Command.TheVariants.{GetSession, TermSession, GetPower, SetPower, CheckPower, InitPower, GetGl}
-use Rattle.srcp_rules.specs.declared.command.Command.TheVariants.{SetGl, CheckGl, InitGl, TermGl, GetGa, SetGa, CheckGa, InitGa, TermGa}
-use Rattle.srcp_rules.specs.declared.command.Command.TheVariants.{GetFb, SetFb, CheckFb, InitFb, GetLock, SetLock, CheckLock, TermLock}
-use Rattle.srcp_rules.specs.State.{State, Update, row_at, is_there, key_at, session_device, power_device, fb_device, device_in}
-use Rattle.srcp_rules.specs.State.{device_group, lock_on, lock_group, updated, updated_by, updated_all}
-use Rattle.srcp_rules.specs.Effect.{effect, refused, done, refusals, is_locked, put_at, gone_at, removal, removals, lock_end}
+use Rattle.srcp_grammar.specs.declared.command.Lockable.{Lockable}
+use Rattle.srcp_grammar.specs.declared.command.Lockable.TheVariants as lockable
+use Rattle.srcp_grammar.specs.declared.command.Command.{Command}
+use Rattle.srcp_grammar.specs.declared.command.Command.TheVariants.{GetSession, TermSession, GetPower, SetPower, CheckPower, InitPower}
+use Rattle.srcp_grammar.specs.declared.command.Command.TheVariants.{GetGl, SetGl, CheckGl, InitGl, TermGl, GetGa, SetGa, CheckGa, InitGa}
+use Rattle.srcp_grammar.specs.declared.command.Command.TheVariants.{TermGa, GetFb, SetFb, CheckFb, InitFb, GetLock, SetLock, CheckLock}
+use Rattle.srcp_grammar.specs.declared.command.Command.TheVariants.{TermLock}
+use Rattle.srcp_grammar.specs.Devices.{key_at, session_device, power_device, fb_device, device_in, device_group, lock_on, lock_group}
+use Rattle.srcp_rules.specs.State.{State, Update, row_at, is_there}
+use Rattle.srcp_rules.specs.State.{updated, updated_by, updated_all}
+use Rattle.srcp_rules.specs.Effect.{effect, refused, done, refusals, is_locked, put_at, gone_at, removal, removals}
 use Rattle.srcp_rules.specs.Effect.{set_gl, set_ga, set_lock, fresh_gl, fresh_ga, init_device, has_init, ga_put, gl_put, gl_refusals}
-use Rattle.srcp_rules.specs.Effect.{term_device}
+use Rattle.srcp_rules.specs.Effect.{lock_put, term_device}
 use Rattle.srcp_rules.specs.Effect.{term_session}
 use Rattle.srcp_rules.specs.Laws.{IsKept}
 use Rattle.srcp_rules.proofs.KeyLaws.{same_key, same_key-true}
@@ -197,14 +199,14 @@ module _ (state : State) (session moment : ℕ) (g : Lockable) (bus address : �
   effect_apart (GetSession id) = showing_updates AllApart tt (row_at (first_key (session_device id)) state)
   effect_apart (TermSession id) = ended_apart id
   effect_apart (GetPower b) = showing_updates AllApart tt (row_at (first_key (power_device b)) state)
-  effect_apart (SetPower b on text) = (
+  effect_apart (SetPower power) = (
     (
-      other_group (device_in g bus address) (first_key (power_device b)) (power_no_device g),
-      other_group (lock_on g bus address) (first_key (power_device b)) (power_no_lock g),
+      other_group (device_in g bus address) (first_key (power_device power.bus)) (power_no_device g),
+      other_group (lock_on g bus address) (first_key (power_device power.bus)) (power_no_lock g),
     ),
     tt,
   )
-  effect_apart (CheckPower b on text) = tt
+  effect_apart (CheckPower power) = tt
   effect_apart (InitPower b) = tt
   effect_apart (GetGl b a) = showing_updates AllApart tt (row_at (key_at (device_in lockable.Gl b a) 1) state)
   effect_apart (SetGl drive) =
@@ -226,21 +228,20 @@ module _ (state : State) (session moment : ℕ) (g : Lockable) (bus address : �
       (λ other. (row_apart lockable.Ga b a 0 other, ports_apart b a 1 ports other))
   effect_apart (TermGa b a) = term_apart lockable.Ga b a
   effect_apart (GetFb b port) = showing_updates AllApart tt (row_at (first_key (fb_device b port)) state)
-  effect_apart (SetFb b port on) = (
+  effect_apart (SetFb sensor) = (
     (
-      other_group (device_in g bus address) (first_key (fb_device b port)) (fb_no_device g),
-      other_group (lock_on g bus address) (first_key (fb_device b port)) (fb_no_lock g),
+      other_group (device_in g bus address) (first_key (fb_device sensor.bus sensor.port)) (fb_no_device g),
+      other_group (lock_on g bus address) (first_key (fb_device sensor.bus sensor.port)) (fb_no_lock g),
     ),
     tt,
   )
-  effect_apart (CheckFb b port on) = tt
+  effect_apart (CheckFb sensor) = tt
   effect_apart (InitFb b) = tt
   effect_apart (GetLock b h a) = showing_updates AllApart tt (row_at (first_key (lock_on h b a)) state)
-  effect_apart (SetLock b h a seconds) =
-      accepted_updates AllApart tt (refusals state session h b a)
-      (put_at moment (first_key (lock_on h b a)) (value.Lock seconds session) (lock_end moment seconds) ∷ [])
-      (λ none. (lock_apart h b a (other_device h b a none.1.0), tt))
-  effect_apart (CheckLock b h a seconds) = checked_updates AllApart tt (set_lock state session moment h b a seconds)
+  effect_apart (SetLock lock) =
+      accepted_updates AllApart tt (refusals state session lock.group lock.bus lock.address) (lock_put session moment lock ∷ [])
+      (λ none. (lock_apart lock.group lock.bus lock.address (other_device lock.group lock.bus lock.address none.1.0), tt))
+  effect_apart (CheckLock lock) = checked_updates AllApart tt (set_lock state session moment lock)
   effect_apart (TermLock b h a) =
       accepted_updates AllApart tt ((not (is_there (lock_on h b a) state), C416) ∷ (is_locked state session h b a, C414) ∷ [])
       (gone_at moment (lock_on h b a) ∷ [])

@@ -23,17 +23,18 @@ use Rattle.srcp_info.specs.declared.change.Cursor.{Cursor}
 use Rattle.srcp_info.specs.declared.change.Cursor.TheVariants as cursor
 use Rattle.srcp_info.specs.Key.{key_cmp, first_key, has_reached, owns}
 use Rattle.srcp_info.specs.WellFormed.{can_go}
-use Rattle.srcp_rules.specs.declared.layout.Bus.{Bus}
-use Rattle.srcp_rules.specs.Layout.{IsLayout, bus_at, row_count, rows_on, server}
-use Rattle.srcp_rules.specs.State.{State, IsRising, fb_device, has_row, is_there, key_at, opening, power_device, put_row, row_at, row_after}
-use Rattle.srcp_rules.specs.State.{without}
+use Rattle.srcp_grammar.specs.declared.layout.Bus.{Bus}
+use Rattle.srcp_grammar.specs.Layout.{IsLayout, bus_at, row_count, rows_on, server}
+use Rattle.srcp_grammar.specs.Devices.{fb_device, key_at, power_device}
+use Rattle.srcp_rules.specs.State.{State, IsRising, has_row, is_there, opening, put_row, row_at, row_after, without}
 use Rattle.srcp_rules.specs.Rows.{put_rows}
 use Rattle.srcp_rules.specs.declared.nested.bus_rows.BusRows.{BusRows}
 use Rattle.srcp_rules.specs.Nested.{AreRowsOfBus, AreRowsOfLayout, AreSorted, bus_rows, entry_at, group_rows, listed}
-use Rattle.srcp_rules.proofs.FindLaws.{each-weaken}
-use Rattle.srcp_rules.proofs.LayoutLaws.{within_step}
-use Rattle.srcp_rules.proofs.OpeningLaws.{Rising, opening_whole}
-use Rattle.srcp_rules.proofs.PlaceLaws.{each_at}
+use Rattle.srcp_grammar.proofs.FindLaws.{each-weaken}
+use Rattle.srcp_grammar.proofs.LayoutLaws.{within_step}
+use Rattle.srcp_grammar.proofs.BusLaws.{Rising}
+use Rattle.srcp_rules.proofs.OpeningLaws.{opening_whole}
+use Rattle.srcp_grammar.proofs.PlaceLaws.{each_at}
 use Rattle.srcp_rules.proofs.StateLaws.{has_row-put_row, row_at-without}
 use Rattle.srcp_rules.proofs.PutRowsLaws.{has_row-put_rows}
 use Rattle.srcp_rules.proofs.OrderLaws.{bus_order, greater, owns-other}

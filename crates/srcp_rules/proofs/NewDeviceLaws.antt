@@ -11,12 +11,13 @@ use Rattle.srcp_info.specs.declared.key.Key.{Key}
 use Rattle.srcp_info.specs.declared.key.Device.{Device}
 use Rattle.srcp_info.specs.declared.change.Row.{Row}
 use Rattle.srcp_info.specs.Key.{key_cmp, device_of}
-use Rattle.srcp_rules.specs.declared.layout.Bus.{Bus}
-use Rattle.srcp_rules.specs.Layout.{bus_at, row_count, rows_if, rows_on}
-use Rattle.srcp_rules.specs.State.{State, IsRising, has_row, key_at}
+use Rattle.srcp_grammar.specs.declared.layout.Bus.{Bus}
+use Rattle.srcp_grammar.specs.Layout.{bus_at, row_count, rows_if, rows_on}
+use Rattle.srcp_grammar.specs.Devices.{key_at}
+use Rattle.srcp_rules.specs.State.{State, IsRising, has_row}
 use Rattle.srcp_rules.specs.Rows.{AreNewRowsOf, AreRowsOf}
 use Rattle.srcp_rules.specs.Nested.{AreOfDevice, most_rows}
-use Rattle.srcp_rules.proofs.FindLaws.{each-weaken}
+use Rattle.srcp_grammar.proofs.FindLaws.{each-weaken}
 use Rattle.srcp_rules.proofs.OrderLaws.{port_order}
 
 heads : {X : Type 0} (x y : X) (xs ys : List X) → x ∷ xs ≡ y ∷ ys → x ≡ y

@@ -11,11 +11,12 @@ use Rattle.srcp_info.specs.declared.change.Row.{Row}
 use Rattle.srcp_info.specs.declared.change.Cursor.{Cursor}
 use Rattle.srcp_info.specs.Key.{device_of, first_key, key_of, has_reached}
 use Rattle.srcp_info.specs.WellFormed.{IsMoment, IsValueAt, IsWellFormed}
-use Rattle.srcp_rules.specs.declared.layout.Bus.{Bus}
-use Rattle.srcp_rules.specs.State.{State, Update, AddsNoRow, IsWhole, IsRowOf, MayFall, row_at, is_there, session_device, updated}
+use Rattle.srcp_grammar.specs.declared.layout.Bus.{Bus}
+use Rattle.srcp_grammar.specs.Devices.{session_device}
+use Rattle.srcp_rules.specs.State.{State, Update, AddsNoRow, IsWhole, IsRowOf, MayFall, row_at, is_there, updated}
 use Rattle.srcp_rules.specs.Effect.{gone_at}
 use Rattle.srcp_rules.specs.Due.{due_after, due_change, first_due, first_held, is_due, is_held_by, freed}
-use Rattle.srcp_rules.proofs.FindLaws.{found_holds, find_same, each-weaken}
+use Rattle.srcp_grammar.proofs.FindLaws.{found_holds, find_same, each-weaken}
 use Rattle.srcp_info.proofs.ListingLaws.{find_passes}
 use Rattle.srcp_rules.proofs.StateLaws.{row_at_key, each_found}
 use Rattle.srcp_rules.proofs.SoughtLaws.{find-both}

@@ -10,16 +10,19 @@ use Rattle.srcp_info.specs.declared.change.Code.TheVariants.{C416}
 use Rattle.srcp_info.specs.declared.value.Value.TheVariants as value
 use Rattle.srcp_info.specs.Key.{first_key}
 use Rattle.srcp_info.specs.WellFormed.{IsMoment}
-use Rattle.srcp_rules.specs.declared.layout.Bus.{Bus}
-use Rattle.srcp_rules.specs.Layout.{IsKeyOf, row_count}
-use Rattle.srcp_rules.specs.Command.{kept_v}
-use Rattle.srcp_rules.specs.declared.command.Lockable.{Lockable}
-use Rattle.srcp_rules.specs.declared.command.Lockable.TheVariants as lockable
-use Rattle.srcp_rules.specs.declared.command.Drive.{Drive}
-use Rattle.srcp_rules.specs.declared.command.Switch.{Switch}
-use Rattle.srcp_rules.specs.declared.command.Command.TheVariants.{SetPower, SetGl, SetGa, SetFb, SetLock}
-use Rattle.srcp_rules.specs.State.{State, Update, IsRowOf, IsWhole, has_row, row_at, is_there, key_at, power_device, fb_device, device_in}
-use Rattle.srcp_rules.specs.State.{lock_on, functions_of, row_put}
+use Rattle.srcp_grammar.specs.declared.layout.Bus.{Bus}
+use Rattle.srcp_grammar.specs.Layout.{IsKeyOf, row_count}
+use Rattle.srcp_grammar.specs.Command.{kept_v}
+use Rattle.srcp_grammar.specs.declared.command.Lockable.TheVariants as lockable
+use Rattle.srcp_grammar.specs.declared.command.Drive.{Drive}
+use Rattle.srcp_grammar.specs.declared.command.Switch.{Switch}
+use Rattle.srcp_grammar.specs.declared.command.PowerSwitch.{PowerSwitch}
+use Rattle.srcp_grammar.specs.declared.command.Sensor.{Sensor}
+use Rattle.srcp_grammar.specs.declared.command.TimedLock.{TimedLock}
+use Rattle.srcp_grammar.specs.declared.command.Command.TheVariants.{SetPower, SetGl, SetGa, SetFb, SetLock}
+use Rattle.srcp_grammar.specs.Devices.{key_at, power_device, fb_device, device_in, lock_on}
+use Rattle.srcp_rules.specs.State.{State, Update, IsRowOf, IsWhole, has_row, row_at, is_there}
+use Rattle.srcp_rules.specs.State.{functions_of, row_put}
 use Rattle.srcp_rules.specs.Effect.{done, checked, first_refusal, refused, refused_or_not, accepted, unless_refused, lock_end, port_end}
 use Rattle.srcp_rules.specs.Effect.{functions_after}
 use Rattle.srcp_rules.specs.Obeyed.{MayObey}
@@ -105,12 +108,15 @@ gl_there buses state whole bus address =
 
 module _ (buses : List Bus) (state : State) (session moment : ℕ) (now : IsMoment moment) where
   -- the row of a lock
-  pub lock_row : (g : Lockable) (bus address seconds : ℕ) → MayObey buses state session (SetLock bus g address seconds)
-      → IsRowOf buses (row_put moment (first_key (lock_on g bus address)) (value.Lock seconds session) (lock_end moment seconds))
-  lock_row g bus address seconds may =
-      IsRowOf-put buses may.whole.laid_out (first_key (lock_on g bus address)) moment (value.Lock seconds session)
-      (lock_end moment seconds) may.of.0 now
-      (lock_value buses state may.whole session moment may.begun now g seconds may.of.1) (lock_end_fits moment seconds session)
+  pub lock_row : (lock : TimedLock) → MayObey buses state session (SetLock lock)
+      → IsRowOf buses
+      (row_put moment (first_key (lock_on lock.group lock.bus lock.address)) (value.Lock lock.seconds session)
+      (lock_end moment lock.seconds))
+  lock_row lock may =
+      IsRowOf-put buses may.whole.laid_out (first_key (lock_on lock.group lock.bus lock.address)) moment
+      (value.Lock lock.seconds session) (lock_end moment lock.seconds) may.of.0 now
+      (lock_value buses state may.whole session moment may.begun now lock.group lock.seconds may.of.1)
+      (lock_end_fits moment lock.seconds session)
 
   -- all rows of a device that is there are there
   pub port_there : (device : Device) → IsWhole buses state → is_there device state ≡ true → (port : ℕ) → IsKeyOf buses (key_at device port)
@@ -152,12 +158,14 @@ module _ (buses : List Bus) (state : State) (session moment : ℕ) (now : IsMome
       (value.GlState drive.mode (kept_v drive.mode drive.v) drive.vmax after) None may.of.0 now
       (fits.0, fits.1, fits.2, few) tt
 
-  pub power_row : (bus : ℕ) (on : Bool) (text : List ℕ) → MayObey buses state session (SetPower bus on text)
-      → IsRowOf buses (row_put moment (first_key (power_device bus)) (value.Power on text) None)
-  power_row bus on text may =
-      IsRowOf-put buses may.whole.laid_out (first_key (power_device bus)) moment (value.Power on text) None may.of.0 now may.of.1 tt
+  pub power_row : (power : PowerSwitch) → MayObey buses state session (SetPower power)
+      → IsRowOf buses (row_put moment (first_key (power_device power.bus)) (value.Power power.on power.text) None)
+  power_row power may =
+      IsRowOf-put buses may.whole.laid_out (first_key (power_device power.bus)) moment (value.Power power.on power.text) None
+      may.of.0 now may.of.1 tt
 
-  pub fb_row : (bus port : ℕ) (on : Bool) → MayObey buses state session (SetFb bus port on)
-      → IsRowOf buses (row_put moment (first_key (fb_device bus port)) (value.Fb on) None)
-  fb_row bus port on may =
-      IsRowOf-put buses may.whole.laid_out (first_key (fb_device bus port)) moment (value.Fb on) None may.of now (refl, refl) tt
+  pub fb_row : (sensor : Sensor) → MayObey buses state session (SetFb sensor)
+      → IsRowOf buses (row_put moment (first_key (fb_device sensor.bus sensor.port)) (value.Fb sensor.on) None)
+  fb_row sensor may =
+      IsRowOf-put buses may.whole.laid_out (first_key (fb_device sensor.bus sensor.port)) moment (value.Fb sensor.on) None
+      may.of now (refl, refl) tt

@@ -10,7 +10,7 @@ use Rattle.srcp_info.specs.declared.key.Key.{Key}
 use Rattle.srcp_info.specs.declared.key.Device.{Device}
 use Rattle.srcp_info.specs.Key.{group_place, group_cmp, key_cmp, device_of, owns}
 use Rattle.srcp_info.proofs.KeyLaws.{nat_tie, owns-device_of, device_from_owns, same_group}
-use Rattle.srcp_rules.specs.State.{key_at}
+use Rattle.srcp_grammar.specs.Devices.{key_at}
 use Rattle.srcp_rules.specs.Nested.{IsIn}
 
 -- ---- numbers

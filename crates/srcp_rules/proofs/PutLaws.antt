@@ -15,7 +15,7 @@ use Rattle.srcp_info.specs.Key.{key_cmp, is_after, owns}
 use Rattle.srcp_info.proofs.ClientLaws.{after_from_less, filter_every, filter_no_one}
 use Rattle.srcp_rules.specs.State.{State, IsRising, put_row, without}
 use Rattle.srcp_rules.specs.Rows.{put_rows}
-use Rattle.srcp_rules.proofs.FindLaws.{each-weaken}
+use Rattle.srcp_grammar.proofs.FindLaws.{each-weaken}
 
 module _ {X : Type 0} (t : X → Bool) where
   -- nothing is found in the first list

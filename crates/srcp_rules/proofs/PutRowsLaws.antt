@@ -11,15 +11,16 @@ use Rattle.srcp_info.specs.declared.change.Row.{Row}
 use Rattle.srcp_info.specs.Key.{key_cmp, device_of, first_key, owns}
 use Rattle.srcp_info.proofs.KeyLaws.{key_cmp_total, device_from_owns}
 use Rattle.srcp_info.proofs.ClientLaws.{rising_put, rising_filter}
-use Rattle.srcp_rules.specs.declared.layout.Bus.{Bus}
-use Rattle.srcp_rules.specs.Layout.{row_count}
-use Rattle.srcp_rules.specs.State.{State, IsRising, IsWhole, IsRowOf, row_at, has_row, is_there, key_at, put_row, put_of, without}
-use Rattle.srcp_rules.specs.State.{updated_all}
+use Rattle.srcp_grammar.specs.declared.layout.Bus.{Bus}
+use Rattle.srcp_grammar.specs.Layout.{row_count}
+use Rattle.srcp_grammar.specs.Devices.{key_at}
+use Rattle.srcp_rules.specs.State.{State, IsRising, IsWhole, IsRowOf, row_at, has_row, is_there, put_row, put_of, without, updated_all}
 use Rattle.srcp_rules.specs.Rows.{AreRowsOf, put_rows}
 use Rattle.srcp_rules.proofs.KeyLaws.{same_key, same_key-itself, same_key-true}
-use Rattle.srcp_rules.proofs.FindLaws.{found_holds}
+use Rattle.srcp_grammar.proofs.FindLaws.{found_holds}
 use Rattle.srcp_rules.proofs.StateLaws.{row_key, row_at_key, row_at-first, row_at-put_row, row_at-without, has_row-put_row}
-use Rattle.srcp_rules.proofs.OpeningLaws.{each_unmapped, each_and, strict}
+use Rattle.srcp_grammar.proofs.BusLaws.{each_unmapped}
+use Rattle.srcp_rules.proofs.OpeningLaws.{each_and, strict}
 
 -- ---- two registries with the same rows
 

@@ -19,9 +19,9 @@ use Rattle.srcp_info.proofs.ClientLaws.{put_between, put_over, reached_below}
 use Rattle.srcp_rules.specs.State.{State, IsRising, row_at, put_row}
 use Rattle.srcp_rules.specs.Place.{IsAt, IsGap}
 use Rattle.srcp_rules.proofs.KeyLaws.{same_key, not_after}
-use Rattle.srcp_rules.proofs.FindLaws.{each-weaken}
+use Rattle.srcp_grammar.proofs.FindLaws.{each-weaken}
 use Rattle.srcp_rules.proofs.StateLaws.{row_key, row_at-first, row_at-later}
-use Rattle.srcp_rules.proofs.PlaceLaws.{front_each, back_each, each_at, Follows, partitioned, non_decreasing}
+use Rattle.srcp_grammar.proofs.PlaceLaws.{front_each, back_each, each_at, Follows, partitioned, non_decreasing}
 
 abbrev Below : Row → Row → Type 0
 Below a b = key_cmp a.shown.key b.shown.key ≡ Less

@@ -4,9 +4,10 @@ use Rattle.std.proofs.Common.{refl, arith}
 use Rattle.srcp_info.specs.declared.value.Mode.{Mode}
 use Rattle.srcp_info.specs.Key.{first_key}
 use Rattle.srcp_info.specs.WellFormed.{IsMoment, IsWellFormed}
-use Rattle.srcp_rules.specs.declared.layout.Bus.{Bus}
-use Rattle.srcp_rules.specs.Layout.{IsKeyOf}
-use Rattle.srcp_rules.specs.State.{State, AddsNoRow, IsWhole, session_device, updated}
+use Rattle.srcp_grammar.specs.declared.layout.Bus.{Bus}
+use Rattle.srcp_grammar.specs.Layout.{IsKeyOf}
+use Rattle.srcp_grammar.specs.Devices.{session_device}
+use Rattle.srcp_rules.specs.State.{State, AddsNoRow, IsWhole, updated}
 use Rattle.srcp_rules.specs.Due.{began}
 use Rattle.srcp_rules.proofs.AddingLaws.{session_rows}
 use Rattle.srcp_rules.proofs.AddsNoRowLaws.{began-adds_no_row}

@@ -12,7 +12,7 @@ use Rattle.srcp_rules.specs.declared.sought.Sought.{Sought}
 use Rattle.srcp_rules.specs.Sought.{is_sought, sought_after}
 use Rattle.srcp_rules.specs.State.{State, IsRising, row_after}
 use Rattle.srcp_rules.proofs.KeyLaws.{not_after}
-use Rattle.srcp_rules.proofs.FindLaws.{each-weaken, found_holds}
+use Rattle.srcp_grammar.proofs.FindLaws.{each-weaken, found_holds}
 
 -- the rows beyond the cursor
 abbrev pub beyond : Cursor → State → State

@@ -14,7 +14,7 @@ use Rattle.srcp_info.specs.Key.{key_cmp, owns}
 use Rattle.srcp_rules.specs.State.{State, IsRising, put_row, without}
 use Rattle.srcp_rules.specs.Rows.{put_rows}
 use Rattle.srcp_rules.specs.Nested.{AreSorted, entry_at, listed}
-use Rattle.srcp_rules.proofs.FindLaws.{each-weaken}
+use Rattle.srcp_grammar.proofs.FindLaws.{each-weaken}
 use Rattle.srcp_rules.proofs.PutLaws.{put_row-before, put_row-past, put_rows-before, put_rows-past, without-before, without-past}
 use Rattle.srcp_rules.proofs.ListedLaws.{IsTagged, Above, Below, listed-absent, listed-insert_entry, listed-remove_entry, listed-set_value}
 use Rattle.srcp_rules.proofs.ListedLaws.{listed_above, unequal}

@@ -4,8 +4,8 @@ use Rattle.std.proofs.Common.{sym, ap, subst, inl, inr, arith}
 use Rattle.std.proofs.lemmas.List.{length-map}
 use Rattle.std.specs.List.{AllByRecursion}
 use Rattle.srcp_info.specs.WellFormed.{IsMoment, IsWellFormed, IsWellFormedReply}
-use Rattle.srcp_rules.specs.declared.layout.Bus.{Bus}
-use Rattle.srcp_rules.specs.declared.command.Command.{Command}
+use Rattle.srcp_grammar.specs.declared.layout.Bus.{Bus}
+use Rattle.srcp_grammar.specs.declared.command.Command.{Command}
 use Rattle.srcp_rules.specs.declared.obeyed.Obeyed.{Obeyed}
 use Rattle.srcp_rules.specs.State.{State, Update, IsWhole}
 use Rattle.srcp_rules.specs.Effect.{effect}

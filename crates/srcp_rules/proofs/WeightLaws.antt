@@ -16,27 +16,28 @@ use Rattle.srcp_info.specs.Key.{first_key}
 use Rattle.srcp_info.specs.declared.change.Code.{Code}
 use Rattle.srcp_info.specs.declared.change.Code.TheVariants.{C410, C412, C415, C421, C422}
 use Rattle.srcp_text.specs.Words.{number_of, is_keyword, words_of}
-use Rattle.srcp_rules.specs.declared.layout.Bus.{Bus}
-use Rattle.srcp_rules.specs.declared.command.Operation.{Operation}
-use Rattle.srcp_rules.specs.declared.command.Operation.TheVariants.{Get, Set, Check, Init, Term, Wait, Verify, Reset}
-use Rattle.srcp_rules.specs.declared.command.Named.{Named}
-use Rattle.srcp_rules.specs.declared.command.Named.TheVariants.{Session, Power, Gl, Ga, Fb, Lock}
-use Rattle.srcp_rules.specs.declared.command.Lockable.{Lockable}
-use Rattle.srcp_rules.specs.declared.command.Lockable.TheVariants as lockable
-use Rattle.srcp_rules.specs.declared.command.Command.{Command}
-use Rattle.srcp_rules.specs.declared.command.Command.TheVariants.{GetSession, TermSession, GetPower, SetPower, CheckPower, GetGl, SetGl}
-use Rattle.srcp_rules.specs.declared.command.Command.TheVariants.{CheckGl, GetGa, SetGa, CheckGa, GetFb, SetFb, CheckFb, GetLock, SetLock}
-use Rattle.srcp_rules.specs.declared.command.Command.TheVariants.{CheckLock}
-use Rattle.srcp_rules.specs.Layout.{bus_at, has_group, address_max}
-use Rattle.srcp_rules.specs.State.{State, Update, row_at, key_at, session_device, power_device, fb_device, device_in, lock_on}
-use Rattle.srcp_rules.specs.Command.{IsCommandOf}
-use Rattle.srcp_rules.specs.Grammar.{◌>>=◌, number_in, bit_of, switch_of, text_of, lockable_on, groups, named_in, alone}
-use Rattle.srcp_rules.specs.Grammar.{addressed, get_session, term_session, set_power, driven, ga_port, get_ga, switched, set_fb, named_lock}
-use Rattle.srcp_rules.specs.Grammar.{set_lock, asked, directed, commanded}
-use Rattle.srcp_rules.specs.Effect.{effect, refused, done, checked, shown_at, unless_refused, refusals, gl_refusals, put_at}
-use Rattle.srcp_rules.specs.Effect.{lock_end, ga_put, gl_put, set_gl, set_ga, set_lock as locked}
+use Rattle.srcp_grammar.specs.declared.layout.Bus.{Bus}
+use Rattle.srcp_grammar.specs.declared.command.Operation.{Operation}
+use Rattle.srcp_grammar.specs.declared.command.Operation.TheVariants.{Get, Set, Check, Init, Term, Wait, Verify, Reset}
+use Rattle.srcp_grammar.specs.declared.command.Named.{Named}
+use Rattle.srcp_grammar.specs.declared.command.Named.TheVariants.{Session, Power, Gl, Ga, Fb, Lock}
+use Rattle.srcp_grammar.specs.declared.command.Lockable.{Lockable}
+use Rattle.srcp_grammar.specs.declared.command.Lockable.TheVariants as lockable
+use Rattle.srcp_grammar.specs.declared.command.Command.{Command}
+use Rattle.srcp_grammar.specs.declared.command.Command.TheVariants.{GetSession, TermSession, GetPower, SetPower, CheckPower, GetGl, SetGl}
+use Rattle.srcp_grammar.specs.declared.command.Command.TheVariants.{CheckGl, GetGa, SetGa, CheckGa, GetFb, SetFb, CheckFb, GetLock, SetLock}
+use Rattle.srcp_grammar.specs.declared.command.Command.TheVariants.{CheckLock}
+use Rattle.srcp_grammar.specs.Layout.{bus_at, has_group, address_max}
+use Rattle.srcp_grammar.specs.Devices.{key_at, session_device, power_device, fb_device, device_in, lock_on}
+use Rattle.srcp_rules.specs.State.{State, Update, row_at}
+use Rattle.srcp_grammar.specs.Command.{IsCommandOf}
+use Rattle.srcp_grammar.specs.Grammar.{◌>>=◌, number_in, lockable_on, groups, named_in, alone, addressed, get_session, term_session}
+use Rattle.srcp_grammar.specs.Grammar.{powered, driven, ga_port, get_ga, switched, sensed, named_lock, timed_lock, asked, directed}
+use Rattle.srcp_grammar.specs.Grammar.{commanded}
+use Rattle.srcp_rules.specs.Effect.{effect, refused, done, checked, shown_at, unless_refused, refusals, gl_refusals}
+use Rattle.srcp_rules.specs.Effect.{ga_put, gl_put, set_gl, set_ga, lock_put, set_lock}
 use Rattle.srcp_rules.specs.Weight.{names_session, weight_of, weight, LinesWeighEnough, WeightsAreSmall, GoesWeighOne}
-use Rattle.srcp_rules.proofs.GrammarLaws.{read_any, then_ok, reads_fits}
+use Rattle.srcp_grammar.proofs.GrammarLaws.{read_any, then_ok, reads_fits}
 use Rattle.srcp_rules.proofs.CountLaws.{effect_few}
 use Rattle.srcp_rules.proofs.EffectLaws.{accepted_updates, checked_updates, showing_updates}
 
@@ -71,12 +72,6 @@ module _ (P : Command → Type 0) where
   term_session_all (s ∷ []) h = read_any P (number_in 0 4294967295 s) (λ n. Ok (TermSession (Some n))) (λ n. h (Some n))
   term_session_all (s ∷ t ∷ ws) h = tt
 
-  set_power_all : (make : Bool → List ℕ → Command) (words : List (List ℕ))
-      → ((on : Bool) (t : List ℕ) → P (make on t)) → All (set_power make words)
-  set_power_all make [] h = tt
-  set_power_all make (w ∷ ws) h =
-      read_any P (switch_of w) (λ on. text_of ws >>= (λ t. Ok (make on t))) (λ on. read_any P (text_of ws) (λ t. Ok (make on t)) (h on))
-
   get_ga_all : (bus : Bus) (words : List (List ℕ)) → ((a p : ℕ) → P (GetGa bus.number a p)) → All (get_ga bus words)
   get_ga_all bus [] h = tt
   get_ga_all bus (a ∷ []) h = tt
@@ -84,15 +79,6 @@ module _ (P : Command → Type 0) where
       read_any P (number_in 1 bus.ga_max a) (λ address. ga_port bus p >>= (λ port. Ok (GetGa bus.number address port)))
       (λ address. read_any P (ga_port bus p) (λ port. Ok (GetGa bus.number address port)) (h address))
   get_ga_all bus (a ∷ p ∷ w ∷ ws) h = tt
-
-  set_fb_all : (bus : Bus) (make : ℕ → Bool → Command) (words : List (List ℕ))
-      → ((p : ℕ) (on : Bool) → P (make p on)) → All (set_fb bus make words)
-  set_fb_all bus make [] h = tt
-  set_fb_all bus make (p ∷ []) h = tt
-  set_fb_all bus make (p ∷ v ∷ []) h =
-      read_any P (number_in 1 bus.fb_ports p) (λ port. bit_of v >>= (λ on. Ok (make port on)))
-      (λ port. read_any P (bit_of v) (λ on. Ok (make port on)) (h port))
-  set_fb_all bus make (p ∷ v ∷ w ∷ ws) h = tt
 
   get_lock_all : (bus : Bus) (make : Lockable → ℕ → Command) (words : List (List ℕ))
       → ((g : Lockable) (a : ℕ) → P (make g a)) → All (named_lock bus make words)
@@ -102,20 +88,6 @@ module _ (P : Command → Type 0) where
       read_any P (lockable_on bus g) (λ group. number_in 1 (address_max bus group) a >>= (λ address. Ok (make group address)))
       (λ group. read_any P (number_in 1 (address_max bus group) a) (λ address. Ok (make group address)) (h group))
   get_lock_all bus make (g ∷ a ∷ w ∷ ws) h = tt
-
-  set_lock_all : (bus : Bus) (make : Lockable → ℕ → ℕ → Command) (words : List (List ℕ))
-      → ((g : Lockable) (a s : ℕ) → P (make g a s)) → All (set_lock bus make words)
-  set_lock_all bus make [] h = tt
-  set_lock_all bus make (g ∷ []) h = tt
-  set_lock_all bus make (g ∷ a ∷ []) h = tt
-  set_lock_all bus make (g ∷ a ∷ s ∷ []) h =
-      read_any P (lockable_on bus g) (λ group. number_in 1 (address_max bus group) a >>= with_address group) (λ group.
-      read_any P (number_in 1 (address_max bus group) a) (with_address group) (λ address.
-      read_any P (number_in 0 86400 s) (λ seconds. Ok (make group address seconds)) (h group address)))
-    where
-      with_address : (group : Lockable) (address : ℕ) → Result Command Code
-      with_address group address = number_in 0 86400 s >>= (λ seconds. Ok (make group address seconds))
-  set_lock_all bus make (g ∷ a ∷ s ∷ w ∷ ws) h = tt
 
   -- the words after the operation
   directed_all : (buses : List Bus) (operation : Operation) (words : List (List ℕ))
@@ -157,32 +129,31 @@ module _ (state : State) (session moment : ℕ) where
 
   checks_none : (g : Named) (bus : Bus) (words : List (List ℕ)) → IfOk (asked Check g bus words) (Brings 0)
   checks_none Session bus words = tt
-  checks_none Power bus words = set_power_all (Brings 0) (CheckPower bus.number) words (λ on t. none 0)
+  checks_none Power bus words = read_any (Brings 0) (powered bus words) (λ power. Ok (CheckPower power)) (λ power. none 0)
   checks_none Gl bus words =
       read_any (Brings 0) (driven bus words) (λ drive. Ok (CheckGl drive)) (λ drive. tried (set_gl state session moment drive))
   checks_none Ga bus words =
       read_any (Brings 0) (switched bus words) (λ switch. Ok (CheckGa switch)) (λ switch. tried (set_ga state session moment switch))
-  checks_none Fb bus words = set_fb_all (Brings 0) bus (CheckFb bus.number) words (λ p on. none 0)
-  checks_none Lock bus words = set_lock_all (Brings 0) bus (CheckLock bus.number) words
-      (λ g a s. tried (locked state session moment g bus.number a s))
+  checks_none Fb bus words = read_any (Brings 0) (sensed bus words) (λ sensor. Ok (CheckFb sensor)) (λ sensor. none 0)
+  checks_none Lock bus words =
+      read_any (Brings 0) (timed_lock bus words) (λ lock. Ok (CheckLock lock)) (λ lock. tried (set_lock state session moment lock))
 
   one : (refused : List (Bool × Code)) (update : Update) → AtMost 1 (done (unless_refused refused (update ∷ []))).updates
   one refused update = accepted_updates (AtMost 1) (none 1) refused (update ∷ []) (λ applies. omega arith)
 
   sets_one : (g : Named) (bus : Bus) (words : List (List ℕ)) → IfOk (asked Set g bus words) (Brings 1)
   sets_one Session bus words = tt
-  sets_one Power bus words = set_power_all (Brings 1) (SetPower bus.number) words (λ on t. omega arith)
+  sets_one Power bus words = read_any (Brings 1) (powered bus words) (λ power. Ok (SetPower power)) (λ power. omega arith)
   sets_one Gl bus words =
       read_any (Brings 1) (driven bus words) (λ drive. Ok (SetGl drive))
       (λ drive. one (gl_refusals state session drive) (gl_put state moment drive))
   sets_one Ga bus words =
       read_any (Brings 1) (switched bus words) (λ switch. Ok (SetGa switch))
       (λ switch. one (refusals state session lockable.Ga switch.bus switch.address) (ga_put moment switch))
-  sets_one Fb bus words = set_fb_all (Brings 1) bus (SetFb bus.number) words (λ p on. omega arith)
+  sets_one Fb bus words = read_any (Brings 1) (sensed bus words) (λ sensor. Ok (SetFb sensor)) (λ sensor. omega arith)
   sets_one Lock bus words =
-      set_lock_all (Brings 1) bus (SetLock bus.number) words (λ g a s.
-      one (refusals state session g bus.number a)
-      (put_at moment (first_key (lock_on g bus.number a)) (value.Lock s session) (lock_end moment s)))
+      read_any (Brings 1) (timed_lock bus words) (λ lock. Ok (SetLock lock))
+      (λ lock. one (refusals state session lock.group lock.bus lock.address) (lock_put session moment lock))
 
   -- a session's command shows its row, or ends it
   ended : (id : Option ℕ) → Brings 0 (TermSession id)

@@ -12,17 +12,19 @@ use Rattle.srcp_info.specs.declared.change.Code.{Code}
 use Rattle.srcp_info.specs.declared.change.Reply.TheVariants.{Accepted, Refused}
 use Rattle.srcp_info.specs.declared.value.Mode.{Mode}
 use Rattle.srcp_info.specs.WellFormed.{IsMoment, IsWellFormed, IsWellFormedReply}
-use Rattle.srcp_rules.specs.declared.layout.Bus.{Bus}
-use Rattle.srcp_rules.specs.declared.command.Lockable.{Lockable}
-use Rattle.srcp_rules.specs.declared.command.Lockable.TheVariants as lockable
-use Rattle.srcp_rules.specs.declared.command.Switch.{Switch}
-use Rattle.srcp_rules.specs.declared.command.Command.{Command}
-use Rattle.srcp_rules.specs.declared.command.Command.TheVariants.{SetPower, CheckPower, SetGl, CheckGl, SetGa, CheckGa}
-use Rattle.srcp_rules.specs.declared.command.Command.TheVariants.{SetFb, CheckFb, SetLock, CheckLock}
-use Rattle.srcp_rules.specs.Layout.{IsLayout}
-use Rattle.srcp_rules.specs.State.{State, Update, AddsNoRow, IsRising, IsWhole, opening, row_at, is_there, key_at}
-use Rattle.srcp_rules.specs.State.{session_device, device_in, lock_on, updated, updated_all, row_put}
-use Rattle.srcp_rules.specs.Command.{IsCommandOf}
+use Rattle.srcp_grammar.specs.declared.layout.Bus.{Bus}
+use Rattle.srcp_grammar.specs.declared.command.Lockable.{Lockable}
+use Rattle.srcp_grammar.specs.declared.command.Lockable.TheVariants as lockable
+use Rattle.srcp_grammar.specs.declared.command.Switch.{Switch}
+use Rattle.srcp_grammar.specs.declared.command.TimedLock.{TimedLock}
+use Rattle.srcp_grammar.specs.declared.command.Command.{Command}
+use Rattle.srcp_grammar.specs.declared.command.Command.TheVariants.{SetPower, CheckPower, SetGl, CheckGl, SetGa}
+use Rattle.srcp_grammar.specs.declared.command.Command.TheVariants.{CheckGa, SetFb, CheckFb, SetLock, CheckLock}
+use Rattle.srcp_grammar.specs.Layout.{IsLayout}
+use Rattle.srcp_grammar.specs.Devices.{key_at, session_device, device_in, lock_on}
+use Rattle.srcp_rules.specs.State.{State, Update, AddsNoRow, IsRising, IsWhole, opening, row_at, is_there}
+use Rattle.srcp_rules.specs.State.{updated, updated_all, row_put}
+use Rattle.srcp_grammar.specs.Command.{IsCommandOf}
 use Rattle.srcp_rules.specs.Effect.{Effect, effect, is_locked, port_end, lock_end, moment_after}
 use Rattle.srcp_rules.specs.Obeyed.{MayObey}
 use Rattle.srcp_rules.specs.Due.{due, freed, began, is_due, is_held_by}
@@ -140,11 +142,11 @@ RefusalsChangeNothing = (state : State) (session moment : ℕ) (command : Comman
 
 -- the SET that a CHECK is about
 abbrev pub set_of : Command → Option Command
-set_of (CheckPower bus on text) = Some (SetPower bus on text)
+set_of (CheckPower power) = Some (SetPower power)
 set_of (CheckGl drive) = Some (SetGl drive)
 set_of (CheckGa switch) = Some (SetGa switch)
-set_of (CheckFb bus port on) = Some (SetFb bus port on)
-set_of (CheckLock bus group address seconds) = Some (SetLock bus group address seconds)
+set_of (CheckFb sensor) = Some (SetFb sensor)
+set_of (CheckLock lock) = Some (SetLock lock)
 set_of other = None
 
 -- the one command answers as the other, and changes nothing
@@ -235,12 +237,12 @@ PortsAreSet = (state : State) (session moment : ℕ) (switch : Switch)
 
 -- and so has a lock
 abbrev pub LocksAreSet : Type 0
-LocksAreSet = (state : State) (session moment : ℕ) (group : Lockable) (bus address seconds : ℕ)
-    → (effect state session moment (SetLock bus group address seconds)).reply ≡ Accepted
-    → row_at (first_key (lock_on group bus address))
-    (updated_all (effect state session moment (SetLock bus group address seconds)).updates state)
-    ≡ Some (row_put moment (first_key (lock_on group bus address)) (value.Lock seconds session)
-    (lock_end moment seconds))
+LocksAreSet = (state : State) (session moment : ℕ) (lock : TimedLock)
+    → (effect state session moment (SetLock lock)).reply ≡ Accepted
+    → row_at (first_key (lock_on lock.group lock.bus lock.address))
+    (updated_all (effect state session moment (SetLock lock)).updates state)
+    ≡ Some (row_put moment (first_key (lock_on lock.group lock.bus lock.address)) (value.Lock lock.seconds session)
+    (lock_end moment lock.seconds))
 
 -- a port that was set to 1 for some milliseconds is 1 at each moment before their end, and 0 at each from it on
 abbrev pub PortsFallBack : Type 0
@@ -258,15 +260,15 @@ PortsFallBack = (buses : List Bus) (state : State) (session moment later bus add
 
 -- a lock that was set for some seconds is there at each moment before their end, and gone at each from it on
 abbrev pub LocksRunOut : Type 0
-LocksRunOut = (buses : List Bus) (state : State) (session moment later : ℕ) (group : Lockable) (bus address seconds : ℕ)
-    → MayObey buses state session (SetLock bus group address seconds) → IsMoment moment → IsMoment later
-    → 0 < seconds → (effect state session moment (SetLock bus group address seconds)).reply ≡ Accepted
+LocksRunOut = (buses : List Bus) (state : State) (session moment later : ℕ) (lock : TimedLock)
+    → MayObey buses state session (SetLock lock) → IsMoment moment → IsMoment later
+    → 0 < lock.seconds → (effect state session moment (SetLock lock)).reply ≡ Accepted
     → (after : State)
-    → after ≡ updated_all (effect state session moment (SetLock bus group address seconds)).updates state
-    → row_at (first_key (lock_on group bus address)) (updated_all (due after later) after)
-    ≡ (if nat_le (moment_after moment (1000 * seconds)) later then None
-    else Some (row_put moment (first_key (lock_on group bus address)) (value.Lock seconds session)
-    (Some (moment_after moment (1000 * seconds)))))
+    → after ≡ updated_all (effect state session moment (SetLock lock)).updates state
+    → row_at (first_key (lock_on lock.group lock.bus lock.address)) (updated_all (due after later) after)
+    ≡ (if nat_le (moment_after moment (1000 * lock.seconds)) later then None
+    else Some (row_put moment (first_key (lock_on lock.group lock.bus lock.address)) (value.Lock lock.seconds session)
+    (Some (moment_after moment (1000 * lock.seconds)))))
 
 -- that many milliseconds later if there is such a moment, and else the greatest one
 pub record EndsInTime (moment milliseconds : ℕ) : Type 0 where

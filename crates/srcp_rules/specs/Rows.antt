@@ -3,9 +3,10 @@ use Rattle.std.specs.Prelude.{◌≡◌, ℕ, ◌≤◌, false, List, map, fold,
 use Rattle.std.specs.List.{AllByRecursion, range_with_len}
 use Rattle.srcp_info.specs.declared.key.Device.{Device}
 use Rattle.srcp_info.specs.declared.change.Row.{Row}
-use Rattle.srcp_rules.specs.declared.layout.Bus.{Bus}
-use Rattle.srcp_rules.specs.Layout.{row_count}
-use Rattle.srcp_rules.specs.State.{State, IsRowOf, has_row, key_at, put_row}
+use Rattle.srcp_grammar.specs.declared.layout.Bus.{Bus}
+use Rattle.srcp_grammar.specs.Layout.{row_count}
+use Rattle.srcp_grammar.specs.Devices.{key_at}
+use Rattle.srcp_rules.specs.State.{State, IsRowOf, has_row, put_row}
 
 -- the buses of a layout, and the rows in key order
 pub record Kept : Type 0 where

@@ -3,11 +3,11 @@ use Rattle.std.specs.Prelude.{◌≡◌, ℕ, ◌≤◌, true, Bool, false, code
 use Rattle.std.specs.Option.{unwrap_or}
 use Rattle.std.specs.Str.{bytes_eq}
 use Rattle.srcp_text.specs.Words.{words_of, is_keyword}
-use Rattle.srcp_rules.specs.declared.layout.Bus.{Bus}
-use Rattle.srcp_rules.specs.declared.command.Command.{Command}
-use Rattle.srcp_rules.specs.Layout.{IsLayout}
+use Rattle.srcp_grammar.specs.declared.layout.Bus.{Bus}
+use Rattle.srcp_grammar.specs.declared.command.Command.{Command}
+use Rattle.srcp_grammar.specs.Layout.{IsLayout}
 use Rattle.srcp_rules.specs.State.{State}
-use Rattle.srcp_rules.specs.Grammar.{named_in, reads}
+use Rattle.srcp_grammar.specs.Grammar.{named_in, reads}
 use Rattle.srcp_rules.specs.Effect.{effect}
 
 -- by the first word: GET and CHECK change nothing, SET changes one row, and GO adds the row of a session

@@ -5,14 +5,13 @@ ghost use Rattle.std.specs.List.{AllByRecursion};
 ghost use Rattle.srcp_info.specs.Key.{first_key};
 ghost use Rattle.srcp_info.specs.WellFormed.{IsWellFormed, IsWellFormedReply};
 ghost use Rattle.srcp_info.specs.declared.value.Value.TheVariants as value;
-ghost use Rattle.srcp_rules.specs.Command.{IsCommandOf, named_of};
-ghost use Rattle.srcp_rules.specs.declared.command.Lockable.TheVariants as lockable;
-ghost use Rattle.srcp_rules.specs.declared.command.Named.TheVariants as named;
-ghost use Rattle.srcp_rules.specs.Effect.{accepted, put_at, shown_at, term_session};
+ghost use Rattle.srcp_grammar.specs.Command.{IsCommandOf, named_of};
+ghost use Rattle.srcp_grammar.specs.declared.command.Named.TheVariants as named;
+ghost use Rattle.srcp_rules.specs.Effect.{accepted, put_at, term_session};
 ghost use Rattle.srcp_rules.specs.Obeyed.{IsObeyed, IsTold, MayObey, Took};
-ghost use Rattle.srcp_rules.specs.State.{IsWhole, device_in, fb_device, is_there, key_at, power_device, session_device};
+ghost use Rattle.srcp_grammar.specs.Devices.{fb_device, power_device, session_device};
+ghost use Rattle.srcp_rules.specs.State.{IsWhole, is_there};
 
-use crate::command::{Command, Lockable, Named, Sender, Switch};
 use crate::device::{
     BusAddress, device_in, fb_device, key_at, lock_on, power_device, session_device,
 };
@@ -23,7 +22,9 @@ use crate::lock::{checked, refusal, set_lock, term_lock};
 use crate::obeyed::{MOST_CHANGES, Obeyed};
 use crate::registry::{set_one, show};
 use crate::rows::Rows;
-use srcp_info::{Code, Text, Value};
+use crate::sender::Sender;
+use srcp_grammar::{Command, Lockable, Named, PowerSwitch, Sensor, Switch, TimedLock};
+use srcp_info::{Code, Value};
 
 /// TERM of a session, which ends itself alone.
 fn end_session(session: u32, named: Option<u32>, obeyed: &mut Obeyed)
@@ -37,21 +38,16 @@ fn end_session(session: u32, named: Option<u32>, obeyed: &mut Obeyed)
 }
 
 /// SET of the power of a bus.
-fn set_power<R: Rows>(
-    rows: &mut R,
-    sender: Sender,
-    bus: u8,
-    on: bool,
-    text: Text,
-    obeyed: &mut Obeyed,
-)
+fn set_power<R: Rows>(rows: &mut R, sender: Sender, power: &PowerSwitch, obeyed: &mut Obeyed)
     requires blank { IsTold (accepted []) obeyed.old }
-    requires may { MayObey (R.buses rows.old) (R.state rows.old) sender.session (Command.SetPower bus on text) }
+    requires may { MayObey (R.buses rows.old) (R.state rows.old) sender.session (Command.SetPower power.now) }
     ensures took { Took (accepted
-        (put_at sender.moment (first_key (power_device bus)) (value.Power on text) None ∷ []))
+        (put_at sender.moment (first_key (power_device power.now.bus)) (value.Power power.now.on power.now.text) None
+        ∷ []))
         (R.state rows.old) (R.state rows.new) obeyed.new }
     ensures layout { R.buses rows.new ≡ R.buses rows.old }
 {
+    let PowerSwitch { bus, on, text } = *power;
     let key = power_device(bus).first_key();
     set_one(
         rows,
@@ -64,13 +60,15 @@ fn set_power<R: Rows>(
 }
 
 /// SET of a feedback port.
-fn set_fb<R: Rows>(rows: &mut R, sender: Sender, bus: u8, port: u32, on: bool, obeyed: &mut Obeyed)
+fn set_fb<R: Rows>(rows: &mut R, sender: Sender, sensor: Sensor, obeyed: &mut Obeyed)
     requires blank { IsTold (accepted []) obeyed.old }
-    requires may { MayObey (R.buses rows.old) (R.state rows.old) sender.session (Command.SetFb bus port on) }
-    ensures took { Took (accepted (put_at sender.moment (first_key (fb_device bus port)) (value.Fb on) None ∷ []))
+    requires may { MayObey (R.buses rows.old) (R.state rows.old) sender.session (Command.SetFb sensor) }
+    ensures took { Took (accepted
+        (put_at sender.moment (first_key (fb_device sensor.bus sensor.port)) (value.Fb sensor.on) None ∷ []))
         (R.state rows.old) (R.state rows.new) obeyed.new }
     ensures layout { R.buses rows.new ≡ R.buses rows.old }
 {
+    let Sensor { bus, port, on } = sensor;
     let key = fb_device(bus, port).first_key();
     set_one(rows, sender.moment, key, Value::Fb { on }, None, obeyed);
 }
@@ -99,20 +97,11 @@ fn answer_power<R: Rows>(rows: &mut R, sender: Sender, command: &Command, obeyed
 {
     match *command {
         Command::GetPower { bus } => show(rows, &power_device(bus).first_key(), obeyed),
-        Command::SetPower { bus, on, text } => set_power(rows, sender, bus, on, text, obeyed),
-        Command::CheckPower { .. } => {}
+        Command::SetPower(ref power) => set_power(rows, sender, power, obeyed),
+        Command::CheckPower(_) => {}
         Command::InitPower { .. } => {}
         _ => unreachable!(),
     }
-}
-
-/// GET of a locomotive: its state.
-fn show_gl<R: Rows>(rows: &R, place: BusAddress, obeyed: &mut Obeyed)
-    requires { IsTold (accepted []) obeyed.old }
-    ensures { Took (shown_at (key_at (device_in lockable.Gl place.bus place.address) 1) (R.state rows.now))
-        (R.state rows.now) (R.state rows.now) obeyed.new }
-{
-    show(rows, &key_at(device_in(Lockable::Gl, place), 1), obeyed);
 }
 
 /// Answers a command of a locomotive.
@@ -125,7 +114,10 @@ fn answer_gl<R: Rows>(rows: &mut R, sender: Sender, command: &Command, obeyed: &
     ensures layout { R.buses rows.new ≡ R.buses rows.old }
 {
     match *command {
-        Command::GetGl { bus, address } => show_gl(rows, BusAddress { bus, address }, obeyed),
+        Command::GetGl { bus, address } => {
+            let place = BusAddress { bus, address };
+            show(rows, &key_at(device_in(Lockable::Gl, place), 1), obeyed)
+        }
         Command::SetGl(ref drive) => set_gl(rows, sender, drive, obeyed),
         Command::CheckGl(ref drive) => checked(gl_refusal(rows, sender.session, drive), obeyed),
         Command::InitGl {
@@ -207,8 +199,8 @@ fn answer_fb<R: Rows>(rows: &mut R, sender: Sender, command: &Command, obeyed: &
 {
     match *command {
         Command::GetFb { bus, port } => show(rows, &fb_device(bus, port).first_key(), obeyed),
-        Command::SetFb { bus, port, on } => set_fb(rows, sender, bus, port, on, obeyed),
-        Command::CheckFb { .. } => {}
+        Command::SetFb(sensor) => set_fb(rows, sender, sensor, obeyed),
+        Command::CheckFb(_) => {}
         Command::InitFb { .. } => {}
         _ => unreachable!(),
     }
@@ -232,25 +224,15 @@ fn answer_lock<R: Rows>(rows: &mut R, sender: Sender, command: &Command, obeyed:
             let place = BusAddress { bus, address };
             show(rows, &lock_on(group, place).first_key(), obeyed)
         }
-        Command::SetLock {
-            bus,
-            group,
-            address,
-            seconds,
-        } => set_lock(
-            rows,
-            sender,
-            group,
-            BusAddress { bus, address },
-            seconds,
-            obeyed,
-        ),
-        Command::CheckLock {
-            bus,
-            group,
-            address,
-            ..
-        } => checked(
+        Command::SetLock(lock) => set_lock(rows, sender, lock, obeyed),
+        Command::CheckLock(
+            TimedLock {
+                bus,
+                group,
+                address,
+                ..
+            },
+        ) => checked(
             refusal(rows, sender.session, group, BusAddress { bus, address }),
             obeyed,
         ),

@@ -1,9 +1,9 @@
 //! The devices that a command names, and the keys of their rows.
 
 ghost use Rattle.std.specs.Prelude.{◌≡◌};
-ghost use Rattle.srcp_rules.specs.State.{device_in, fb_device, key_at, lock_on, power_device, session_device};
+ghost use Rattle.srcp_grammar.specs.Devices.{device_in, fb_device, key_at, lock_on, power_device, session_device};
 
-use crate::command::Lockable;
+use srcp_grammar::Lockable;
 use srcp_info::{Device, Group, Key};
 
 /// The device of a session's row.

@@ -2,19 +2,21 @@
 
 ghost use Rattle.std.specs.Prelude.{◌≡◌, ◌≤◌, [], length, is_some, IfOk, IfSome};
 ghost use Rattle.std.specs.Result.{result_err};
-ghost use Rattle.srcp_rules.specs.declared.command.Lockable.TheVariants as lockable;
-ghost use Rattle.srcp_rules.specs.Command.{kept_v};
+ghost use Rattle.srcp_grammar.specs.declared.command.Lockable.TheVariants as lockable;
+ghost use Rattle.srcp_grammar.specs.Command.{kept_v};
 ghost use Rattle.srcp_rules.specs.Effect.{accepted, done, first_refusal, functions_after, gl_refusals, port_end};
 ghost use Rattle.srcp_rules.specs.Effect.{set_ga, set_gl};
 ghost use Rattle.srcp_rules.specs.Obeyed.{IsTold, MayObey, Took};
-ghost use Rattle.srcp_rules.specs.State.{IsWhole, device_in, functions_of, is_there};
+ghost use Rattle.srcp_grammar.specs.Devices.{device_in};
+ghost use Rattle.srcp_rules.specs.State.{IsWhole, functions_of, is_there};
 
-use crate::command::{Command, Drive, Lockable, Sender, Switch};
 use crate::device::{BusAddress, device_in, key_at};
 use crate::lock::{is_locked, moment_after, refusal};
 use crate::obeyed::Obeyed;
 use crate::registry::set_one;
 use crate::rows::Rows;
+use crate::sender::Sender;
+use srcp_grammar::{Command, Drive, Lockable, Switch};
 use srcp_info::{Bits, Code, DriveMode, Value};
 
 /// Returns the functions of a locomotive, or none where it is not there. Its state row answers both, since a device has

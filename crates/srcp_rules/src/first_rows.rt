@@ -3,12 +3,13 @@
 ghost use Rattle.std.specs.Prelude.{◌≡◌, [], ◌∷◌, ◌++◌, OnOk, Some, None, false, map, if◌then◌else◌};
 ghost use Rattle.std.specs.List.{range_with_len};
 ghost use Rattle.srcp_info.specs.declared.value.Value.TheVariants as value;
-ghost use Rattle.srcp_rules.specs.State.{fb_device, first_row, power_device};
+ghost use Rattle.srcp_grammar.specs.Devices.{fb_device, power_device};
+ghost use Rattle.srcp_rules.specs.State.{first_row};
 
 use crate::device::{fb_device, power_device};
-use crate::layout::Bus;
 use crate::obeyed::Memory;
 use crate::registry::row_put;
+use srcp_grammar::Bus;
 use srcp_info::{Device, Row, Text, Value};
 
 /// Appends the power row of a bus, if it has one, off.

@@ -5,14 +5,16 @@ ghost use Rattle.std.specs.List.{range_with_len};
 ghost use Rattle.srcp_info.specs.declared.value.Value.TheVariants as value;
 ghost use Rattle.srcp_rules.specs.Obeyed.{IsObeyed, IsTold, MayObey};
 ghost use Rattle.srcp_rules.specs.Effect.{accepted};
-ghost use Rattle.srcp_rules.specs.State.{key_at, row_put};
+ghost use Rattle.srcp_grammar.specs.Devices.{key_at};
+ghost use Rattle.srcp_rules.specs.State.{row_put};
 
-use crate::command::{Command, Lockable, Sender};
 use crate::device::{BusAddress, device_in, key_at};
 use crate::init::init_device;
 use crate::obeyed::Obeyed;
 use crate::registry::row_put;
 use crate::rows::{MOST_ROWS, Rows};
+use crate::sender::Sender;
+use srcp_grammar::{Command, Lockable};
 use srcp_info::{Bits, Device, DriveMode, Letter, MOST_FUNCTIONS, MOST_PORTS, Row, Value};
 
 /// The rows of a locomotive that is made: it goes forward at rest, with all functions off.

@@ -4,20 +4,22 @@ ghost use Rattle.std.specs.Prelude.{◌≡◌, ◌+◌, ◌++◌, ◌<◌, ◌�
 ghost use Rattle.std.specs.List.{AllByRecursion};
 ghost use Rattle.arrayvec.specs.ArrayVec.{array_vec_len};
 ghost use Rattle.srcp_info.specs.WellFormed.{can_go};
-ghost use Rattle.srcp_rules.specs.Layout.{row_count};
+ghost use Rattle.srcp_grammar.specs.Layout.{row_count};
 ghost use Rattle.srcp_rules.specs.Effect.{accepted, done, has_init, init_device, is_same_init, removal, removals};
 ghost use Rattle.srcp_rules.specs.Effect.{term_device};
 ghost use Rattle.srcp_rules.specs.Obeyed.{IsTold, Took, TookUnless};
 ghost use Rattle.srcp_rules.specs.Rows.{AreRowsOf, put_rows};
-ghost use Rattle.srcp_rules.specs.State.{IsRowOf, IsWhole, device_in, has_row, is_there, put_of, updated_all};
+ghost use Rattle.srcp_grammar.specs.Devices.{device_in};
+ghost use Rattle.srcp_rules.specs.State.{IsRowOf, IsWhole, has_row, is_there, put_of, updated_all};
 
-use crate::command::{Lockable, Sender};
 use crate::device::{BusAddress, device_in, lock_on};
 use crate::lock::{is_locked, refusal};
 use crate::obeyed::{CHANGES_CAPACITY, Obeyed};
 use crate::registry::{is_there, put_of, remove};
 use crate::rows::Rows;
+use crate::sender::Sender;
 use arrayvec::ArrayVec;
+use srcp_grammar::Lockable;
 use srcp_info::{Change, Code, Device, Row, Value};
 
 /// Takes out the device, if it is there.

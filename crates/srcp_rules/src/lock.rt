@@ -5,11 +5,12 @@ ghost use Rattle.srcp_rules.specs.Effect.{accepted, first_refusal, is_locked, lo
 ghost use Rattle.srcp_rules.specs.Effect.{refusals, refused_or_not, term_lock, done};
 ghost use Rattle.srcp_rules.specs.Obeyed.{IsObeyed, IsTold, MayObey, Took};
 
-use crate::command::{Command, Lockable, Sender};
 use crate::device::{BusAddress, device_in, lock_on};
 use crate::obeyed::Obeyed;
 use crate::registry::{is_there, put_of, remove, row_put, set_one};
 use crate::rows::Rows;
+use crate::sender::Sender;
+use srcp_grammar::{Command, Lockable, TimedLock};
 use srcp_info::{Code, Value};
 
 /// Whether the device has a lock, and another session has it.
@@ -74,34 +75,34 @@ fn lock_end(moment: u64, seconds: u32) -> Option<u64>
 }
 
 /// SET of a lock. A device that has none takes memory for it.
-pub(crate) fn set_lock<R: Rows>(
-    rows: &mut R,
-    sender: Sender,
-    group: Lockable,
-    place: BusAddress,
-    seconds: u32,
-    obeyed: &mut Obeyed,
-)
+pub(crate) fn set_lock<R: Rows>(rows: &mut R, sender: Sender, lock: TimedLock, obeyed: &mut Obeyed)
     requires blank { IsTold (accepted []) obeyed.old }
     requires may { MayObey (R.buses rows.old) (R.state rows.old) sender.session
-        (Command.SetLock place.bus group place.address seconds) }
+        (Command.SetLock lock) }
     ensures obeyed { IsObeyed (R.state rows.old) (R.state rows.new) sender.session sender.moment
-        (Command.SetLock place.bus group place.address seconds) obeyed.new }
+        (Command.SetLock lock) obeyed.new }
     ensures layout { R.buses rows.new ≡ R.buses rows.old }
 {
+    let TimedLock {
+        bus,
+        group,
+        address,
+        seconds,
+    } = lock;
+    let place = BusAddress { bus, address };
     if let Some(code) = refusal(rows, sender.session, group, place) {
         return obeyed.refuse(code);
     }
-    let lock = lock_on(group, place);
+    let device = lock_on(group, place);
     let value = Value::Lock {
         seconds,
         session: sender.session,
     };
     let due = lock_end(sender.moment, seconds);
-    if is_there(rows, lock) {
-        return set_one(rows, sender.moment, lock.first_key(), value, due, obeyed);
+    if is_there(rows, device) {
+        return set_one(rows, sender.moment, device.first_key(), value, due, obeyed);
     }
-    let row = row_put(sender.moment, lock.first_key(), value, due);
+    let row = row_put(sender.moment, device.first_key(), value, due);
     if rows.add(&[row]).is_err() {
         return obeyed.refuse(Code::OUT_OF_RESOURCES);
     }

@@ -3,13 +3,13 @@
 ghost use Rattle.std.specs.Prelude.{◌≡◌, List, IsTrue, IfOk, OnOk, OnErr, option_copied};
 ghost use Rattle.srcp_info.specs.declared.key.Device.{Device};
 ghost use Rattle.srcp_info.specs.WellFormed.{can_go};
-ghost use Rattle.srcp_rules.specs.declared.layout.Bus.{Bus};
+ghost use Rattle.srcp_grammar.specs.declared.layout.Bus.{Bus};
 ghost use Rattle.srcp_rules.specs.Due.{first_due, first_held};
 ghost use Rattle.srcp_rules.specs.Rows.{AreNewRowsOf, put_rows};
 ghost use Rattle.srcp_rules.specs.State.{State, IsRowOf, has_row, opening, put_row, row_at, row_after, without};
 
-use crate::layout::Layout;
 use crate::obeyed::Memory;
+use srcp_grammar::Layout;
 use srcp_info::{Cursor, Device, Key, MOST_PORTS, Row};
 use std::alloc::Global;
 

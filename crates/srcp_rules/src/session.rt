@@ -3,7 +3,8 @@
 ghost use Rattle.std.specs.Prelude.{◌≡◌, ◌≤◌, false, IfOk, OnOk, OnErr};
 ghost use Rattle.srcp_info.specs.WellFormed.{IsWellFormed};
 ghost use Rattle.srcp_rules.specs.Due.{began};
-ghost use Rattle.srcp_rules.specs.State.{AddsNoRow, IsWhole, is_there, session_device, updated};
+ghost use Rattle.srcp_grammar.specs.Devices.{session_device};
+ghost use Rattle.srcp_rules.specs.State.{AddsNoRow, IsWhole, is_there, updated};
 
 use crate::device::session_device;
 use crate::obeyed::Memory;

@@ -43,7 +43,7 @@ impl Model for Served {
 
     ghost Value = { Kept };
 
-    ghost use Rattle.srcp_rules.specs.Layout.{IsLayout};
+    ghost use Rattle.srcp_grammar.specs.Layout.{IsLayout};
     ghost use Rattle.srcp_rules.specs.State.{IsWhole};
 
     ghost view = { λ s. s.flat };

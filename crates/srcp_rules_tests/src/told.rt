@@ -3,7 +3,8 @@
 ghost use Rattle.std.specs.Prelude.{◌≡◌};
 ghost use Rattle.std.specs.List.{AllByRecursion};
 ghost use Rattle.srcp_info.specs.WellFormed.{IsWellFormed, IsWellFormedReply};
-ghost use Rattle.srcp_rules.specs.State.{IsWhole, is_there, session_device};
+ghost use Rattle.srcp_grammar.specs.Devices.{session_device};
+ghost use Rattle.srcp_rules.specs.State.{IsWhole, is_there};
 
 use srcp_info::{Change, Cursor, Device, Group, Mode, Reply, Row, write_change, write_reply};
 use srcp_rules::{Layout, Rows, begin_session, due_next, free_next, obey, parse_command};

@@ -8,7 +8,7 @@ use Rattle.std.proofs.lemmas.List.Elements.{filter-append}
 use Rattle.std.proofs.lemmas.List.Sums.{take_while-cons}
 use Rattle.srcp_core.specs.Under.{Event, Bytes}
 use Rattle.srcp_info.proofs.ClientLaws.{all_append}
-use Rattle.srcp_rules.specs.declared.layout.Bus.{Bus}
+use Rattle.srcp_grammar.specs.declared.layout.Bus.{Bus}
 use Rattle.srcp_serve.specs.Given.{Guest, Call, ExpectCall, NowCall, AcceptCall, ReadCall, WriteCall, CloseCall}
 use Rattle.srcp_serve.specs.Serving.{Question, Expects, Moments, expects, Newcomers, Reads, Writes, Closes, Seat, Stand, OfEachTurn}
 use Rattle.srcp_serve.specs.Serving.{OfEachVisit, question, is_about, is_expect, visit, newcomer_of, piece_of, count_of, loses}

@@ -1,7 +1,7 @@
 -- The events of a turn: its moment, its newcomer, and the visits.
 use Rattle.std.proofs.Common.{◌≡◌, ◌∙◌, ℕ, true, false, List, [], ◌∷◌, ◌++◌, map, if◌then◌else◌, refl, ap, sym, append-nil, append_assoc}
 use Rattle.std.specs.Prelude.{filter_map, flat_map, fold}
-use Rattle.srcp_rules.specs.declared.layout.Bus.{Bus}
+use Rattle.srcp_grammar.specs.declared.layout.Bus.{Bus}
 use Rattle.srcp_core.specs.Under.{Event, At, Open}
 use Rattle.srcp_serve.specs.Given.{Guest, Call}
 use Rattle.srcp_serve.specs.Serving.{Stand, begun, is_let_in, let_in, moment_of, newcomer_of, seats, timed, turned, visit_events, welcomed}

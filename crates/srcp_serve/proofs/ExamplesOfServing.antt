@@ -1,7 +1,7 @@
 -- Told calls of three turns, and what they make happen.
 use Rattle.std.proofs.Common.{◌≡◌, ℕ, true, false, List, [], ◌∷◌, ◌++◌, drop, length, ◌-◌, replicate, map, Some, None, Ok, Err, codes, refl}
 use Rattle.std.specs.Fmt.{digits}
-use Rattle.srcp_rules.specs.declared.layout.Bus.{Bus}
+use Rattle.srcp_grammar.specs.declared.layout.Bus.{Bus}
 use Rattle.srcp_core.specs.Connection.{sent}
 use Rattle.srcp_core.specs.Course.{course, welcome}
 use Rattle.srcp_core.specs.Under.{Open, Bytes, Room, At, Shut, giving}

@@ -1,13 +1,13 @@
 -- The time that the door answers is the moment of the core.
 use Rattle.std.proofs.Common.{◌≡◌, ◌∙◌, ℕ, List, [], ◌∷◌, map, Option, Some}
 use Rattle.std.proofs.Common.{Ok, Err, Result, ap}
-use Rattle.srcp_rules.specs.declared.layout.Bus.{Bus}
+use Rattle.srcp_grammar.specs.declared.layout.Bus.{Bus}
 use Rattle.srcp_core.specs.Course.{course}
 use Rattle.srcp_core.specs.Held.{Held}
 use Rattle.srcp_core.specs.Machine.{advanced, slack_at}
 use Rattle.srcp_core.specs.Waits.{due_next, least}
 use Rattle.srcp_index.specs.Earliest.{IsEarliestDue}
-use Rattle.srcp_rules.specs.Layout.{IsLayout}
+use Rattle.srcp_grammar.specs.Layout.{IsLayout}
 use Rattle.srcp_core.specs.Under.{Event}
 use Rattle.srcp_core.specs.Stands.{StandsFor}
 use Rattle.srcp_core.proofs.Agreement.CallLaws.{calls_agree, calls_lead}

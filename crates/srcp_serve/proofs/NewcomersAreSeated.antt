@@ -4,7 +4,7 @@ use Rattle.std.proofs.Common.{None, Result, refl, ap, sym, subst, arith, length-
 use Rattle.std.specs.List.{filter, slice_set, AllByRecursion}
 use Rattle.std.specs.Prelude.{is_none, not, position, nat_lt}
 use Rattle.std.proofs.lemmas.List.Sums.{fold-append}
-use Rattle.srcp_rules.specs.declared.layout.Bus.{Bus}
+use Rattle.srcp_grammar.specs.declared.layout.Bus.{Bus}
 use Rattle.srcp_core.specs.Connection.{is_open}
 use Rattle.srcp_core.specs.Course.{World, start, counted, course, denied_in, fault, happens, or_refused}
 use Rattle.srcp_core.specs.Held.{Held, open_count}

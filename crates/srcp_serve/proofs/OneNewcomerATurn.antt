@@ -5,7 +5,7 @@ use Rattle.std.specs.Prelude.{filter_map, fold}
 use Rattle.std.specs.List.{cons_option}
 use Rattle.std.proofs.lemmas.Bool.Decides.{nat_tests}
 use Rattle.srcp_core.specs.Under.{Event}
-use Rattle.srcp_rules.specs.declared.layout.Bus.{Bus}
+use Rattle.srcp_grammar.specs.declared.layout.Bus.{Bus}
 use Rattle.srcp_serve.specs.Given.{Guest, Call, ExpectCall, NowCall, AcceptCall, ReadCall, WriteCall, CloseCall}
 use Rattle.srcp_serve.specs.Serving.{Question, Expects, Moments, Newcomers, Closes, Seat, Stand, question, newcomer_of, with_moment}
 use Rattle.srcp_serve.specs.Serving.{is_let_in, turns_away}

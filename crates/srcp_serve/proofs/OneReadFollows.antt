@@ -13,7 +13,7 @@ use Rattle.srcp_core.specs.Stands.{StandsFor}
 use Rattle.srcp_core.specs.Under.{Event, Piece, Bytes, denied_by, giving}
 use Rattle.srcp_core.specs.declared.record.CoreFault.{CoreFault}
 use Rattle.srcp_core.proofs.Agreement.CallLaws.{calls_agree, calls_lead}
-use Rattle.srcp_rules.specs.declared.layout.Bus.{Bus}
+use Rattle.srcp_grammar.specs.declared.layout.Bus.{Bus}
 use Rattle.srcp_serve.specs.Calls.{Call as DoorCall, Tells}
 use Rattle.srcp_serve.specs.Calls as door
 use Rattle.srcp_serve.specs.Given.{ReadCall}

@@ -12,7 +12,7 @@ use Rattle.srcp_info.specs.declared.change.Code.TheVariants.{C500}
 use Rattle.srcp_info.specs.declared.change.Reply.{Reply}
 use Rattle.srcp_info.specs.declared.change.Reply.TheVariants.{Protocol, Mode as ModeReply, Go, Refused}
 use Rattle.srcp_info.specs.declared.value.Mode.{Mode}
-use Rattle.srcp_rules.specs.declared.layout.Bus.{Bus}
+use Rattle.srcp_grammar.specs.declared.layout.Bus.{Bus}
 use Rattle.srcp_rules.specs.Effect.{Effect}
 use Rattle.srcp_core.specs.Under.{Open, Bytes, At, Shut, Obeyed, Began, Ended, Piece, Order, effect, Heard, greets}
 use Rattle.srcp_core.specs.Connection.{Connection, given, sent, text}

@@ -1,10 +1,10 @@
 -- A turn that brings no more changes than the door was told makes no panel overrun.
 use Rattle.std.proofs.Common.{◌≡◌, ◌∙◌, refl, ℕ, zero, suc, ◌≤◌, List, [], ◌∷◌, map, length, ap, subst}
 use Rattle.std.specs.Prelude.{◌+◌, drop, fold}
-use Rattle.srcp_rules.specs.declared.layout.Bus.{Bus}
+use Rattle.srcp_grammar.specs.declared.layout.Bus.{Bus}
 use Rattle.srcp_core.specs.Connection.{Connection}
 use Rattle.srcp_core.specs.Course.{World, course}
-use Rattle.srcp_rules.specs.Layout.{IsLayout}
+use Rattle.srcp_grammar.specs.Layout.{IsLayout}
 use Rattle.std.proofs.lemmas.List.{drop_at}
 use Rattle.srcp_core.specs.Under.{Event}
 use Rattle.srcp_core.specs.Waits.{IsOverrun, brought, brought_besides, changes_since, may_bring, option_or_256, slack, room, weighs}

@@ -5,7 +5,7 @@ use Rattle.std.specs.List.{list_any, AllByRecursion}
 use Rattle.std.specs.Prelude.{is_none}
 use Rattle.std.proofs.lemmas.List.{map-append}
 use Rattle.std.proofs.lemmas.List.Sums.{fold-append}
-use Rattle.srcp_rules.specs.declared.layout.Bus.{Bus}
+use Rattle.srcp_grammar.specs.declared.layout.Bus.{Bus}
 use Rattle.srcp_core.specs.Under.{Open, At}
 use Rattle.srcp_core.specs.Course.{World, start, happens, course, fault}
 use Rattle.srcp_core.specs.declared.record.CoreFault.{CoreFault}

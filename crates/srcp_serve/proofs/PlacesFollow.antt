@@ -4,7 +4,7 @@ use Rattle.std.proofs.Common.{None, refl, ap, sym, subst, arith, append_assoc, a
 use Rattle.std.proofs.lemmas.Grind.{flat_map-append}
 use Rattle.std.proofs.lemmas.List.{map-append, length-map}
 use Rattle.std.specs.List.{slice_index_or, slice_set}
-use Rattle.srcp_rules.specs.declared.layout.Bus.{Bus}
+use Rattle.srcp_grammar.specs.declared.layout.Bus.{Bus}
 use Rattle.srcp_core.specs.Held.{Held}
 use Rattle.srcp_core.specs.Recording.{without_key}
 use Rattle.srcp_core.specs.Under.{Event}

@@ -1,6 +1,6 @@
 -- What was refused of memory was asked for in the course, event after event.
 use Rattle.std.proofs.Common.{◌≡◌, ◌∙◌, ℕ, List, [], ◌∷◌, ◌++◌, map, Result, Ok, Err, ap, refl, sym, append-nil, append_assoc}
-use Rattle.srcp_rules.specs.declared.layout.Bus.{Bus}
+use Rattle.srcp_grammar.specs.declared.layout.Bus.{Bus}
 use Rattle.srcp_core.specs.Course.{counted, course, denied_in, denied_over, start}
 use Rattle.srcp_core.specs.Held.{Held}
 use Rattle.srcp_core.specs.Under.{At, Event, Room}

@@ -9,7 +9,7 @@ use Rattle.std.specs.Prelude.{fold}
 use Rattle.std.specs.List.{AllByRecursion}
 use Rattle.srcp_core.specs.Under.{Event, Open, Bytes, Room, At, Shut}
 use Rattle.srcp_info.specs.declared.change.Shown.{Shown}
-use Rattle.srcp_rules.specs.declared.layout.Bus.{Bus}
+use Rattle.srcp_grammar.specs.declared.layout.Bus.{Bus}
 use Rattle.srcp_core.specs.Agrees.{lent_of}
 use Rattle.srcp_core.specs.Connection.{Connection, History, is_open, fitting, items_of, sent, unsent, overran, owed, took, given_room}
 use Rattle.srcp_core.specs.Course.{World, fresh, fault, start, numbered, with_numbered, if_open, open_connection, at_connection, counted}

@@ -6,7 +6,7 @@ use Rattle.srcp_core.specs.Course.{course}
 use Rattle.srcp_core.specs.Under.{Open}
 use Rattle.srcp_core.specs.Waits.{due_next, slack}
 use Rattle.srcp_info.proofs.ClientLaws.{all_append}
-use Rattle.srcp_rules.specs.declared.layout.Bus.{Bus}
+use Rattle.srcp_grammar.specs.declared.layout.Bus.{Bus}
 use Rattle.srcp_serve.specs.Given.{Guest, Call}
 use Rattle.srcp_serve.specs.Serving.{Question, Moments, expects, Newcomers, Closes, Seat, Stand, IsFair, question, moment_of, newcomer_of}
 use Rattle.srcp_serve.specs.Serving.{seats, taken, timed, turned, visits_ask, welcomed, let_in, is_let_in, turns_away, turn_asks}

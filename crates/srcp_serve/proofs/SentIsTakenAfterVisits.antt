@@ -4,7 +4,7 @@ use Rattle.std.proofs.Common.{subst, append-nil, ◌==◌}
 use Rattle.std.specs.Prelude.{◌&&◌, ◌||◌}
 use Rattle.std.specs.List.{list_any, AllByRecursion}
 use Rattle.std.proofs.lemmas.List.Elements.{filter-append}
-use Rattle.srcp_rules.specs.declared.layout.Bus.{Bus}
+use Rattle.srcp_grammar.specs.declared.layout.Bus.{Bus}
 use Rattle.srcp_core.specs.Course.{course}
 use Rattle.srcp_serve.specs.Given.{Call}
 use Rattle.srcp_serve.specs.Serving.{Question, Seat, Stand, IsFair, is_about, question, seats, taken, visited, visits_ask}

@@ -1,7 +1,7 @@
 -- To be believed: which turns make no panel overrun, by how many changes they bring and what the door was told.
 use Rattle.std.specs.Prelude.{ℕ, ◌+◌, ◌≤◌, List, [], ◌∷◌, drop, length}
-use Rattle.srcp_rules.specs.Layout.{IsLayout}
-use Rattle.srcp_rules.specs.declared.layout.Bus.{Bus}
+use Rattle.srcp_grammar.specs.Layout.{IsLayout}
+use Rattle.srcp_grammar.specs.declared.layout.Bus.{Bus}
 use Rattle.srcp_core.specs.Connection.{Connection}
 use Rattle.srcp_core.specs.Course.{course}
 use Rattle.srcp_core.specs.Under.{Event}

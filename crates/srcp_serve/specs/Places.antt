@@ -3,8 +3,8 @@ use Rattle.std.specs.Prelude.{Bool, ⊤, ◌≡◌, ◌⊎◌, ℕ, ◌+◌, ◌
 use Rattle.std.specs.Prelude.{[], ◌∷◌, ◌++◌, map, length, filter_map, flat_map, count_by, is_some, Option, Some}
 use Rattle.std.specs.Prelude.{None, Result, Ok}
 use Rattle.std.specs.List.{list_all, list_any, AllByRecursion}
-use Rattle.srcp_rules.specs.Layout.{IsLayout}
-use Rattle.srcp_rules.specs.declared.layout.Bus.{Bus}
+use Rattle.srcp_grammar.specs.Layout.{IsLayout}
+use Rattle.srcp_grammar.specs.declared.layout.Bus.{Bus}
 use Rattle.srcp_core.specs.Course.{course, denied_over, start}
 use Rattle.srcp_core.specs.Held.{Held}
 use Rattle.srcp_core.specs.Recording.{key_of}

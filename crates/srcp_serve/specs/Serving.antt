@@ -6,7 +6,7 @@ use Rattle.std.specs.Prelude.{⊤, ◌≡◌, ℕ, ◌+◌, Bool, true, false, n
 use Rattle.std.specs.Prelude.{◌∷◌, ◌++◌, map, take, length, filter, filter_map, flat_map, fold, count_by, replicate}
 use Rattle.std.specs.Prelude.{Option, Some, None, is_none, option_map, Ok, Err}
 use Rattle.std.specs.List.{list_any, AllByRecursion}
-use Rattle.srcp_rules.specs.declared.layout.Bus.{Bus}
+use Rattle.srcp_grammar.specs.declared.layout.Bus.{Bus}
 use Rattle.srcp_core.specs.Agrees.{closes, lent as lent_in}
 use Rattle.srcp_core.specs.Connection.{sent}
 use Rattle.srcp_core.specs.Course.{course, fault}

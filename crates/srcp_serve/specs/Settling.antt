@@ -2,8 +2,8 @@
 use Rattle.std.specs.Prelude.{◌≡◌, ℕ, ◌+◌, ◌*◌, ◌≤◌, if◌then◌else◌, true, false, fold, List, [], ◌++◌, length}
 use Rattle.std.specs.Prelude.{slice_get, Some}
 use Rattle.std.specs.List.{list_any, AllByRecursion}
-use Rattle.srcp_rules.specs.Layout.{IsLayout}
-use Rattle.srcp_rules.specs.declared.layout.Bus.{Bus}
+use Rattle.srcp_grammar.specs.Layout.{IsLayout}
+use Rattle.srcp_grammar.specs.declared.layout.Bus.{Bus}
 use Rattle.srcp_core.specs.Connection.{Connection, is_nil, is_settled, owed, unsent, waiting}
 use Rattle.srcp_core.specs.Course.{World, course, history, numbered, rows}
 use Rattle.srcp_core.specs.Under.{Event}

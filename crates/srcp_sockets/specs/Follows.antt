@@ -1,8 +1,8 @@
 -- What the sockets took of what the course sends their peers.
 use Rattle.std.specs.Prelude.{◌≡◌, ℕ, ◌<◌, List, [], map, length, slice_index_or, Option, Some}
 use Rattle.std.specs.Io.{StartsWith}
-use Rattle.srcp_rules.specs.declared.layout.Bus.{Bus}
-use Rattle.srcp_rules.specs.Layout.{IsLayout}
+use Rattle.srcp_grammar.specs.declared.layout.Bus.{Bus}
+use Rattle.srcp_grammar.specs.Layout.{IsLayout}
 use Rattle.srcp_core.specs.Connection.{Connection, sent}
 use Rattle.srcp_core.specs.Course.{course}
 use Rattle.srcp_core.specs.Held.{Held}

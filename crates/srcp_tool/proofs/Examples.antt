@@ -3,7 +3,7 @@ use Rattle.std.proofs.Common.{◌≡◌, true, [], ◌∷◌, ◌++◌, Ok, code
 use Rattle.std.specs.Prelude.{None}
 use Rattle.std.specs.Fmt.{digits}
 use Rattle.clap.specs.Walk.{walked}
-use Rattle.srcp_rules.specs.declared.layout.Bus.{Bus}
+use Rattle.srcp_grammar.specs.declared.layout.Bus.{Bus}
 use Rattle.srcp_tool.specs.Arguments.{task, Replay, Check, Serve}
 use Rattle.srcp_tool.specs.Output.{replayed}
 use Rattle.srcp_tool.specs.Faults.{fault_text}

@@ -10,7 +10,7 @@ use Rattle.srcp_info.specs.Read.{IsLineOf}
 use Rattle.srcp_info.specs.WellFormed.{IsWellFormed}
 use Rattle.srcp_info.specs.declared.change.Change.{Change}
 use Rattle.srcp_info.specs.declared.change.Shown.{Shown}
-use Rattle.srcp_rules.specs.declared.layout.Bus.{Bus}
+use Rattle.srcp_grammar.specs.declared.layout.Bus.{Bus}
 use Rattle.srcp_core.specs.Connection.{recorded}
 use Rattle.srcp_core.specs.Course.{course, history, state}
 use Rattle.srcp_core.specs.Under.{all_under, step_told}

@@ -3,7 +3,7 @@
 ghost use Rattle.std.specs.Prelude.{◌≡◌, List, IfOk, IfErr, IfSome};
 ghost use Rattle.std.specs.List.{AllByRecursion};
 ghost use Rattle.srcp_info.specs.WellFormed.{IsWellFormedShown};
-ghost use Rattle.srcp_rules.specs.declared.layout.Bus.{Bus};
+ghost use Rattle.srcp_grammar.specs.declared.layout.Bus.{Bus};
 ghost use Rattle.srcp_script.specs.Output.{printed};
 ghost use Rattle.srcp_tool.specs.Output.{RefusesFor, StopsFor, Writes, run_of, replayed};
 

@@ -6,8 +6,8 @@ use Rattle.std.specs.List.{filter}
 use Rattle.std.specs.Option.{option_map_or}
 use Rattle.std.specs.Prelude.{Option, Some, None, is_none, is_some, count_by, nat_lt, slice_get, slice_index_or, not, ◌||◌, if◌then◌else◌}
 use Rattle.std.specs.Prelude.{IsSome}
-use Rattle.srcp_rules.specs.declared.layout.Bus.{Bus}
-use Rattle.srcp_rules.specs.Layout.{IsLayout}
+use Rattle.srcp_grammar.specs.declared.layout.Bus.{Bus}
+use Rattle.srcp_grammar.specs.Layout.{IsLayout}
 use Rattle.srcp_rules.specs.State.{opening, shown_rows}
 use Rattle.srcp_core.specs.Under.{Event, Open, Bytes, Room, Shut, Piece}
 use Rattle.srcp_core.specs.Agrees.{OfCourse, OfConnection, NamesNewest, CountsOpen, TakesPieces, closes, lent_of, lent}

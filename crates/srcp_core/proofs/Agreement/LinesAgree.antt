@@ -10,8 +10,8 @@ use Rattle.srcp_info.specs.declared.change.Reply.{Reply}
 use Rattle.srcp_info.specs.declared.change.Reply.TheVariants.{Protocol, Mode as ModeReply, Go, Refused}
 use Rattle.srcp_text.specs.Marks.{Mark}
 use Rattle.srcp_text.specs.Reading.{Reading}
-use Rattle.srcp_rules.specs.declared.command.Command.{Command}
-use Rattle.srcp_rules.specs.declared.layout.Bus.{Bus}
+use Rattle.srcp_grammar.specs.declared.command.Command.{Command}
+use Rattle.srcp_grammar.specs.declared.layout.Bus.{Bus}
 use Rattle.srcp_rules.specs.Effect.{Effect, effect as effect_of, refused}
 use Rattle.srcp_rules.specs.Due.{began}
 use Rattle.srcp_rules.specs.State.{State, Update, opening, shown_rows}

@@ -9,13 +9,13 @@ use Rattle.srcp_info.specs.declared.change.Code.{Code}
 use Rattle.srcp_info.specs.declared.change.Code.TheVariants.{C500}
 use Rattle.srcp_info.specs.declared.change.Reply.{Reply}
 use Rattle.srcp_info.specs.declared.change.Reply.TheVariants.{Protocol, Mode as ModeReply, Go, Refused}
-use Rattle.srcp_rules.specs.declared.layout.Bus.{Bus}
+use Rattle.srcp_grammar.specs.declared.layout.Bus.{Bus}
 use Rattle.srcp_rules.specs.Effect.{Effect}
 use Rattle.srcp_rules.specs.State.{State, opening, shown_rows}
 use Rattle.srcp_info.proofs.ClientLaws.{key_at}
 use Rattle.srcp_info.specs.Client.{IsRisingBy}
 use Rattle.srcp_text.specs.Marks.{Mark}
-use Rattle.srcp_rules.specs.declared.command.Command.{Command}
+use Rattle.srcp_grammar.specs.declared.command.Command.{Command}
 use Rattle.srcp_rules.specs.Effect.{effect as effect_of, refused}
 use Rattle.srcp_core.specs.Under.{Step, Obeyed, Began, Ended, Order, greeting_under, step_told, wants_memory}
 use Rattle.srcp_core.specs.declared.record.Step.{Step as PlainStep}

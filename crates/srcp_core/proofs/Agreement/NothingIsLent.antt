@@ -9,8 +9,8 @@ use Rattle.std.specs.Prelude.{nat_le, not, ◌&&◌, ◌||◌, if◌then◌else�
 use Rattle.srcp_feed.specs.Cursor.{beyond}
 use Rattle.srcp_feed.specs.declared.Next.{Next}
 use Rattle.srcp_feed.specs.declared.Next.TheVariants.{Told, Listed}
-use Rattle.srcp_rules.specs.declared.layout.Bus.{Bus}
-use Rattle.srcp_rules.specs.Layout.{IsLayout}
+use Rattle.srcp_grammar.specs.declared.layout.Bus.{Bus}
+use Rattle.srcp_grammar.specs.Layout.{IsLayout}
 use Rattle.srcp_core.specs.Under.{Event, Room}
 use Rattle.srcp_core.specs.Agrees.{OfConnection, lent, lent_of, lends_none, lends_none_of}
 use Rattle.srcp_core.specs.Connection.{Connection, cursor_at, fitting, given, given_room, is_nil, is_open, is_settled, line_of, overran}

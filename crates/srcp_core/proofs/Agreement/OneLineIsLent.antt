@@ -7,8 +7,8 @@ use Rattle.std.specs.Prelude.{nat_le, Some, if◌then◌else◌}
 use Rattle.srcp_info.specs.WellFormed.{IsWellFormed}
 use Rattle.srcp_info.specs.declared.change.Change.TheVariants.{Put}
 use Rattle.srcp_info.proofs.LineLaws.{length-line-le}
-use Rattle.srcp_rules.specs.declared.layout.Bus.{Bus}
-use Rattle.srcp_rules.specs.Layout.{IsLayout}
+use Rattle.srcp_grammar.specs.declared.layout.Bus.{Bus}
+use Rattle.srcp_grammar.specs.Layout.{IsLayout}
 use Rattle.srcp_feed.specs.declared.Next.TheVariants.{Told, Listed, Settled}
 use Rattle.srcp_feed.specs.declared.Next.{Next}
 use Rattle.srcp_feed.specs.Cursor.{said}

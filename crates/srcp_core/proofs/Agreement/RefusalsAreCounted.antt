@@ -7,8 +7,8 @@ use Rattle.srcp_info.specs.declared.change.Code.TheVariants.{C500}
 use Rattle.srcp_info.specs.declared.change.Reply.TheVariants.{Go, Refused}
 use Rattle.srcp_info.specs.declared.value.Mode.{Mode}
 use Rattle.srcp_text.specs.Marks.{Mark}
-use Rattle.srcp_rules.specs.declared.command.Command.{Command}
-use Rattle.srcp_rules.specs.declared.layout.Bus.{Bus}
+use Rattle.srcp_grammar.specs.declared.command.Command.{Command}
+use Rattle.srcp_grammar.specs.declared.layout.Bus.{Bus}
 use Rattle.srcp_rules.specs.Effect.{Effect, effect as effect_of}
 use Rattle.srcp_rules.specs.State.{State}
 use Rattle.srcp_core.specs.Connection.{Connection}

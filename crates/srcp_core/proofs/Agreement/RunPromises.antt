@@ -4,8 +4,8 @@ use Rattle.std.proofs.lemmas.List.{take_all}
 use Rattle.std.proofs.Math.Nat.{le_refl}
 use Rattle.std.specs.List.{AllByRecursion}
 use Rattle.std.specs.Prelude.{true, Some, slice_get, Result, Ok, Err, IfOk}
-use Rattle.srcp_rules.specs.declared.layout.Bus.{Bus}
-use Rattle.srcp_rules.specs.Layout.{IsLayout}
+use Rattle.srcp_grammar.specs.declared.layout.Bus.{Bus}
+use Rattle.srcp_grammar.specs.Layout.{IsLayout}
 use Rattle.srcp_rules.specs.State.{State, IsWhole, opening}
 use Rattle.srcp_core.specs.Under.{Event, all_under}
 use Rattle.srcp_core.specs.Run.{RunsRecord, HasPlainMoment, PlainMoments}

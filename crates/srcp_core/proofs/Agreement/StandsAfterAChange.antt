@@ -5,7 +5,7 @@ use Rattle.std.specs.Option.{option_map}
 use Rattle.std.specs.Prelude.{Option, Some, None, slice_set}
 use Rattle.srcp_info.specs.declared.change.Change.{Change}
 use Rattle.srcp_text.specs.Reading.{Reading, StandsAt}
-use Rattle.srcp_rules.specs.declared.layout.Bus.{Bus}
+use Rattle.srcp_grammar.specs.declared.layout.Bus.{Bus}
 use Rattle.srcp_rules.specs.State.{Update, opening, shown_rows, updated_all}
 use Rattle.srcp_core.specs.Under.{Step}
 use Rattle.srcp_core.specs.Connection.{Connection, History, is_open}

@@ -8,7 +8,7 @@ use Rattle.srcp_info.specs.declared.change.Code.TheVariants.{C500}
 use Rattle.srcp_info.specs.declared.change.Reply.{Reply}
 use Rattle.srcp_info.specs.declared.change.Reply.TheVariants.{Protocol, Mode as ModeReply, Go, Refused}
 use Rattle.srcp_info.specs.declared.value.Mode.{Mode}
-use Rattle.srcp_rules.specs.declared.layout.Bus.{Bus}
+use Rattle.srcp_grammar.specs.declared.layout.Bus.{Bus}
 use Rattle.srcp_rules.specs.Effect.{Effect}
 use Rattle.srcp_core.specs.Under.{Event, Open, Bytes, Room, At, Shut, Step, Obeyed, Began, Moment, Ended, Heard, Order, effect, greets}
 use Rattle.srcp_core.specs.Under.{Piece}

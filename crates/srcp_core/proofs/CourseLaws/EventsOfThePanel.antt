@@ -2,7 +2,7 @@
 use Rattle.std.proofs.Common.{◌≡◌, ℕ, ◌+◌, Bool, true, false, List, [], ◌∷◌, ◌++◌, length, refl, ap, sym, ◌∙◌, subst, inl, inr}
 use Rattle.std.specs.List.{fold}
 use Rattle.std.specs.Prelude.{◌==◌, ◌||◌, Option, Some, None, option_map, if◌then◌else◌}
-use Rattle.srcp_rules.specs.declared.layout.Bus.{Bus}
+use Rattle.srcp_grammar.specs.declared.layout.Bus.{Bus}
 use Rattle.srcp_core.specs.Under.{Event, Bytes, Room, Ended, Heard, greets, Piece}
 use Rattle.srcp_core.specs.Connection.{Connection, is_open, overran, owed, took, given_room}
 use Rattle.srcp_core.specs.Course.{World, numbered, with_numbered, at_connection, if_open, open_connection, did, counted, rows, history}

@@ -1,8 +1,8 @@
 -- Information sessions are told rightly, and every connection is served rightly.
 use Rattle.std.proofs.Common.{◌≡◌, ℕ, List, ap, sym, ◌∙◌, subst}
 use Rattle.std.specs.Prelude.{Some}
-use Rattle.srcp_rules.specs.declared.layout.Bus.{Bus}
-use Rattle.srcp_rules.specs.Layout.{IsLayout}
+use Rattle.srcp_grammar.specs.declared.layout.Bus.{Bus}
+use Rattle.srcp_grammar.specs.Layout.{IsLayout}
 use Rattle.srcp_core.specs.Connection.{Connection}
 use Rattle.srcp_core.specs.Course.{course, numbered}
 use Rattle.srcp_core.specs.Laws.{AllMoments, HasMoment, IsHeldRightly, IsSentNoMore, IsSentNoMoreSince, IsServedRightly, IsSession}

@@ -13,10 +13,10 @@ use Rattle.srcp_info.specs.declared.change.Code.TheVariants.{C400, C401, C410, C
 use Rattle.srcp_info.specs.declared.change.Reply.TheVariants.{Go, Refused}
 use Rattle.srcp_info.specs.declared.value.Mode.{Mode}
 use Rattle.srcp_info.specs.declared.value.Mode.TheVariants.{Command as CommandMode, Info}
-use Rattle.srcp_rules.specs.declared.command.Command.{Command}
-use Rattle.srcp_rules.specs.declared.layout.Bus.{Bus}
+use Rattle.srcp_grammar.specs.declared.command.Command.{Command}
+use Rattle.srcp_grammar.specs.declared.layout.Bus.{Bus}
 use Rattle.srcp_rules.specs.Effect.{Effect}
-use Rattle.srcp_rules.specs.Grammar.{reads}
+use Rattle.srcp_grammar.specs.Grammar.{reads}
 use Rattle.srcp_rules.specs.State.{State, Update, opening}
 use Rattle.srcp_text.specs.Marks.{Mark, Line, TooLong}
 use Rattle.srcp_core.specs.Connection.{Connection}
@@ -28,7 +28,7 @@ use Rattle.srcp_core.specs.Handshake.{Greeting, Speaks, Chooses, Goes, Refuses, 
 use Rattle.srcp_core.specs.Handshake.{greets_words}
 use Rattle.srcp_core.specs.Handshake.{is_version}
 use Rattle.srcp_text.specs.Words.{words_of, is_keyword}
-use Rattle.srcp_rules.specs.Layout.{IsLayout}
+use Rattle.srcp_grammar.specs.Layout.{IsLayout}
 use Rattle.srcp_core.specs.Under.{Event, Open, Bytes, Room, At, Shut, Piece, Step, Obeyed, Began, Moment, Ended, Heard, Order, effect}
 use Rattle.srcp_core.specs.Under.{greets, greeting_under, lines_under}
 use Rattle.srcp_core.specs.Waits.{brought, brought_besides, completed, due_and_freed, may_bring, room, weighs, weight_of_mark}

@@ -17,14 +17,14 @@ use Rattle.srcp_info.specs.declared.change.Cursor.TheVariants.{Start, After, Don
 use Rattle.srcp_info.specs.declared.change.Shown.{Shown}
 use Rattle.srcp_info.specs.declared.key.Device.{Device}
 use Rattle.srcp_info.specs.declared.key.Key.{Key}
-use Rattle.srcp_rules.specs.declared.layout.Bus.{Bus}
+use Rattle.srcp_grammar.specs.declared.layout.Bus.{Bus}
 use Rattle.srcp_rules.specs.State.{opening, shown_rows}
 use Rattle.srcp_feed.specs.Cursor.{has_reached, beyond}
 use Rattle.srcp_feed.specs.declared.next.Next.TheVariants.{Listed}
 use Rattle.srcp_info.proofs.KeyLaws.{key_cmp_total}
 use Rattle.srcp_info.proofs.ClientLaws.{key_at}
 use Rattle.srcp_feed.proofs.Steps.{lists_one}
-use Rattle.srcp_rules.specs.Layout.{IsLayout}
+use Rattle.srcp_grammar.specs.Layout.{IsLayout}
 use Rattle.srcp_core.specs.Under.{Event}
 use Rattle.srcp_core.specs.Connection.{Connection, History, is_settled}
 use Rattle.srcp_core.specs.Course.{World, start, happens, course, rows, history, state_after}

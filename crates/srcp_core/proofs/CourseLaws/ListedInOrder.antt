@@ -23,8 +23,8 @@ use Rattle.srcp_info.specs.declared.change.Cursor.{Cursor}
 use Rattle.srcp_info.specs.declared.change.Shown.{Shown}
 use Rattle.srcp_info.proofs.ClientLaws.{after_not_itself, after_one_way, all_filter, all_weaker, key_at, less_from_after}
 use Rattle.srcp_info.proofs.ListingLaws.{reached_split}
-use Rattle.srcp_rules.specs.declared.layout.Bus.{Bus}
-use Rattle.srcp_rules.specs.Layout.{IsLayout}
+use Rattle.srcp_grammar.specs.declared.layout.Bus.{Bus}
+use Rattle.srcp_grammar.specs.Layout.{IsLayout}
 use Rattle.srcp_rules.specs.State.{State, opening, shown_rows}
 use Rattle.srcp_feed.specs.Cursor.{has_reached, concerns, passed, beyond, said, changed_all}
 use Rattle.srcp_feed.specs.declared.next.Next.{Next}

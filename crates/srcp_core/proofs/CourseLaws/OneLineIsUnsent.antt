@@ -7,7 +7,7 @@ use Rattle.std.proofs.lemmas.List.{take-append-drop}
 use Rattle.std.proofs.lemmas.List.Concat.{flat_map-append}
 use Rattle.std.specs.List.{flat_map}
 use Rattle.std.specs.Prelude.{nat_lt, ◌==◌, ◌&&◌, Some, if◌then◌else◌}
-use Rattle.srcp_rules.specs.declared.layout.Bus.{Bus}
+use Rattle.srcp_grammar.specs.declared.layout.Bus.{Bus}
 use Rattle.srcp_feed.specs.declared.next.Next.{Next}
 use Rattle.srcp_core.specs.Connection.{Connection, available, fitting, front, given, given_room, is_nil, is_open, items_of, line_of}
 use Rattle.srcp_core.specs.Connection.{overran}

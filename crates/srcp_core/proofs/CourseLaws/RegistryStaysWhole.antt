@@ -14,12 +14,13 @@ use Rattle.srcp_info.specs.declared.change.Reply.{Reply}
 use Rattle.srcp_info.specs.declared.change.Reply.TheVariants.{Protocol, Mode as ModeReply, Go, Refused}
 use Rattle.srcp_info.specs.declared.value.Mode.{Mode}
 use Rattle.srcp_info.specs.declared.value.Value.TheVariants as value
-use Rattle.srcp_rules.specs.declared.layout.Bus.{Bus}
-use Rattle.srcp_rules.specs.Command.{IsCommandOf}
+use Rattle.srcp_grammar.specs.declared.layout.Bus.{Bus}
+use Rattle.srcp_grammar.specs.Command.{IsCommandOf}
 use Rattle.srcp_rules.specs.Effect.{Effect}
-use Rattle.srcp_rules.specs.Layout.{IsLayout, IsKeyOf, is_within, rows_if}
-use Rattle.srcp_rules.specs.State.{IsWhole, opening, session_device, shown_rows, is_there as has_device}
-use Rattle.srcp_rules.proofs.GrammarLaws.{reads_fits}
+use Rattle.srcp_grammar.specs.Layout.{IsLayout, IsKeyOf, is_within, rows_if}
+use Rattle.srcp_grammar.specs.Devices.{session_device}
+use Rattle.srcp_rules.specs.State.{IsWhole, opening, shown_rows, is_there as has_device}
+use Rattle.srcp_grammar.proofs.GrammarLaws.{reads_fits}
 use Rattle.srcp_rules.proofs.SessionLaws.{session_row-updated_all, AreElsewhere, effect_elsewhere, due_elsewhere, freed_others}
 use Rattle.srcp_rules.proofs.StateLaws.{has_row-put_row, row_at-put_same}
 use Rattle.srcp_text.specs.Marks.{Mark, Line, TooLong}

@@ -9,7 +9,7 @@ use Rattle.std.specs.List.{flat_map}
 use Rattle.std.specs.Option.{option_or}
 use Rattle.std.specs.Prelude.{nat_le, nat_lt, ◌||◌, Option, Some, None, ◌==◌, ◌&&◌, if◌then◌else◌}
 use Rattle.srcp_feed.specs.declared.next.Next.{Next}
-use Rattle.srcp_rules.specs.declared.layout.Bus.{Bus}
+use Rattle.srcp_grammar.specs.declared.layout.Bus.{Bus}
 use Rattle.srcp_text.specs.Marks.{marks, rest as begun}
 use Rattle.srcp_text.proofs.MarkLaws.{marks-append}
 use Rattle.srcp_core.specs.Course.{new_marks}

@@ -8,8 +8,8 @@ use Rattle.std.specs.Option.{option_or}
 use Rattle.std.specs.Prelude.{◌&&◌, Option, Some, None, option_map, if◌then◌else◌, is_none}
 use Rattle.srcp_info.specs.declared.change.Change.{Change}
 use Rattle.srcp_info.specs.declared.change.Shown.{Shown}
-use Rattle.srcp_rules.specs.declared.layout.Bus.{Bus}
-use Rattle.srcp_rules.specs.Layout.{IsLayout}
+use Rattle.srcp_grammar.specs.declared.layout.Bus.{Bus}
+use Rattle.srcp_grammar.specs.Layout.{IsLayout}
 use Rattle.srcp_rules.specs.State.{opening, shown_rows}
 use Rattle.srcp_feed.specs.Cursor.{beyond}
 use Rattle.srcp_feed.specs.declared.next.Next.{Next}

@@ -16,8 +16,8 @@ use Rattle.srcp_info.specs.declared.change.Shown.{Shown}
 use Rattle.srcp_feed.specs.Cursor.{beyond}
 use Rattle.srcp_feed.specs.declared.next.Next.{Next}
 use Rattle.srcp_feed.specs.declared.next.Next.TheVariants.{Told, Listed}
-use Rattle.srcp_rules.specs.declared.layout.Bus.{Bus}
-use Rattle.srcp_rules.specs.Layout.{IsLayout}
+use Rattle.srcp_grammar.specs.declared.layout.Bus.{Bus}
+use Rattle.srcp_grammar.specs.Layout.{IsLayout}
 use Rattle.srcp_rules.specs.State.{opening, shown_rows}
 use Rattle.srcp_core.specs.Under.{Event, Room}
 use Rattle.srcp_core.specs.Connection.{Connection, History, heard, line_of, front, fitting, is_nil, is_open, is_done_by, items_of, sent}

@@ -18,8 +18,8 @@ use Rattle.srcp_info.specs.declared.change.Shown.{Shown}
 use Rattle.srcp_info.proofs.ClientLaws.{all_append, all_filter, well_formed_changed}
 use Rattle.srcp_info.proofs.HoldsLaws.{holds_unique, text_of}
 use Rattle.srcp_info.proofs.LineLaws.{line_free}
-use Rattle.srcp_rules.specs.declared.layout.Bus.{Bus}
-use Rattle.srcp_rules.specs.Layout.{IsLayout}
+use Rattle.srcp_grammar.specs.declared.layout.Bus.{Bus}
+use Rattle.srcp_grammar.specs.Layout.{IsLayout}
 use Rattle.srcp_rules.specs.State.{opening, shown_rows}
 use Rattle.srcp_feed.specs.Cursor.{concerns, said, changed_all}
 use Rattle.srcp_feed.specs.declared.next.Next.TheVariants.{Told, Listed}

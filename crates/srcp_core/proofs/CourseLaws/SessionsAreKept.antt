@@ -16,7 +16,7 @@ use Rattle.srcp_info.specs.declared.change.Code.TheVariants.{C500}
 use Rattle.srcp_info.specs.declared.change.Shown.{Shown}
 use Rattle.srcp_info.specs.declared.value.Mode.{Mode}
 use Rattle.srcp_info.proofs.ClientLaws.{all_weaker, key_at, rising_fold}
-use Rattle.srcp_rules.specs.declared.layout.Bus.{Bus}
+use Rattle.srcp_grammar.specs.declared.layout.Bus.{Bus}
 use Rattle.srcp_rules.specs.Effect.{Effect}
 use Rattle.srcp_rules.specs.State.{opening, shown_rows}
 use Rattle.srcp_feed.specs.Cursor.{concerns, beyond, changed_all}

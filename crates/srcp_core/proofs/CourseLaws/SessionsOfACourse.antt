@@ -9,8 +9,8 @@ use Rattle.srcp_info.specs.Client.{client, IsRisingBy}
 use Rattle.srcp_info.specs.Line.{line}
 use Rattle.srcp_info.specs.declared.change.Change.TheVariants.{Put}
 use Rattle.srcp_info.specs.declared.change.Shown.{Shown}
-use Rattle.srcp_rules.specs.declared.layout.Bus.{Bus}
-use Rattle.srcp_rules.specs.Layout.{IsLayout}
+use Rattle.srcp_grammar.specs.declared.layout.Bus.{Bus}
+use Rattle.srcp_grammar.specs.Layout.{IsLayout}
 use Rattle.srcp_rules.specs.State.{State, opening, shown_rows, IsRising}
 use Rattle.srcp_feed.specs.Cursor.{passed, beyond, said}
 use Rattle.srcp_feed.specs.declared.next.Next.{Next}

@@ -3,7 +3,7 @@ use Rattle.std.proofs.Common.{◌≡◌, ℕ, ◌+◌, Bool, true, false, List, 
 use Rattle.std.proofs.lemmas.Bool.{and_parts, eqb-true, eqb-false}
 use Rattle.std.specs.List.{filter, fold}
 use Rattle.std.specs.Prelude.{nat_lt, ◌==◌, Option, Some, None, option_map, if◌then◌else◌, is_none}
-use Rattle.srcp_rules.specs.declared.layout.Bus.{Bus}
+use Rattle.srcp_grammar.specs.declared.layout.Bus.{Bus}
 use Rattle.srcp_core.specs.Under.{Event, Open, Bytes, Room, At, Shut, Piece}
 use Rattle.srcp_core.specs.Connection.{Connection, is_open, recorded}
 use Rattle.srcp_core.specs.Course.{World, fresh, start, numbered, if_open, open_connection, counted, history, absent_fault, shut_as}

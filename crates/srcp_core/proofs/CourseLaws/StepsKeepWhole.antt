@@ -11,18 +11,19 @@ use Rattle.srcp_info.specs.declared.change.Row.{Row}
 use Rattle.srcp_info.specs.declared.key.Device.{Device}
 use Rattle.srcp_info.specs.declared.key.Key.{Key}
 use Rattle.srcp_info.specs.declared.value.Mode.{Mode}
-use Rattle.srcp_rules.specs.declared.layout.Bus.{Bus}
-use Rattle.srcp_rules.specs.Command.{IsCommandOf}
+use Rattle.srcp_grammar.specs.declared.layout.Bus.{Bus}
+use Rattle.srcp_grammar.specs.Command.{IsCommandOf}
 use Rattle.srcp_rules.specs.Due.{began}
-use Rattle.srcp_rules.specs.Layout.{IsLayout, IsKeyOf}
-use Rattle.srcp_rules.specs.State.{State, Update, IsWhole, AddsNoRow, row_at, has_row, is_there, key_at, session_device, shown_rows}
-use Rattle.srcp_rules.specs.State.{updated, updated_by, updated_all, opening}
+use Rattle.srcp_grammar.specs.Layout.{IsLayout, IsKeyOf}
+use Rattle.srcp_grammar.specs.Devices.{key_at, session_device}
+use Rattle.srcp_rules.specs.State.{State, Update, IsWhole, AddsNoRow, row_at, has_row, is_there, shown_rows, updated, updated_by}
+use Rattle.srcp_rules.specs.State.{updated_all, opening}
 use Rattle.srcp_rules.proofs.AddsNoRowLaws.{effect-adds_no_row, due-adds_no_row, freed-adds_no_row, began-adds_no_row}
 use Rattle.srcp_rules.proofs.DueLaws.{began_kept, due_kept, freed_kept}
 use Rattle.srcp_rules.proofs.EffectLaws.{effect_kept}
 use Rattle.srcp_rules.proofs.KeyLaws.{same_key, same_key-itself, same_key-true}
 use Rattle.srcp_info.proofs.KeyLaws.{device_from_owns}
-use Rattle.srcp_rules.proofs.LayoutLaws.{key_address}
+use Rattle.srcp_grammar.proofs.LayoutLaws.{key_address}
 use Rattle.srcp_rules.proofs.StateLaws.{row_at-put_other, row_at-without}
 use Rattle.srcp_rules.proofs.ToldLaws.{effect_told, due_told, freed_told}
 use Rattle.srcp_rules.proofs.OpeningLaws.{opening_whole}

@@ -12,7 +12,7 @@ use Rattle.std.specs.Prelude.{nat_le, nat_lt, ◌&&◌, Option, Some, None, if�
 use Rattle.srcp_info.specs.declared.change.Change.{Change}
 use Rattle.srcp_info.specs.Line.{reply_line}
 use Rattle.srcp_info.specs.declared.change.Reply.{Reply}
-use Rattle.srcp_rules.specs.declared.layout.Bus.{Bus}
+use Rattle.srcp_grammar.specs.declared.layout.Bus.{Bus}
 use Rattle.srcp_rules.specs.State.{opening}
 use Rattle.srcp_feed.specs.Cursor.{concerns}
 use Rattle.srcp_info.specs.declared.change.Cursor.TheVariants.{Done}

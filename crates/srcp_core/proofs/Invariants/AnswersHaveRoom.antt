@@ -14,7 +14,8 @@ use Rattle.srcp_info.specs.declared.value.Mode.{Mode}
 use Rattle.srcp_info.proofs.LineLaws.{length-reply_line-le, length-reply_line-most}
 use Rattle.srcp_rules.specs.Due.{began, freed}
 use Rattle.srcp_rules.specs.Effect.{Effect, effect}
-use Rattle.srcp_rules.specs.State.{is_there, session_device}
+use Rattle.srcp_grammar.specs.Devices.{session_device}
+use Rattle.srcp_rules.specs.State.{is_there}
 use Rattle.srcp_rules.proofs.ToldLaws.{reply_told}
 use Rattle.srcp_text.specs.Marks.{Mark}
 use Rattle.srcp_feed.specs.Cursor.{concerns}

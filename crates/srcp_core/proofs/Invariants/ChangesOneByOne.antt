@@ -4,7 +4,7 @@ use Rattle.std.specs.Option.{option_map, option_map_or}
 use Rattle.std.specs.Prelude.{Option, Some, None, slice_get}
 use Rattle.srcp_info.specs.WellFormed.{IsWellFormed}
 use Rattle.srcp_info.specs.declared.change.Change.{Change}
-use Rattle.srcp_rules.specs.declared.layout.Bus.{Bus}
+use Rattle.srcp_grammar.specs.declared.layout.Bus.{Bus}
 use Rattle.srcp_rules.specs.State.{State, Update, IsWhole, updated, updated_all}
 use Rattle.srcp_rules.specs.Laws.{CanBeTold}
 use Rattle.srcp_core.specs.Held.{Place}

@@ -5,17 +5,18 @@ use Rattle.std.specs.Prelude.{◌==◌, ◌&&◌, ◌||◌, if◌then◌else◌,
 use Rattle.srcp_info.specs.Key.{first_key}
 use Rattle.srcp_info.specs.WellFormed.{IsMoment}
 use Rattle.srcp_info.specs.declared.change.Change.{Change}
-use Rattle.srcp_rules.specs.declared.layout.Bus.{Bus}
-use Rattle.srcp_rules.specs.Layout.{IsLayout}
-use Rattle.srcp_rules.specs.State.{State, Update, IsWhole, opening, updated_all, session_device, is_there}
+use Rattle.srcp_grammar.specs.declared.layout.Bus.{Bus}
+use Rattle.srcp_grammar.specs.Layout.{IsLayout}
+use Rattle.srcp_grammar.specs.Devices.{session_device}
+use Rattle.srcp_rules.specs.State.{State, Update, IsWhole, opening, updated_all, is_there}
 use Rattle.srcp_core.specs.Held.{Place, Held, place_at, at, open_count, IsLive, AreSessions, IsSound, IsSessionAt}
 use Rattle.srcp_info.specs.declared.value.Mode.{Mode}
 use Rattle.srcp_info.specs.declared.value.Value.TheVariants as value
-use Rattle.srcp_rules.specs.declared.command.Command.{Command}
-use Rattle.srcp_rules.specs.Command.{IsCommandOf}
+use Rattle.srcp_grammar.specs.declared.command.Command.{Command}
+use Rattle.srcp_grammar.specs.Command.{IsCommandOf}
 use Rattle.srcp_rules.specs.Due.{due, freed, began}
 use Rattle.srcp_rules.specs.Effect.{effect}
-use Rattle.srcp_rules.specs.Layout.{IsKeyOf, is_within, rows_if}
+use Rattle.srcp_grammar.specs.Layout.{IsKeyOf, is_within, rows_if}
 use Rattle.srcp_rules.specs.State.{updated}
 use Rattle.srcp_rules.proofs.DueLaws.{began_kept, due_kept, freed_kept}
 use Rattle.srcp_rules.proofs.EffectLaws.{effect_kept}

@@ -13,12 +13,12 @@ use Rattle.srcp_info.specs.Client.{IsRisingBy}
 use Rattle.srcp_info.specs.Key.{key_cmp, key_of, has_reached}
 use Rattle.srcp_info.specs.WellFormed.{IsMoment}
 use Rattle.srcp_info.proofs.ClientLaws.{after_from_less, all_weaker, rising_filter}
-use Rattle.srcp_rules.specs.declared.layout.Bus.{Bus}
+use Rattle.srcp_grammar.specs.declared.layout.Bus.{Bus}
 use Rattle.srcp_rules.specs.Due.{due, due_after, due_change, is_due}
 use Rattle.srcp_rules.specs.State.{State, Update, IsRowOf, IsWhole, updated, updated_if}
 use Rattle.srcp_rules.proofs.DueLaws.{due_may}
 use Rattle.srcp_rules.proofs.DueStepLaws.{due_later}
-use Rattle.srcp_rules.proofs.FindLaws.{each_filtered}
+use Rattle.srcp_grammar.proofs.FindLaws.{each_filtered}
 use Rattle.srcp_rules.proofs.NextLaws.{change_key}
 use Rattle.srcp_rules.proofs.StateLaws.{each_of, row_key}
 use Rattle.srcp_rules.proofs.ToldLaws.{due_told}

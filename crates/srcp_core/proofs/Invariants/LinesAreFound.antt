@@ -3,7 +3,7 @@ use Rattle.std.proofs.Common.{◌≡◌, ℕ, zero, suc, ◌+◌, ◌-◌, ◌*�
 use Rattle.std.proofs.Common.{inr, refl, ap, sym, ◌∙◌, subst, arith}
 use Rattle.std.specs.Prelude.{◌||◌, ◌==◌, if◌then◌else◌, fold, Option, Some, None, Ok, Err, position, slice_set}
 use Rattle.srcp_info.specs.declared.change.Code.{Code}
-use Rattle.srcp_rules.specs.declared.layout.Bus.{Bus}
+use Rattle.srcp_grammar.specs.declared.layout.Bus.{Bus}
 use Rattle.srcp_text.specs.Marks.{Mark, Line, TooLong, is_lf, without_cr}
 use Rattle.srcp_text.specs.Reading.{after_lf, extended, nothing_read}
 use Rattle.srcp_text.specs.Feeding.{feed_at, fed_at}

@@ -4,11 +4,11 @@ use Rattle.std.proofs.lemmas.Bool.{eqb-false}
 use Rattle.std.proofs.Math.Nat.{pos_of_ne-zero}
 use Rattle.std.specs.Prelude.{◌||◌, ◌==◌, if◌then◌else◌, Result, IfOk}
 use Rattle.srcp_info.specs.declared.change.Code.{Code}
-use Rattle.srcp_rules.specs.Command.{IsCommandOf}
-use Rattle.srcp_rules.specs.Layout.{IsLayout}
-use Rattle.srcp_rules.specs.declared.command.Command.{Command}
-use Rattle.srcp_rules.specs.declared.layout.Bus.{Bus}
-use Rattle.srcp_rules.proofs.GrammarLaws.{reads_fits}
+use Rattle.srcp_grammar.specs.Command.{IsCommandOf}
+use Rattle.srcp_grammar.specs.Layout.{IsLayout}
+use Rattle.srcp_grammar.specs.declared.command.Command.{Command}
+use Rattle.srcp_grammar.specs.declared.layout.Bus.{Bus}
+use Rattle.srcp_grammar.proofs.GrammarLaws.{reads_fits}
 use Rattle.srcp_text.specs.Marks.{Mark, Line, TooLong}
 use Rattle.srcp_core.specs.Course.{command_of}
 use Rattle.srcp_core.specs.Handshake.{greets}

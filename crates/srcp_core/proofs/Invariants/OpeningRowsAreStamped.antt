@@ -15,10 +15,10 @@ use Rattle.srcp_info.specs.declared.change.Row.{Row}
 use Rattle.srcp_info.specs.declared.key.Key.{Key}
 use Rattle.srcp_info.specs.declared.value.Value.TheVariants as value
 use Rattle.srcp_info.proofs.ClientLaws.{after_from_less, after_not_itself, all_append, all_weaker, filter-put_high, put_over, reached_below}
-use Rattle.srcp_rules.specs.declared.layout.Bus.{Bus}
-use Rattle.srcp_rules.specs.State.{State, IsRising, IsRowOf, power_device, fb_device, first_row, has_row, opening, opening_on, put_row}
-use Rattle.srcp_rules.specs.State.{row_after, row_at}
-use Rattle.srcp_rules.proofs.FindLaws.{each_filtered, found_holds}
+use Rattle.srcp_grammar.specs.declared.layout.Bus.{Bus}
+use Rattle.srcp_grammar.specs.Devices.{power_device, fb_device}
+use Rattle.srcp_rules.specs.State.{State, IsRising, IsRowOf, first_row, has_row, opening, opening_on, put_row, row_after, row_at}
+use Rattle.srcp_grammar.proofs.FindLaws.{each_filtered, found_holds}
 use Rattle.srcp_rules.proofs.PutLaws.{put_row-past}
 use Rattle.srcp_rules.proofs.SoughtLaws.{beyond, fewer_beyond}
 use Rattle.srcp_rules.proofs.StateLaws.{row_key, row_at-first, row_at-later, rising-updated}

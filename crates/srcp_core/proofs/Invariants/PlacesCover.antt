@@ -3,7 +3,8 @@ use Rattle.std.proofs.Common.{◌≡◌, ◌≢◌, ℕ, zero, suc, ◌+◌, ◌
 use Rattle.std.specs.Option.{option_map}
 use Rattle.std.specs.Prelude.{◌&&◌, Option, Some, None, is_some, slice_set, count_by, if◌then◌else◌}
 use Rattle.srcp_info.specs.declared.change.Change.{Change}
-use Rattle.srcp_rules.specs.State.{State, session_device, is_there}
+use Rattle.srcp_grammar.specs.Devices.{session_device}
+use Rattle.srcp_rules.specs.State.{State, is_there}
 use Rattle.srcp_feed.specs.Cursor.{concerns}
 use Rattle.srcp_feed.specs.Feed.{is_full, told}
 use Rattle.srcp_core.specs.Held.{Place, place_at, IsLive, AreSessions}

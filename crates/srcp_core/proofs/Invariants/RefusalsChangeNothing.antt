@@ -5,10 +5,11 @@ use Rattle.srcp_info.specs.declared.change.Code.{Code}
 use Rattle.srcp_info.specs.declared.change.Code.TheVariants.{C414, C415, C416, C418, C500}
 use Rattle.srcp_info.specs.declared.change.Reply.TheVariants.{Accepted, Refused}
 use Rattle.srcp_info.specs.declared.change.Row.{Row}
-use Rattle.srcp_rules.specs.declared.command.Command.{Command}
-use Rattle.srcp_rules.specs.declared.command.Command.TheVariants.{GetSession, TermSession, GetPower, SetPower, CheckPower, InitPower, GetGl}
-use Rattle.srcp_rules.specs.declared.command.Command.TheVariants.{SetGl, CheckGl, InitGl, TermGl, GetGa, SetGa, CheckGa, InitGa, TermGa}
-use Rattle.srcp_rules.specs.declared.command.Command.TheVariants.{GetFb, SetFb, CheckFb, InitFb, GetLock, SetLock, CheckLock, TermLock}
+use Rattle.srcp_grammar.specs.declared.command.Command.{Command}
+use Rattle.srcp_grammar.specs.declared.command.Command.TheVariants.{GetSession, TermSession, GetPower, SetPower, CheckPower, InitPower}
+use Rattle.srcp_grammar.specs.declared.command.Command.TheVariants.{GetGl, SetGl, CheckGl, InitGl, TermGl, GetGa, SetGa, CheckGa, InitGa}
+use Rattle.srcp_grammar.specs.declared.command.Command.TheVariants.{TermGa, GetFb, SetFb, CheckFb, InitFb, GetLock, SetLock, CheckLock}
+use Rattle.srcp_grammar.specs.declared.command.Command.TheVariants.{TermLock}
 use Rattle.srcp_rules.specs.declared.obeyed.Obeyed.{Obeyed}
 use Rattle.srcp_rules.specs.Effect.{Effect, effect, refused, accepted, showing, done, checked, term_session, set_gl, set_ga, set_lock}
 use Rattle.srcp_rules.specs.Obeyed.{IsObeyed, Took}
@@ -47,8 +48,8 @@ pub refused_changes : (code : Code) (state : State) (session moment : ℕ) (comm
 refused_changes code state session moment (GetSession id) = shows code _
 refused_changes code state session moment (TermSession id) = ends code session id
 refused_changes code state session moment (GetPower bus) = shows code _
-refused_changes code state session moment (SetPower bus on text) = accepts code _
-refused_changes code state session moment (CheckPower bus on text) = accepts code _
+refused_changes code state session moment (SetPower power) = accepts code _
+refused_changes code state session moment (CheckPower power) = accepts code _
 refused_changes code state session moment (InitPower bus) = accepts code _
 refused_changes code state session moment (GetGl bus address) = shows code _
 refused_changes code state session moment (SetGl drive) = does code _
@@ -61,12 +62,12 @@ refused_changes code state session moment (CheckGa switch) = checks code _
 refused_changes code state session moment (InitGa bus address letter ports) = does code _
 refused_changes code state session moment (TermGa bus address) = does code _
 refused_changes code state session moment (GetFb bus port) = shows code _
-refused_changes code state session moment (SetFb bus port on) = accepts code _
-refused_changes code state session moment (CheckFb bus port on) = accepts code _
+refused_changes code state session moment (SetFb sensor) = accepts code _
+refused_changes code state session moment (CheckFb sensor) = accepts code _
 refused_changes code state session moment (InitFb bus) = accepts code _
 refused_changes code state session moment (GetLock bus group address) = shows code _
-refused_changes code state session moment (SetLock bus group address seconds) = does code _
-refused_changes code state session moment (CheckLock bus group address seconds) = checks code _
+refused_changes code state session moment (SetLock lock) = does code _
+refused_changes code state session moment (CheckLock lock) = checks code _
 refused_changes code state session moment (TermLock bus group address) = does code _
 
 -- ---- no command is refused with 500
@@ -115,8 +116,8 @@ pub never_denied : (state : State) (session moment : ℕ) (command : Command) �
 never_denied state session moment (GetSession id) = never_shown _
 never_denied state session moment (TermSession id) = never_ends session id
 never_denied state session moment (GetPower bus) = never_shown _
-never_denied state session moment (SetPower bus on text) = λ e. cc
-never_denied state session moment (CheckPower bus on text) = λ e. cc
+never_denied state session moment (SetPower power) = λ e. cc
+never_denied state session moment (CheckPower power) = λ e. cc
 never_denied state session moment (InitPower bus) = λ e. cc
 never_denied state session moment (GetGl bus address) = never_shown _
 never_denied state session moment (SetGl drive) =
@@ -133,14 +134,14 @@ never_denied state session moment (CheckGa switch) =
 never_denied state session moment (InitGa bus address letter ports) = never_done _ (refuses _ C414 _ c414 (fine _))
 never_denied state session moment (TermGa bus address) = never_done _ (refuses _ C416 _ c416 (refuses _ C414 _ c414 (fine _)))
 never_denied state session moment (GetFb bus port) = never_shown _
-never_denied state session moment (SetFb bus port on) = λ e. cc
-never_denied state session moment (CheckFb bus port on) = λ e. cc
+never_denied state session moment (SetFb sensor) = λ e. cc
+never_denied state session moment (CheckFb sensor) = λ e. cc
 never_denied state session moment (InitFb bus) = λ e. cc
 never_denied state session moment (GetLock bus group address) = never_shown _
-never_denied state session moment (SetLock bus group address seconds) =
+never_denied state session moment (SetLock lock) =
     never_done _ (refuses _ C416 _ c416 (refuses _ C414 _ c414 (fine _)))
-never_denied state session moment (CheckLock bus group address seconds) =
-    never_checked (set_lock state session moment group bus address seconds) (refuses _ C416 _ c416 (refuses _ C414 _ c414 (fine _)))
+never_denied state session moment (CheckLock lock) =
+    never_checked (set_lock state session moment lock) (refuses _ C416 _ c416 (refuses _ C414 _ c414 (fine _)))
 never_denied state session moment (TermLock bus group address) = never_done _ (refuses _ C416 _ c416 (refuses _ C414 _ c414 (fine _)))
 
 module _ (state after : State) (session moment : ℕ) (command : Command) (obeyed : Obeyed) where

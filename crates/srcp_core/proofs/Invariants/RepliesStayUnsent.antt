@@ -9,7 +9,8 @@ use Rattle.srcp_info.specs.declared.change.Change.{Change}
 use Rattle.srcp_info.specs.declared.change.Reply.{Reply}
 use Rattle.srcp_info.specs.declared.change.Reply.TheVariants.{Accepted, Protocol, Mode as ModeReply, Go, Refused, Shows}
 use Rattle.srcp_info.specs.declared.value.Mode.{Mode}
-use Rattle.srcp_rules.specs.State.{Update, is_there, session_device}
+use Rattle.srcp_grammar.specs.Devices.{session_device}
+use Rattle.srcp_rules.specs.State.{Update, is_there}
 use Rattle.srcp_feed.specs.Cursor.{concerns}
 use Rattle.srcp_feed.specs.Feed.{Feed, is_full, told}
 use Rattle.srcp_core.specs.Held.{Place, Held, place_at, IsLive, IsSound, IsSessionAt}

@@ -7,7 +7,7 @@ use Rattle.srcp_info.specs.declared.change.Row.{Row}
 use Rattle.std.specs.Prelude.{List, Result, Ok, Err, IfOk}
 use Rattle.std.specs.List.{AllByRecursion}
 use Rattle.srcp_info.specs.WellFormed.{IsWellFormedShown}
-use Rattle.srcp_rules.specs.declared.layout.Bus.{Bus}
+use Rattle.srcp_grammar.specs.declared.layout.Bus.{Bus}
 use Rattle.srcp_rules.specs.State.{State, IsRising, IsWhole, row_after, shown_rows}
 use Rattle.srcp_rules.proofs.SoughtLaws.{beyond, beyond-next, beyond-none}
 use Rattle.srcp_rules.proofs.StateLaws.{each_found}

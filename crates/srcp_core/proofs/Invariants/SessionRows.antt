@@ -8,8 +8,9 @@ use Rattle.srcp_info.specs.declared.change.Row.{Row}
 use Rattle.srcp_info.specs.declared.key.Key.{Key}
 use Rattle.srcp_info.specs.declared.value.Value.TheVariants as value
 use Rattle.srcp_info.proofs.ClientLaws.{all_append}
-use Rattle.srcp_rules.specs.declared.layout.Bus.{Bus}
-use Rattle.srcp_rules.specs.State.{State, row_at, is_there, session_device, power_device, fb_device, first_row, opening, opening_on}
+use Rattle.srcp_grammar.specs.declared.layout.Bus.{Bus}
+use Rattle.srcp_grammar.specs.Devices.{session_device, power_device, fb_device}
+use Rattle.srcp_rules.specs.State.{State, row_at, is_there, first_row, opening, opening_on}
 use Rattle.srcp_rules.proofs.StateLaws.{row_at_key}
 use Rattle.srcp_rules.proofs.StepLaws.{is_session}
 

@@ -1,6 +1,6 @@
 //! The stamps of the rows that a registry begins with.
 ghost use Rattle.std.specs.Prelude.{◌≡◌};
-ghost use Rattle.srcp_rules.specs.Layout.{IsLayout};
+ghost use Rattle.srcp_grammar.specs.Layout.{IsLayout};
 ghost use Rattle.srcp_rules.specs.State.{opening};
 
 use srcp_info::Cursor;

@@ -6,16 +6,16 @@ ghost use Rattle.srcp_info.specs.declared.value.Value.TheVariants as value;
 ghost use Rattle.srcp_info.specs.Key.{device_of};
 ghost use Rattle.srcp_info.specs.WellFormed.{can_go};
 ghost use Rattle.srcp_rules.specs.Rows.{put_rows};
-ghost use Rattle.srcp_rules.specs.State.{fb_device, first_row, has_row, key_at, opening_on, put_row, row_after, row_at};
-ghost use Rattle.srcp_rules.specs.State.{without};
+ghost use Rattle.srcp_grammar.specs.Devices.{fb_device, key_at};
+ghost use Rattle.srcp_rules.specs.State.{first_row, has_row, opening_on, put_row, row_after, row_at, without};
 ghost use Rattle.srcp_rules.specs.Nested.{AreOfDevice, AreRowsOfBus, bus_rows, group_rows, most_rows};
 
 use crate::first_rows::{power_row, push_ports};
-use crate::layout::Bus;
 use crate::nested::devices::Devices;
 use crate::obeyed::Memory;
 use crate::rows::MOST_ROWS;
 use crate::sorted_rows::{add_all, drop_in, row_after_in, row_in, set_in};
+use srcp_grammar::Bus;
 use srcp_info::{Cursor, Device, Group, Key, Row};
 use std::alloc::Global;
 

@@ -7,7 +7,7 @@ use Rattle.srcp_info.specs.declared.change.Code.{Code}
 use Rattle.srcp_info.specs.declared.change.Code.TheVariants.{C500}
 use Rattle.srcp_info.specs.declared.change.Reply.TheVariants.{Go, Refused}
 use Rattle.srcp_info.specs.declared.value.Mode.{Mode}
-use Rattle.srcp_rules.specs.declared.layout.Bus.{Bus}
+use Rattle.srcp_grammar.specs.declared.layout.Bus.{Bus}
 use Rattle.srcp_rules.specs.Effect.{Effect}
 use Rattle.srcp_core.specs.Under.{Event, Open, Bytes, Room, At, Shut, Obeyed, Began, Ended, Heard, Order, effect, greets, Piece}
 use Rattle.srcp_core.specs.Connection.{Connection, given_room}

@@ -10,8 +10,8 @@ use Rattle.srcp_info.specs.declared.change.Shown.{Shown}
 use Rattle.srcp_feed.specs.Cursor.{beyond}
 use Rattle.srcp_feed.specs.declared.next.Next.{Next}
 use Rattle.srcp_feed.specs.declared.next.Next.TheVariants.{Told, Listed}
-use Rattle.srcp_rules.specs.declared.layout.Bus.{Bus}
-use Rattle.srcp_rules.specs.Layout.{IsLayout}
+use Rattle.srcp_grammar.specs.declared.layout.Bus.{Bus}
+use Rattle.srcp_grammar.specs.Layout.{IsLayout}
 use Rattle.srcp_core.specs.Connection.{Connection, History, cursor_at, is_nil, is_open, is_settled, owed, unsent, untold, waiting}
 use Rattle.srcp_core.specs.Course.{World, course, history, numbered, rows}
 use Rattle.srcp_core.specs.Under.{Event}

@@ -6,8 +6,8 @@ use Rattle.std.proofs.Math.Nat.{le_refl}
 use Rattle.std.proofs.lemmas.List.{drop_all}
 use Rattle.std.proofs.lemmas.List.Sums.{fold-append}
 use Rattle.srcp_feed.specs.declared.next.Next.{Next}
-use Rattle.srcp_rules.specs.declared.layout.Bus.{Bus}
-use Rattle.srcp_rules.specs.Layout.{IsLayout}
+use Rattle.srcp_grammar.specs.declared.layout.Bus.{Bus}
+use Rattle.srcp_grammar.specs.Layout.{IsLayout}
 use Rattle.srcp_rules.specs.State.{opening, shown_rows}
 use Rattle.srcp_core.specs.Connection.{Connection, History, available, fitting, given, given_room, is_open, line_of, overran, owed, took}
 use Rattle.srcp_core.specs.Connection.{unsent}

@@ -5,7 +5,7 @@ use Rattle.std.specs.Prelude.{filter_map, flat_map, fold, slice_get}
 use Rattle.std.specs.List.{list_any, AllByRecursion}
 use Rattle.std.proofs.lemmas.Bool.Decides.{nat_tests}
 use Rattle.srcp_info.proofs.ClientLaws.{all_append}
-use Rattle.srcp_rules.specs.declared.layout.Bus.{Bus}
+use Rattle.srcp_grammar.specs.declared.layout.Bus.{Bus}
 use Rattle.srcp_core.specs.Under.{Event, Open, Bytes, Room, Shut}
 use Rattle.srcp_serve.specs.Given.{Guest, Call}
 use Rattle.srcp_serve.specs.Serving.{OfEachVisit, Seat, Stand, begun, exchange, is_close, is_let_in, let_in, moment_of, newcomer_of}

@@ -7,7 +7,7 @@ use Rattle.std.proofs.lemmas.List.{drop_at}
 use Rattle.std.proofs.lemmas.List.Concat.{flat_map-append}
 use Rattle.std.proofs.lemmas.List.Sums.{fold-append}
 use Rattle.srcp_info.specs.declared.change.Change.{Change}
-use Rattle.srcp_rules.specs.declared.layout.Bus.{Bus}
+use Rattle.srcp_grammar.specs.declared.layout.Bus.{Bus}
 use Rattle.srcp_rules.specs.State.{State, Update, opening, updated_all}
 use Rattle.srcp_core.specs.Connection.{History}
 use Rattle.srcp_core.specs.Course.{World, start, happens, course, state, history, history_from, state_after, stepped, updates_of}

@@ -1,8 +1,8 @@
 use Rattle.std.specs.Prelude.{◌≡◌, ℕ, Bool, true, false, ◌==◌, is_some, find, option_copied, Option, Some, None, List}
 use Rattle.std.proofs.Common.{◌∙◌, Bor, refl, sym, ap}
-use Rattle.srcp_rules.specs.Layout.{has_number}
-use Rattle.srcp_rules.specs.declared.layout.Bus.{Bus}
-use Rattle.srcp_rules.proofs.BusLaws.{has_number-found}
+use Rattle.srcp_grammar.specs.Layout.{has_number}
+use Rattle.srcp_grammar.specs.declared.layout.Bus.{Bus}
+use Rattle.srcp_grammar.proofs.BusLaws.{has_number-found}
 use Rattle.srcp_layout_file.proofs.document.number_beside.Goals as goal
 
 copied : (o : Option (Bor Bus)) → is_some o ≡ is_some (option_copied o)

@@ -1,10 +1,10 @@
 use Rattle.std.proofs.Common.{◌+◌, ◌<◌, subst, arith}
-use Rattle.srcp_rules.specs.declared.command.Command.{Command}
-use Rattle.srcp_rules.specs.declared.command.Lockable.TheVariants as lockable
-use Rattle.srcp_rules.specs.Command.{IsCommandOf}
-use Rattle.srcp_rules.specs.Layout.{row_count}
-use Rattle.srcp_rules.specs.State.{device_in}
-use Rattle.srcp_rules.proofs.LayoutLaws.{ga_few}
+use Rattle.srcp_grammar.specs.declared.command.Command.{Command}
+use Rattle.srcp_grammar.specs.declared.command.Lockable.TheVariants as lockable
+use Rattle.srcp_grammar.specs.Command.{IsCommandOf}
+use Rattle.srcp_grammar.specs.Layout.{row_count}
+use Rattle.srcp_grammar.specs.Devices.{device_in}
+use Rattle.srcp_grammar.proofs.LayoutLaws.{ga_few}
 use Rattle.srcp_rules.proofs.commands.answer_ga.Goals as goal
 
 pub overflow_add-port : goal.overflow_add-port

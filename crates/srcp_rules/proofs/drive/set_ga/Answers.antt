@@ -1,9 +1,9 @@
 use Rattle.std.proofs.Common.{[], ◌∷◌, ◌+◌, refl, subst}
-use Rattle.srcp_rules.specs.declared.command.Lockable.TheVariants as lockable
+use Rattle.srcp_grammar.specs.declared.command.Lockable.TheVariants as lockable
 use Rattle.srcp_info.specs.declared.change.Code.TheVariants.{C414}
 use Rattle.srcp_rules.specs.Effect.{Effect, ga_put, is_locked, refusals}
 use Rattle.srcp_rules.specs.Obeyed.{Took}
-use Rattle.srcp_rules.specs.State.{device_in}
+use Rattle.srcp_grammar.specs.Devices.{device_in}
 use Rattle.srcp_rules.proofs.ObeyLaws.{ga_row, port_there, refused_done, set_there}
 use Rattle.srcp_rules.proofs.drive.set_ga.Goals as goal
 

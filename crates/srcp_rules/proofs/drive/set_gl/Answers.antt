@@ -1,10 +1,11 @@
 use Rattle.std.proofs.Common.{length, nat_lt, refl, [], ◌∷◌, subst}
 use Rattle.std.proofs.lemmas.Bool.{ltb-false}
 use Rattle.srcp_info.specs.declared.change.Code.TheVariants.{C414, C418}
-use Rattle.srcp_rules.specs.declared.command.Lockable.TheVariants as lockable
+use Rattle.srcp_grammar.specs.declared.command.Lockable.TheVariants as lockable
 use Rattle.srcp_rules.specs.Effect.{Effect, gl_put, gl_refusals, is_locked}
 use Rattle.srcp_rules.specs.Obeyed.{Took}
-use Rattle.srcp_rules.specs.State.{device_in, functions_of}
+use Rattle.srcp_grammar.specs.Devices.{device_in}
+use Rattle.srcp_rules.specs.State.{functions_of}
 use Rattle.srcp_rules.proofs.ObeyLaws.{accepted_done, gl_row, none_applies, port_there, refused_done, set_there}
 use Rattle.srcp_rules.proofs.drive.set_gl.Goals as goal
 

@@ -4,7 +4,8 @@ use Rattle.std.proofs.lemmas.List.FromFn.{map-range_with_len_more}
 use Rattle.srcp_info.specs.declared.key.Device.{Device}
 use Rattle.srcp_info.specs.declared.change.Row.{Row}
 use Rattle.srcp_info.specs.declared.value.Value.TheVariants as value
-use Rattle.srcp_rules.specs.State.{first_row, fb_device}
+use Rattle.srcp_grammar.specs.Devices.{fb_device}
+use Rattle.srcp_rules.specs.State.{first_row}
 use Rattle.srcp_rules.proofs.first_rows.push_ports.Goals as goal
 
 pub loop-below-preserved : goal.loop-below-preserved

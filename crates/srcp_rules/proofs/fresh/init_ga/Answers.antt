@@ -4,9 +4,10 @@ use Rattle.srcp_info.specs.declared.change.Row.{Row}
 use Rattle.srcp_info.specs.declared.value.Letter.{Letter}
 use Rattle.srcp_info.specs.declared.value.Value.TheVariants as value
 use Rattle.srcp_info.specs.WellFormed.{IsMoment}
-use Rattle.srcp_rules.specs.declared.layout.Bus.{Bus}
-use Rattle.srcp_rules.specs.declared.command.Lockable.TheVariants as lockable
-use Rattle.srcp_rules.specs.State.{State, Update, device_in, is_there, put_of}
+use Rattle.srcp_grammar.specs.declared.layout.Bus.{Bus}
+use Rattle.srcp_grammar.specs.declared.command.Lockable.TheVariants as lockable
+use Rattle.srcp_grammar.specs.Devices.{device_in}
+use Rattle.srcp_rules.specs.State.{State, Update, is_there, put_of}
 use Rattle.srcp_rules.specs.Effect.{done, init_device}
 use Rattle.srcp_rules.specs.Obeyed.{TookUnless}
 use Rattle.srcp_rules.specs.Rows.{AreRowsOf}

@@ -6,7 +6,8 @@ use Rattle.srcp_info.specs.declared.change.Change.{Change}
 use Rattle.srcp_rules.specs.declared.obeyed.Memory.{Memory}
 use Rattle.srcp_rules.specs.Effect.{Effect}
 use Rattle.srcp_rules.specs.Obeyed.{Took}
-use Rattle.srcp_rules.specs.State.{device_in, is_there, put_of}
+use Rattle.srcp_grammar.specs.Devices.{device_in}
+use Rattle.srcp_rules.specs.State.{is_there, put_of}
 use Rattle.srcp_rules.proofs.InitLaws.{added, changes_made, rows_made, init_accepted}
 use Rattle.srcp_rules.proofs.init.init_device.Goals as goal
 

@@ -4,12 +4,12 @@ use Rattle.std.specs.Map.{keys_of}
 use Rattle.std.proofs.lemmas.List.{take_all, take_more}
 use Rattle.std.proofs.lemmas.Map.Keys.{sorted_from_strictly_increasing}
 use Rattle.srcp_info.proofs.ClientLaws.{all_append}
-use Rattle.srcp_rules.specs.declared.layout.Bus.{Bus}
-use Rattle.srcp_rules.specs.Layout.{IsBus, IsLayout, server}
+use Rattle.srcp_grammar.specs.declared.layout.Bus.{Bus}
+use Rattle.srcp_grammar.specs.Layout.{IsBus, IsLayout, server}
 use Rattle.srcp_rules.specs.State.{opening_on}
 use Rattle.srcp_rules.specs.Nested.{AreRowsOfBus, bus_rows, listed}
-use Rattle.srcp_rules.proofs.FindLaws.{each-weaken}
-use Rattle.srcp_rules.proofs.OpeningLaws.{Rising, rising_buses}
+use Rattle.srcp_grammar.proofs.FindLaws.{each-weaken}
+use Rattle.srcp_grammar.proofs.BusLaws.{Rising, rising_buses}
 use Rattle.srcp_rules.proofs.NestedLaws.{before_rising, flat_map_last, map-append}
 use Rattle.srcp_rules.proofs.nested.opening_buses.Goals as goal
 

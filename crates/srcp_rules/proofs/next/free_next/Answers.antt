@@ -3,7 +3,8 @@ use Rattle.std.specs.List.{slice_get}
 use Rattle.srcp_info.specs.declared.key.Device.{Device}
 use Rattle.srcp_info.specs.declared.change.Change.{Change}
 use Rattle.srcp_info.specs.WellFormed.{can_go}
-use Rattle.srcp_rules.specs.State.{Update, is_there, session_device, updated, updated_if}
+use Rattle.srcp_grammar.specs.Devices.{session_device}
+use Rattle.srcp_rules.specs.State.{Update, is_there, updated, updated_if}
 use Rattle.srcp_rules.specs.Effect.{gone_at}
 use Rattle.srcp_rules.proofs.NextLaws.{freed_held, freed_own, freed_step}
 use Rattle.srcp_rules.proofs.next.free_next.Goals as goal

@@ -1,6 +1,6 @@
 use Rattle.std.proofs.Common.{◌<◌, ◌≤◌, arith}
-use Rattle.srcp_rules.specs.Layout.{row_count}
-use Rattle.srcp_rules.specs.State.{session_device}
+use Rattle.srcp_grammar.specs.Layout.{row_count}
+use Rattle.srcp_grammar.specs.Devices.{session_device}
 use Rattle.srcp_rules.proofs.AddingLaws.{session_added, session_rows}
 use Rattle.srcp_rules.proofs.AddsNoRowLaws.{began-adds_no_row}
 use Rattle.srcp_rules.proofs.DueLaws.{began_kept}

@@ -5,7 +5,7 @@ use Rattle.std.proofs.lemmas.Option.{slice_get_past, slice_get_read}
 use Rattle.std.specs.List.{HoldsAt}
 use denote.Ref.{Bor}
 use Rattle.srcp_info.specs.declared.change.Row.{Row}
-use Rattle.srcp_rules.proofs.PlaceLaws.{front_each, back_each, find-parted}
+use Rattle.srcp_grammar.proofs.PlaceLaws.{front_each, back_each, find-parted}
 use Rattle.srcp_rules.proofs.RowPlaceLaws.{passed, passed_partitioned}
 use Rattle.srcp_rules.proofs.sorted_rows.row_after_in.Goals as goal
 

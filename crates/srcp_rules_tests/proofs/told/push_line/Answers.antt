@@ -1,6 +1,6 @@
 use Rattle.std.proofs.Common.{List, sym, subst}
-use Rattle.srcp_rules.specs.declared.layout.Bus.{Bus}
-use Rattle.srcp_rules.specs.Command.{IsCommandOf}
+use Rattle.srcp_grammar.specs.declared.layout.Bus.{Bus}
+use Rattle.srcp_grammar.specs.Command.{IsCommandOf}
 use Rattle.srcp_rules_tests.proofs.told.push_line.Goals as goal
 
 pub obey-obeyed-requires-clause-command : goal.obey-obeyed-requires-clause-command

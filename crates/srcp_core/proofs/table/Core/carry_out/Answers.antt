@@ -1,7 +1,8 @@
 use Rattle.std.proofs.Common.{◌≡◌, ◌≤◌, true, sym, ap, ◌∙◌, subst}
-use Rattle.srcp_rules.specs.Command.{IsCommandOf}
+use Rattle.srcp_grammar.specs.Command.{IsCommandOf}
 use Rattle.srcp_rules.specs.Effect.{effect}
-use Rattle.srcp_rules.specs.State.{State, is_there, session_device}
+use Rattle.srcp_grammar.specs.Devices.{session_device}
+use Rattle.srcp_rules.specs.State.{State, is_there}
 use Rattle.srcp_core.specs.Held.{Held, IsSound}
 use Rattle.srcp_core.specs.Machine.{told_each}
 use Rattle.srcp_core.proofs.Invariants.RefusalsChangeNothing.{denied_same, given_took}

@@ -1,6 +1,6 @@
 use Rattle.std.proofs.Common.{sym, ap, subst, ◌∙◌}
 use Rattle.std.specs.List.{list_any}
-use Rattle.srcp_rules.specs.Layout.{IsLayout}
+use Rattle.srcp_grammar.specs.Layout.{IsLayout}
 use Rattle.srcp_rules.specs.State.{opening}
 use Rattle.srcp_core.specs.Machine.{has_panel}
 use Rattle.srcp_core.proofs.Invariants.CoreStaysSound.{sound_opening}

@@ -3,12 +3,13 @@ use Rattle.std.specs.List.{AllByRecursion}
 use Rattle.srcp_info.specs.declared.key.Device.{Device}
 use Rattle.srcp_info.specs.declared.change.Row.{Row}
 use Rattle.srcp_info.specs.Key.{device_of}
-use Rattle.srcp_rules.specs.declared.layout.Bus.{Bus}
-use Rattle.srcp_rules.specs.State.{State, key_at}
+use Rattle.srcp_grammar.specs.declared.layout.Bus.{Bus}
+use Rattle.srcp_grammar.specs.Devices.{key_at}
+use Rattle.srcp_rules.specs.State.{State}
 use Rattle.srcp_rules.specs.Rows.{AreNewRowsOf, Kept, put_rows}
 use Rattle.srcp_rules.specs.Nested.{IsIn, bus_rows, listed}
 use Rattle.srcp_rules.proofs.BusRowsLaws.{on_ok, on_err}
-use Rattle.srcp_rules.proofs.FindLaws.{each-weaken}
+use Rattle.srcp_grammar.proofs.FindLaws.{each-weaken}
 use Rattle.srcp_rules.proofs.NewDeviceLaws.{IsNew, is_new}
 use Rattle.srcp_rules.proofs.NestedLaws.{comes, found_bus, has_record, layout-set, put_rows-bus, row_at-bus, same-bus, stays-added}
 use Rattle.srcp_rules.proofs.nested.NestedRows.add.Goals as goal

@@ -1,6 +1,6 @@
 use Rattle.std.proofs.Common.{◌<◌, ◌∷◌, map, sym, ap, subst, ◌∙◌}
-use Rattle.srcp_rules.specs.declared.layout.Bus.{Bus}
-use Rattle.srcp_rules.specs.Layout.{IsLayout, row_count, server}
+use Rattle.srcp_grammar.specs.declared.layout.Bus.{Bus}
+use Rattle.srcp_grammar.specs.Layout.{IsLayout, row_count, server}
 use Rattle.srcp_rules.specs.State.{is_there}
 use Rattle.srcp_rules.proofs.NestedLaws.{stays-opening}
 use Rattle.srcp_rules.proofs.nested.NestedRows.empty.Goals as goal

@@ -1,0 +1,454 @@
+-- What the grammar reads is a command of the layout.
+use Rattle.std.specs.Prelude.{codes, ◌≡◌, ℕ, suc, ◌+◌, ◌-◌, ◌<◌, ◌≤◌, Bool, true, false, cond, ◌&&◌, ◌||◌, ◌==◌, nat_le, nat_lt, length}
+use Rattle.std.specs.Prelude.{List, [], ◌∷◌, Option, Some, None, Result, Ok, Err, IfOk, IfSome, IsTrue}
+use Rattle.std.proofs.Common.{refl, sym, ap, subst, ◌∙◌, true≢false, arith, eqb-true, eq-eqb}
+use Rattle.std.specs.Cmp.{second_so}
+use Rattle.std.specs.List.{AllByRecursion, join_with_byte}
+use Rattle.std.specs.Option.{ok_or, option_and_then, option_map_or}
+use Rattle.std.proofs.lemmas.Bool.{ltb-false, le-leb}
+use borrow.Author.Tests.{leb-true}
+use Rattle.srcp_info.specs.declared.key.Group.{Group}
+use Rattle.srcp_info.specs.declared.key.Group.TheVariants as group
+use Rattle.srcp_info.specs.declared.value.Letter.{Letter}
+use Rattle.srcp_info.specs.declared.value.Letter.TheVariants.{P}
+use Rattle.srcp_info.specs.declared.change.Code.{Code}
+use Rattle.srcp_info.specs.declared.change.Code.TheVariants.{C410, C412, C418, C419, C421, C422}
+use Rattle.srcp_info.specs.WellFormed.{is_text, IsSpeed}
+use Rattle.srcp_text.specs.Words.{number_of, is_numeral, is_keyword, words_of}
+use Rattle.std.specs.Str.Parse.{digits_value}
+use Rattle.srcp_grammar.specs.declared.layout.Bus.{Bus}
+use Rattle.srcp_grammar.specs.declared.command.Operation.{Operation}
+use Rattle.srcp_grammar.specs.declared.command.Operation.TheVariants.{Get, Set, Check, Init, Term}
+use Rattle.srcp_grammar.specs.declared.command.Named.{Named}
+use Rattle.srcp_grammar.specs.declared.command.Named.TheVariants.{Session, Power, Gl, Ga, Fb, Lock}
+use Rattle.srcp_grammar.specs.declared.command.Lockable.{Lockable}
+use Rattle.srcp_grammar.specs.declared.command.Lockable.TheVariants as lockable
+use Rattle.srcp_grammar.specs.declared.command.Drive.{Drive}
+use Rattle.srcp_grammar.specs.declared.command.Switch.{Switch}
+use Rattle.srcp_grammar.specs.declared.command.PowerSwitch.{PowerSwitch}
+use Rattle.srcp_grammar.specs.declared.command.Sensor.{Sensor}
+use Rattle.srcp_grammar.specs.declared.command.TimedLock.{TimedLock}
+use Rattle.srcp_grammar.specs.declared.command.Command.{Command}
+use Rattle.srcp_grammar.specs.declared.command.Command.TheVariants.{GetSession, TermSession, GetPower, SetPower, CheckPower, GetGl, SetGl}
+use Rattle.srcp_grammar.specs.declared.command.Command.TheVariants.{CheckGl, InitGl, TermGl, GetGa, SetGa, CheckGa, InitGa, TermGa, GetFb}
+use Rattle.srcp_grammar.specs.declared.command.Command.TheVariants.{SetFb, CheckFb, GetLock, SetLock, CheckLock, TermLock}
+use Rattle.srcp_grammar.specs.Layout.{IsBus, IsLayout, IsKeyOf, server, bus_at, has_group, address_max, is_within, rows_if, rows_on}
+use Rattle.srcp_grammar.specs.Layout.{row_count}
+use Rattle.srcp_grammar.specs.Devices.{key_at, device_in, lock_on}
+use Rattle.srcp_grammar.specs.Command.{IsCommandOf, IsDrive, IsPowerSwitch, IsSensor, IsSwitch, IsTimedLock}
+use Rattle.srcp_grammar.specs.Grammar.{◌>>=◌, number_in, bit_of, bits_of, letter_of, switch_of, text_of, time_of, lockable_on, groups}
+use Rattle.srcp_grammar.specs.Grammar.{operations, named_in, alone, addressed, get_session, term_session, powered, driven, init_gl, ga_port}
+use Rattle.srcp_grammar.specs.Grammar.{get_ga, switched, init_ga, sensed, named_lock, timed_lock, asked, directed, commanded, reads}
+use Rattle.srcp_grammar.proofs.FindLaws.{found_holds}
+use Rattle.srcp_info.proofs.ListingLaws.{find_passes}
+use Rattle.srcp_grammar.proofs.LayoutLaws.{within}
+
+-- ---- one word after another
+
+module _ {A B : Type 0} (Q : B → Type 0) where
+  -- what was read so far is as it was shown to be
+  pub read : (R : A → Type 0) (m : Result A Code) (f : A → Result B Code) → IfOk m R → ((x : A) → R x → IfOk (f x) Q) → IfOk (m >>= f) Q
+  read R (Ok x) f r h = h x r
+  read R (Err code) f r h = tt
+
+  pub read_any : (m : Result A Code) (f : A → Result B Code) → ((x : A) → IfOk (f x) Q) → IfOk (m >>= f) Q
+  read_any (Ok x) f h = h x
+  read_any (Err code) f h = tt
+
+module _ {A : Type 0} (Q : A → Type 0) where
+  if_ok : (b : Bool) (code : Code) (r : Result A Code) → (b ≡ false → IfOk r Q) → IfOk (cond b (Err code) r) Q
+  if_ok true code r h = tt
+  if_ok false code r h = h refl
+
+  pub then_ok : (b : Bool) (code : Code) (r : Result A Code) → (b ≡ true → IfOk r Q) → IfOk (cond b r (Err code)) Q
+  then_ok true code r h = h refl
+  then_ok false code r h = tt
+
+-- ---- single words
+
+number_of_max : (max : ℕ) (word : List ℕ) (b : Bool) → (is_numeral word && nat_le (digits_value 10 word) max) ≡ b
+    → IfOk (ok_or (cond b (Some (digits_value 10 word)) None) C412) (λ n. n ≤ max)
+number_of_max max word true e = leb-true (digits_value 10 word) max (second_so (is_numeral word) (nat_le (digits_value 10 word) max) e)
+number_of_max max word false e = tt
+
+pub number_in_range : (least most : ℕ) (word : List ℕ) → IfOk (number_in least most word) (λ n. (least ≤ n) × (n ≤ most))
+number_in_range least most word =
+    read (λ n. (least ≤ n) × (n ≤ most)) (λ n. n ≤ most) (ok_or (number_of most word) C412) (λ n. cond (nat_lt n least) (Err C412) (Ok n))
+    (number_of_max most word (is_numeral word && nat_le (digits_value 10 word) most) refl)
+    (λ n high. if_ok (λ n. (least ≤ n) × (n ≤ most)) (nat_lt n least) C412 (Ok n) (λ e. (ltb-false n least e, high)))
+
+pub text_read : (words : List (List ℕ)) → IfOk (text_of words) (λ t. IsTrue (is_text t))
+text_read words = then_ok (λ t. IsTrue (is_text t)) (is_text (join_with_byte 32 words)) C412 (Ok (join_with_byte 32 words)) (λ e. e)
+
+pub bits_length : (words : List (List ℕ)) → IfOk (bits_of words) (λ bits. length bits ≡ length words)
+bits_length [] = refl
+bits_length (word ∷ words) =
+    read_any (λ bits. length bits ≡ suc (length words)) (bit_of word) (λ first. bits_of words >>= (λ others. Ok (first ∷ others)))
+    (λ first.
+    read (λ bits. length bits ≡ suc (length words)) (λ bits. length bits ≡ length words) (bits_of words) (λ others. Ok (first ∷ others))
+    (bits_length words) (λ others e. ap suc e))
+
+time_tail : (word : List ℕ) (b : Bool)
+    → IfOk (cond b (Ok None) (number_in 0 60000 word >>= (λ n. Ok (Some n)))) (λ t. IfSome t (λ n. n ≤ 60000))
+time_tail word true = tt
+time_tail word false =
+    read (λ t. IfSome t (λ n. n ≤ 60000)) (λ n. (0 ≤ n) × (n ≤ 60000)) (number_in 0 60000 word) (λ n. Ok (Some n))
+    (number_in_range 0 60000 word) (λ n h. h.1)
+
+pub time_range : (word : List ℕ) → IfOk (time_of word) (λ t. IfSome t (λ n. n ≤ 60000))
+time_range word = time_tail word _
+
+-- ---- what the bus has
+
+module _ (buses : List Bus) (layout : IsLayout buses) (bus : Bus) (found : bus_at buses bus.number ≡ Some bus) where
+  abbrev Fits : Result Command Code → Type 0
+  Fits r = IfOk r (IsCommandOf buses)
+
+  -- a device of the bus is one of the layout
+  counted : (g : Group) (address : ℕ) → row_count buses (record { bus = bus.number; group = g; address = address }) ≡ rows_on bus g address
+  counted g address = ap (λ o. option_map_or (λ b. rows_on b g address) o 0) found
+
+  many : (most n count : ℕ) → 1 ≤ n → n ≤ most → rows_if (is_within 1 most n) count ≡ count
+  many most n count low high = ap (λ b. rows_if b count) (within 1 most n low high)
+
+  gl_rows : (address : ℕ) → 1 ≤ address → address ≤ bus.gl_max → row_count buses (device_in lockable.Gl bus.number address) ≡ 2
+  gl_rows address low high = counted group.Gl address ∙ many bus.gl_max address 2 low high
+
+  ga_rows : (address : ℕ) → 1 ≤ address → address ≤ bus.ga_max
+      → row_count buses (device_in lockable.Ga bus.number address) ≡ 1 + bus.ga_ports
+  ga_rows address low high = counted group.Ga address ∙ many bus.ga_max address (1 + bus.ga_ports) low high
+
+  fb_rows : (port : ℕ) → 1 ≤ port → port ≤ bus.fb_ports
+      → row_count buses (record { bus = bus.number; group = group.Fb; address = port }) ≡ 1
+  fb_rows port low high = counted group.Fb port ∙ many bus.fb_ports port 1 low high
+
+  lock_rows : (g : Lockable) (address : ℕ) → 1 ≤ address → address ≤ address_max bus g → row_count buses (lock_on g bus.number address) ≡ 1
+  lock_rows lockable.Gl address low high = counted group.LockGl address ∙ many bus.gl_max address 1 low high
+  lock_rows lockable.Ga address low high = counted group.LockGa address ∙ many bus.ga_max address 1 low high
+
+  power_rows : bus.power ≡ true → row_count buses (record { bus = bus.number; group = group.Power; address = 0 }) ≡ 1
+  power_rows on = counted group.Power 0 ∙ ap (λ b. rows_if (b && 0 == 0) 1) on
+
+  -- an accessory of the bus has from two to eight ports
+  abbrev HasPorts : Bus → Type 0
+  HasPorts b = 0 < b.ga_max → (2 ≤ b.ga_ports) × (b.ga_ports ≤ 8)
+
+  each_ports : (bs : List Bus) → AllByRecursion IsBus bs → AllByRecursion HasPorts bs
+  each_ports [] h = tt
+  each_ports (b ∷ bs) h = (h.0.ga_ports, each_ports bs h.1)
+
+  ports : HasPorts bus
+  ports =
+      found_holds HasPorts (λ b. b.number == bus.number) (server ∷ buses)
+      ((λ h. absurd (omega (arith, h))), each_ports buses layout.each) bus found
+
+  -- ---- the words of each pair
+
+  alone_fits : (command : Command) (words : List (List ℕ)) → IsCommandOf buses command → Fits (alone command words)
+  alone_fits command [] h = h
+  alone_fits command (w ∷ ws) h = tt
+
+  addressed_fits : (most : ℕ) (make : ℕ → Command) (words : List (List ℕ)) → ((a : ℕ) → 1 ≤ a → a ≤ most → IsCommandOf buses (make a))
+      → Fits (addressed most make words)
+  addressed_fits most make [] h = tt
+  addressed_fits most make (a ∷ []) h =
+      read (IsCommandOf buses) (λ n. (1 ≤ n) × (n ≤ most)) (number_in 1 most a) (λ n. Ok (make n)) (number_in_range 1 most a)
+      (λ n r. h n r.0 r.1)
+  addressed_fits most make (a ∷ b ∷ ws) h = tt
+
+  get_session_fits : (words : List (List ℕ)) → Fits (get_session words)
+  get_session_fits [] = tt
+  get_session_fits (s ∷ []) =
+      read (IsCommandOf buses) (λ n. (0 ≤ n) × (n ≤ 4294967295)) (number_in 0 4294967295 s) (λ n. Ok (GetSession n))
+      (number_in_range 0 4294967295 s) (λ n r. let m = r.1 in omega (arith, m))
+  get_session_fits (s ∷ t ∷ ws) = tt
+
+  term_session_fits : (words : List (List ℕ)) → Fits (term_session words)
+  term_session_fits [] = tt
+  term_session_fits (s ∷ []) =
+      read (IsCommandOf buses) (λ n. (0 ≤ n) × (n ≤ 4294967295)) (number_in 0 4294967295 s) (λ n. Ok (TermSession (Some n)))
+      (number_in_range 0 4294967295 s) (λ n r. let m = r.1 in omega (arith, m))
+  term_session_fits (s ∷ t ∷ ws) = tt
+
+  powered_fits : (words : List (List ℕ)) → has_group bus Power ≡ true → IfOk (powered bus words) (IsPowerSwitch buses)
+  powered_fits [] on_bus = tt
+  powered_fits (w ∷ ws) on_bus =
+      read_any (IsPowerSwitch buses) (switch_of w) (λ on. text_of ws >>= (λ t. Ok (power on t)))
+      (λ on. read (IsPowerSwitch buses) (λ t. IsTrue (is_text t)) (text_of ws) (λ t. Ok (power on t)) (text_read ws) (λ t r.
+      let one = power_rows on_bus in (omega (arith, one), (refl, refl, r))))
+    where
+      power : (on : Bool) (text : List ℕ) → PowerSwitch
+      power on text = record { bus = bus.number; on = on; text = text }
+
+  -- V in mode 2 is kept as 0
+  kept_speed : (mode v vmax : ℕ) → mode ≤ 2 → v ≤ 65535 → vmax ≤ 65535 → (nat_le v vmax || vmax == 0) ≡ true → (b : Bool) → (mode == 2) ≡ b
+      → IsSpeed mode (cond b 0 v) vmax
+  kept_speed mode v vmax m x y e true t = (m, omega arith, y, ap (λ b. b || vmax == 0) (le-leb 0 vmax (omega arith)), λ _. refl)
+  kept_speed mode v vmax m x y e false t = (m, x, y, e, λ two. absurd (true≢false (sym (eq-eqb mode 2 two) ∙ t)))
+
+  driven_fits : (words : List (List ℕ)) → IfOk (driven bus words) (IsDrive buses)
+  driven_fits [] = tt
+  driven_fits (a ∷ []) = tt
+  driven_fits (a ∷ m ∷ []) = tt
+  driven_fits (a ∷ m ∷ v ∷ []) = tt
+  driven_fits (a ∷ m ∷ v ∷ x ∷ fs) =
+      if_ok (IsDrive buses) (nat_lt 29 (length fs)) C418
+      (number_in 1 bus.gl_max a >>= (λ address. number_in 0 2 m >>= (λ mode. with_mode address mode))) (λ few.
+      read (IsDrive buses) (λ n. (1 ≤ n) × (n ≤ bus.gl_max)) (number_in 1 bus.gl_max a)
+      (λ address. number_in 0 2 m >>= (λ mode. with_mode address mode)) (number_in_range 1 bus.gl_max a) (λ address r.
+      read (IsDrive buses) (λ n. (0 ≤ n) × (n ≤ 2)) (number_in 0 2 m) (λ mode. with_mode address mode) (number_in_range 0 2 m)
+      (λ mode r2.
+      read (IsDrive buses) (λ n. (0 ≤ n) × (n ≤ 65535)) (number_in 0 65535 v) (λ speed. with_speed address mode speed)
+      (number_in_range 0 65535 v) (λ speed r3.
+      read (IsDrive buses) (λ n. (0 ≤ n) × (n ≤ 65535)) (number_in 0 65535 x) (λ top. with_top address mode speed top)
+      (number_in_range 0 65535 x) (λ top r4.
+      read (IsDrive buses) (λ n. (n ≡ top) × ((nat_le speed top || top == 0) ≡ true))
+      (cond (nat_le speed top || top == 0) (Ok top) (Err C412))
+      (λ fitting. bits_of fs >>= (λ functions. Ok (drive address mode speed fitting functions)))
+      (then_ok (λ n. (n ≡ top) × ((nat_le speed top || top == 0) ≡ true)) (nat_le speed top || top == 0) C412 (Ok top) (λ e. (refl, e)))
+      (λ fitting r5.
+      read (IsDrive buses) (λ bits. length bits ≡ length fs) (bits_of fs) (λ functions. Ok (drive address mode speed fitting functions))
+      (bits_length fs) (λ functions n.
+      let short : length fs ≤ 29 = ltb-false 29 (length fs) few in
+      let speed_fits = kept_speed mode speed top r2.1 r3.1 r4.1 r5.1 (mode == 2) refl in
+      let two = gl_rows address r.0 r.1 in
+      subst (λ k. IsDrive buses (drive address mode speed k functions)) (sym r5.0)
+      (omega (arith, two), (refl, refl, speed_fits, omega (arith, n, short))))))))))
+    where
+      drive : (address mode v vmax : ℕ) (functions : List Bool) → Drive
+      drive address mode v vmax functions =
+          record { bus = bus.number; address = address; mode = mode; v = v; vmax = vmax; functions = functions }
+
+      with_top : (address mode speed top : ℕ) → Result Drive Code
+      with_top address mode speed top =
+          cond (nat_le speed top || top == 0) (Ok top) (Err C412)
+          >>= (λ fitting. bits_of fs >>= (λ functions. Ok (drive address mode speed fitting functions)))
+
+      with_speed : (address mode speed : ℕ) → Result Drive Code
+      with_speed address mode speed = number_in 0 65535 x >>= (λ top. with_top address mode speed top)
+
+      with_mode : (address mode : ℕ) → Result Drive Code
+      with_mode address mode = number_in 0 65535 v >>= (λ speed. with_speed address mode speed)
+
+  init_gl_fits : (words : List (List ℕ)) → Fits (init_gl bus words)
+  init_gl_fits [] = tt
+  init_gl_fits (a ∷ []) = tt
+  init_gl_fits (a ∷ l ∷ []) =
+      then_ok (IsCommandOf buses) (is_keyword (codes "P") l) C419
+      (number_in 1 bus.gl_max a >>= (λ address. Ok (InitGl bus.number address P 1 28 5)))
+      (λ e.
+      read (IsCommandOf buses) (λ n. (1 ≤ n) × (n ≤ bus.gl_max)) (number_in 1 bus.gl_max a)
+      (λ address. Ok (InitGl bus.number address P 1 28 5)) (number_in_range 1 bus.gl_max a)
+      (λ address r. let two = gl_rows address r.0 r.1 in
+      (omega (arith, two), (refl, refl, omega arith, (omega arith, omega arith), omega arith))))
+  init_gl_fits (a ∷ l ∷ v ∷ []) = tt
+  init_gl_fits (a ∷ l ∷ v ∷ s ∷ []) = tt
+  init_gl_fits (a ∷ l ∷ v ∷ s ∷ f ∷ []) =
+      read (IsCommandOf buses) (λ n. (1 ≤ n) × (n ≤ bus.gl_max)) (number_in 1 bus.gl_max a)
+      (λ address. letter_of l >>= (λ protocol. version_of address protocol)) (number_in_range 1 bus.gl_max a) (λ address r.
+      read_any (IsCommandOf buses) (letter_of l) (λ protocol. version_of address protocol) (λ protocol.
+      read (IsCommandOf buses) (λ n. (0 ≤ n) × (n ≤ 255)) (number_in 0 255 v) (λ version. steps_of address protocol version)
+      (number_in_range 0 255 v) (λ version r2.
+      read (IsCommandOf buses) (λ n. (1 ≤ n) × (n ≤ 1000)) (number_in 1 1000 s)
+      (λ steps. functions_after_steps address protocol version steps) (number_in_range 1 1000 s) (λ steps r3.
+      read (IsCommandOf buses) (λ n. (0 ≤ n) × (n ≤ 29)) (number_in 0 29 f)
+      (λ functions. Ok (InitGl bus.number address protocol version steps functions)) (number_in_range 0 29 f) (λ functions r4.
+      let two = gl_rows address r.0 r.1 in (omega (arith, two), (refl, refl, r2.1, r3, r4.1)))))))
+    where
+      functions_after_steps : (address : ℕ) (protocol : Letter) (version steps : ℕ) → Result Command Code
+      functions_after_steps address protocol version steps =
+          number_in 0 29 f >>= (λ functions. Ok (InitGl bus.number address protocol version steps functions))
+
+      steps_of : (address : ℕ) (protocol : Letter) (version : ℕ) → Result Command Code
+      steps_of address protocol version = number_in 1 1000 s >>= (λ steps. functions_after_steps address protocol version steps)
+
+      version_of : (address : ℕ) (protocol : Letter) → Result Command Code
+      version_of address protocol = number_in 0 255 v >>= (λ version. steps_of address protocol version)
+  init_gl_fits (a ∷ l ∷ v ∷ s ∷ f ∷ w ∷ ws) = tt
+
+  -- a port that the bus has, of an address that it has
+  port_place : (address port : ℕ) → 1 ≤ address → address ≤ bus.ga_max → port ≤ bus.ga_ports - 1
+      → IsKeyOf buses (key_at (device_in lockable.Ga bus.number address) (1 + port)) × (1 + port ≤ 8)
+  port_place address port low high h =
+      let rows = ga_rows address low high in
+      let few = ports (omega (arith, low, high)) in
+      let two : 2 ≤ bus.ga_ports = few.0 in
+      let eight : bus.ga_ports ≤ 8 = few.1 in
+      (omega (arith, rows, h, two), omega (arith, h, two, eight))
+
+  get_ga_fits : (words : List (List ℕ)) → Fits (get_ga bus words)
+  get_ga_fits [] = tt
+  get_ga_fits (a ∷ []) = tt
+  get_ga_fits (a ∷ p ∷ []) =
+      read (IsCommandOf buses) (λ n. (1 ≤ n) × (n ≤ bus.ga_max)) (number_in 1 bus.ga_max a)
+      (λ address. ga_port bus p >>= (λ port. Ok (GetGa bus.number address port))) (number_in_range 1 bus.ga_max a) (λ address r.
+      read (IsCommandOf buses) (λ n. (0 ≤ n) × (n ≤ bus.ga_ports - 1)) (ga_port bus p) (λ port. Ok (GetGa bus.number address port))
+      (number_in_range 0 (bus.ga_ports - 1) p) (λ port r2.
+      (port_place address port r.0 r.1 r2.1).0))
+  get_ga_fits (a ∷ p ∷ w ∷ ws) = tt
+
+  switched_fits : (words : List (List ℕ)) → IfOk (switched bus words) (IsSwitch buses)
+  switched_fits [] = tt
+  switched_fits (a ∷ []) = tt
+  switched_fits (a ∷ p ∷ []) = tt
+  switched_fits (a ∷ p ∷ v ∷ []) = tt
+  switched_fits (a ∷ p ∷ v ∷ t ∷ []) =
+      read (IsSwitch buses) (λ n. (1 ≤ n) × (n ≤ bus.ga_max)) (number_in 1 bus.ga_max a)
+      (λ address. ga_port bus p >>= (λ port. on_tail address port)) (number_in_range 1 bus.ga_max a) (λ address r.
+      read (IsSwitch buses) (λ n. (0 ≤ n) × (n ≤ bus.ga_ports - 1)) (ga_port bus p) (λ port. on_tail address port)
+      (number_in_range 0 (bus.ga_ports - 1) p) (λ port r2.
+      read_any (IsSwitch buses) (bit_of v) (λ on. time_of t >>= (λ milliseconds. Ok (switch address port on milliseconds))) (λ on.
+      read (IsSwitch buses) (λ n. IfSome n (λ k. k ≤ 60000)) (time_of t) (λ milliseconds. Ok (switch address port on milliseconds))
+      (time_range t) (λ milliseconds r3.
+      let place = port_place address port r.0 r.1 r2.1 in
+      ((place.0, (refl, (omega arith, place.1))), r3)))))
+    where
+      switch : (address port : ℕ) (on : Bool) (time : Option ℕ) → Switch
+      switch address port on time = record { bus = bus.number; address = address; port = port; on = on; time = time }
+
+      on_tail : (address port : ℕ) → Result Switch Code
+      on_tail address port = bit_of v >>= (λ on. time_of t >>= (λ milliseconds. Ok (switch address port on milliseconds)))
+  switched_fits (a ∷ p ∷ v ∷ t ∷ w ∷ ws) = tt
+
+  init_ga_fits : (words : List (List ℕ)) → Fits (init_ga bus words)
+  init_ga_fits [] = tt
+  init_ga_fits (a ∷ []) = tt
+  init_ga_fits (a ∷ l ∷ ws) =
+      read (IsCommandOf buses) (λ n. (1 ≤ n) × (n ≤ bus.ga_max)) (number_in 1 bus.ga_max a)
+      (λ address. letter_of l >>= (λ protocol. Ok (InitGa bus.number address protocol bus.ga_ports))) (number_in_range 1 bus.ga_max a)
+      (λ address r.
+      read_any (IsCommandOf buses) (letter_of l) (λ protocol. Ok (InitGa bus.number address protocol bus.ga_ports)) (λ protocol.
+      let low = r.0 in
+      let high = r.1 in
+      (ga_rows address low high, (ports (omega (arith, low, high))).1)))
+
+  sensed_fits : (words : List (List ℕ)) → IfOk (sensed bus words) (IsSensor buses)
+  sensed_fits [] = tt
+  sensed_fits (p ∷ []) = tt
+  sensed_fits (p ∷ v ∷ []) =
+      read (IsSensor buses) (λ n. (1 ≤ n) × (n ≤ bus.fb_ports)) (number_in 1 bus.fb_ports p)
+      (λ port. bit_of v >>= (λ on. Ok (sensor port on))) (number_in_range 1 bus.fb_ports p) (λ port r.
+      read_any (IsSensor buses) (bit_of v) (λ on. Ok (sensor port on)) (λ on.
+      let one = fb_rows port r.0 r.1 in omega (arith, one)))
+    where
+      sensor : (port : ℕ) (on : Bool) → Sensor
+      sensor port on = record { bus = bus.number; port = port; on = on }
+  sensed_fits (p ∷ v ∷ w ∷ ws) = tt
+
+  named_lock_fits : (make : Lockable → ℕ → Command) (words : List (List ℕ))
+      → ((g : Lockable) (a : ℕ) → row_count buses (lock_on g bus.number a) ≡ 1 → IsCommandOf buses (make g a))
+      → Fits (named_lock bus make words)
+  named_lock_fits make [] h = tt
+  named_lock_fits make (g ∷ []) h = tt
+  named_lock_fits make (g ∷ a ∷ []) h =
+      read_any (IsCommandOf buses) (lockable_on bus g)
+      (λ group. number_in 1 (address_max bus group) a >>= (λ address. Ok (make group address))) (λ group.
+      read (IsCommandOf buses) (λ n. (1 ≤ n) × (n ≤ address_max bus group)) (number_in 1 (address_max bus group) a)
+      (λ address. Ok (make group address)) (number_in_range 1 (address_max bus group) a) (λ address r.
+      h group address (lock_rows group address r.0 r.1)))
+  named_lock_fits make (g ∷ a ∷ w ∷ ws) h = tt
+
+  timed_lock_fits : (words : List (List ℕ)) → IfOk (timed_lock bus words) (IsTimedLock buses)
+  timed_lock_fits [] = tt
+  timed_lock_fits (g ∷ []) = tt
+  timed_lock_fits (g ∷ a ∷ []) = tt
+  timed_lock_fits (g ∷ a ∷ s ∷ []) =
+      read_any (IsTimedLock buses) (lockable_on bus g)
+      (λ group. number_in 1 (address_max bus group) a
+      >>= (λ address. number_in 0 86400 s >>= (λ seconds. Ok (lock group address seconds))))
+      (λ group.
+      read (IsTimedLock buses) (λ n. (1 ≤ n) × (n ≤ address_max bus group)) (number_in 1 (address_max bus group) a)
+      (λ address. number_in 0 86400 s >>= (λ seconds. Ok (lock group address seconds)))
+      (number_in_range 1 (address_max bus group) a) (λ address r.
+      read (IsTimedLock buses) (λ n. (0 ≤ n) × (n ≤ 86400)) (number_in 0 86400 s) (λ seconds. Ok (lock group address seconds))
+      (number_in_range 0 86400 s) (λ seconds r2.
+      let one = lock_rows group address r.0 r.1 in (omega (arith, one), r2.1))))
+    where
+      lock : (group : Lockable) (address seconds : ℕ) → TimedLock
+      lock group address seconds = record { bus = bus.number; group = group; address = address; seconds = seconds }
+  timed_lock_fits (g ∷ a ∷ s ∷ w ∷ ws) = tt
+
+  -- ---- the pairs
+
+  asked_fits : (operation : Operation) (g : Named) (words : List (List ℕ)) → has_group bus g ≡ true → Fits (asked operation g bus words)
+  asked_fits Get Session words on = get_session_fits words
+  asked_fits Term Session words on = term_session_fits words
+  asked_fits Get Power words on = alone_fits (GetPower bus.number) words (let one = power_rows on in omega (arith, one))
+  asked_fits Set Power words on =
+      read (IsCommandOf buses) (IsPowerSwitch buses) (powered bus words) (λ power. Ok (SetPower power)) (powered_fits words on)
+      (λ power fits. fits)
+  asked_fits Check Power words on =
+      read (IsCommandOf buses) (IsPowerSwitch buses) (powered bus words) (λ power. Ok (CheckPower power)) (powered_fits words on)
+      (λ power fits. fits)
+  asked_fits Init Power words on = let one = power_rows on in omega (arith, one)
+  asked_fits Get Gl words on =
+      addressed_fits bus.gl_max (GetGl bus.number) words (λ a low high. let two = gl_rows a low high in omega (arith, two))
+  asked_fits Set Gl words on =
+      read (IsCommandOf buses) (IsDrive buses) (driven bus words) (λ drive. Ok (SetGl drive)) (driven_fits words) (λ drive fits. fits)
+  asked_fits Check Gl words on =
+      read (IsCommandOf buses) (IsDrive buses) (driven bus words) (λ drive. Ok (CheckGl drive)) (driven_fits words) (λ drive fits. fits)
+  asked_fits Init Gl words on = init_gl_fits words
+  asked_fits Term Gl words on =
+      addressed_fits bus.gl_max (TermGl bus.number) words (λ a low high. let two = gl_rows a low high in omega (arith, two))
+  asked_fits Get Ga words on = get_ga_fits words
+  asked_fits Set Ga words on =
+      read (IsCommandOf buses) (IsSwitch buses) (switched bus words) (λ switch. Ok (SetGa switch)) (switched_fits words)
+      (λ switch fits. fits)
+  asked_fits Check Ga words on =
+      read (IsCommandOf buses) (IsSwitch buses) (switched bus words) (λ switch. Ok (CheckGa switch)) (switched_fits words)
+      (λ switch fits. fits)
+  asked_fits Init Ga words on = init_ga_fits words
+  asked_fits Term Ga words on =
+      addressed_fits bus.ga_max (TermGa bus.number) words (λ a low high. let rows = ga_rows a low high in omega (arith, rows))
+  asked_fits Get Fb words on =
+      addressed_fits bus.fb_ports (GetFb bus.number) words (λ p low high. let one = fb_rows p low high in omega (arith, one))
+  asked_fits Set Fb words on =
+      read (IsCommandOf buses) (IsSensor buses) (sensed bus words) (λ sensor. Ok (SetFb sensor)) (sensed_fits words) (λ sensor fits. fits)
+  asked_fits Check Fb words on =
+      read (IsCommandOf buses) (IsSensor buses) (sensed bus words) (λ sensor. Ok (CheckFb sensor)) (sensed_fits words) (λ sensor fits. fits)
+  asked_fits Init Fb words on = tt
+  asked_fits Get Lock words on = named_lock_fits (GetLock bus.number) words (λ g a one. omega (arith, one))
+  asked_fits Set Lock words on =
+      read (IsCommandOf buses) (IsTimedLock buses) (timed_lock bus words) (λ lock. Ok (SetLock lock)) (timed_lock_fits words)
+      (λ lock fits. fits)
+  asked_fits Check Lock words on =
+      read (IsCommandOf buses) (IsTimedLock buses) (timed_lock bus words) (λ lock. Ok (CheckLock lock)) (timed_lock_fits words)
+      (λ lock fits. fits)
+  asked_fits Term Lock words on = named_lock_fits (TermLock bus.number) words (λ g a one. omega (arith, one))
+  asked_fits operation g words on = tt
+
+-- ---- the whole line
+
+module _ (buses : List Bus) (layout : IsLayout buses) where
+  -- a bus that was found by its number
+  bus_step : (number : ℕ) (o : Option Bus) → bus_at buses number ≡ o → IfOk (ok_or o C412) (λ bus. bus_at buses bus.number ≡ Some bus)
+  bus_step number None e = tt
+  bus_step number (Some bus) e =
+      let same : bus.number ≡ number = eqb-true bus.number number (find_passes (λ b. b.number == number) (server ∷ buses) bus e) in
+      ap (bus_at buses) same ∙ e
+
+  bus_found : (o : Option ℕ) → IfOk (ok_or (option_and_then (bus_at buses) o) C412) (λ bus. bus_at buses bus.number ≡ Some bus)
+  bus_found None = tt
+  bus_found (Some number) = bus_step number (bus_at buses number) refl
+
+  directed_fits : (operation : Operation) (words : List (List ℕ)) → IfOk (directed buses operation words) (IsCommandOf buses)
+  directed_fits operation [] = tt
+  directed_fits operation (n ∷ []) = tt
+  directed_fits operation (n ∷ w ∷ ws) =
+      read (IsCommandOf buses) (λ bus. bus_at buses bus.number ≡ Some bus) (ok_or (option_and_then (bus_at buses) (number_of 250 n)) C412)
+      (λ bus. ok_or (named_in groups w) C421 >>= (λ g. cond (has_group bus g) (asked operation g bus ws) (Err C422)))
+      (bus_found (number_of 250 n)) (λ bus found.
+      read_any (IsCommandOf buses) (ok_or (named_in groups w) C421) (λ g. cond (has_group bus g) (asked operation g bus ws) (Err C422))
+      (λ g.
+      then_ok (IsCommandOf buses) (has_group bus g) C422 (asked operation g bus ws)
+      (λ on. asked_fits buses layout bus found operation g ws on)))
+
+  commanded_fits : (words : List (List ℕ)) → IfOk (commanded buses words) (IsCommandOf buses)
+  commanded_fits [] = tt
+  commanded_fits (w ∷ ws) =
+      read_any (IsCommandOf buses) (ok_or (named_in operations w) C410) (λ operation. directed buses operation ws)
+      (λ operation. directed_fits operation ws)
+
+  -- a line that reads as a command reads as one of the layout
+  pub reads_fits : (line : List ℕ) → IfOk (reads buses line) (IsCommandOf buses)
+  reads_fits line = commanded_fits (words_of line)

@@ -1,0 +1,112 @@
+-- Which commands a layout has: their devices are on it and their words in range.
+use Rattle.std.specs.Prelude.{◌≡◌, ℕ, ◌+◌, ◌≤◌, ◌<◌, ◌^◌, ◌==◌, ⊤, List, IfSome, if◌then◌else◌}
+use Rattle.srcp_info.specs.declared.key.Device.{Device}
+use Rattle.srcp_info.specs.declared.value.Value.{Value}
+use Rattle.srcp_info.specs.declared.value.Value.TheVariants as value
+use Rattle.srcp_info.specs.WellFormed.{IsValueAt}
+use Rattle.srcp_grammar.specs.declared.layout.Bus.{Bus}
+use Rattle.srcp_grammar.specs.declared.command.Lockable.TheVariants as lockable
+use Rattle.srcp_grammar.specs.declared.command.Named.{Named}
+use Rattle.srcp_grammar.specs.declared.command.Named.TheVariants as named
+use Rattle.srcp_grammar.specs.declared.command.Drive.{Drive}
+use Rattle.srcp_grammar.specs.declared.command.Switch.{Switch}
+use Rattle.srcp_grammar.specs.declared.command.PowerSwitch.{PowerSwitch}
+use Rattle.srcp_grammar.specs.declared.command.Sensor.{Sensor}
+use Rattle.srcp_grammar.specs.declared.command.TimedLock.{TimedLock}
+use Rattle.srcp_grammar.specs.declared.command.Command.{Command}
+use Rattle.srcp_grammar.specs.declared.command.Command.TheVariants.{GetSession, TermSession, GetPower, SetPower}
+use Rattle.srcp_grammar.specs.declared.command.Command.TheVariants.{CheckPower, InitPower, GetGl, SetGl, CheckGl}
+use Rattle.srcp_grammar.specs.declared.command.Command.TheVariants.{InitGl, TermGl, GetGa, SetGa, CheckGa, InitGa}
+use Rattle.srcp_grammar.specs.declared.command.Command.TheVariants.{TermGa, GetFb, SetFb, CheckFb, InitFb, GetLock}
+use Rattle.srcp_grammar.specs.declared.command.Command.TheVariants.{SetLock, CheckLock, TermLock}
+use Rattle.srcp_grammar.specs.Layout.{IsKeyOf, row_count}
+use Rattle.srcp_grammar.specs.Devices.{key_at, power_device, fb_device, device_in, lock_on}
+
+-- the layout has the row at the device's port, and the value is one that this row may have
+abbrev pub IsSetting : List Bus → Device → (port : ℕ) → Value → Type 0
+IsSetting buses device port shows = IsKeyOf buses (key_at device port) × IsValueAt device.group port shows
+
+-- V as it is kept: in mode 2, the emergency stop, it is 0
+abbrev pub kept_v : (mode v : ℕ) → ℕ
+kept_v mode v = if mode == 2 then 0 else v
+
+-- the settings of a locomotive
+abbrev pub IsDrive : List Bus → Drive → Type 0
+IsDrive buses drive =
+    IsSetting buses (device_in lockable.Gl drive.bus drive.address) 1
+    (value.GlState drive.mode (kept_v drive.mode drive.v) drive.vmax drive.functions)
+
+-- the settings of an accessory's port
+abbrev pub IsSwitch : List Bus → Switch → Type 0
+IsSwitch buses switch =
+    IsSetting buses (device_in lockable.Ga switch.bus switch.address) (1 + switch.port) (value.GaPort switch.on)
+    × IfSome switch.time (λ t. t ≤ 60000)
+
+-- the settings of a power
+abbrev pub IsPowerSwitch : List Bus → PowerSwitch → Type 0
+IsPowerSwitch buses power = IsSetting buses (power_device power.bus) 0 (value.Power power.on power.text)
+
+-- a sensor of the layout
+abbrev pub IsSensor : List Bus → Sensor → Type 0
+IsSensor buses sensor = IsKeyOf buses (key_at (fb_device sensor.bus sensor.port) 0)
+
+-- the settings of a lock
+abbrev pub IsTimedLock : List Bus → TimedLock → Type 0
+IsTimedLock buses lock = IsKeyOf buses (key_at (lock_on lock.group lock.bus lock.address) 0) × (lock.seconds ≤ 86400)
+
+-- a command of the layout, and all that the grammar reads is one: the device is one of the layout, the words are in
+-- range; INIT of sensors asks for nothing
+abbrev pub IsCommandOf : List Bus → Command → Type 0
+IsCommandOf buses (GetSession session) = session < 2 ^ 32
+IsCommandOf buses (TermSession session) = IfSome session (λ n. n < 2 ^ 32)
+IsCommandOf buses (GetPower bus) = IsKeyOf buses (key_at (power_device bus) 0)
+IsCommandOf buses (SetPower power) = IsPowerSwitch buses power
+IsCommandOf buses (CheckPower power) = IsPowerSwitch buses power
+IsCommandOf buses (InitPower bus) = IsKeyOf buses (key_at (power_device bus) 0)
+IsCommandOf buses (GetGl bus address) = IsKeyOf buses (key_at (device_in lockable.Gl bus address) 1)
+IsCommandOf buses (SetGl drive) = IsDrive buses drive
+IsCommandOf buses (CheckGl drive) = IsDrive buses drive
+IsCommandOf buses (InitGl bus address letter version steps functions) =
+    IsSetting buses (device_in lockable.Gl bus address) 0 (value.GlInit letter version steps functions)
+IsCommandOf buses (TermGl bus address) = IsKeyOf buses (key_at (device_in lockable.Gl bus address) 0)
+IsCommandOf buses (GetGa bus address port) = IsKeyOf buses (key_at (device_in lockable.Ga bus address) (1 + port))
+IsCommandOf buses (SetGa switch) = IsSwitch buses switch
+IsCommandOf buses (CheckGa switch) = IsSwitch buses switch
+IsCommandOf buses (InitGa bus address letter ports) =
+    (row_count buses (device_in lockable.Ga bus address) ≡ 1 + ports) × (ports ≤ 8)
+IsCommandOf buses (TermGa bus address) = IsKeyOf buses (key_at (device_in lockable.Ga bus address) 0)
+IsCommandOf buses (GetFb bus port) = IsKeyOf buses (key_at (fb_device bus port) 0)
+IsCommandOf buses (SetFb sensor) = IsSensor buses sensor
+IsCommandOf buses (CheckFb sensor) = IsSensor buses sensor
+IsCommandOf buses (InitFb bus) = ⊤
+IsCommandOf buses (GetLock bus group address) = IsKeyOf buses (key_at (lock_on group bus address) 0)
+IsCommandOf buses (SetLock lock) = IsTimedLock buses lock
+IsCommandOf buses (CheckLock lock) = IsTimedLock buses lock
+IsCommandOf buses (TermLock bus group address) = IsKeyOf buses (key_at (lock_on group bus address) 0)
+
+-- what the third word of the command names
+abbrev pub named_of : Command → Named
+named_of (GetSession session) = named.Session
+named_of (TermSession session) = named.Session
+named_of (GetPower bus) = named.Power
+named_of (SetPower power) = named.Power
+named_of (CheckPower power) = named.Power
+named_of (InitPower bus) = named.Power
+named_of (GetGl bus address) = named.Gl
+named_of (SetGl drive) = named.Gl
+named_of (CheckGl drive) = named.Gl
+named_of (InitGl bus address letter version steps functions) = named.Gl
+named_of (TermGl bus address) = named.Gl
+named_of (GetGa bus address port) = named.Ga
+named_of (SetGa switch) = named.Ga
+named_of (CheckGa switch) = named.Ga
+named_of (InitGa bus address letter ports) = named.Ga
+named_of (TermGa bus address) = named.Ga
+named_of (GetFb bus port) = named.Fb
+named_of (SetFb sensor) = named.Fb
+named_of (CheckFb sensor) = named.Fb
+named_of (InitFb bus) = named.Fb
+named_of (GetLock bus group address) = named.Lock
+named_of (SetLock lock) = named.Lock
+named_of (CheckLock lock) = named.Lock
+named_of (TermLock bus group address) = named.Lock

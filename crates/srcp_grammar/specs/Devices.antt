@@ -1,0 +1,42 @@
+-- The devices that a command can name, their locks, and the keys of their rows.
+use Rattle.std.specs.Prelude.{ℕ}
+use Rattle.srcp_info.specs.declared.key.Group.{Group}
+use Rattle.srcp_info.specs.declared.key.Group.TheVariants.{Session, Power, Gl, Ga, Fb, LockGl, LockGa}
+use Rattle.srcp_info.specs.declared.key.Key.{Key}
+use Rattle.srcp_info.specs.declared.key.Device.{Device}
+use Rattle.srcp_grammar.specs.declared.command.Lockable.{Lockable}
+use Rattle.srcp_grammar.specs.declared.command.Lockable.TheVariants as lockable
+
+-- the key of a device's row
+abbrev pub key_at : Device → (port : ℕ) → Key
+key_at device port = record { bus = device.bus; group = device.group; address = device.address; port = port }
+
+-- the device of a session
+abbrev pub session_device : (session : ℕ) → Device
+session_device session = record { bus = 0; group = Session; address = session }
+
+-- the power of a bus
+abbrev pub power_device : (bus : ℕ) → Device
+power_device bus = record { bus = bus; group = Power; address = 0 }
+
+-- a feedback port of a bus
+abbrev pub fb_device : (bus port : ℕ) → Device
+fb_device bus port = record { bus = bus; group = Fb; address = port }
+
+-- the group of the devices that can be locked
+abbrev pub device_group : Lockable → Group
+device_group lockable.Gl = Gl
+device_group lockable.Ga = Ga
+
+-- the group of their locks
+abbrev pub lock_group : Lockable → Group
+lock_group lockable.Gl = LockGl
+lock_group lockable.Ga = LockGa
+
+-- a locomotive or an accessory
+abbrev pub device_in : Lockable → (bus address : ℕ) → Device
+device_in group bus address = record { bus = bus; group = device_group group; address = address }
+
+-- the lock of that device, which is a device of its own
+abbrev pub lock_on : Lockable → (bus address : ℕ) → Device
+lock_on group bus address = record { bus = bus; group = lock_group group; address = address }

@@ -1,0 +1,99 @@
+-- What a server is laid out as: its buses, and the devices that may be on each.
+use Rattle.std.specs.Prelude.{◌≡◌, ℕ, ◌+◌, ◌≤◌, ◌<◌, Bool, true, false, ◌&&◌, ◌||◌, ◌==◌, nat_lt, nat_le, if◌then◌else◌}
+use Rattle.std.specs.Prelude.{List, ◌∷◌, ◌++◌, map, filter, Option, find, is_some}
+use Rattle.std.specs.List.{AllByRecursion}
+use Rattle.std.specs.List.Sorted.{IsStrictlyIncreasing}
+use Rattle.std.specs.Option.{option_map_or}
+use Rattle.srcp_info.specs.declared.key.Group.{Group}
+use Rattle.srcp_info.specs.declared.key.Group.TheVariants.{Session, Power, Gl, Ga, Fb, LockGl, LockGa}
+use Rattle.srcp_info.specs.declared.key.Device.{Device}
+use Rattle.srcp_info.specs.declared.key.Key.{Key}
+use Rattle.srcp_info.specs.Key.{device_of}
+use Rattle.srcp_grammar.specs.declared.layout.Bus.{Bus}
+use Rattle.srcp_grammar.specs.declared.layout.LayoutFault.{LayoutFault}
+use Rattle.srcp_grammar.specs.declared.layout.LayoutFault.TheVariants.{OutOfRange, Twice, Memory}
+use Rattle.srcp_grammar.specs.declared.command.Named.{Named}
+use Rattle.srcp_grammar.specs.declared.command.Named.TheVariants as named
+use Rattle.srcp_grammar.specs.declared.command.Lockable.{Lockable}
+use Rattle.srcp_grammar.specs.declared.command.Lockable.TheVariants as lockable
+
+-- a bus within the limits; how many ports an accessory has is free where the bus has none
+pub record IsBus (bus : Bus) : Type 0 where
+  pub number : (1 ≤ bus.number) × (bus.number ≤ 250)
+  pub gl_max : bus.gl_max ≤ 10239
+  pub ga_max : bus.ga_max ≤ 2044
+  pub ga_ports : 0 < bus.ga_max → (2 ≤ bus.ga_ports) × (bus.ga_ports ≤ 8)
+  pub fb_ports : bus.fb_ports ≤ 4096
+
+-- buses within the limits, by rising number
+pub record IsLayout (buses : List Bus) : Type 0 where
+  pub each : AllByRecursion IsBus buses
+  pub rising : IsStrictlyIncreasing (map (λ bus. bus.number) buses)
+
+-- the bus of this number among these
+abbrev pub bus_numbered : List Bus → (number : ℕ) → Option Bus
+bus_numbered buses number = find (λ bus. bus.number == number) buses
+
+-- a bus of this number is there
+abbrev pub has_number : List Bus → (number : ℕ) → Bool
+has_number buses number = is_some (bus_numbered buses number)
+
+-- the buses with one more, by rising number
+abbrev pub with_bus : Bus → List Bus → List Bus
+with_bus bus buses =
+    filter (λ other. nat_lt other.number bus.number) buses ++ bus
+    ∷ filter (λ other. nat_lt bus.number other.number) buses
+
+-- the bus is beyond the limits; or else its number is there; or it may be taken, but memory was refused
+abbrev pub IsFaultOf : List Bus → Bus → LayoutFault → Type 0
+IsFaultOf buses bus OutOfRange = ¬ IsBus bus
+IsFaultOf buses bus Twice = IsBus bus × (has_number buses bus.number ≡ true)
+IsFaultOf buses bus Memory = IsBus bus × (has_number buses bus.number ≡ false)
+
+-- bus 0, which is the server itself
+abbrev pub server : Bus
+server = record { number = 0; power = false; gl_max = 0; ga_max = 0; ga_ports = 0; fb_ports = 0 }
+
+-- the bus of this number: the server or a configured one
+abbrev pub bus_at : List Bus → ℕ → Option Bus
+bus_at buses number = bus_numbered (server ∷ buses) number
+
+-- the group that the third word of a command names is on the bus
+abbrev pub has_group : Bus → Named → Bool
+has_group bus named.Session = bus.number == 0
+has_group bus named.Power = bus.power
+has_group bus named.Gl = nat_lt 0 bus.gl_max
+has_group bus named.Ga = nat_lt 0 bus.ga_max
+has_group bus named.Fb = nat_lt 0 bus.fb_ports
+has_group bus named.Lock = nat_lt 0 bus.gl_max || nat_lt 0 bus.ga_max
+
+-- the greatest address of the bus's locomotives or accessories, 0 where it has none
+abbrev pub address_max : Bus → Lockable → ℕ
+address_max bus lockable.Gl = bus.gl_max
+address_max bus lockable.Ga = bus.ga_max
+
+-- the number is from least to most
+abbrev pub is_within : (least most : ℕ) → ℕ → Bool
+is_within least most number = nat_le least number && nat_le number most
+
+-- n where the test passes, else none
+abbrev pub rows_if : Bool → ℕ → ℕ
+rows_if test n = if test then n else 0
+
+-- how many rows a device of this group and address has on the bus, 0 where there is no such device
+abbrev pub rows_on : Bus → Group → (address : ℕ) → ℕ
+rows_on bus Session address = rows_if (bus.number == 0 && is_within 1 4294967295 address) 1
+rows_on bus Power address = rows_if (bus.power && address == 0) 1
+rows_on bus Gl address = rows_if (is_within 1 bus.gl_max address) 2
+rows_on bus Ga address = rows_if (is_within 1 bus.ga_max address) (1 + bus.ga_ports)
+rows_on bus Fb address = rows_if (is_within 1 bus.fb_ports address) 1
+rows_on bus LockGl address = rows_if (is_within 1 bus.gl_max address) 1
+rows_on bus LockGa address = rows_if (is_within 1 bus.ga_max address) 1
+
+-- how many rows the device has where it is there: its ports are below this number
+abbrev pub row_count : List Bus → Device → ℕ
+row_count buses device = option_map_or (λ bus. rows_on bus device.group device.address) (bus_at buses device.bus) 0
+
+-- a row of the layout may stand at this key
+abbrev pub IsKeyOf : List Bus → Key → Type 0
+IsKeyOf buses key = key.port < row_count buses (device_of key)

@@ -1,0 +1,4 @@
+pub mod Layout
+pub mod Devices
+pub mod Command
+pub mod Grammar

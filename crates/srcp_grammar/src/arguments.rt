@@ -1,0 +1,233 @@
+//! Reads the words behind the group, by what each command asks for.
+
+ghost use Rattle.std.specs.Prelude.{◌≡◌, ℕ, Ok, Err, MatchResult};
+ghost use Rattle.srcp_grammar.specs.declared.command.Lockable.{Lockable};
+ghost use Rattle.srcp_grammar.specs.declared.command.Command.{Command};
+ghost use Rattle.srcp_grammar.specs.Layout.{address_max};
+ghost use Rattle.srcp_grammar.specs.Grammar.{addressed, driven, ga_port, get_ga, get_session, init_ga, init_gl};
+ghost use Rattle.srcp_grammar.specs.Grammar.{named_lock, powered, sensed, switched, term_session, timed_lock};
+
+use crate::command::{Command, Drive, Lockable, PowerSwitch, Sensor, Switch, TimedLock};
+use crate::functions::read_functions;
+use crate::layout::Bus;
+use crate::power_text::text_of;
+use crate::single_words::{bit_of, letter_of, lockable_on, number_in, switch_of, time_of};
+use crate::word_count::{next_word, no_more};
+use srcp_info::{
+    Code, DriveMode, GREATEST_SPEED, GREATEST_VERSION, Letter, MOST_FUNCTIONS, MOST_SECONDS,
+    MOST_STEPS,
+};
+use srcp_text::{Words, is_keyword};
+
+/// An address and nothing else.
+pub(crate) fn address(most: u32, mut words: Words<'_>) -> Result<u32, Code>
+    ensures { (make : ℕ → Command)
+        → MatchResult result (λ address. addressed most make words.entry ≡ Ok (make address))
+        (λ code. addressed most make words.entry ≡ Err code) }
+{
+    let word = next_word(&mut words)?;
+    no_more(words)?;
+    number_in(1, most, word)
+}
+
+pub(crate) fn get_session(mut words: Words<'_>) -> Result<Command, Code>
+    ensures { result ≡ get_session words.entry }
+{
+    let word = next_word(&mut words)?;
+    no_more(words)?;
+    Ok(Command::GetSession {
+        session: number_in(0, u32::MAX, word)?,
+    })
+}
+
+pub(crate) fn term_session(mut words: Words<'_>) -> Result<Command, Code>
+    ensures { result ≡ term_session words.entry }
+{
+    let Some(word) = words.next() else {
+        return Ok(Command::TermSession { session: None });
+    };
+    no_more(words)?;
+    Ok(Command::TermSession {
+        session: Some(number_in(0, u32::MAX, word)?),
+    })
+}
+
+/// An accessory's port, from 0 on.
+fn ga_port(bus: &Bus, word: &[u8]) -> Result<u8, Code>
+    ensures { result ≡ ga_port bus.now word.now }
+{
+    let port = number_in(0, u32::from(bus.ga_ports.saturating_sub(1)), word)?;
+    Ok(port as u8)
+}
+
+pub(crate) fn get_ga(bus: &Bus, mut words: Words<'_>) -> Result<Command, Code>
+    ensures { result ≡ get_ga bus.now words.entry }
+{
+    let first = next_word(&mut words)?;
+    let second = next_word(&mut words)?;
+    no_more(words)?;
+    let address = number_in(1, bus.ga_max, first)?;
+    let port = ga_port(bus, second)?;
+    Ok(Command::GetGa {
+        bus: bus.number,
+        address,
+        port,
+    })
+}
+
+/// Address, port, value and time.
+pub(crate) fn switched(bus: &Bus, mut words: Words<'_>) -> Result<Switch, Code>
+    ensures { result ≡ switched bus.now words.entry }
+{
+    let first = next_word(&mut words)?;
+    let second = next_word(&mut words)?;
+    let third = next_word(&mut words)?;
+    let fourth = next_word(&mut words)?;
+    no_more(words)?;
+    Ok(Switch {
+        bus: bus.number,
+        address: number_in(1, bus.ga_max, first)?,
+        port: ga_port(bus, second)?,
+        on: bit_of(third)?,
+        time: time_of(fourth)?,
+    })
+}
+
+/// Address and letter, then any words.
+pub(crate) fn init_ga(bus: &Bus, mut words: Words<'_>) -> Result<Command, Code>
+    ensures { result ≡ init_ga bus.now words.entry }
+{
+    let first = next_word(&mut words)?;
+    let second = next_word(&mut words)?;
+    Ok(Command::InitGa {
+        bus: bus.number,
+        address: number_in(1, bus.ga_max, first)?,
+        letter: letter_of(second)?,
+        ports: bus.ga_ports,
+    })
+}
+
+/// Port and value.
+pub(crate) fn sensed(bus: &Bus, mut words: Words<'_>) -> Result<Sensor, Code>
+    ensures { result ≡ sensed bus.now words.entry }
+{
+    let first = next_word(&mut words)?;
+    let second = next_word(&mut words)?;
+    no_more(words)?;
+    Ok(Sensor {
+        bus: bus.number,
+        port: number_in(1, bus.fb_ports, first)?,
+        on: bit_of(second)?,
+    })
+}
+
+/// The greatest address of the bus's locomotives or accessories.
+fn address_max(bus: &Bus, group: Lockable) -> u32
+    ensures { result ≡ address_max bus.now group }
+{
+    match group {
+        Lockable::Gl => bus.gl_max,
+        Lockable::Ga => bus.ga_max,
+    }
+}
+
+/// Group and address.
+pub(crate) fn lock(bus: &Bus, mut words: Words<'_>) -> Result<(Lockable, u32), Code>
+    ensures { (make : Lockable → ℕ → Command)
+        → MatchResult result (λ l. named_lock bus.now make words.entry ≡ Ok (make l.0 l.1))
+        (λ code. named_lock bus.now make words.entry ≡ Err code) }
+{
+    let first = next_word(&mut words)?;
+    let second = next_word(&mut words)?;
+    no_more(words)?;
+    let group = lockable_on(bus, first)?;
+    Ok((group, number_in(1, address_max(bus, group), second)?))
+}
+
+/// Group, address and seconds.
+pub(crate) fn timed_lock(bus: &Bus, mut words: Words<'_>) -> Result<TimedLock, Code>
+    ensures { result ≡ timed_lock bus.now words.entry }
+{
+    let first = next_word(&mut words)?;
+    let second = next_word(&mut words)?;
+    let third = next_word(&mut words)?;
+    no_more(words)?;
+    let group = lockable_on(bus, first)?;
+    Ok(TimedLock {
+        bus: bus.number,
+        group,
+        address: number_in(1, address_max(bus, group), second)?,
+        seconds: number_in(0, MOST_SECONDS, third)?,
+    })
+}
+
+/// Address, letter, version, steps and number of functions, of which P alone stands for P 1 28 5.
+pub(crate) fn init_gl(bus: &Bus, mut words: Words<'_>) -> Result<Command, Code>
+    ensures { result ≡ init_gl bus.now words.entry }
+{
+    let first = next_word(&mut words)?;
+    let second = next_word(&mut words)?;
+    let Some(third) = words.next() else {
+        if !is_keyword(b"P", second) {
+            return Err(Code::TOO_SHORT);
+        }
+        return Ok(Command::InitGl {
+            bus: bus.number,
+            address: number_in(1, bus.gl_max, first)?,
+            letter: Letter::P,
+            version: 1,
+            steps: 28,
+            functions: 5,
+        });
+    };
+    let fourth = next_word(&mut words)?;
+    let fifth = next_word(&mut words)?;
+    no_more(words)?;
+    Ok(Command::InitGl {
+        bus: bus.number,
+        address: number_in(1, bus.gl_max, first)?,
+        letter: letter_of(second)?,
+        version: number_in(0, GREATEST_VERSION, third)?,
+        steps: number_in(1, MOST_STEPS, fourth)?,
+        functions: number_in(0, MOST_FUNCTIONS, fifth)?,
+    })
+}
+
+/// ON or OFF, then the words of the text.
+pub(crate) fn powered(bus: &Bus, mut words: Words<'_>) -> Result<PowerSwitch, Code>
+    ensures { result ≡ powered bus.now words.entry }
+{
+    let first = next_word(&mut words)?;
+    Ok(PowerSwitch {
+        bus: bus.number,
+        on: switch_of(first)?,
+        text: text_of(words)?,
+    })
+}
+
+/// Address, mode, V, Vmax, and at most 29 functions.
+#[inline(always)]
+pub(crate) fn driven(bus: &Bus, mut words: Words<'_>) -> Result<Drive, Code>
+    ensures { result ≡ driven bus.now words.entry }
+{
+    let first = next_word(&mut words)?;
+    let second = next_word(&mut words)?;
+    let third = next_word(&mut words)?;
+    let fourth = next_word(&mut words)?;
+    let functions = read_functions(words)?;
+    let address = number_in(1, bus.gl_max, first)?;
+    let mode = number_in(0, DriveMode::EmergencyStop as u32, second)?;
+    let v = number_in(0, GREATEST_SPEED, third)?;
+    let vmax = number_in(0, GREATEST_SPEED, fourth)?;
+    if vmax < v && vmax != 0 {
+        return Err(Code::WRONG_VALUE);
+    }
+    Ok(Drive {
+        bus: bus.number,
+        address,
+        mode,
+        v,
+        vmax,
+        functions: functions?,
+    })
+}

@@ -1,0 +1,41 @@
+//! The buses that a command can name, and what is on them.
+
+ghost use Rattle.std.specs.Prelude.{◌≡◌};
+ghost use Rattle.srcp_grammar.specs.Layout.{bus_at, has_group};
+
+use crate::command::Named;
+use crate::layout::{Bus, bus_numbered};
+
+/// Bus 0, which is the server itself.
+pub const SERVER: Bus = Bus {
+    number: 0,
+    power: false,
+    gl_max: 0,
+    ga_max: 0,
+    ga_ports: 0,
+    fb_ports: 0,
+};
+
+/// The bus of this number: the server or a configured one.
+pub(crate) fn bus_at(buses: &[Bus], number: u8) -> Option<Bus>
+    ensures { result ≡ bus_at buses.now number }
+{
+    if number == SERVER.number {
+        return Some(SERVER);
+    }
+    bus_numbered(buses, number).copied()
+}
+
+/// Whether the group that the third word of a command names is on the bus.
+pub(crate) fn has_group(bus: &Bus, group: Named) -> bool
+    ensures { result ≡ has_group bus.now group }
+{
+    match group {
+        Named::Session => bus.number == SERVER.number,
+        Named::Power => bus.power,
+        Named::Gl => bus.gl_max > 0,
+        Named::Ga => bus.ga_max > 0,
+        Named::Fb => bus.fb_ports > 0,
+        Named::Lock => bus.gl_max > 0 || bus.ga_max > 0,
+    }
+}

@@ -1,0 +1,275 @@
+//! What a command asks for: one variant for each pair of an operation and a group.
+
+ghost use Rattle.std.specs.Prelude.{◌≡◌};
+ghost use Rattle.srcp_grammar.specs.Command.{named_of};
+
+use srcp_info::{Bits, Letter, Text};
+
+/// What a word of the first place asks for.
+#[derive(Clone, Copy, Debug, PartialEq, Eq)]
+pub enum Operation {
+    Get,
+    Set,
+    Check,
+    Init,
+    Term,
+    Wait,
+    Verify,
+    Reset,
+}
+
+/// What a word of the third place names.
+#[derive(Clone, Copy, Debug, PartialEq, Eq)]
+pub enum Named {
+    Session,
+    Power,
+    Gl,
+    Ga,
+    Fb,
+    Lock,
+}
+
+/// The groups whose devices can be locked, as the word behind LOCK names them.
+#[derive(Clone, Copy, Debug, PartialEq, Eq)]
+pub enum Lockable {
+    /// Locomotives.
+    Gl,
+    /// Accessories.
+    Ga,
+}
+
+/// What SET and CHECK ask of a locomotive.
+#[derive(Clone, Copy, Debug, PartialEq, Eq)]
+pub struct Drive {
+    /// The bus.
+    pub bus: u8,
+    /// The locomotive's address.
+    pub address: u32,
+    /// The number of its `DriveMode`.
+    pub mode: u32,
+    /// V, the speed, from 0 to 65535 and at most `vmax` unless that is 0; kept as 0 in an
+    /// emergency stop.
+    pub v: u32,
+    /// Vmax, the speed that V is a part of, from 0 to 65535.
+    pub vmax: u32,
+    /// The first functions, on or off, at most 29; those not given keep their values.
+    pub functions: Bits,
+}
+
+/// What SET and CHECK ask of a port of an accessory.
+#[derive(Clone, Copy, Debug, PartialEq, Eq)]
+pub struct Switch {
+    /// The bus.
+    pub bus: u8,
+    /// The accessory's address.
+    pub address: u32,
+    /// The port, from 0 to one less than the bus gives each accessory.
+    pub port: u8,
+    /// Whether it is to be on, which is 1 on the wire.
+    pub on: bool,
+    /// After how many milliseconds a port that is on falls back, from 0 to 60000, of which 0 is
+    /// never; none where it was sent as -1, which is never too.
+    pub time: Option<u32>,
+}
+
+/// What SET and CHECK ask of the power of a bus.
+#[derive(Clone, Copy, Debug, PartialEq, Eq)]
+pub struct PowerSwitch {
+    /// The bus.
+    pub bus: u8,
+    /// Whether it is to be on.
+    pub on: bool,
+    /// Why, in the sender's words; it may be empty.
+    pub text: Text,
+}
+
+/// What SET and CHECK ask of a feedback port.
+#[derive(Clone, Copy, Debug, PartialEq, Eq)]
+pub struct Sensor {
+    /// The bus.
+    pub bus: u8,
+    /// The feedback port, from 1 to as many as the bus has.
+    pub port: u32,
+    /// Whether it is to be on, which is 1 on the wire.
+    pub on: bool,
+}
+
+/// What SET and CHECK ask of a lock.
+#[derive(Clone, Copy, Debug, PartialEq, Eq)]
+pub struct TimedLock {
+    /// The bus.
+    pub bus: u8,
+    /// The group of the device.
+    pub group: Lockable,
+    /// The device's address.
+    pub address: u32,
+    /// For how many seconds, from 0 to 86400; 0 is as long as the session lasts.
+    pub seconds: u32,
+}
+
+/// A command of SRCP 0.8, one variant for each pair of an operation and a group, with the words as
+/// read. In each, `bus` is the number of the bus, from 1 to 250, and `address` that of a device on
+/// it, from 1 to the greatest that the bus has.
+#[derive(Clone, Copy, Debug, PartialEq, Eq)]
+pub enum Command {
+    /// Asks for the row of a session.
+    GetSession {
+        /// The id that was named; 0 is no session's.
+        session: u32,
+    },
+    /// Ends the session that sends it.
+    TermSession {
+        /// The id that was named, if any.
+        session: Option<u32>,
+    },
+    /// Asks for the power of a bus.
+    GetPower {
+        /// The bus.
+        bus: u8,
+    },
+    /// Turns the power of a bus on or off.
+    SetPower(PowerSwitch),
+    /// Answers as `SetPower` does, and changes nothing.
+    CheckPower(PowerSwitch),
+    /// Accepted, and changes nothing.
+    InitPower {
+        /// The bus.
+        bus: u8,
+    },
+    /// Asks what a locomotive does.
+    GetGl {
+        /// The bus.
+        bus: u8,
+        /// The locomotive's address.
+        address: u32,
+    },
+    /// Drives a locomotive.
+    SetGl(Drive),
+    /// Answers as `SetGl` does, and changes nothing.
+    CheckGl(Drive),
+    /// Makes a locomotive, or makes it afresh where it has other parameters.
+    InitGl {
+        /// The bus.
+        bus: u8,
+        /// The locomotive's address.
+        address: u32,
+        /// The protocol of its decoder.
+        letter: Letter,
+        /// The version of that protocol, from 0 to 255.
+        version: u32,
+        /// How many speed steps the decoder has, from 1 to 1000.
+        steps: u32,
+        /// How many functions it has, from 0 to 29.
+        functions: u32,
+    },
+    /// Takes out a locomotive, and its lock first.
+    TermGl {
+        /// The bus.
+        bus: u8,
+        /// The locomotive's address.
+        address: u32,
+    },
+    /// Asks for a port of an accessory.
+    GetGa {
+        /// The bus.
+        bus: u8,
+        /// The accessory's address.
+        address: u32,
+        /// The port, from 0 to one less than the bus gives each accessory.
+        port: u8,
+    },
+    /// Switches a port of an accessory.
+    SetGa(Switch),
+    /// Answers as `SetGa` does, and changes nothing.
+    CheckGa(Switch),
+    /// Makes an accessory, or makes it afresh where it has another protocol.
+    InitGa {
+        /// The bus.
+        bus: u8,
+        /// The accessory's address.
+        address: u32,
+        /// The protocol of its decoder.
+        letter: Letter,
+        /// How many ports the bus gives each accessory, from 2 to 8.
+        ports: u8,
+    },
+    /// Takes out an accessory, and its lock first.
+    TermGa {
+        /// The bus.
+        bus: u8,
+        /// The accessory's address.
+        address: u32,
+    },
+    /// Asks for a feedback port.
+    GetFb {
+        /// The bus.
+        bus: u8,
+        /// The feedback port, from 1 to as many as the bus has.
+        port: u32,
+    },
+    /// Sets a feedback port, in place of a sensor.
+    SetFb(Sensor),
+    /// Answers as `SetFb` does, and changes nothing.
+    CheckFb(Sensor),
+    /// Accepted, and changes nothing.
+    InitFb {
+        /// The bus, which has feedback ports.
+        bus: u8,
+    },
+    /// Asks for the lock of a device.
+    GetLock {
+        /// The bus.
+        bus: u8,
+        /// The group of the device.
+        group: Lockable,
+        /// The device's address.
+        address: u32,
+    },
+    /// Locks a device for the session, or renews its lock.
+    SetLock(TimedLock),
+    /// Answers as `SetLock` does, and changes nothing.
+    CheckLock(TimedLock),
+    /// Takes out the lock of a device.
+    TermLock {
+        /// The bus.
+        bus: u8,
+        /// The group of the device.
+        group: Lockable,
+        /// The device's address.
+        address: u32,
+    },
+}
+
+impl Command {
+    /// Returns what the third word of the command names.
+    #[inline]
+    pub fn named(&self) -> Named
+        ensures { result ≡ named_of self.now }
+    {
+        match self {
+            Command::GetSession { .. } | Command::TermSession { .. } => Named::Session,
+            Command::GetPower { .. }
+            | Command::SetPower(_)
+            | Command::CheckPower(_)
+            | Command::InitPower { .. } => Named::Power,
+            Command::GetGl { .. }
+            | Command::SetGl(_)
+            | Command::CheckGl(_)
+            | Command::InitGl { .. }
+            | Command::TermGl { .. } => Named::Gl,
+            Command::GetGa { .. }
+            | Command::SetGa(_)
+            | Command::CheckGa(_)
+            | Command::InitGa { .. }
+            | Command::TermGa { .. } => Named::Ga,
+            Command::GetFb { .. }
+            | Command::SetFb(_)
+            | Command::CheckFb(_)
+            | Command::InitFb { .. } => Named::Fb,
+            Command::GetLock { .. }
+            | Command::SetLock(_)
+            | Command::CheckLock(_)
+            | Command::TermLock { .. } => Named::Lock,
+        }
+    }
+}

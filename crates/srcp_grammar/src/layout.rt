@@ -1,0 +1,128 @@
+//! The layout of a server: its buses, and what each offers.
+
+ghost use Rattle.std.specs.Prelude.{◌≡◌, ◌↔◌, [], false, IsTrue, OnOk, OnErr, IfErr, option_copied};
+ghost use Rattle.srcp_grammar.specs.Layout.{IsBus, IsLayout, IsFaultOf, bus_numbered, has_number, with_bus};
+
+use srcp_info::{GREATEST_BUS, GREATEST_FB, GREATEST_GA, GREATEST_GL, MOST_PORTS};
+use std::alloc::Global;
+use std::marker::Model;
+
+/// What a bus offers: a group whose field is 0 or false is not on it. Bus 0 is the server itself and
+/// stands in no layout (of SRCP 0.8).
+#[derive(Clone, Copy, Debug, PartialEq, Eq)]
+pub struct Bus {
+    /// Its number, from 1 to 250.
+    pub number: u8,
+    /// Whether its power can be switched.
+    pub power: bool,
+    /// The greatest address of a locomotive, at most 10239.
+    pub gl_max: u32,
+    /// The greatest address of an accessory, at most 2044.
+    pub ga_max: u32,
+    /// How many ports a device of the group GA has, from 2 to 8; not looked at where ga_max is 0.
+    pub ga_ports: u8,
+    /// How many feedback ports there are, at most 4096.
+    pub fb_ports: u32,
+}
+
+impl Bus {
+    /// Whether the bus is within the limits of its fields.
+    fn is_in_range(&self) -> bool
+        ensures { IsTrue result ↔ IsBus self.now }
+    {
+        1 <= self.number
+            && self.number <= GREATEST_BUS
+            && self.gl_max <= GREATEST_GL
+            && self.ga_max <= GREATEST_GA
+            && (self.ga_max == 0 || 2 <= self.ga_ports && u32::from(self.ga_ports) <= MOST_PORTS)
+            && self.fb_ports <= GREATEST_FB
+    }
+}
+
+/// The bus of this number among these.
+pub(crate) fn bus_numbered(buses: &[Bus], number: u8) -> Option<&Bus>
+    ensures { option_copied result ≡ bus_numbered buses.now number }
+{
+    buses.iter().find(|bus| bus.number == number)
+}
+
+/// Why a layout does not take a bus.
+#[derive(Clone, Copy, Debug, PartialEq, Eq)]
+pub enum LayoutFault {
+    /// A field is beyond its limit.
+    OutOfRange,
+    /// The layout has a bus of this number.
+    Twice,
+    /// Memory was refused.
+    Memory,
+}
+
+/// The buses of a server, by rising number.
+#[derive(Drop)]
+pub struct Layout {
+    buses: Vec<Bus>,
+}
+
+impl Model for Layout {
+    ghost use Rattle.std.specs.Prelude.{List};
+    ghost use Rattle.srcp_grammar.specs.declared.layout.Bus.{Bus};
+
+    ghost Value = { List Bus };
+
+    ghost use Rattle.srcp_grammar.specs.Layout.{IsLayout};
+
+    ghost view = { λ a. a.buses.items };
+
+    ghost invariant = { λ a. IsLayout a.buses.items };
+}
+
+impl Layout {
+    /// No bus.
+    pub fn new(alloc: Global) -> Layout
+        ensures { result ≡ [] }
+    {
+        Layout {
+            buses: Vec::new(alloc),
+        }
+    }
+
+    /// Takes the bus in. It is refused, and the layout is as before, for the first of these that holds:
+    /// 1. a field is beyond its limit (`OutOfRange`);
+    /// 2. the layout has a bus of its number (`Twice`);
+    /// 3. memory was refused (`Memory`).
+    pub fn add(&mut self, bus: Bus) -> Result<(), LayoutFault>
+        ensures ok { OnOk result (self.new ≡ with_bus bus self.old) }
+        ensures taken { OnOk result (IsBus bus × (has_number self.old bus.number ≡ false)) }
+        ensures fault { IfErr result (IsFaultOf self.old bus) }
+        ensures err { OnErr result (self.new ≡ self.old) }
+    {
+        if !bus.is_in_range() {
+            return Err(LayoutFault::OutOfRange);
+        }
+        if self.bus(bus.number).is_some() {
+            return Err(LayoutFault::Twice);
+        }
+        let place = self
+            .buses
+            .partition_point(|other| other.number < bus.number);
+        if self.buses.insert(place, bus).is_err() {
+            return Err(LayoutFault::Memory);
+        }
+        Ok(())
+    }
+
+    /// The bus of this number; none where the layout has no such bus.
+    pub fn bus(&self, number: u8) -> Option<&Bus>
+        ensures { option_copied result ≡ bus_numbered self.now number }
+    {
+        bus_numbered(&self.buses, number)
+    }
+
+    /// The buses by rising number, each within the limits.
+    pub fn buses(&self) -> &[Bus]
+        ensures all { result.now ≡ self.now }
+        ensures laid_out { IsLayout self.now }
+    {
+        &self.buses
+    }
+}

@@ -1,0 +1,22 @@
+//! The layout of a server, and which line is which command of it.
+#![tactic(auto)]
+
+ghost use Rattle.std.specs.Prelude.{◌≡◌, ℕ, List, [], ◌∷◌};
+ghost use Rattle.srcp_grammar.specs.Command.{IsCommandOf};
+ghost use Rattle.srcp_grammar.specs.Grammar.{reads};
+
+mod arguments;
+mod buses;
+mod command;
+mod functions;
+mod layout;
+mod operations;
+mod parse;
+mod power_text;
+mod single_words;
+mod word_count;
+
+pub use buses::SERVER;
+pub use command::{Command, Drive, Lockable, Named, PowerSwitch, Sensor, Switch, TimedLock};
+pub use layout::{Bus, Layout, LayoutFault};
+pub use parse::parse_command;

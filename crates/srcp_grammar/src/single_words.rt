@@ -1,0 +1,145 @@
+//! Single words of a command.
+
+ghost use Rattle.std.specs.Prelude.{◌≡◌};
+ghost use Rattle.std.specs.Option.{ok_or};
+ghost use Rattle.srcp_info.specs.declared.change.Code.TheVariants.{C410 as UnknownCommand, C421 as UnsupportedDevice};
+ghost use Rattle.srcp_grammar.specs.Grammar.{bit_of, groups, letter_of, lockable_on, named_in, number_in, operations};
+ghost use Rattle.srcp_grammar.specs.Grammar.{switch_of, time_of};
+
+use crate::command::{Lockable, Named, Operation};
+use crate::layout::Bus;
+use srcp_info::{Code, Letter, MOST_MILLISECONDS};
+use srcp_text::{is_keyword, read_number};
+
+/// A number from `least` to `most`; any other word is 412.
+#[inline(always)]
+pub(crate) fn number_in(least: u32, most: u32, word: &[u8]) -> Result<u32, Code>
+    ensures { result ≡ number_in least most word.now }
+{
+    match read_number(word, most) {
+        Some(number) if number >= least => Ok(number),
+        _ => Err(Code::WRONG_VALUE),
+    }
+}
+
+/// Reads 0 or 1; any other word is 412. The words "0" and "1" themselves are read without a call.
+pub(crate) fn bit_of(word: &[u8]) -> Result<bool, Code>
+    ensures { result ≡ bit_of word.now }
+{
+    match word {
+        b"0" => Ok(false),
+        b"1" => Ok(true),
+        _ => Ok(number_in(0, 1, word)? == 1),
+    }
+}
+
+/// A decoder protocol; any other word is 420.
+pub(crate) fn letter_of(word: &[u8]) -> Result<Letter, Code>
+    ensures { result ≡ letter_of word.now }
+{
+    if is_keyword(b"N", word) {
+        return Ok(Letter::N);
+    }
+    if is_keyword(b"M", word) {
+        return Ok(Letter::M);
+    }
+    if is_keyword(b"S", word) {
+        return Ok(Letter::S);
+    }
+    if is_keyword(b"P", word) {
+        return Ok(Letter::P);
+    }
+    Err(Code::UNSUPPORTED_DEVICE_PROTOCOL)
+}
+
+/// ON or OFF; any other word is 412.
+pub(crate) fn switch_of(word: &[u8]) -> Result<bool, Code>
+    ensures { result ≡ switch_of word.now }
+{
+    if is_keyword(b"ON", word) {
+        return Ok(true);
+    }
+    if is_keyword(b"OFF", word) {
+        return Ok(false);
+    }
+    Err(Code::WRONG_VALUE)
+}
+
+/// Milliseconds up to 60000, or none where the word is -1.
+pub(crate) fn time_of(word: &[u8]) -> Result<Option<u32>, Code>
+    ensures { result ≡ time_of word.now }
+{
+    if word == b"-1".as_slice() {
+        return Ok(None);
+    }
+    Ok(Some(number_in(0, MOST_MILLISECONDS, word)?))
+}
+
+/// The operation that the first word of a command names; any other word is 410.
+pub(crate) fn operation_of(word: &[u8]) -> Result<Operation, Code>
+    ensures { result ≡ ok_or (named_in operations word.now) UnknownCommand }
+{
+    if is_keyword(b"GET", word) {
+        return Ok(Operation::Get);
+    }
+    if is_keyword(b"SET", word) {
+        return Ok(Operation::Set);
+    }
+    if is_keyword(b"CHECK", word) {
+        return Ok(Operation::Check);
+    }
+    if is_keyword(b"INIT", word) {
+        return Ok(Operation::Init);
+    }
+    if is_keyword(b"TERM", word) {
+        return Ok(Operation::Term);
+    }
+    if is_keyword(b"WAIT", word) {
+        return Ok(Operation::Wait);
+    }
+    if is_keyword(b"VERIFY", word) {
+        return Ok(Operation::Verify);
+    }
+    if is_keyword(b"RESET", word) {
+        return Ok(Operation::Reset);
+    }
+    Err(Code::UNKNOWN_COMMAND)
+}
+
+/// The group that the third word of a command names; any other word is 421.
+pub(crate) fn group_of(word: &[u8]) -> Result<Named, Code>
+    ensures { result ≡ ok_or (named_in groups word.now) UnsupportedDevice }
+{
+    if is_keyword(b"SESSION", word) {
+        return Ok(Named::Session);
+    }
+    if is_keyword(b"POWER", word) {
+        return Ok(Named::Power);
+    }
+    if is_keyword(b"GL", word) {
+        return Ok(Named::Gl);
+    }
+    if is_keyword(b"GA", word) {
+        return Ok(Named::Ga);
+    }
+    if is_keyword(b"FB", word) {
+        return Ok(Named::Fb);
+    }
+    if is_keyword(b"LOCK", word) {
+        return Ok(Named::Lock);
+    }
+    Err(Code::UNSUPPORTED_DEVICE)
+}
+
+/// The group of a LOCK command, which has to be on the bus; any other word is 412.
+pub(crate) fn lockable_on(bus: &Bus, word: &[u8]) -> Result<Lockable, Code>
+    ensures { result ≡ lockable_on bus.now word.now }
+{
+    if is_keyword(b"GL", word) && bus.gl_max > 0 {
+        return Ok(Lockable::Gl);
+    }
+    if is_keyword(b"GA", word) && bus.ga_max > 0 {
+        return Ok(Lockable::Ga);
+    }
+    Err(Code::WRONG_VALUE)
+}

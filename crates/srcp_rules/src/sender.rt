@@ -1,0 +1,14 @@
+//! Who sends a command, and when.
+
+ghost use Rattle.srcp_info.specs.WellFormed.{IsMoment};
+
+/// The session that sends a command, and the moment at which it does.
+#[derive(Clone, Copy)]
+pub(crate) struct Sender {
+    /// The id of the session.
+    pub(crate) session: u32,
+    /// The moment, in milliseconds.
+    pub(crate) moment: u64,
+    // A contract knows the range of a parameter, but not that of a field.
+    ghost fits: { IsMoment moment },
+}
