@@ -206,10 +206,7 @@ fn take<R: Rows, D: Detail>(
     ensures denied { core.new.denied ≡ core.old.denied }
 {
     recorder.gave(conn, core, key)?;
-    if core.fill(key).is_err() {
-        return Ok(0);
-    }
-    let count = match core.unsent(key) {
+    let count = match core.outgoing(key) {
         Ok(bytes) => {
             let count = bytes.len().min(most);
             recorder.took(conn, &bytes[..count])?;

@@ -19,6 +19,7 @@ impl<'a, R: Rows> Core<'a, R> {
     ///
     /// # Errors
     /// Returns `NoSuch` if there is no such connection, and then nothing changes.
+    #[inline(always)]
     pub fn outgoing(&mut self, conn: usize) -> Result<&[u8], CoreFault>
         ensures* ends { sem 𝓛 (EndsAs R.row R.Rows self.entry (let_out conn self.old)) }
         ensures absent { MatchResult result (λ _. IsSome (at self.old conn))
@@ -27,12 +28,12 @@ impl<'a, R: Rows> Core<'a, R> {
         ensures one_line { unsent_at conn self.old ≡ [] → IfOk result (λ bytes. length bytes.now ≤ LONGEST_LINE) }
     {
         self.fill(conn)?;
-        self.unsent(conn)
+        Ok(self.connections[conn].unsent())
     }
 
     /// Appends the next line of an information session, if nothing is unsent.
     #[inline(always)]
-    pub(crate) fn fill(&mut self, conn: usize) -> Result<(), CoreFault>
+    fn fill(&mut self, conn: usize) -> Result<(), CoreFault>
         ensures absent { IsErr result ↔ (at self.old conn ≡ None) }
         ensures fault { IfErr result (λ fault. fault ≡ CoreFault.NoSuch) }
         ensures core { self.new ≡ let_out conn self.old }
@@ -52,18 +53,6 @@ impl<'a, R: Rows> Core<'a, R> {
         self.connections.get(conn)?.item(&self.rows)
     }
 
-    /// Returns the unsent bytes of a connection.
-    pub(crate) fn unsent(&self, conn: usize) -> Result<&[u8], CoreFault>
-        ensures absent { IsErr result ↔ (at self.now conn ≡ None) }
-        ensures fault { IfErr result (λ fault. fault ≡ CoreFault.NoSuch) }
-        ensures bytes { IfOk result (λ bytes. bytes.now ≡ unsent_at conn self.now) }
-    {
-        match self.connections.get(conn) {
-            Some(connection) => Ok(connection.unsent()),
-            None => Err(CoreFault::NoSuch),
-        }
-    }
-
     /// Drops the first `count` unsent bytes of a connection, since they were sent. The connection has to be open, and
     /// to have as many. Its laws are `sent`, `none_sent` and `lent_and_sent` of `laws::calls_follow`.
     pub fn sent(&mut self, conn: usize, count: usize)
@@ -71,9 +60,6 @@ impl<'a, R: Rows> Core<'a, R> {
         requires unsent { count ≤ length (unsent_at conn self.old) }
         ensures { self.new ≡ changed_at conn (without_sent count) self.old }
     {
-        let Some(connection) = self.connections.get_mut(conn) else {
-            return;
-        };
-        connection.took(count);
+        self.connections[conn].took(count);
     }
 }

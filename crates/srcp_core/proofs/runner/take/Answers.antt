@@ -8,10 +8,10 @@ use Rattle.srcp_core.proofs.Agreement.OutlinesAreKept.{becomes_as}
 use Rattle.srcp_core.proofs.Agreement.RunsAnEvent.{taking_none}
 use Rattle.srcp_core.proofs.runner.take.Goals as goal
 
-pub returns-then-is_err-clause-recorder : goal.returns-then-is_err-clause-recorder
-returns-then-is_err-clause-recorder g c =
+pub returns-in-Err-clause-recorder : goal.returns-in-Err-clause-recorder
+returns-in-Err-clause-recorder g c =
     let held = c.args.core.now in
-    let absent = c.fill.ensures.absent.0 (rw (← c.is_err.ensures.value) c.if-is_err.true) in
+    let absent = c.in-Err.ensures.absent.1 in
     becomes_as (gave c.args.conn (item_at c.args.key held)) (taking c.args.conn c.args.key c.args.most held) c.args.recorder.now _
     (λ r. ap (λ (place : Option Place). gave c.args.conn (item_of (shown_rows held.rows) place) r) absent
     ∙ sym (taking_none c.args.conn c.args.key c.args.most held r absent).0)

@@ -1,15 +1,15 @@
-use Rattle.std.proofs.Common.{refl, sym, ap, ◌∙◌, subst}
-use Rattle.std.specs.Option.{option_copied_mut}
+use Rattle.std.proofs.Common.{refl, sym, ◌∙◌, subst}
 use Rattle.srcp_core.proofs.Invariants.PlacesCover.{IsMild}
 use Rattle.srcp_core.proofs.Invariants.CoreStaysSound.{sound_place}
 use Rattle.srcp_core.proofs.Invariants.PanelsStay.{panels_set}
 use Rattle.srcp_core.proofs.table.Core.sent.Goals as goal
 
-pub invariant_of-self-2 : goal.invariant_of-self-2
-invariant_of-self-2 g c =
-    let there = sym c.get_mut.ensures.value ∙ ap option_copied_mut c.in-Some.is in
-    let mild = subst (IsMild c.in-Some.connection.now) (sym c.took.ensures) (record { session = refl; ended = λ h. h; panel = refl }) in (
-      sound_place c.args.conn _ c.in-Some.connection.now c.took.new.self there mild c.self.invariant.0,
+pub invariant_of-self : goal.invariant_of-self
+invariant_of-self g c =
+    let p = c.index_mut.result.now in
+    let there = c.index_mut.ensures.value in
+    let mild = subst (IsMild p) (sym c.took.ensures) (record { session = refl; ended = λ h. h; panel = refl }) in (
+      sound_place c.args.conn _ p c.took.new.self there mild c.self.invariant.0,
       c.self.invariant.1,
       c.self.invariant.2,
       c.self.invariant.3 ∙ sym (panels_set _ c.args.conn _ c.took.new.self there mild.panel),
