@@ -164,7 +164,7 @@ pub(crate) fn count_leaving(peers: &[Peer]) -> usize {
     peers.iter().filter(|peer| !peer.stay.is_here()).count()
 }
 
-/// Returns the place of the first peer for which nothing is left to do, at that time of the clock that is never set.
+/// Returns the index of the first peer for which nothing is left to do, at that time of the clock that is never set.
 pub(crate) fn first_gone(peers: &[Peer], clock: u64) -> Option<usize>
     ensures { IfSome result (λ place. (place < length peers.now)
         × ((d : Peer) → (is_gone clock (slice_index_or peers.now place d) ≡ true)
@@ -178,7 +178,7 @@ pub(crate) fn first_gone(peers: &[Peer], clock: u64) -> Option<usize>
     None
 }
 
-/// Returns the place of the first peer that was let go and is owed nothing.
+/// Returns the index of the first peer that was let go and is owed nothing.
 pub(crate) fn first_shut(peers: &[Peer]) -> Option<usize>
     ensures { IfSome result (λ place. (place < length peers.now)
         × ((clock : ℕ) (d : Peer) → is_closable clock (slice_index_or peers.now place d) ≡ true)) }
