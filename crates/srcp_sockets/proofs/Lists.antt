@@ -11,7 +11,7 @@ use Rattle.srcp_sockets.specs.Steps.{Clocks, Step, Tells, Waits}
 use Rattle.srcp_sockets.specs.Accounts.{Account, is_short}
 use Rattle.srcp_sockets.specs.Peers.{Agrees, IsKept, Spares, after_wake, is_resting}
 use Rattle.srcp_sockets.specs.Doors.{AreApart, AreKept, AreThose, AreWithin, IsAbsent}
-use Rattle.srcp_sockets.proofs.Keeping.{alien, all_number, kept_after, kept_waited, skips}
+use Rattle.srcp_sockets.proofs.Keeping.{alien, kept_after, kept_waited, skips}
 use Rattle.srcp_sockets.proofs.Staying.{clocked_agrees}
 
 -- a peer of which nothing is told stays what its account says
