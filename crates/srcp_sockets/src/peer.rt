@@ -357,7 +357,6 @@ impl Peer {
     }
 
     /// Takes bytes, as many as there is space for, and returns how many. What is written to a lost peer goes nowhere.
-    #[inline(always)]
     pub fn write<S: System>(&mut self, system: &mut S, bytes: &[u8]) -> usize
         requires kept { IsKept (S.told system.old) self.old }
         requires here { self.old.stay ≡ Stay.Here }
@@ -378,7 +377,6 @@ impl Peer {
     }
 
     /// Gathers bytes, as many as there is space for, and returns how many.
-    #[inline(always)]
     fn enqueue(&mut self, bytes: &[u8]) -> usize
         ensures count { result ≤ length bytes.now }
         ensures new { self.new ≡ record self.old {

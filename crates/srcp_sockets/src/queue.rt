@@ -93,7 +93,6 @@ impl<const MOST: usize> Queue<MOST> {
     }
 
     /// Takes bytes, as many as there is space for, and returns how many those are.
-    #[inline(always)]
     pub fn take(&mut self, bytes: &[u8]) -> usize
         ensures count { result ≡ min (length bytes.now) (MOST - length self.old) }
         ensures held { self.new ≡ self.old ++ take result bytes.now }

@@ -395,7 +395,6 @@ impl<S: System + Drop> Sockets<S> {
 
     /// Returns the index of the peer with that number, if one is there. It looks first where the last one was, since a
     /// peer is written line by line, and then behind that, since peers are visited nearly as they came.
-    #[inline(always)]
     fn place(&self, number: u32) -> Option<usize>
         ensures found { IfSome result (λ place. (place < length self.now.peers.items)
             × ((d : Peer) → IsPresent number (slice_index_or self.now.peers.items place d))) }
@@ -412,7 +411,6 @@ impl<S: System + Drop> Sockets<S> {
     }
 
     /// Returns whether the peer with that number is there, and has the index.
-    #[inline(always)]
     fn is_at(&self, place: usize, number: u32) -> bool
         ensures yes { result ≡ true → (place < length self.now.peers.items)
             × ((d : Peer) → IsPresent number (slice_index_or self.now.peers.items place d)) }
@@ -427,7 +425,6 @@ impl<S: System + Drop> Sockets<S> {
     }
 
     /// Returns the index of the peer with that number, if one is there.
-    #[inline(never)]
     fn find(&self, number: u32) -> Option<usize>
         ensures found { IfSome result (λ place. (place < length self.now.peers.items)
             × ((d : Peer) → IsPresent number (slice_index_or self.now.peers.items place d))) }
