@@ -189,6 +189,12 @@ is_here stay.Here = true
 is_here (stay.Leaving since) = false
 is_here (stay.Shut since) = false
 
+-- it was let go, and is owed nothing
+abbrev pub is_shut : Stay → Bool
+is_shut stay.Here = false
+is_shut (stay.Leaving since) = false
+is_shut (stay.Shut since) = true
+
 -- input of it is held that the core takes
 abbrev pub holds_input : Peer → Bool
 holds_input p = is_here p.stay && (not p.cut && not (length p.incoming == 0))
