@@ -1,6 +1,6 @@
 -- What a door has delivered when it ends.
 use Rattle.std.proofs.Common.{◌≡◌, ◌∙◌, ℕ, ◌+◌, Bool, true, false, not, List, length, refl, ap, arith, ◌==◌, ◌⊎◌, inl, inr}
-use Rattle.std.proofs.Common.{get_or, Option, Some, None}
+use Rattle.std.proofs.Common.{get_or, Option, Some, None, sym, subst, ⊎_elim, true≢false}
 use Rattle.std.specs.Prelude.{All, ◌&&◌}
 use Rattle.srcp_sockets.specs.declared.peer.Peer.{Peer}
 use Rattle.srcp_sockets.specs.declared.readiness.Writing.{Writing}
@@ -8,11 +8,12 @@ use Rattle.srcp_sockets.specs.declared.readiness.Writing.TheVariants as output
 use Rattle.srcp_sockets.specs.declared.system.Ready.{Ready}
 use Rattle.srcp_sockets.specs.Accounts.{Sent, account, is_owed}
 use Rattle.srcp_sockets.specs.Delivery.{AreDelivered, HasWaited}
-use Rattle.srcp_sockets.specs.Doors.{AreKept}
+use Rattle.srcp_sockets.specs.Doors.{AreStanding, IsAbsent, IsThere}
 use Rattle.srcp_sockets.specs.Peers.{WritesAs, is_lost, is_waiting}
 use Rattle.srcp_sockets.specs.Steps.{Clocks, Step, Tells, Waits}
 use Rattle.srcp_sockets.specs.Times.{KeepsTimes, Times, times, times_step}
 use Rattle.srcp_sockets.proofs.Resting.{owed_is}
+use Rattle.srcp_sockets.proofs.Standing.{find, nobody}
 use Rattle.srcp_sockets.proofs.Timing.{times_more}
 
 -- nothing is queued that its socket may take
@@ -30,11 +31,16 @@ delivered_as sent outgoing output.Full e h = inl (owed_is sent outgoing h.0 ∙ 
     alone false f = refl
 delivered_as sent outgoing output.Lost e h = inr h.1
 
-pub are_delivered : (told : Option (List Step)) (peers : List Peer) → AreKept told peers → All (λ peer. is_waiting peer ≡ false) peers
-    → AreDelivered told peers
-are_delivered told peers kept none log is k d lt =
-    let p : Peer = get_or peers k d in
-    delivered_as (account p.number log).sent p.outgoing p.output (none k d lt) (kept k d lt log is).writes
+pub are_delivered : (told : Option (List Step)) (peers : List Peer) → AreStanding told peers
+    → All (λ peer. is_waiting peer ≡ false) peers → AreDelivered told
+are_delivered told peers standing none log is socket kept = ⊎_elim
+    (λ (there : IsThere socket peers).
+    let p : Peer = get_or peers there.place nobody in
+    subst (λ (n : ℕ). (is_owed (account n log).sent ≡ false) ⊎ ((account n log).sent.lost ≡ true)) (there.same nobody)
+    (delivered_as (account p.number log).sent p.outgoing p.output (none there.place nobody there.within)
+    (standing.2.kept there.place nobody there.within log is).writes))
+    (λ (absent : IsAbsent socket peers). absurd (true≢false (sym kept ∙ (standing.2.closed log is socket absent).kept)))
+    (find socket peers)
 
 -- ---- how often it waited
 

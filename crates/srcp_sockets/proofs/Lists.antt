@@ -11,7 +11,7 @@ use Rattle.srcp_sockets.specs.Steps.{Clocks, Step, Tells, Waits}
 use Rattle.srcp_sockets.specs.Accounts.{Account, is_short}
 use Rattle.srcp_sockets.specs.Peers.{Agrees, IsKept, Spares, after_wake, is_resting}
 use Rattle.srcp_sockets.specs.Doors.{AreApart, AreKept, AreThose, AreWithin, IsAbsent}
-use Rattle.srcp_sockets.proofs.Keeping.{alien, all_number, kept_after, kept_waited, skips}
+use Rattle.srcp_sockets.proofs.Keeping.{alien, kept_after, kept_waited, skips}
 use Rattle.srcp_sockets.proofs.Staying.{clocked_agrees}
 
 -- a peer of which nothing is told stays what its account says
@@ -115,6 +115,15 @@ set_marked first peers i p q clear within marked rest before k d lt = ⊎_elim
     (λ (ne : k ≡ i → ⊥). ap (λ (x : Peer). x.share.mark) (get_or-set_other peers i k q d ne) ∙ before k d (omega (arith, lt, ne)))
     (cases_eq k i)
 
+-- so many lines may be queued for each that was visited
+pub set_rooms : (peers : List Peer) (i : ℕ) (q : Peer) (room : ℕ) → i < length peers → q.room ≡ room
+    → ((k : ℕ) (d : Peer) → k < i → (slice_index_or peers k d).room ≡ room)
+    → (k : ℕ) (d : Peer) → k < i + 1 → (slice_index_or (set peers i q) k d).room ≡ room
+set_rooms peers i q room within is before k d lt = ⊎_elim
+    (λ (e : k ≡ i). ap (λ (x : Peer). x.room) (ap (λ n. get_or (set peers i q) n d) e ∙ get_or-set_same peers i q d within) ∙ is)
+    (λ (ne : k ≡ i → ⊥). ap (λ (x : Peer). x.room) (get_or-set_other peers i k q d ne) ∙ before k d (omega (arith, lt, ne)))
+    (cases_eq k i)
+
 pub set_rest : (first peers : List Peer) (i : ℕ) (q : Peer)
     → ((k : ℕ) (d : Peer) → i ≤ k → slice_index_or peers k d ≡ slice_index_or first k d)
     → (k : ℕ) (d : Peer) → i + 1 ≤ k → slice_index_or (set peers i q) k d ≡ slice_index_or first k d
@@ -160,13 +169,3 @@ waited_all old new peers later most count ready rest tells long woken kept k d l
     let low : k < length peers = omega (arith, long) in
     subst (IsKept new) (sym (woken k d low))
     (kept_waited old new (slice_index_or peers k d) most count ready (λ e. rest e k d low) tells (kept k d low))
-
-pub waited_apart : (peers later : List Peer) (ready : List Ready) → length later ≡ length peers
-    → ((k : ℕ) (d : Peer) → k < length peers → slice_index_or later k d ≡ fold after_wake (slice_index_or peers k d) ready)
-    → AreApart peers → AreApart later
-waited_apart peers later ready long woken apart j k d lj lk differ e =
-    let low_j : j < length peers = omega (arith, long) in
-    let low_k : k < length peers = omega (arith, long) in
-    let nj = ap (λ (x : Peer). x.number) (woken j d low_j) ∙ all_number (slice_index_or peers j d) ready in
-    let nk = ap (λ (x : Peer). x.number) (woken k d low_k) ∙ all_number (slice_index_or peers k d) ready in
-    apart j k d low_j low_k differ (sym nj ∙ e ∙ nk)

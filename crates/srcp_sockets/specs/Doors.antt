@@ -130,3 +130,7 @@ pub record Stands (told : Option (List Step)) (peers : List Peer) (listening : L
   pub fresh : AreFresh told last
   pub closed : AreClosed told peers
   pub heard : IsHeard told listening
+
+-- so it is whatever the listener said, and however many peers came
+abbrev pub AreStanding : Option (List Step) → List Peer → Type 0
+AreStanding told peers = (listening : Listening) × (last : ℕ) × Stands told peers listening last

@@ -3,7 +3,7 @@ use Rattle.std.specs.Prelude.{◌+◌, ◌&&◌, nat_lt, Bool, cond}
 use Rattle.srcp_sockets.specs.declared.ending.Ending.{Ending}
 use Rattle.srcp_sockets.specs.declared.ending.Ending.TheVariants.{Open, Settling, Settled}
 
--- the state after a visit's begin, where `ended` says that the peer's input is over and none of it held: a visit in
+-- the state after a visit's begin, if `ended` says whether the peer's input is over and none of it held: a visit in
 -- which fewer than 300 writes were made, and none was cut, had no more for the peer
 abbrev pub begun : Ending → (ended : Bool) → Ending
 begun Open ended = cond ended (Settling 0) Open

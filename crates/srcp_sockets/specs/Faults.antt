@@ -10,7 +10,7 @@ use Rattle.std.specs.Net.Socket.{socket_ip, socket_port}
 use Rattle.srcp_sockets.specs.declared.fault.ListenFault.{ListenFault}
 use Rattle.srcp_sockets.specs.declared.fault.ListenFault.TheVariants as fault
 
--- why, where the system's error is of this kind: refused memory is told as such, and any other error is the port's
+-- why, if the system's error is of this kind: refused memory is told as such, and any other error is the port's
 abbrev pub listen_fault : ErrorKind → ListenFault
 listen_fault kind.OutOfMemory = fault.Memory
 listen_fault _ = fault.Port

@@ -21,7 +21,7 @@ use Rattle.srcp_door.specs.declared.pacing.Line.TheVariants as line
 use Rattle.srcp_sockets.specs.Steps.{Step, Reads, Tells, Writes, refusal_told}
 use Rattle.srcp_sockets.specs.Accounts.{Account, Leave, Sent, Received, account, is_overdue}
 
--- what a state of the input means, where so much is held of it
+-- what a state of the input means, if `incoming` is held of it
 abbrev pub ReadsAs : Received → List ℕ → Reading → Type 0
 ReadsAs received incoming input.Ready = (received.gave ≡ received.handed ++ incoming) × (received.failed ≡ false)
     × (received.ended ≡ false) × (received.draining ≡ false)
@@ -33,7 +33,7 @@ ReadsAs received incoming input.Ended = (received.gave ≡ received.handed ++ in
     × (received.ended ≡ true)
 ReadsAs received incoming input.Failed = (received.gave ≡ received.handed ++ incoming) × (received.failed ≡ true)
 
--- what a state of the output means, where so much is queued for it
+-- what a state of the output means, if `outgoing` is queued for it
 abbrev pub WritesAs : Sent → List ℕ → Writing → Type 0
 WritesAs sent outgoing output.Open = (sent.written ≡ sent.took ++ outgoing) × (sent.lost ≡ false)
 WritesAs sent outgoing output.Full = (sent.written ≡ sent.took ++ outgoing) × (sent.lost ≡ false) × (sent.full ≡ true)
@@ -45,7 +45,7 @@ ComesAs received incoming state stay.Here = ReadsAs received incoming state
 ComesAs received incoming state (stay.Leaving since) = StartsWith received.gave received.handed
 ComesAs received incoming state (stay.Shut since) = StartsWith received.gave received.handed
 
--- what it means that a peer stays so, where so much is queued for it
+-- what it means that a peer stays so, if `outgoing` is queued for it
 abbrev pub StaysAs : (watched : Bool) → Leave → List ℕ → Stay → Type 0
 StaysAs watched leave outgoing stay.Here = (watched ≡ true) × (leave.kept ≡ true) × (leave.shut ≡ false)
 StaysAs watched leave outgoing (stay.Leaving since) = (watched ≡ false) × (leave.kept ≡ true) × (leave.since ≡ since)
@@ -102,8 +102,8 @@ refused state Later = output.Full
 refused state Again = state
 refused state Fault = output.Lost
 
--- a write that took so many of so many bytes
-abbrev pub taken : ℕ → ℕ → Writing
+-- a write of `all` bytes that took `count` of them
+abbrev pub taken : (count all : ℕ) → Writing
 taken count all = if count == 0 then output.Lost else if nat_lt count all then output.Full else output.Open
 
 abbrev pub after_write : Peer → Result ℕ ErrorKind → Peer
@@ -116,7 +116,7 @@ queued_more output.Open outgoing bytes = outgoing ++ bytes
 queued_more output.Full outgoing bytes = outgoing ++ bytes
 queued_more output.Lost outgoing bytes = outgoing
 
--- a read that gave so many bytes, where there was room for so many
+-- a read that gave `count` bytes, if there was room for `room`
 abbrev pub given_some : Reading → Bool → Reading
 given_some input.Ready true = input.Quiet
 given_some input.Ready false = input.Ready
@@ -183,6 +183,22 @@ abbrev pub is_due : Flush → Peer → Bool
 is_due what p = flushes_all what
     || (nat_lt 3160 (length p.outgoing) || (p.asked && (p.cut || (length p.incoming == 0))))
 
+-- it is there
+abbrev pub is_here : Stay → Bool
+is_here stay.Here = true
+is_here (stay.Leaving since) = false
+is_here (stay.Shut since) = false
+
+-- it was let go, and is owed nothing
+abbrev pub is_shut : Stay → Bool
+is_shut stay.Here = false
+is_shut (stay.Leaving since) = false
+is_shut (stay.Shut since) = true
+
+-- input of it is held that the core takes
+abbrev pub holds_input : Peer → Bool
+holds_input p = is_here p.stay && (not p.cut && not (length p.incoming == 0))
+
 -- something is queued for it that its socket may still take
 abbrev pub is_waiting : Peer → Bool
 is_waiting p = not (length p.outgoing == 0) && not (is_lost p.output)
@@ -219,12 +235,6 @@ rests_reading outgoing input.Draining = false
 rests_reading outgoing input.Quiet = true
 rests_reading outgoing input.Ended = not (length outgoing == 0)
 rests_reading outgoing input.Failed = false
-
--- it is there
-abbrev pub is_here : Stay → Bool
-is_here stay.Here = true
-is_here (stay.Leaving since) = false
-is_here (stay.Shut since) = false
 
 -- nothing is to be done for it
 abbrev pub has_rest : Peer → Bool

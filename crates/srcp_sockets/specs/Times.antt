@@ -49,7 +49,7 @@ first_times wall start = record {
   honest = true;
 }
 
--- a wait that ends after so many milliseconds at most
+-- a wait that ends after `left` milliseconds at most
 abbrev pub ends_by : ℕ → Option ℕ → Bool
 ends_by left None = false
 ends_by left (Some most) = nat_le most left
@@ -79,13 +79,13 @@ told_read t who answer buffer = record t {
   single = t.single && (not (tells_end answer) || t.turn.ends);
 }
 
--- what is to be told of who wants in, where an accept of the system failed
+-- what is to be told of who wants in, if an accept of the system failed
 abbrev pub refused_newcomer : Refusal → Result (Option ℕ) DoorFault
 refused_newcomer Later = Ok None
 refused_newcomer Again = Ok None
 refused_newcomer Fault = Err Accept
 
--- and where it answered so
+-- and if it answered so
 abbrev pub newcomer_of : (number : ℕ) → Result Unit ErrorKind → Result (Option ℕ) DoorFault
 newcomer_of number (Ok done) = Ok (Some number)
 newcomer_of number (Err fault) = refused_newcomer (refusal_told fault)
@@ -136,7 +136,7 @@ times_step t (Waits most count ready) = record t {
 times_step t (Clocks answer) = clocked t answer
 times_step t (Told call) = told_times t call
 
--- what all steps say, where the clocks showed this at the start
+-- what all steps say, if the clocks showed this at the start
 abbrev pub times : (wall start : ℕ) → List Step → Times
 times wall start log = fold times_step (first_times wall start) log
 

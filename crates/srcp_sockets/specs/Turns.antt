@@ -10,9 +10,11 @@ use Rattle.srcp_serve.specs.declared.door.DoorFault.{DoorFault}
 use Rattle.srcp_serve.specs.declared.door.Got.{Got}
 use Rattle.srcp_serve.specs.declared.door.Got.TheVariants as got
 use Rattle.srcp_serve.specs.Calls.{Call, ExpectCall, NowCall, AcceptCall, ReadCall, WriteCall, CloseCall}
+use Rattle.srcp_sockets.specs.declared.readiness.Flush.{Flush}
+use Rattle.srcp_sockets.specs.declared.readiness.Flush.TheVariants.{Again, All, Answers}
 use Rattle.srcp_sockets.specs.declared.turn.Turn.{Turn}
 
--- the turn that follows nothing, where the wall clock and the one that is never set showed this at the start
+-- the turn that follows nothing, if the wall clock and the one that is never set showed this at the start
 abbrev pub first_turn : (wall start : ℕ) → Turn
 first_turn wall start = record {
   timekeeper = record { wall = wall; start = start; last = wall };
@@ -63,7 +65,7 @@ tells_end (Err fault) = true
 abbrev pub ended : Turn → Turn
 ended turn = record turn { busy = true; ends = false }
 
--- after bytes were handed out of a peer whose line was that, so much less may be
+-- after bytes were handed out of a peer whose line was that: what they weigh, no more may weigh
 abbrev pub handed_out : Turn → Line → List ℕ → Turn
 handed_out turn line bytes = record turn { busy = true; pace = spent turn.pace (weight_of line bytes) }
 
@@ -79,14 +81,14 @@ after_wait turn = record turn { busy = false }
 
 -- ---- the moment
 
--- the moment that is to be told, where the clock that is never set shows this time: what this stands for, or a step of
--- 10 milliseconds where something falls due meanwhile; at most 10 minutes are made up in such steps
+-- the moment that is to be told, if the clock that is never set shows this time: what this stands for, or a step of
+-- 10 milliseconds if something falls due meanwhile; at most 10 minutes are made up in such steps
 abbrev pub moment_at : Turn → (time : ℕ) → ℕ
 moment_at turn time =
     next_moment 10 600000 (passed turn.timekeeper.last (target turn.timekeeper time) turn.due)
     (target turn.timekeeper time)
 
--- the moment was asked for: from then on so much may be handed out, and the end of one peer be told
+-- the moment was asked for: from then on lines of a turn's weight may be handed out, and the end of one peer be told
 abbrev pub begun : Turn → (tick : Bool) → Turn
 begun turn tick = record turn { pace = pace_of turn.slack tick; ends = true }
 
@@ -100,7 +102,7 @@ told_at turn time moment = record (begun turn (not (time == turn.clock))) {
 
 -- ---- the wait
 
--- a wait for what falls due ends so much earlier: by a 128th
+-- a wait for what falls due ends earlier by a 128th
 abbrev pub earlier : ℕ → ℕ
 earlier left = left - left / 128
 
@@ -113,20 +115,41 @@ abbrev pub is_pending : (slack : Option ℕ) → (stirred : Bool) → Bool
 is_pending None stirred = false
 is_pending (Some left) stirred = stirred
 
--- so many changes may come upon a panel that no line may go until the clock goes on
+-- so few changes can a panel take that no line may go until the clock goes on
 abbrev pub is_behind : (slack : Option ℕ) → Bool
 is_behind None = false
 is_behind (Some left) = nat_le left 160
 
--- so many that not every line may go
+-- so few that not every line may go
 abbrev pub is_short : (slack : Option ℕ) → Bool
 is_short None = false
 is_short (Some left) = nat_lt left 171
 
--- how long a turn stands still though there is something to do: as long as the clock takes to go on, where a panel is
--- so far behind for the second turn
+-- how many changes the panels lack for a line to go before the clock goes on; as many as a peer is written lines in a
+-- visit if there is no panel
+abbrev pub lack : (slack : Option ℕ) → ℕ
+lack None = 300
+lack (Some left) = 160 - left
+
+-- how many lines may be queued in a visit for a peer whose socket refuses more: what the panels lack, if input is held
+abbrev pub room_of : (holds : Bool) → (slack : Option ℕ) → ℕ
+room_of true slack = lack slack
+room_of false slack = 300
+
+-- how long a turn stands still though there is something to do: as long as the clock takes to go on, if a panel is so
+-- far behind for the second turn
 abbrev pub stop : Turn → ℕ
 stop turn = cond (is_behind turn.before && is_behind turn.slack) 1 0
+
+-- the clock went on since it showed that, or the turn stands still until it does
+abbrev pub has_ticked : Turn → (flushed : ℕ) → Bool
+has_ticked turn flushed = not (turn.clock == flushed) || nat_lt 0 (stop turn)
+
+-- what is flushed: all once the clock went on, and before a wait for more than what is ready; the sockets that refused
+-- more are tried again then if not every line may go
+abbrev pub flushing : (ticked held : Bool) → Turn → Flush
+flushing true held turn = cond (is_short turn.slack) Again All
+flushing false held turn = cond (held || is_pending turn.slack turn.busy) Answers All
 
 -- a read that handed out input, or told its end
 abbrev pub hands_out : Result Got DoorFault → Bool

@@ -9,7 +9,7 @@ use srcp_core::Core;
 use srcp_rules::Rows;
 use srcp_serve::{Served, serve};
 
-/// Serves the peers of a door for so many turns. Whatever the system answers, the socket of each peer took a prefix of
+/// Serves the peers of a door for `turns` turns. Whatever the system answers, the socket of each peer took a prefix of
 /// what the course sends it.
 pub fn serve_sockets<R: Rows, S: System + Drop>(
     core: &mut Core<'_, R>,

@@ -2,7 +2,7 @@
 
 ghost use Rattle.std.specs.Prelude.{◌≡◌, All, true, false};
 ghost use Rattle.srcp_sockets.specs.Delivery.{HasEnded, is_over};
-ghost use Rattle.srcp_sockets.specs.Doors.{AreApart, AreKept};
+ghost use Rattle.srcp_sockets.specs.Doors.{AreStanding};
 ghost use Rattle.srcp_sockets.specs.Peers.{is_waiting};
 
 use crate::peer::Peer;
@@ -21,10 +21,9 @@ pub(crate) fn deliver<S: System>(
     until: u64,
     ready: &mut [Ready],
 )
-    requires kept { AreKept (S.told system.old) peers.old }
-    requires apart { AreApart peers.old }
-    ensures kept { AreKept (S.told system.new) peers.new }
-    ensures ended { HasEnded until (S.told system.old) (S.told system.new) peers.new }
+    requires { AreStanding (S.told system.old) peers.old }
+    ensures standing { AreStanding (S.told system.new) peers.new }
+    ensures ended { HasEnded until (S.told system.old) (S.told system.new) }
 {
     for _look in 0..LAST_LOOKS {
         let _leaving = flush(system, peers, Flush::All);

@@ -30,7 +30,7 @@ impl<S: System + Drop> SocketDoor<S> {
     /// the clock that is never set, which showed `start` then; both in milliseconds.
     ///
     /// # Errors
-    /// Where memory is refused.
+    /// If memory is refused.
     pub fn open(
         system: S,
         alloc: Global,
@@ -59,7 +59,7 @@ impl<S: System + Drop> SocketDoor<S> {
         })
     }
 
-    /// Has `now` wait so many milliseconds at most if nothing happens, 0 for no wait.
+    /// Limits how long `now` waits if nothing happens, in milliseconds; 0 is no wait.
     pub fn wait_at_most(&mut self, milliseconds: u64)
         ensures wait { self.new.sockets.most ≡ Some milliseconds }
         ensures faults { self.new.faults ≡ self.old.faults }
@@ -92,7 +92,7 @@ impl<S: System + Drop> Drop for SocketDoor<S> {
             mut ready,
             faults: _,
         } = self;
-        sockets.deliver(ready.as_mut_slice());
+        let _system = sockets.deliver(ready.as_mut_slice());
     }
 }
 

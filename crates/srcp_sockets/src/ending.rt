@@ -11,14 +11,14 @@ use srcp_serve::MOST_WRITES;
 pub enum Ending {
     /// Its input is not over.
     Open,
-    /// Its input is over. It was written to so many times in this visit; `MOST_WRITES` if a write was cut.
+    /// Its input is over. `writes` counts the writes to it in this visit; it is `MOST_WRITES` if one was cut.
     Settling { writes: u32 },
     /// Its input is over, and a whole visit wrote to it fewer times than that.
     Settled,
 }
 
 impl Ending {
-    /// Returns what follows the begin of a visit, where `ended` says that the input is over and none of it held.
+    /// Returns what follows the begin of a visit, if `ended` says whether the input is over and none of it held.
     pub fn begin_visit(self, ended: bool) -> Ending
         ensures next { result ≡ begun self ended }
         ensures open { result ≡ Ending.Open ↔ (self ≡ Ending.Open) × (ended ≡ false) }

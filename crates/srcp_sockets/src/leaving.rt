@@ -2,11 +2,13 @@
 //! until its input ends. A socket that is closed with input in it would reset the connection, and the peer would
 //! lose what it did not read.
 
-ghost use Rattle.std.specs.Prelude.{◌≡◌, ◌≢◌, ◌<◌, ℕ, [], true, false, IfSome, length, slice_index_or};
+ghost use Rattle.std.specs.Prelude.{◌≡◌, ◌≢◌, ◌<◌, ℕ, [], true, false, All, IfNone, IfSome, length};
+ghost use Rattle.std.specs.Prelude.{slice_index_or};
 ghost use Rattle.srcp_sockets.specs.declared.peer.Peer.{Peer};
 ghost use Rattle.srcp_sockets.specs.Steps.{SaysNothing};
 ghost use Rattle.srcp_sockets.specs.Times.{KeepsTimes};
 ghost use Rattle.srcp_sockets.specs.Peers.{IsKept, Spares, is_closable, is_gone, is_here, is_lost};
+ghost use Rattle.srcp_sockets.specs.Peers.{is_shut};
 
 use crate::peer::Peer;
 use crate::readiness::Flush;
@@ -150,7 +152,8 @@ impl Peer {
 
     /// Returns whether it was let go and is owed nothing.
     fn is_shut(&self) -> bool
-        ensures { (clock : ℕ) → result ≡ true → is_closable clock self.now ≡ true }
+        ensures is { result ≡ is_shut self.now.stay }
+        ensures closable { (clock : ℕ) → result ≡ true → is_closable clock self.now ≡ true }
     {
         match self.stay {
             Stay::Here | Stay::Leaving { .. } => false,
@@ -164,11 +167,12 @@ pub(crate) fn count_leaving(peers: &[Peer]) -> usize {
     peers.iter().filter(|peer| !peer.stay.is_here()).count()
 }
 
-/// Returns the place of the first peer for which nothing is left to do, at that time of the clock that is never set.
+/// Returns the index of the first peer for which nothing is left to do, at that time of the clock that is never set.
 pub(crate) fn first_gone(peers: &[Peer], clock: u64) -> Option<usize>
-    ensures { IfSome result (λ place. (place < length peers.now)
+    ensures found { IfSome result (λ place. (place < length peers.now)
         × ((d : Peer) → (is_gone clock (slice_index_or peers.now place d) ≡ true)
         × (is_closable clock (slice_index_or peers.now place d) ≡ true))) }
+    ensures none { IfNone result (All (λ peer. is_gone clock peer ≡ false) peers.now) }
 {
     for place in 0..peers.len() {
         if peers[place].is_gone(clock) {
@@ -178,10 +182,11 @@ pub(crate) fn first_gone(peers: &[Peer], clock: u64) -> Option<usize>
     None
 }
 
-/// Returns the place of the first peer that was let go and is owed nothing.
+/// Returns the index of the first peer that was let go and is owed nothing.
 pub(crate) fn first_shut(peers: &[Peer]) -> Option<usize>
-    ensures { IfSome result (λ place. (place < length peers.now)
+    ensures found { IfSome result (λ place. (place < length peers.now)
         × ((clock : ℕ) (d : Peer) → is_closable clock (slice_index_or peers.now place d) ≡ true)) }
+    ensures none { IfNone result (All (λ peer. is_shut peer.stay ≡ false) peers.now) }
 {
     for place in 0..peers.len() {
         if peers[place].is_shut() {

@@ -40,7 +40,7 @@ pub struct MioSystem<C: Clock + Drop> {
     shown: u64,
     // By rising numbers.
     sockets: Vec<Socket>,
-    // The place of the socket that was asked last.
+    // The index of the socket that was asked last.
     recent: usize,
 }
 
@@ -48,7 +48,7 @@ impl<C: Clock + Drop> MioSystem<C> {
     /// Listens at an address.
     ///
     /// # Errors
-    /// Those of the system, or where memory is refused.
+    /// Those of the system, or if memory is refused.
     pub(crate) fn listen<N: Net>(
         net: &N,
         alloc: Global,
@@ -90,8 +90,8 @@ impl<C: Clock + Drop> MioSystem<C> {
         Some(u64::try_from(time.as_millis()).unwrap_or(u64::MAX))
     }
 
-    /// Returns whether a wait of so many milliseconds that found no socket ready was ended by something else than its
-    /// time. A signal does that.
+    /// Returns whether a wait of at most `most` milliseconds that found no socket ready was ended by something else
+    /// than its time. A signal does that.
     fn ends_early(&self, most: Option<u64>) -> bool {
         match most {
             Some(0) => false,
@@ -110,7 +110,7 @@ impl<C: Clock + Drop> MioSystem<C> {
         Ok(&mut self.sockets[place])
     }
 
-    /// Returns the place of a socket. It looks first behind the one that was asked last, since they are asked by rising
+    /// Returns the index of a socket. It looks first behind the one that was asked last, since they are asked by rising
     /// numbers.
     fn place(&self, number: u32) -> Option<usize>
         ensures { IfSome result (λ place. place < length self.now.sockets.items) }

@@ -5,8 +5,8 @@ ghost use Rattle.std.specs.Prelude.{Ok, IfErr, OnErr, length, take, drop, min, f
 ghost use Rattle.srcp_sockets.specs.Steps.{SaysNothing, Tells, Told};
 ghost use Rattle.srcp_serve.specs.Calls.{ReadCall, WriteCall};
 ghost use Rattle.srcp_sockets.specs.Times.{KeepsTimes};
-ghost use Rattle.srcp_sockets.specs.Peers.{Asks, IsKept, MayEnd, MayFail, Offers, Spares, after_wake, has_rest, is_due};
-ghost use Rattle.srcp_sockets.specs.Peers.{is_over, is_resting, is_waiting, is_wanting, may_have, queued_more};
+ghost use Rattle.srcp_sockets.specs.Peers.{Asks, IsKept, MayEnd, MayFail, Offers, Spares, after_wake, has_rest, holds_input};
+ghost use Rattle.srcp_sockets.specs.Peers.{is_due, is_over, is_resting, is_waiting, is_wanting, may_have, queued_more};
 ghost use Rattle.srcp_sockets.specs.Peers.{tries_again, woken_output};
 ghost use Rattle.srcp_sockets.specs.declared.readiness.Reading.{Reading};
 ghost use Rattle.srcp_sockets.specs.declared.readiness.Writing.{Writing};
@@ -181,8 +181,8 @@ impl Peer {
             || self.asked && (self.cut || self.incoming.is_empty())
     }
 
-    /// Begins a visit: reads its socket, and goes on on the way to its end. With `clear` its mark is cleared. So many
-    /// lines may be queued in the visit while its socket refuses more.
+    /// Begins a visit: reads its socket, and goes on on the way to its end. With `clear` its mark is cleared. At
+    /// most `room` lines may be queued in the visit while its socket refuses more.
     pub fn begin_visit<S: System>(&mut self, system: &mut S, clear: bool, room: u32)
         requires { IsKept (S.told system.old) self.old }
         ensures kept { IsKept (S.told system.new) self.new }
@@ -324,7 +324,7 @@ impl Peer {
         }
     }
 
-    /// Returns what is told where nothing is held of it: its end or a fault, if the turn told no other.
+    /// Returns what is told if nothing is held of it: its end or a fault, if the turn told no other.
     fn told_end(&self, turn: &mut Turn) -> Result<Got, DoorFault>
         ensures none { (n : ℕ) → result ≢ Ok (Got.Bytes n) }
         ensures bytes { (buffer : List ℕ) → got_bytes result buffer ≡ [] }
@@ -341,7 +341,7 @@ impl Peer {
         }
     }
 
-    /// Returns what is to be told where nothing is held of it.
+    /// Returns what is to be told if nothing is held of it.
     fn due_end(&self) -> Due
         ensures end { result ≡ Due.End → self.now.incoming ≡ [] → MayEnd self.now }
         ensures fault { result ≡ Due.Fault → MayFail self.now }
@@ -391,6 +391,13 @@ impl Peer {
             Writing::Lost => return bytes.len(),
         }
         self.outgoing.take(bytes)
+    }
+
+    /// Returns whether input of it is held that the core takes.
+    pub(crate) fn holds_input(&self) -> bool
+        ensures { result ≡ holds_input self.now }
+    {
+        self.stay.is_here() && !self.cut && !self.incoming.is_empty()
     }
 
     /// Returns whether something is queued that its socket may still take.

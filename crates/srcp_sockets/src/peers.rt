@@ -1,6 +1,6 @@
 //! What a turn does with all peers.
 
-ghost use Rattle.std.specs.Prelude.{◌≡◌, ◌<◌, ℕ, IfNone, IfSome, length, fold, slice_index_or};
+ghost use Rattle.std.specs.Prelude.{◌≡◌, ◌<◌, ℕ, All, IfNone, IfSome, length, fold, slice_index_or};
 ghost use Rattle.srcp_sockets.specs.declared.peer.Peer.{Peer};
 ghost use Rattle.srcp_sockets.specs.Steps.{SaysNothing};
 ghost use Rattle.srcp_sockets.specs.Times.{KeepsTimes};
@@ -31,8 +31,8 @@ pub(crate) fn flush<S: System>(system: &mut S, peers: &mut [Peer], what: Flush) 
     leaving
 }
 
-/// Begins the visit of each peer; with `clear` the marks are cleared. So many lines may be queued for each whose socket
-/// refuses more.
+/// Begins the visit of each peer; with `clear` the marks are cleared. At most `room` lines may be queued for each whose
+/// socket refuses more.
 pub(crate) fn begin_visits<S: System>(system: &mut S, peers: &mut [Peer], clear: bool, room: u32)
     requires kept { AreKept (S.told system.old) peers.old }
     requires apart { AreApart peers.old }
@@ -44,6 +44,7 @@ pub(crate) fn begin_visits<S: System>(system: &mut S, peers: &mut [Peer], clear:
     ensures read { (k : ℕ) (d : Peer) → k < length peers.new
         → IsRead (S.told system.new) (slice_index_or peers.new k d).number }
     ensures marks { AreMarked clear peers.old peers.new }
+    ensures rooms { All (λ peer. peer.room ≡ room) peers.new }
 {
     for peer in peers.iter_mut() {
         peer.begin_visit(system, clear, room);
@@ -73,7 +74,7 @@ fn wake_one(peers: &mut [Peer], ready: Ready)
     peers[place].wake(ready);
 }
 
-/// Returns the place of the peer with that socket, if one has it.
+/// Returns the index of the peer with that socket, if one has it.
 fn place_of(peers: &[Peer], socket: u32) -> Option<usize>
     ensures found { IfSome result (λ place. (place < length peers.now)
         × ((d : Peer) → (slice_index_or peers.now place d).number ≡ socket)) }

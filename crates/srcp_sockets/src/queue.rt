@@ -32,7 +32,7 @@ impl Queues {
     /// Returns both.
     ///
     /// # Errors
-    /// Where memory is refused.
+    /// If memory is refused.
     pub(crate) fn new(alloc: Global) -> Result<Queues, AllocError> {
         Ok(Queues {
             outgoing: Queue::new(alloc)?,
@@ -41,7 +41,7 @@ impl Queues {
     }
 }
 
-/// Bytes in the order in which they came, at most so many. Seen as a list.
+/// Bytes in the order in which they came, at most `MOST`. Seen as a list.
 #[derive(Drop)]
 pub struct Queue<const MOST: usize> {
     // The bytes from `start` to `end` are held.
@@ -64,7 +64,7 @@ impl<const MOST: usize> Queue<MOST> {
     /// Returns none yet. No other call takes memory.
     ///
     /// # Errors
-    /// Where memory is refused.
+    /// If memory is refused.
     pub fn new(alloc: Global) -> Result<Queue<MOST>, AllocError>
         ensures { IfOk result (λ held. held ≡ []) }
     {
@@ -97,12 +97,25 @@ impl<const MOST: usize> Queue<MOST> {
         ensures count { result ≡ min (length bytes.now) (MOST - length self.old) }
         ensures held { self.new ≡ self.old ++ take result bytes.now }
     {
+        if bytes.len() > MOST - self.end {
+            return self.take_at_front(bytes);
+        }
+        put(&mut self.buffer, self.end, bytes);
+        self.end += bytes.len();
+        bytes.len()
+    }
+
+    /// Moves what is held to the front of the buffer, and takes bytes, as many as there is space for behind it.
+    #[inline(never)]
+    fn take_at_front(&mut self, bytes: &[u8]) -> usize
+        ensures count { result ≡ min (length bytes.now) (MOST - length self.old) }
+        ensures held { self.new ≡ self.old ++ take result bytes.now }
+    {
         move_to_front(&mut self.buffer, self.start, self.end);
         self.end -= self.start;
         self.start = 0;
         let count = bytes.len().min(MOST - self.end);
-        let space = self.end..self.end + count;
-        self.buffer[space].copy_from_slice(&bytes[..count]);
+        put(&mut self.buffer, self.end, &bytes[..count]);
         self.end += count;
         count
     }
@@ -137,13 +150,28 @@ impl<const MOST: usize> Queue<MOST> {
         &self.buffer[self.start..self.end]
     }
 
-    /// Drops so many, from the first on.
+    /// Drops `count` bytes, from the first on.
     pub fn drop_front(&mut self, count: usize)
         requires { count ≤ length self.old }
         ensures { self.new ≡ drop count self.old }
     {
         self.start += count;
+        if self.start == self.end {
+            self.start = 0;
+            self.end = 0;
+        }
     }
+}
+
+/// Puts bytes into a buffer, from the index `at` on.
+#[inline(always)]
+fn put(buffer: &mut Vec<u8>, at: usize, bytes: &[u8])
+    requires { at + length bytes.now ≤ length buffer.old.items }
+    ensures put { (start : ℕ) → start ≤ at → slice_range buffer.new.items start (at + length bytes.now)
+        ≡ slice_range buffer.old.items start at ++ bytes.now }
+    ensures len { length buffer.new.items ≡ length buffer.old.items }
+{
+    buffer[at..at + bytes.len()].copy_from_slice(bytes);
 }
 
 /// Moves the bytes from `start` to `end` to the front of a buffer.

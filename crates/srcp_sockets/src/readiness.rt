@@ -83,7 +83,7 @@ impl Reading {
         }
     }
 
-    /// Returns what follows a read that gave so many bytes, where there was room for so many.
+    /// Returns what follows a read that gave `count` bytes, if there was room for `room`.
     pub(crate) fn given(self, count: usize, room: usize) -> Reading
         ensures { result ≡ given self count room }
     {
@@ -163,7 +163,7 @@ impl Writing {
         }
     }
 
-    /// Returns what follows a write of which so many of so many bytes were taken.
+    /// Returns what follows a write of `all` bytes of which `count` were taken.
     pub(crate) fn taken(count: usize, all: usize) -> Writing
         ensures { result ≡ taken count all }
     {

@@ -1,21 +1,23 @@
 //! The system's sockets, with their peers.
 
-ghost use Rattle.std.specs.Prelude.{not, All, false, true, ◌≡◌, ◌<◌, ◌≤◌, ◌+◌, ◌-◌, max, ℕ, ◌⊎◌, Option, Some, None};
+ghost use Rattle.std.specs.Prelude.{not, All, false, true, ◌≡◌, ◌<◌, ◌≤◌, ◌+◌, ◌-◌, ◌&&◌, max, ℕ, ◌⊎◌, Option, Some, None};
 ghost use Rattle.std.specs.Prelude.{Ok, Err, Result, IfErr, IfNone, IfOk, IfSome, List, [], length, slice_index_or};
 ghost use Rattle.std.specs.Prelude.{vec_capacity};
 ghost use Rattle.srcp_sockets.specs.declared.peer.Peer.{Peer};
+ghost use Rattle.srcp_sockets.specs.Delivery.{HasEnded, patience_after};
 ghost use Rattle.srcp_sockets.specs.Facts.{Stands-prop};
+ghost use Rattle.std.specs.List.{list_any};
 ghost use Rattle.std.specs.Option.{option_map};
 ghost use Rattle.srcp_sockets.specs.Names.{IsNamed, IsNamed-prop};
 ghost use Rattle.srcp_sockets.specs.Times.{IsTimed, IsTimed-prop, refused_newcomer};
 ghost use Rattle.srcp_sockets.specs.Accounts.{is_short};
 ghost use Rattle.srcp_sockets.specs.Peers.{is_resting};
-ghost use Rattle.srcp_sockets.specs.Turns.{first_turn, is_pending, time_left};
+ghost use Rattle.srcp_sockets.specs.Turns.{first_turn, flushing, has_ticked, is_pending, room_of, time_left};
 ghost use Rattle.srcp_sockets.specs.Waiting.{IsWithin};
 ghost use Rattle.srcp_serve.specs.Calls.{ExpectCall, NowCall, AcceptCall, ReadCall, WriteCall, CloseCall};
 ghost use Rattle.srcp_sockets.specs.Steps.{Accepts, SaysNothing, SaysOne, Step, Tells};
 ghost use Rattle.srcp_sockets.specs.Listeners.{refused_listening};
-ghost use Rattle.srcp_sockets.specs.Peers.{is_closable, is_here};
+ghost use Rattle.srcp_sockets.specs.Peers.{holds_input, is_closable, is_here};
 ghost use Rattle.srcp_sockets.specs.Doors.{AreMarked, AreRead, IsMissing, IsPresent, Stands};
 
 use crate::delivering::deliver;
@@ -32,18 +34,17 @@ use srcp_serve::{DoorFault, Got, MOST_WRITES};
 use std::alloc::{AllocError, Global};
 use std::vec::Vec;
 
-/// The system's sockets, with their peers.
-#[derive(Drop)]
+/// The system's sockets, with their peers. Only `deliver` lets them go: they are not `Drop`.
 pub(crate) struct Sockets<S: System + Drop> {
     pub system: S,
     pub peers: Vec<Peer>,
     listening: Listening,
     // The number of the peer that came last.
     last: u32,
-    // The place of the peer that was read or written last.
+    // The index of the peer that was read or written last.
     recent: usize,
     turn: Turn,
-    // How long a turn waits at most, in milliseconds, where that was said.
+    // How long a turn waits at most, in milliseconds, if that was said.
     pub most: Option<u64>,
     // What the clock showed when all that was queued was flushed last, in milliseconds.
     flushed: u64,
@@ -65,7 +66,7 @@ impl<S: System + Drop> Sockets<S> {
         self.turn.expect(due, slack);
     }
 
-    /// Has a turn wait so many milliseconds at most.
+    /// Limits how long a turn waits, in milliseconds.
     pub(crate) fn wait_at_most(&mut self, milliseconds: u64)
         ensures { self.new.most ≡ Some milliseconds }
     {
@@ -89,20 +90,26 @@ impl<S: System + Drop> Sockets<S> {
     }
 
     /// Returns whether the clock went on since the flush before, or the turn stands still until it does.
-    fn has_ticked(&self) -> bool {
+    fn has_ticked(&self) -> bool
+        ensures { result ≡ has_ticked self.now.turn self.now.flushed }
+    {
         self.turn.clock != self.flushed || self.turn.stop() > 0
     }
 
-    /// Returns whether the turn goes on with the input that is held, where `holds` says that some is: until the clock
-    /// goes on.
-    fn goes_on(&self, holds: bool) -> bool {
+    /// Returns whether the turn goes on with the input that is held, if `holds` says that some is: until the clock goes
+    /// on.
+    fn goes_on(&self, holds: bool) -> bool
+        ensures { result ≡ (not (has_ticked self.now.turn self.now.flushed) && holds) }
+    {
         !self.has_ticked() && holds
     }
 
-    /// Returns what is flushed, where `held` says that the turn goes on with the input that is held: all before a wait,
+    /// Returns what is flushed, if `held` says whether the turn goes on with the input that is held: all before a wait,
     /// or once the clock went on. If the panels can take less than a line may bring, their sockets are tried again
     /// then.
-    fn flushing(&self, held: bool) -> Flush {
+    fn flushing(&self, held: bool) -> Flush
+        ensures { result ≡ flushing (has_ticked self.now.turn self.now.flushed) held self.now.turn }
+    {
         if self.has_ticked() && self.turn.is_short() {
             Flush::Again
         } else if self.has_ticked() || !held && !self.turn.is_pending() {
@@ -113,8 +120,10 @@ impl<S: System + Drop> Sockets<S> {
     }
 
     /// Returns whether input of a peer is held that the core takes.
-    fn holds_input(&self) -> bool {
-        self.peers.iter().any(|peer| peer.stay.is_here() && !peer.cut && !peer.incoming.is_empty())
+    fn holds_input(&self) -> bool
+        ensures { result ≡ list_any holds_input self.now.peers.items }
+    {
+        self.peers.iter().any(|peer| peer.holds_input())
     }
 
     /// Returns how many milliseconds the turn waits at most; `None` if only a socket ends the wait.
@@ -162,6 +171,7 @@ impl<S: System + Drop> Sockets<S> {
         ensures calls { SaysNothing (S.told self.old.system) (S.told self.new.system) }
         ensures read { AreRead (S.told self.new.system) }
         ensures marks { AreMarked (not self.old.refused) self.old.peers.items self.new.peers.items }
+        ensures rooms { All (λ peer. peer.room ≡ room_of holds self.old.turn.slack) self.new.peers.items }
     {
         let clear = !self.refused;
         let room = self.room(holds);
@@ -171,12 +181,16 @@ impl<S: System + Drop> Sockets<S> {
 
     /// Returns how many lines may be queued for a peer whose socket refuses more. While commands wait for the panels,
     /// that is what the panels lack: so what may be queued for a panel lasts for as many lines, one a millisecond.
-    fn room(&self, holds: bool) -> u32 {
+    fn room(&self, holds: bool) -> u32
+        ensures { result ≡ room_of holds self.now.turn.slack }
+    {
         if holds { self.turn.lack() } else { MOST_WRITES }
     }
 
-    /// Delivers what was taken, for 10 seconds at most, and lets the sockets go.
-    pub(crate) fn deliver(self, ready: &mut [Ready]) {
+    /// Delivers what was taken, for 10 seconds at most, and returns the system.
+    pub(crate) fn deliver(self, ready: &mut [Ready]) -> S
+        ensures { HasEnded (patience_after self.turn.clock) (S.told self.system) (S.told result) }
+    {
         let Sockets {
             mut system,
             mut peers,
@@ -191,12 +205,13 @@ impl<S: System + Drop> Sockets<S> {
         } = self;
         let until = turn.clock.saturating_add(PATIENCE);
         deliver(&mut system, peers.as_mut_slice(), until, ready);
+        system
     }
 
     /// Returns sockets with nobody in it, over a system that told nothing.
     ///
     /// # Errors
-    /// Where memory is refused.
+    /// If memory is refused.
     pub(crate) fn new(
         system: S,
         alloc: Global,
@@ -257,7 +272,7 @@ impl<S: System + Drop> Sockets<S> {
         true
     }
 
-    /// Tells that nobody came, or a fault, where the system was not asked.
+    /// Tells that nobody came, or a fault, if the system was not asked.
     fn tell_nobody(
         &mut self,
         answer: Result<Option<u32>, DoorFault>,
@@ -378,7 +393,7 @@ impl<S: System + Drop> Sockets<S> {
         answer
     }
 
-    /// Returns the place of the peer with that number, if one is there. It looks first where the last one was, since a
+    /// Returns the index of the peer with that number, if one is there. It looks first where the last one was, since a
     /// peer is written line by line, and then behind that, since peers are visited nearly as they came.
     fn place(&self, number: u32) -> Option<usize>
         ensures found { IfSome result (λ place. (place < length self.now.peers.items)
@@ -395,7 +410,7 @@ impl<S: System + Drop> Sockets<S> {
         self.find(number)
     }
 
-    /// Returns whether the peer with that number is there, and has the place.
+    /// Returns whether the peer with that number is there, and has the index.
     fn is_at(&self, place: usize, number: u32) -> bool
         ensures yes { result ≡ true → (place < length self.now.peers.items)
             × ((d : Peer) → IsPresent number (slice_index_or self.now.peers.items place d)) }
@@ -409,7 +424,7 @@ impl<S: System + Drop> Sockets<S> {
         }
     }
 
-    /// Returns the place of the peer with that number, if one is there.
+    /// Returns the index of the peer with that number, if one is there.
     fn find(&self, number: u32) -> Option<usize>
         ensures found { IfSome result (λ place. (place < length self.now.peers.items)
             × ((d : Peer) → IsPresent number (slice_index_or self.now.peers.items place d))) }

@@ -48,7 +48,7 @@ pub fn refusal_of(fault: ErrorKind) -> Refusal
 /// The calls of the system, and between them the calls of a door, each told at its end. An implementation for the
 /// system only makes the call, and does nothing for what it is told.
 pub trait System {
-    /// The calls so far, where they are told.
+    /// The calls so far, if they are told.
     ghost told: { Self → Option (List Step) } = { λ _. None };
 
     /// Accepts the next peer that wants in: its socket has that number from then on.
@@ -83,13 +83,13 @@ pub trait System {
     fn close(&mut self, socket: u32)
         ensures { Tells (told self.old) (Closes socket) (told self.new) };
 
-    /// Waits until a socket is ready, so many milliseconds at most if that is said. Returns how many were found ready,
-    /// which are in front of `ready`; none where the system refuses to wait.
+    /// Waits until a socket is ready, at most `most` milliseconds if that is said. Returns how many were found ready,
+    /// which are in front of `ready`; none if the system refuses to wait.
     fn wait(&mut self, most: Option<u64>, ready: &mut [Ready]) -> usize
         ensures count { result ≤ length ready.new }
         ensures told { Tells (told self.old) (Waits most result ready.new) (told self.new) };
 
-    /// Returns what a clock shows that is never set, in milliseconds, or nothing where it cannot be read.
+    /// Returns what a clock shows that is never set, in milliseconds, or nothing if it cannot be read.
     fn clock(&mut self) -> Option<u64>
         ensures { Tells (told self.old) (Clocks result) (told self.new) };
 

@@ -6,8 +6,8 @@ ghost use Rattle.srcp_serve.specs.Calls.{ExpectCall, AcceptCall, WriteCall, Clos
 ghost use Rattle.srcp_door.specs.Pacing.{Allows, IsShort, fits, line_after, weight_of};
 ghost use Rattle.srcp_door.specs.declared.pacing.Line.{Line};
 ghost use Rattle.srcp_sockets.specs.Turns.{after_call, after_read, after_wait, begun, earlier, ended, first_turn};
-ghost use Rattle.srcp_sockets.specs.Turns.{handed_out, is_behind, is_pending, is_short, moment_at, stop, tells_end};
-ghost use Rattle.srcp_sockets.specs.Turns.{time_left, told_at};
+ghost use Rattle.srcp_sockets.specs.Turns.{handed_out, is_behind, is_pending, is_short, lack, moment_at, stop};
+ghost use Rattle.srcp_sockets.specs.Turns.{tells_end, time_left, told_at};
 
 use srcp_door::{Allowed, MOST_SLACK, Pace, RESERVE, Share, Timekeeper};
 use srcp_feed::MOST_WAITING;
@@ -17,7 +17,7 @@ use srcp_serve::{DoorFault, Got, MOST_WRITES};
 // The most changes that may wait for a panel are those that may come before one overruns for which none waits.
 const _: () = prove!(MOST_SLACK == MOST_WAITING);
 
-/// A wait for what falls due ends so much earlier than it, as a part of the wait: the system may end a wait late by a
+/// A wait for what falls due ends earlier than it by this part of the wait: the system may end a wait late by a
 /// thousandth of it, or a two-hundredth for a process of low priority. The turns behind it wait for the rest.
 const EARLIER: u64 = 128;
 
@@ -95,7 +95,9 @@ impl Turn {
 
     /// Returns how many changes the panels lack for a line to go before the clock goes on; as many as a peer is written
     /// lines in a visit if there is no panel.
-    pub(crate) fn lack(&self) -> u32 {
+    pub(crate) fn lack(&self) -> u32
+        ensures { result ≡ lack self.now.slack }
+    {
         match self.slack {
             Some(slack) => u32::try_from(RESERVE.saturating_sub(slack)).unwrap_or(MOST_WRITES),
             None => MOST_WRITES,
@@ -244,14 +246,14 @@ impl Turn {
     }
 }
 
-/// Returns whether a panel that can take so many more changes is so far behind that no line may go.
+/// Returns whether a panel that can take `slack` more changes is so far behind that no line may go.
 fn is_behind(slack: Option<usize>) -> bool
     ensures { result ≡ is_behind slack }
 {
     slack.is_some_and(|slack| slack <= RESERVE)
 }
 
-/// Returns how long to wait for what falls due after so many milliseconds.
+/// Returns how long to wait for what falls due after `left` milliseconds.
 fn earlier(left: u64) -> u64
     ensures { result ≡ earlier left }
 {

@@ -12,7 +12,7 @@ use crate::peer::Peer;
 use crate::system::Refusal;
 use crate::turn::Turn;
 
-/// How long a turn waits at most in milliseconds where a call of the system is to be made again, or a peer that was let
+/// How long a turn waits at most in milliseconds if a call of the system is to be made again, or a peer that was let
 /// go is kept.
 pub const PAUSE: u64 = 8;
 

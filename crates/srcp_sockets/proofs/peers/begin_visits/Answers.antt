@@ -1,10 +1,11 @@
 use Rattle.std.proofs.Common.{ap, arith, refl}
 use Rattle.srcp_door.specs.declared.pacing.Share.{Share}
+use Rattle.srcp_sockets.specs.declared.peer.Peer.{Peer}
 use Rattle.srcp_sockets.proofs.Saying.{says_none, says_then}
 use Rattle.srcp_sockets.proofs.Keeping.{spares_none, spares_then}
 use Rattle.srcp_sockets.proofs.Serving.{set_read}
 use Rattle.srcp_sockets.proofs.Timing.{keeps_none, keeps_then}
-use Rattle.srcp_sockets.proofs.Lists.{absent_there, set_apart, set_kept, set_marked, set_rest, set_those}
+use Rattle.srcp_sockets.proofs.Lists.{absent_there, set_apart, set_kept, set_marked, set_rest, set_rooms, set_those}
 use Rattle.srcp_sockets.proofs.peers.begin_visits.Goals as goal
 
 pub loop-peer-init : goal.loop-peer-init
@@ -17,6 +18,7 @@ loop-peer-init g c = record {
   times = keeps_none (g.S.System.told c.args.system.now);
   read = λ k d lt. absurd (omega (arith, lt));
   marked = λ k d lt. absurd (omega (arith, lt));
+  rooms = λ k d lt. absurd (omega (arith, lt));
   rest = λ k d late. refl;
 }
 
@@ -44,5 +46,7 @@ loop-peer-preserved g c = record {
       c.begin_visit.ensures.number c.begin_visit.ensures.others c.begin_visit.ensures.read c.loop-peer.invariant.read;
   marked = set_marked c.args.peers.now c.loop-peer.peers c.loop-peer.peer-index c.peer-item.result c.begin_visit.new.self c.args.clear
       (omega arith) (ap (λ (s : Share). s.mark) c.begin_visit.ensures.mark) c.loop-peer.invariant.rest c.loop-peer.invariant.marked;
+  rooms = set_rooms c.loop-peer.peers c.loop-peer.peer-index c.begin_visit.new.self c.args.room (omega arith)
+      (ap (λ (p : Peer). p.room) c.begin_visit.ensures.same) c.loop-peer.invariant.rooms;
   rest = set_rest c.args.peers.now c.loop-peer.peers c.loop-peer.peer-index c.begin_visit.new.self c.loop-peer.invariant.rest;
 }

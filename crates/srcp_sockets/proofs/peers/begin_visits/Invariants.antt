@@ -17,5 +17,6 @@ invariant-loop-peer g l = record {
   read : (k : ℕ) (d : Peer) → k < l.peer-index → IsRead (g.S.System.told l.system) (slice_index_or l.peers k d).number;
   marked : (k : ℕ) (d : Peer) → k < l.peer-index
       → (slice_index_or l.peers k d).share.mark ≡ (not l.clear && (slice_index_or l.fn.peers k d).share.mark);
+  rooms : (k : ℕ) (d : Peer) → k < l.peer-index → (slice_index_or l.peers k d).room ≡ l.room;
   rest : (k : ℕ) (d : Peer) → l.peer-index ≤ k → slice_index_or l.peers k d ≡ slice_index_or l.fn.peers k d;
 }

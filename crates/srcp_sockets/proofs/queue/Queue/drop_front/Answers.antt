@@ -2,8 +2,8 @@ use Rattle.std.proofs.Common.{◌≡◌, ◌-◌, length, ap, sym, drop, ◌∙�
 use Rattle.srcp_sockets.proofs.QueueLaws.{begins_later, range_length}
 use Rattle.srcp_sockets.proofs.queue.Queue.drop_front.Goals as goal
 
-pub returns : goal.returns
-returns g c =
+pub returns-else-self : goal.returns-else-self
+returns-else-self g c =
     let bytes = c.self.inside.buffer.items in
     let start = c.self.inside.start in
     let end = c.self.inside.end in

@@ -15,7 +15,7 @@ returns-in-Ok g c =
     let sized : length c.read.new.buffer ≡ length (take (length bytes - held) mid) = search rules in
     let long = same_len_mid held (length bytes - held) bytes c.read.new.buffer sized in
     let is = ap (λ b. slice_range b 0 (held + c.in-Ok.count)) (with_items_is c.move_to_front.new.buffer _ (long ∙ search rules))
-    ∙ followed_by bytes c.read.new.buffer held (length bytes - held) c.in-Ok.count (omega arith) c.in-Ok.ensures.count
+    ∙ followed_by bytes c.read.new.buffer 0 held (length bytes - held) c.in-Ok.count (omega arith) (omega arith) c.in-Ok.ensures.count
     ∙ ap (λ b. b ++ more) front in
     let own : length c.args.self.now ≡ held = sym (ap length c.self.view_is)
     ∙ range_length c.self.inside.buffer.items c.self.inside.start c.self.inside.end (omega arith) (omega arith) in

@@ -1,7 +1,9 @@
-use Rattle.std.proofs.Common.{◌∙◌, not, List, rules, subst, sym}
+use Rattle.std.proofs.Common.{◌≡◌, ◌∙◌, ℕ, not, List, rules, subst, sym}
+use Rattle.std.specs.Prelude.{All}
 use Rattle.std.proofs.lemmas.List.{with_items_is}
 use Rattle.srcp_sockets.specs.declared.peer.Peer.{Peer}
 use Rattle.srcp_sockets.specs.Doors.{AreMarked, Stands}
+use Rattle.srcp_sockets.specs.Turns.{room_of}
 use Rattle.srcp_sockets.proofs.Naming.{named_silent}
 use Rattle.srcp_sockets.proofs.Serving.{all_read}
 use Rattle.srcp_sockets.proofs.Standing.{stands_turned}
@@ -42,3 +44,9 @@ returns-clause-marks g c =
     subst (λ (ps : List Peer). AreMarked clear c.args.self.now.peers.items ps)
     (sym (with_items_is c.args.self.now.peers c.begin_visits.new.peers (c.begin_visits.auto.peers ∙ search rules)))
     (subst (λ (ps : List Peer). AreMarked clear ps c.begin_visits.new.peers) c.as_mut_slice.ensures.value c.begin_visits.ensures.marks)
+
+pub returns-clause-rooms : goal.returns-clause-rooms
+returns-clause-rooms g c =
+    subst (λ (ps : List Peer). All (λ peer. peer.room ≡ room_of c.args.holds c.args.self.now.turn.slack) ps)
+    (sym (with_items_is c.args.self.now.peers c.begin_visits.new.peers (c.begin_visits.auto.peers ∙ search rules)))
+    (subst (λ (n : ℕ). All (λ (peer : Peer). peer.room ≡ n) c.begin_visits.new.peers) c.room-room.ensures c.begin_visits.ensures.rooms)

@@ -9,7 +9,7 @@ close_at-requires g c =
     let place = c.in-Some.place in
     let clock = c.args.self.now.turn.clock in
     record {
-      within = subst (λ (ps : List Peer). place < length ps) c.as_slice.ensures.value c.in-Some.ensures.0;
+      within = subst (λ (ps : List Peer). place < length ps) c.as_slice.ensures.value c.in-Some.ensures.found.0;
       closable = λ d. subst (λ (ps : List Peer). is_closable clock (slice_index_or ps place d) ≡ true) c.as_slice.ensures.value
-          (c.in-Some.ensures.1 clock d);
+          (c.in-Some.ensures.found.1 clock d);
     }
