@@ -4,14 +4,15 @@ use Rattle.std.proofs.Common.{Ok, Err}
 use Rattle.std.specs.Prelude.{◌||◌, Result, fold}
 use Rattle.std.specs.declared.io.ErrorKind.{ErrorKind}
 use Rattle.srcp_serve.specs.declared.door.Got.TheVariants as got
-use Rattle.srcp_sockets.specs.declared.system.Ready.{Ready}
-use Rattle.srcp_sockets.specs.declared.turn.Turn.{Turn}
+use Rattle.srcp_peers.specs.declared.system.Ready.{Ready}
+use Rattle.srcp_peers.specs.declared.turn.Turn.{Turn}
 use Rattle.srcp_serve.specs.Calls.{ExpectCall, NowCall, AcceptCall, ReadCall, WriteCall, CloseCall}
-use Rattle.srcp_sockets.specs.Steps.{Accepts, Clocks, Closes, Reads, Shuts, Step, Told, Waits, Writes}
-use Rattle.srcp_sockets.specs.Accounts.{Account, accepted, account, account_step, clock_after, closed, heard, let_go, shut_down, untouched}
-use Rattle.srcp_sockets.specs.Accounts.{waited, woken, woken_came, woken_sent, wrote, read_of}
-use Rattle.srcp_sockets.specs.Times.{IsTimed, Times, first_times, times_step}
-use Rattle.srcp_sockets.proofs.Tellings.{if_same}
+use Rattle.srcp_peers.specs.Steps.{Accepts, Clocks, Closes, Reads, Shuts, Step, Told, Waits, Writes}
+use Rattle.srcp_peers.specs.Accounts.{Account, accepted, account, account_step, clock_after, closed, heard, let_go, shut_down, untouched}
+use Rattle.srcp_peers.specs.Accounts.{waited, woken, woken_came, woken_sent, wrote, read_of}
+use Rattle.srcp_sockets.specs.KeptTimes.{IsTimed}
+use Rattle.srcp_peers.specs.Times.{Times, first_times, times_step}
+use Rattle.srcp_peers.proofs.Tellings.{if_same}
 
 -- what the clock showed last, after a step
 abbrev clock_step : ℕ → Step → ℕ

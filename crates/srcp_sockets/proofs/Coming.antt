@@ -6,24 +6,25 @@ use Rattle.std.proofs.lemmas.Bool.{cases_eq, cases_lt}
 use Rattle.std.proofs.lemmas.List.{length-append, get_or_push, get_or_append_left}
 use Rattle.std.proofs.lemmas.List.Elements.{All-push}
 use Rattle.std.specs.declared.io.ErrorKind.{ErrorKind}
-use Rattle.srcp_sockets.specs.declared.system.Refusal.{Refusal}
-use Rattle.srcp_sockets.specs.declared.system.Refusal.TheVariants.{Later, Again, Fault}
-use Rattle.srcp_sockets.specs.declared.peer.Peer.{Peer}
-use Rattle.srcp_sockets.specs.declared.readiness.Reading.TheVariants as input
-use Rattle.srcp_sockets.specs.declared.readiness.Writing.TheVariants as output
-use Rattle.srcp_sockets.specs.declared.stay.Stay.TheVariants as stay
-use Rattle.srcp_sockets.specs.declared.waiting.Listening.{Listening}
-use Rattle.srcp_sockets.specs.Steps.{Accepts, Step, Tells, refusal_told}
-use Rattle.srcp_sockets.specs.Accounts.{Account, accepted, account, account_step, heard, heard_refusal}
-use Rattle.srcp_sockets.specs.Peers.{Agrees, IsKept, Spares}
+use Rattle.srcp_peers.specs.declared.system.Refusal.{Refusal}
+use Rattle.srcp_peers.specs.declared.system.Refusal.TheVariants.{Later, Again, Fault}
+use Rattle.srcp_peers.specs.declared.peer.Peer.{Peer}
+use Rattle.srcp_peers.specs.declared.readiness.Reading.TheVariants as input
+use Rattle.srcp_peers.specs.declared.readiness.Writing.TheVariants as output
+use Rattle.srcp_peers.specs.declared.stay.Stay.TheVariants as stay
+use Rattle.srcp_peers.specs.declared.waiting.Listening.{Listening}
+use Rattle.srcp_peers.specs.Steps.{Accepts, Step, Tells, refusal_told}
+use Rattle.srcp_peers.specs.Accounts.{Account, accepted, account, account_step, heard, heard_refusal}
+use Rattle.srcp_peers.specs.Peers.{Agrees, IsKept, Spares}
 use Rattle.srcp_door.specs.Pacing.{line_after}
-use Rattle.srcp_sockets.specs.declared.ending.Ending.TheVariants as ending
+use Rattle.srcp_peers.specs.declared.ending.Ending.TheVariants as ending
 use Rattle.srcp_door.specs.declared.pacing.Line.TheVariants as line
-use Rattle.srcp_sockets.specs.Listeners.{refused_listening}
-use Rattle.srcp_sockets.specs.Doors.{AreApart, AreKept, Closed, Fresh, Hears, IsAbsent, Sound, Stands}
-use Rattle.srcp_sockets.proofs.Keeping.{account_more, alien, own, picks, skips, spares_after}
-use Rattle.srcp_sockets.proofs.Lists.{kept_spared}
-use Rattle.srcp_sockets.proofs.Standing.{absent_above, all_sound, not_listener, spared}
+use Rattle.srcp_peers.specs.Listeners.{refused_listening}
+use Rattle.srcp_peers.specs.AllPeers.{AreApart, AreKept, IsAbsent}
+use Rattle.srcp_sockets.specs.Doors.{Closed, Fresh, Hears, Sound, Stands}
+use Rattle.srcp_peers.proofs.Keeping.{account_more, alien, own, picks, skips, spares_after}
+use Rattle.srcp_peers.proofs.Lists.{kept_spared, spared}
+use Rattle.srcp_sockets.proofs.Standing.{absent_above, all_sound, not_listener}
 
 abbrev pub newcomer : ℕ → Peer
 newcomer number = record {

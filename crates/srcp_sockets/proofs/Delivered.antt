@@ -2,19 +2,20 @@
 use Rattle.std.proofs.Common.{◌≡◌, ◌∙◌, ℕ, ◌+◌, Bool, true, false, not, List, length, refl, ap, arith, ◌==◌, ◌⊎◌, inl, inr}
 use Rattle.std.proofs.Common.{get_or, Option, Some, None, sym, subst, ⊎_elim, true≢false}
 use Rattle.std.specs.Prelude.{All, ◌&&◌}
-use Rattle.srcp_sockets.specs.declared.peer.Peer.{Peer}
-use Rattle.srcp_sockets.specs.declared.readiness.Writing.{Writing}
-use Rattle.srcp_sockets.specs.declared.readiness.Writing.TheVariants as output
-use Rattle.srcp_sockets.specs.declared.system.Ready.{Ready}
-use Rattle.srcp_sockets.specs.Accounts.{Sent, account, is_owed}
+use Rattle.srcp_peers.specs.declared.peer.Peer.{Peer}
+use Rattle.srcp_peers.specs.declared.readiness.Writing.{Writing}
+use Rattle.srcp_peers.specs.declared.readiness.Writing.TheVariants as output
+use Rattle.srcp_peers.specs.declared.system.Ready.{Ready}
+use Rattle.srcp_peers.specs.Accounts.{Sent, account, is_owed}
 use Rattle.srcp_sockets.specs.Delivery.{AreDelivered, HasWaited}
-use Rattle.srcp_sockets.specs.Doors.{AreStanding, IsAbsent, IsThere}
-use Rattle.srcp_sockets.specs.Peers.{WritesAs, is_lost, is_waiting}
-use Rattle.srcp_sockets.specs.Steps.{Clocks, Step, Tells, Waits}
-use Rattle.srcp_sockets.specs.Times.{KeepsTimes, Times, times, times_step}
-use Rattle.srcp_sockets.proofs.Resting.{owed_is}
+use Rattle.srcp_sockets.specs.Doors.{AreStanding, IsThere}
+use Rattle.srcp_peers.specs.AllPeers.{IsAbsent}
+use Rattle.srcp_peers.specs.Peers.{WritesAs, is_lost, is_waiting}
+use Rattle.srcp_peers.specs.Steps.{Clocks, Step, Tells, Waits}
+use Rattle.srcp_peers.specs.Times.{KeepsTimes, Times, times, times_step}
+use Rattle.srcp_peers.proofs.Resting.{owed_is}
 use Rattle.srcp_sockets.proofs.Standing.{find, nobody}
-use Rattle.srcp_sockets.proofs.Timing.{times_more}
+use Rattle.srcp_peers.proofs.Saying.{times_more}
 
 -- nothing is queued that its socket may take
 delivered_as : (sent : Sent) (outgoing : List ℕ) (state : Writing) → (not (length outgoing == 0) && not (is_lost state)) ≡ false

@@ -12,12 +12,12 @@ use Rattle.srcp_sockets.specs.Names.{IsNamed}
 use Rattle.srcp_serve.specs.Given.{Call, told_call, ExpectCall, NowCall, AcceptCall, ReadCall, WriteCall, CloseCall}
 use Rattle.srcp_serve.specs.Serving.{events_of, stand_after, taken as given_taken}
 use Rattle.srcp_serve.specs.Places.{IsOfGiven, ServesCourse}
-use Rattle.srcp_sockets.specs.Accounts.{account}
+use Rattle.srcp_peers.specs.Accounts.{account}
 use Rattle.srcp_sockets.specs.Doors.{AreSound}
 use Rattle.srcp_sockets.specs.Follows.{Follows}
-use Rattle.srcp_sockets.specs.Streams.{taken, taken_in, took}
-use Rattle.srcp_sockets.specs.Steps.{Step, calls}
-use Rattle.srcp_sockets.proofs.Tellings.{taken_is, took_is}
+use Rattle.srcp_peers.specs.Streams.{taken, taken_in, took}
+use Rattle.srcp_peers.specs.Steps.{Step, calls}
+use Rattle.srcp_peers.proofs.Tellings.{taken_is, took_is}
 
 -- what a peer took by the calls with what memory answered is what it took by the calls
 taken_told : (peer : ℕ) (told : List Call) → given_taken peer told ≡ flat_map (taken_in peer) (map told_call told)

@@ -7,12 +7,12 @@ use Rattle.std.proofs.lemmas.Bool.{cases_lt}
 use Rattle.std.proofs.lemmas.Bool.Decides.{nat_tests}
 use Rattle.std.proofs.lemmas.List.{length-append, get_or_push, get_or_append_left}
 use Rattle.std.proofs.lemmas.List.Elements.{filter_map-append}
-use Rattle.srcp_sockets.specs.declared.system.Refusal.{Refusal}
-use Rattle.srcp_sockets.specs.declared.system.Refusal.TheVariants.{Later, Again, Fault}
+use Rattle.srcp_peers.specs.declared.system.Refusal.{Refusal}
+use Rattle.srcp_peers.specs.declared.system.Refusal.TheVariants.{Later, Again, Fault}
 use Rattle.srcp_serve.specs.Calls.{AcceptCall, Call, peer_of}
 use Rattle.srcp_sockets.specs.Names.{IsNamed, Named}
-use Rattle.srcp_sockets.specs.Steps.{SaysNothing, SaysOne, Step, calls}
-use Rattle.srcp_sockets.specs.Times.{refused_newcomer}
+use Rattle.srcp_peers.specs.Steps.{SaysNothing, SaysOne, Step, calls}
+use Rattle.srcp_peers.specs.Times.{refused_newcomer}
 
 unequal_push : (x n : ℕ) (xs : List ℕ) → x < n → AllByRecursion (λ y. (x == y) ≡ false) xs → AllByRecursion (λ y. (x == y) ≡ false)
     (xs ++ n ∷ [])

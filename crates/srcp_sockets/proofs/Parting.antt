@@ -8,19 +8,20 @@ use Rattle.std.proofs.lemmas.List.Edits.{length-remove, get_or-remove_below, get
 use Rattle.std.specs.List.{remove}
 use Rattle.srcp_serve.specs.declared.door.DoorFault.{DoorFault}
 use Rattle.std.proofs.lemmas.Bool.Decides.{nat_tests}
-use Rattle.srcp_sockets.specs.declared.peer.Peer.{Peer}
-use Rattle.srcp_sockets.specs.declared.stay.Stay.TheVariants as stay
-use Rattle.srcp_sockets.specs.declared.waiting.Listening.{Listening}
-use Rattle.srcp_sockets.specs.Steps.{Clocks, Closes, Step, Tells, Told}
+use Rattle.srcp_peers.specs.declared.peer.Peer.{Peer}
+use Rattle.srcp_peers.specs.declared.stay.Stay.TheVariants as stay
+use Rattle.srcp_peers.specs.declared.waiting.Listening.{Listening}
+use Rattle.srcp_peers.specs.Steps.{Clocks, Closes, Step, Tells, Told}
 use Rattle.srcp_serve.specs.Calls.{Call, CloseCall, ReadCall, WriteCall}
 use Rattle.srcp_serve.specs.declared.door.Got.{Got}
 use Rattle.srcp_serve.specs.declared.door.Got.TheVariants as got
-use Rattle.srcp_sockets.specs.Accounts.{Account, account, account_step, closed, let_go, may_close, may_fail, told_step}
-use Rattle.srcp_sockets.specs.Peers.{Agrees, IsKept, is_closable}
-use Rattle.srcp_sockets.specs.Doors.{AreApart, Closed, Fresh, Hears, IsAbsent, IsMissing, IsThere, Sound, Stands}
-use Rattle.srcp_sockets.proofs.Staying.{gone_agrees, gone_unwatched, let_go_agrees, may_close_then}
-use Rattle.srcp_sockets.proofs.Keeping.{account_more, alien, kept_after, own, picks, skips, spares_after}
-use Rattle.srcp_sockets.proofs.Lists.{clocked_all, kept_spared}
+use Rattle.srcp_peers.specs.Accounts.{Account, account, account_step, closed, let_go, may_close, may_fail, told_step}
+use Rattle.srcp_peers.specs.Peers.{Agrees, IsKept, is_closable}
+use Rattle.srcp_peers.specs.AllPeers.{AreApart, IsAbsent}
+use Rattle.srcp_sockets.specs.Doors.{Closed, Fresh, Hears, IsMissing, IsThere, Sound, Stands}
+use Rattle.srcp_peers.proofs.Staying.{gone_agrees, gone_unwatched, let_go_agrees, may_close_then}
+use Rattle.srcp_peers.proofs.Keeping.{account_more, alien, kept_after, own, picks, skips, spares_after}
+use Rattle.srcp_peers.proofs.Lists.{clocked_all, kept_spared}
 use Rattle.srcp_sockets.proofs.Standing.{find, nobody, stands_one, stands_told}
 
 -- ---- a step that every account goes on with

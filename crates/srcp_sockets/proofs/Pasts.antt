@@ -6,14 +6,14 @@ use Rattle.std.proofs.lemmas.List.Sums.{fold-append}
 use Rattle.std.specs.declared.io.ErrorKind.{ErrorKind}
 use Rattle.srcp_serve.specs.declared.door.DoorFault.{DoorFault}
 use Rattle.srcp_serve.specs.declared.door.Got.TheVariants as got
-use Rattle.srcp_sockets.specs.declared.system.Ready.{Ready}
+use Rattle.srcp_peers.specs.declared.system.Ready.{Ready}
 use Rattle.srcp_serve.specs.Calls.{Call, ExpectCall, NowCall, AcceptCall, ReadCall, WriteCall, CloseCall}
-use Rattle.srcp_sockets.specs.Steps.{Accepts, Clocks, Closes, Reads, Shuts, Step, Told, Waits, Writes}
-use Rattle.srcp_sockets.specs.Accounts.{Account, accepted, account, account_step, closed, heard, is_at_rest, is_short, may_close, may_end}
-use Rattle.srcp_sockets.specs.Accounts.{may_fail, may_shut, shut_down, untouched, waited, woken, woken_came, woken_sent, wrote, read_of}
-use Rattle.srcp_sockets.proofs.Keeping.{own}
-use Rattle.srcp_sockets.proofs.Resting.{and_left, and_right}
-use Rattle.srcp_sockets.proofs.Tellings.{if_same}
+use Rattle.srcp_peers.specs.Steps.{Accepts, Clocks, Closes, Reads, Shuts, Step, Told, Waits, Writes}
+use Rattle.srcp_peers.specs.Accounts.{Account, accepted, account, account_step, closed, heard, is_at_rest, is_short, may_close, may_end}
+use Rattle.srcp_peers.specs.Accounts.{may_fail, may_shut, shut_down, untouched, waited, woken, woken_came, woken_sent, wrote, read_of}
+use Rattle.srcp_peers.proofs.Keeping.{own}
+use Rattle.srcp_peers.proofs.Resting.{and_left, and_right}
+use Rattle.srcp_peers.proofs.Tellings.{if_same}
 
 -- what is judged
 abbrev marks : Account → Bool × Bool × Bool × Bool

@@ -1,62 +1,22 @@
 -- No moment is told while a peer is unread.
-use Rattle.std.proofs.Common.{◌≡◌, ◌∙◌, ℕ, ◌<◌, ◌+◌, Bool, true, false, not, List, length, refl, ap, sym, subst, arith}
-use Rattle.std.proofs.Common.{⊎_elim, get_or, set, get_or-set_other, get_or-set_same, ◌==◌, Option}
-use Rattle.std.specs.Prelude.{◌≢◌, ◌&&◌, slice_index_or, Result}
-use Rattle.std.proofs.lemmas.Bool.{cases_eq}
-use Rattle.std.proofs.lemmas.List.{get_or_default}
-use Rattle.std.specs.declared.io.ErrorKind.{ErrorKind}
+use Rattle.std.proofs.Common.{◌≡◌, ◌∙◌, ℕ, ◌<◌, Bool, true, false, not, List, length, ap, sym, subst}
+use Rattle.std.proofs.Common.{⊎_elim, Option}
+use Rattle.std.specs.Prelude.{◌&&◌, slice_index_or, Result}
 use Rattle.srcp_serve.specs.declared.door.DoorFault.{DoorFault}
 use Rattle.srcp_serve.specs.Calls.{NowCall}
-use Rattle.srcp_sockets.specs.declared.peer.Peer.{Peer}
-use Rattle.srcp_sockets.specs.declared.waiting.Listening.{Listening}
-use Rattle.srcp_sockets.specs.Steps.{Clocks, Reads, Step, Tells, Told}
-use Rattle.srcp_sockets.specs.Accounts.{Account, account, account_step, clocked, read_of}
-use Rattle.srcp_sockets.specs.Peers.{Agrees, IsKept, Spares, is_wanting}
-use Rattle.srcp_sockets.specs.Doors.{AreApart, AreRead, IsAbsent, IsRead, IsThere, Stands}
-use Rattle.srcp_sockets.proofs.Keeping.{account_more, own, picks}
+use Rattle.srcp_peers.specs.declared.peer.Peer.{Peer}
+use Rattle.srcp_peers.specs.declared.waiting.Listening.{Listening}
+use Rattle.srcp_peers.specs.Steps.{Clocks, Step, Tells, Told}
+use Rattle.srcp_peers.specs.Accounts.{Account, account, account_step, clocked}
+use Rattle.srcp_peers.specs.Peers.{Agrees, IsKept, IsRead}
+use Rattle.srcp_peers.specs.AllPeers.{IsAbsent}
+use Rattle.srcp_sockets.specs.Doors.{AreRead, IsThere, Stands}
+use Rattle.srcp_peers.proofs.Keeping.{account_more}
 use Rattle.srcp_sockets.proofs.Parting.{Goes, stands_goes}
-use Rattle.srcp_sockets.proofs.Standing.{find, nobody, spared}
-use Rattle.srcp_sockets.proofs.Wanting.{both, not_unread}
-
--- ---- a peer is read
-
-no_and : (b : Bool) → (b && false) ≡ false
-no_and true = refl
-no_and false = refl
-
-pub read_asked : (old new : Option (List Step)) (n : ℕ) (buffer : List ℕ) (answer : Result ℕ ErrorKind)
-    → Tells old (Reads n buffer answer) new → IsRead new n
-read_asked old new n buffer answer tells later is =
-    let t = tells later is in
-    let a : Account = account n t.0 in
-    let more : account n later ≡ read_of a buffer answer = ap (account n) t.2 ∙ account_more n t.0 (Reads n buffer answer)
-    ∙ picks (n == n) (read_of a buffer answer) a (own n) in
-    ap (λ (x : Account). x.watched && x.unread) more ∙ no_and a.watched
-
--- it is not to be read
-pub read_unasked : (told : Option (List Step)) (p : Peer) → is_wanting p.input p.incoming ≡ false → IsKept told p → IsRead told p.number
-read_unasked told p none kept log is =
-    let a : Account = account p.number log in
-    not_unread (a.watched && a.unread) (is_wanting p.input p.incoming) (kept log is).unread none
+use Rattle.srcp_sockets.proofs.Standing.{find, nobody}
+use Rattle.srcp_peers.proofs.Wanting.{both}
 
 -- ---- all peers are read
-
--- one more is, and the others stay so
-pub set_read : (old new : Option (List Step)) (peers : List Peer) (i : ℕ) (p q : Peer) → i < length peers → AreApart peers
-    → q.number ≡ (get_or peers i p).number → ((other : ℕ) → other ≢ (get_or peers i p).number → Spares other old new)
-    → IsRead new (get_or peers i p).number → ((k : ℕ) (d : Peer) → k < i → IsRead old (get_or peers k d).number)
-    → (k : ℕ) (d : Peer) → k < i + 1 → IsRead new (get_or (set peers i q) k d).number
-set_read old new peers i p q within apart same others here below k d lt = ⊎_elim
-    (λ (e : k ≡ i). subst (IsRead new) (sym (ap (λ n. (get_or (set peers i q) n d).number) e
-    ∙ ap (λ (x : Peer). x.number) (get_or-set_same peers i q d within) ∙ same)) here)
-    (λ (ne : k ≡ i → ⊥).
-    let low : k < i = omega (arith, lt, ne) in
-    let differ : (get_or peers k d).number ≢ (get_or peers i p).number = λ (e : (get_or peers k d).number ≡ (get_or peers i p).number).
-    apart k i d (omega (arith, low, within)) within ne (e ∙ ap (λ (x : Peer). x.number) (get_or_default peers i p d within)) in
-    subst (IsRead new) (sym (ap (λ (x : Peer). x.number) (get_or-set_other peers i k q d ne)))
-    (spared (λ (a : Account). (a.watched && a.unread) ≡ false) (get_or peers k d).number old new
-    (others (get_or peers k d).number differ) (below k d low)))
-    (cases_eq k i)
 
 -- and who has no peer is not there
 pub all_read : (told : Option (List Step)) (peers : List Peer) (l : Listening) (last : ℕ) → Stands told peers l last

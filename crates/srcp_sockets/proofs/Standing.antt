@@ -6,23 +6,24 @@ use Rattle.std.specs.Io.{StartsWith}
 use Rattle.std.proofs.lemmas.Bool.{cases_eq}
 use Rattle.std.proofs.lemmas.List.{length-set}
 use Rattle.std.proofs.lemmas.Bool.Decides.{nat_tests}
-use Rattle.srcp_sockets.specs.declared.peer.Peer.{Peer}
-use Rattle.srcp_sockets.specs.declared.readiness.Reading.TheVariants as input
-use Rattle.srcp_sockets.specs.declared.readiness.Writing.{Writing}
-use Rattle.srcp_sockets.specs.declared.readiness.Writing.TheVariants as output
-use Rattle.srcp_sockets.specs.declared.stay.Stay.TheVariants as stay
-use Rattle.srcp_sockets.specs.declared.waiting.Listening.{Listening}
-use Rattle.srcp_sockets.specs.Steps.{Step, Tells, Told}
+use Rattle.srcp_peers.specs.declared.peer.Peer.{Peer}
+use Rattle.srcp_peers.specs.declared.readiness.Reading.TheVariants as input
+use Rattle.srcp_peers.specs.declared.readiness.Writing.{Writing}
+use Rattle.srcp_peers.specs.declared.readiness.Writing.TheVariants as output
+use Rattle.srcp_peers.specs.declared.stay.Stay.TheVariants as stay
+use Rattle.srcp_peers.specs.declared.waiting.Listening.{Listening}
+use Rattle.srcp_peers.specs.Steps.{Step, Tells, Told}
 use Rattle.srcp_serve.specs.Calls.{Call}
-use Rattle.srcp_sockets.specs.Accounts.{Account, account, account_step, told_step}
-use Rattle.srcp_sockets.specs.Peers.{Agrees, IsKept, Spares, WritesAs}
-use Rattle.srcp_sockets.specs.declared.ending.Ending.TheVariants as ending
+use Rattle.srcp_peers.specs.Accounts.{Account, account, account_step, told_step}
+use Rattle.srcp_peers.specs.Peers.{Agrees, IsKept, Spares, WritesAs}
+use Rattle.srcp_peers.specs.declared.ending.Ending.TheVariants as ending
 use Rattle.srcp_door.specs.declared.pacing.Line.TheVariants as line
-use Rattle.srcp_sockets.specs.Doors.{AreKept, AreThose, AreWithin, Closed, Fresh, Hears, IsAbsent, Sound, Stands}
+use Rattle.srcp_peers.specs.AllPeers.{AreKept, AreThose, AreWithin, IsAbsent}
+use Rattle.srcp_sockets.specs.Doors.{Closed, Fresh, Hears, Sound, Stands}
 use Rattle.srcp_sockets.specs.Doors.{IsThere}
-use Rattle.srcp_sockets.proofs.States.{comes_starts, starts}
-use Rattle.srcp_sockets.proofs.Keeping.{spares_after}
-use Rattle.srcp_sockets.proofs.Lists.{absent_before, apart_later, kept_spared, set_kept, set_those, within_later}
+use Rattle.srcp_peers.proofs.States.{comes_starts, starts}
+use Rattle.srcp_peers.proofs.Keeping.{spares_after}
+use Rattle.srcp_peers.proofs.Lists.{absent_before, apart_later, kept_spared, set_kept, set_those, within_later, spared}
 
 -- ---- who is there
 
@@ -76,13 +77,6 @@ sound_of a p h = record {
     took output.Open w = starts a.sent.written a.sent.took p.outgoing w.0
     took output.Full w = starts a.sent.written a.sent.took p.outgoing w.0
     took output.Lost w = w.0
-
--- what held of an account holds of it after steps that say nothing of it
-pub spared : (P : Account → Type 0) (socket : ℕ) (old new : Option (List Step)) → Spares socket old new
-    → ((log : List Step) → old ≡ Some log → P (account socket log)) → (log : List Step) → new ≡ Some log → P (account socket log)
-spared P socket old new spares before log is =
-    let s = spares log is in
-    subst P (sym s.2) (before s.0 s.1)
 
 -- all sockets are sound where the peers are kept and the others are
 pub all_sound : (told : Option (List Step)) (peers : List Peer) (log : List Step) → told ≡ Some log → AreKept told peers

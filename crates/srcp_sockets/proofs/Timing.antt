@@ -1,9 +1,8 @@
 -- How the times go on from step to step.
-use Rattle.std.proofs.Common.{◌≡◌, ◌∙◌, ℕ, Bool, true, false, List, [], ◌∷◌, ◌++◌, refl, ap, sym, subst, arith, ⊎_elim, ◌⊎◌, ◌==◌}
+use Rattle.std.proofs.Common.{◌≡◌, ◌∙◌, ℕ, Bool, true, false, List, [], refl, ap, sym, subst, arith, ⊎_elim, ◌⊎◌, ◌==◌}
 use Rattle.std.proofs.Common.{Option, Some, None, Ok, Err, true≢false}
 use Rattle.std.specs.Prelude.{◌&&◌, ◌||◌, not, Result}
 use Rattle.std.specs.Option.{option_map_or}
-use Rattle.std.proofs.lemmas.List.Sums.{fold-append}
 use Rattle.std.proofs.lemmas.Bool.Decides.{nat_tests}
 use Rattle.std.specs.declared.io.ErrorKind.{ErrorKind}
 use Rattle.srcp_serve.specs.declared.door.DoorFault.{DoorFault}
@@ -15,38 +14,21 @@ use Rattle.srcp_door.specs.declared.pacing.Line.{Line}
 use Rattle.srcp_door.specs.declared.pacing.Line.TheVariants as line
 use Rattle.srcp_door.specs.declared.pacing.Pace.{Pace}
 use Rattle.srcp_door.specs.declared.pacing.Pace.TheVariants.{Paced, OneLine}
-use Rattle.srcp_sockets.specs.declared.peer.Peer.{Peer}
-use Rattle.srcp_sockets.specs.Peers.{IsKept}
-use Rattle.srcp_sockets.proofs.Lined.{line_is}
-use Rattle.srcp_sockets.specs.declared.system.Ready.{Ready}
-use Rattle.srcp_sockets.specs.declared.turn.Turn.{Turn}
+use Rattle.srcp_peers.specs.declared.peer.Peer.{Peer}
+use Rattle.srcp_peers.specs.Peers.{IsKept}
+use Rattle.srcp_peers.proofs.Lined.{line_is}
+use Rattle.srcp_peers.specs.declared.system.Ready.{Ready}
+use Rattle.srcp_peers.specs.declared.turn.Turn.{Turn}
 use Rattle.srcp_serve.specs.Calls.{Call, ExpectCall, NowCall, AcceptCall, ReadCall, WriteCall, CloseCall}
-use Rattle.srcp_sockets.specs.Accounts.{is_short}
-use Rattle.srcp_sockets.specs.Steps.{Accepts, Clocks, Step, Tells, Told, Waits}
-use Rattle.srcp_sockets.specs.Times.{IsTimed, IsTimedFrom, KeepsTimes, Timed, Times, clocked, ends_by, first_times}
-use Rattle.srcp_sockets.specs.Times.{in_time, is_told, newcomer_of, times, times_step, told_accept, told_moment, told_read}
-use Rattle.srcp_sockets.specs.Turns.{after_call, after_read, after_wait, begun, first_turn, got_bytes, hands_out, is_pending, moment_at}
-use Rattle.srcp_sockets.specs.Turns.{tells_end, time_left, told_at}
-use Rattle.srcp_sockets.specs.Waiting.{IsWithin}
-
-pub times_more : (wall start : ℕ) (log : List Step) (step : Step)
-    → times wall start (log ++ step ∷ []) ≡ times_step (times wall start log) step
-times_more wall start log step = fold-append times_step (first_times wall start) log (step ∷ [])
-
-pub keeps_none : (told : Option (List Step)) → KeepsTimes told told
-keeps_none told later is = (later, is, λ wall start. refl)
-
-pub keeps_then : (old mid new : Option (List Step)) → KeepsTimes old mid → KeepsTimes mid new → KeepsTimes old new
-keeps_then old mid new first second later is =
-    let s = second later is in
-    let f = first s.0 s.1 in
-    (f.0, f.1, λ wall start. s.2 wall start ∙ f.2 wall start)
-
-pub keeps_step : (old new : Option (List Step)) (step : Step) → Tells old step new → ((t : Times) → times_step t step ≡ t)
-    → KeepsTimes old new
-keeps_step old new step tells same later is =
-    let t = tells later is in
-    (t.0, t.1, λ wall start. ap (times wall start) t.2 ∙ times_more wall start t.0 step ∙ same (times wall start t.0))
+use Rattle.srcp_peers.specs.Accounts.{is_short}
+use Rattle.srcp_peers.specs.Steps.{Accepts, Clocks, Step, Tells, Told, Waits}
+use Rattle.srcp_sockets.specs.KeptTimes.{IsTimed, IsTimedFrom, Timed}
+use Rattle.srcp_peers.specs.Times.{KeepsTimes, Times, clocked, ends_by}
+use Rattle.srcp_peers.specs.Times.{in_time, is_told, newcomer_of, times, times_step, told_accept, told_moment, told_read}
+use Rattle.srcp_peers.specs.Turns.{after_call, after_read, after_wait, begun, first_turn, got_bytes, hands_out, is_pending, moment_at}
+use Rattle.srcp_peers.specs.Turns.{tells_end, time_left, told_at}
+use Rattle.srcp_peers.specs.Waiting.{IsWithin}
+use Rattle.srcp_peers.proofs.Saying.{times_more}
 
 pub timed_kept : (old new : Option (List Step)) (turn : Turn) → KeepsTimes old new → IsTimed old turn → IsTimed new turn
 timed_kept old new turn keeps timed later is =

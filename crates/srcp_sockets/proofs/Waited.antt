@@ -3,18 +3,19 @@ use Rattle.std.proofs.Common.{◌≡◌, ◌∙◌, ℕ, ◌<◌, Bool, true, fa
 use Rattle.std.proofs.Common.{subst, ⊎_elim, ◌==◌, if◌then◌else◌, Option, Some}
 use Rattle.std.specs.Prelude.{All, ◌&&◌, ◌||◌, fold, slice_index_or, take}
 use Rattle.std.proofs.lemmas.Bool.{cases_eq}
-use Rattle.srcp_sockets.specs.declared.peer.Peer.{Peer}
-use Rattle.srcp_sockets.specs.declared.waiting.Listening.{Listening}
-use Rattle.srcp_sockets.specs.declared.waiting.Listening.TheVariants as listening
-use Rattle.srcp_sockets.specs.declared.system.Ready.{Ready}
-use Rattle.srcp_sockets.specs.Steps.{Step, Tells, Waits}
-use Rattle.srcp_sockets.specs.Accounts.{Account, account, is_at_rest, is_short}
-use Rattle.srcp_sockets.specs.Accounts.{waited, woken, woken_came, woken_sent, noted}
-use Rattle.srcp_sockets.specs.Peers.{after_wake, is_resting}
-use Rattle.srcp_sockets.specs.Listeners.{woken_listening}
-use Rattle.srcp_sockets.specs.Doors.{AreKept, AreThose, Closed, Fresh, HeardAs, Hears, IsAbsent, Sound, Stands}
-use Rattle.srcp_sockets.proofs.Keeping.{account_more, all_number, or_so, unless_long}
-use Rattle.srcp_sockets.proofs.Lists.{absent_before, apart_later, waited_all, within_later}
+use Rattle.srcp_peers.specs.declared.peer.Peer.{Peer}
+use Rattle.srcp_peers.specs.declared.waiting.Listening.{Listening}
+use Rattle.srcp_peers.specs.declared.waiting.Listening.TheVariants as listening
+use Rattle.srcp_peers.specs.declared.system.Ready.{Ready}
+use Rattle.srcp_peers.specs.Steps.{Step, Tells, Waits}
+use Rattle.srcp_peers.specs.Accounts.{Account, account, is_at_rest, is_short}
+use Rattle.srcp_peers.specs.Accounts.{waited, woken, woken_came, woken_sent, noted}
+use Rattle.srcp_peers.specs.Peers.{after_wake, is_resting}
+use Rattle.srcp_peers.specs.Listeners.{woken_listening}
+use Rattle.srcp_peers.specs.AllPeers.{AreKept, AreThose, IsAbsent}
+use Rattle.srcp_sockets.specs.Doors.{Closed, Fresh, HeardAs, Hears, Sound, Stands}
+use Rattle.srcp_peers.proofs.Keeping.{account_more, all_number, or_so, unless_long}
+use Rattle.srcp_peers.proofs.Lists.{absent_before, apart_later, waited_all, within_later}
 use Rattle.srcp_sockets.proofs.Standing.{all_sound, not_listener}
 
 -- a socket that was found ready has the same lists

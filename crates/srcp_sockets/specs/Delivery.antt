@@ -1,9 +1,9 @@
 -- When a door ends: what its sockets took of what is queued.
 use Rattle.std.specs.Prelude.{◌≡◌, ◌⊎◌, ℕ, ◌+◌, ◌∷◌, ◌++◌, nat_le, Bool, true, false, List, []}
 use Rattle.std.specs.Prelude.{min, Option, Some, None}
-use Rattle.srcp_sockets.specs.Accounts.{account, is_owed}
-use Rattle.srcp_sockets.specs.Steps.{Clocks, Step}
-use Rattle.srcp_sockets.specs.Times.{times}
+use Rattle.srcp_peers.specs.Accounts.{account, is_owed}
+use Rattle.srcp_peers.specs.Steps.{Clocks, Step}
+use Rattle.srcp_peers.specs.Times.{times}
 
 -- each socket that was accepted and is not closed took all that was taken for it, or a write found that it takes no more
 abbrev pub AreDelivered : Option (List Step) → Type 0

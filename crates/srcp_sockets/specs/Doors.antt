@@ -1,34 +1,17 @@
 -- What holds of all sockets of a door.
-use Rattle.std.specs.Prelude.{⊤, ◌&&◌, ◌≡◌, ◌≢◌, ℕ, ◌<◌, ◌≤◌, Bool, true, false, List, [], length, slice_index_or}
-use Rattle.std.specs.Prelude.{Option, Some, not}
+use Rattle.std.specs.Prelude.{⊤, ◌≡◌, ℕ, ◌<◌, Bool, true, false, List, [], length, slice_index_or}
+use Rattle.std.specs.Prelude.{Option, Some}
 use Rattle.std.specs.Io.{StartsWith}
-use Rattle.srcp_sockets.specs.declared.peer.Peer.{Peer}
-use Rattle.srcp_sockets.specs.declared.stay.Stay.TheVariants as stay
-use Rattle.srcp_sockets.specs.declared.waiting.Listening.{Listening}
-use Rattle.srcp_sockets.specs.declared.waiting.Listening.TheVariants as listening
-use Rattle.srcp_sockets.specs.Steps.{Step}
-use Rattle.srcp_sockets.specs.Accounts.{Account, account}
-use Rattle.srcp_sockets.specs.Peers.{IsKept, is_here}
+use Rattle.srcp_peers.specs.declared.peer.Peer.{Peer}
+use Rattle.srcp_peers.specs.declared.stay.Stay.TheVariants as stay
+use Rattle.srcp_peers.specs.declared.waiting.Listening.{Listening}
+use Rattle.srcp_peers.specs.declared.waiting.Listening.TheVariants as listening
+use Rattle.srcp_peers.specs.Steps.{Step}
+use Rattle.srcp_peers.specs.Accounts.{Account, account}
+use Rattle.srcp_peers.specs.Peers.{IsRead, is_here}
+use Rattle.srcp_peers.specs.AllPeers.{AreKept, AreApart, AreWithin, IsAbsent}
 
 -- ---- the peers that are there
-
--- each is what its account says
-abbrev pub AreKept : Option (List Step) → List Peer → Type 0
-AreKept told peers = (k : ℕ) (d : Peer) → k < length peers → IsKept told (slice_index_or peers k d)
-
--- no two have one socket
-abbrev pub AreApart : List Peer → Type 0
-AreApart peers = (j k : ℕ) (d : Peer) → j < length peers → k < length peers → j ≢ k
-    → (slice_index_or peers j d).number ≢ (slice_index_or peers k d).number
-
--- their sockets are numbered from 1 on
-abbrev pub AreWithin : ℕ → List Peer → Type 0
-AreWithin last peers = (k : ℕ) (d : Peer) → k < length peers → (0 < (slice_index_or peers k d).number)
-    × ((slice_index_or peers k d).number ≤ last)
-
--- none has this socket
-abbrev pub IsAbsent : ℕ → List Peer → Type 0
-IsAbsent socket peers = (k : ℕ) (d : Peer) → k < length peers → (slice_index_or peers k d).number ≢ socket
 
 -- one of them has this socket
 pub record IsThere (socket : ℕ) (peers : List Peer) : Type 0 where
@@ -44,16 +27,6 @@ IsPresent socket p = (p.number ≡ socket) × (p.stay ≡ stay.Here)
 abbrev pub IsMissing : ℕ → List Peer → Type 0
 IsMissing socket peers = (k : ℕ) (d : Peer) → k < length peers → (slice_index_or peers k d).number ≡ socket
     → is_here (slice_index_or peers k d).stay ≡ false
-
--- they are the same peers
-abbrev pub AreThose : List Peer → List Peer → Type 0
-AreThose old new = (k : ℕ) (d : Peer) → k < length old → (slice_index_or new k d).number
-    ≡ (slice_index_or old k d).number
-
--- with `clear` no mark stays, and else each
-abbrev pub AreMarked : (clear : Bool) → (old new : List Peer) → Type 0
-AreMarked clear old new = (k : ℕ) (d : Peer) → k < length old → (slice_index_or new k d).share.mark
-    ≡ (not clear && (slice_index_or old k d).share.mark)
 
 -- ---- each socket that ever was
 
@@ -93,11 +66,6 @@ AreClosed told peers = (log : List Step) → told ≡ Some log → (socket : ℕ
     → Closed (account socket log)
 
 -- ---- who is read
-
--- while it is there it is not unread
-abbrev pub IsRead : Option (List Step) → ℕ → Type 0
-IsRead told socket = (log : List Step) → told ≡ Some log
-    → ((account socket log).watched && (account socket log).unread) ≡ false
 
 abbrev pub AreRead : Option (List Step) → Type 0
 AreRead told = (socket : ℕ) → IsRead told socket

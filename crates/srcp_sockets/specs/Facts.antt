@@ -1,18 +1,18 @@
 -- What a door is has one proof at most.
 use Rattle.std.specs.Prelude.{ℕ, Bool, List, Option}
 use Rattle.std.proofs.Props.{props}
-use Rattle.srcp_sockets.specs.declared.peer.Peer.{Peer}
-use Rattle.srcp_sockets.specs.declared.readiness.Reading.{Reading}
-use Rattle.srcp_sockets.specs.declared.readiness.Reading.TheVariants as input
-use Rattle.srcp_sockets.specs.declared.readiness.Writing.{Writing}
-use Rattle.srcp_sockets.specs.declared.readiness.Writing.TheVariants as output
-use Rattle.srcp_sockets.specs.declared.stay.Stay.{Stay}
-use Rattle.srcp_sockets.specs.declared.stay.Stay.TheVariants as stay
-use Rattle.srcp_sockets.specs.declared.waiting.Listening.{Listening}
-use Rattle.srcp_sockets.specs.declared.waiting.Listening.TheVariants as listening
-use Rattle.srcp_sockets.specs.Steps.{Step}
-use Rattle.srcp_sockets.specs.Accounts.{Leave, Received, Sent}
-use Rattle.srcp_sockets.specs.Peers.{ComesAs, ReadsAs, StaysAs, WritesAs}
+use Rattle.srcp_peers.specs.declared.peer.Peer.{Peer}
+use Rattle.srcp_peers.specs.declared.readiness.Reading.{Reading}
+use Rattle.srcp_peers.specs.declared.readiness.Reading.TheVariants as input
+use Rattle.srcp_peers.specs.declared.readiness.Writing.{Writing}
+use Rattle.srcp_peers.specs.declared.readiness.Writing.TheVariants as output
+use Rattle.srcp_peers.specs.declared.stay.Stay.{Stay}
+use Rattle.srcp_peers.specs.declared.stay.Stay.TheVariants as stay
+use Rattle.srcp_peers.specs.declared.waiting.Listening.{Listening}
+use Rattle.srcp_peers.specs.declared.waiting.Listening.TheVariants as listening
+use Rattle.srcp_peers.specs.Steps.{Step}
+use Rattle.srcp_peers.specs.Accounts.{Leave, Received, Sent}
+use Rattle.srcp_peers.specs.Peers.{ComesAs, ReadsAs, StaysAs, WritesAs}
 use Rattle.srcp_sockets.specs.Doors.{HeardAs, Stands}
 
 ReadsAs-prop : (received : Received) (incoming : List ℕ) (state : Reading) → IsProp (ReadsAs received incoming state)

@@ -10,8 +10,8 @@ use Rattle.srcp_core.specs.Stands.{StandsFor}
 use Rattle.srcp_serve.specs.Given.{Call, told_call}
 use Rattle.srcp_serve.specs.Serving.{events_of, stand_after}
 use Rattle.srcp_serve.specs.Places.{IsOfCourse}
-use Rattle.srcp_sockets.specs.Streams.{took}
-use Rattle.srcp_sockets.specs.Steps.{Step, calls}
+use Rattle.srcp_peers.specs.Streams.{took}
+use Rattle.srcp_peers.specs.Steps.{Step, calls}
 
 -- the door's calls are those of the course, and the socket of each peer took a prefix of what the course sends it
 pub record IsFollowed (buses : List Bus) (count opens : ℕ) (log : List Step) (new : Held) : Type 0 where

@@ -1,15 +1,7 @@
-pub mod Accounts
 pub mod Delivery
 pub mod Doors
-pub mod Ends
 pub mod Facts
 pub mod Faults
 pub mod Follows
-pub mod Listeners
+pub mod KeptTimes
 pub mod Names
-pub mod Peers
-pub mod Streams
-pub mod Steps
-pub mod Times
-pub mod Turns
-pub mod Waiting

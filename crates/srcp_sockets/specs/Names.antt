@@ -4,7 +4,7 @@ use Rattle.std.specs.List.{IsDistinct}
 use Rattle.std.proofs.Props.{props}
 use Rattle.std.proofs.lemmas.Map.Keys.{IsDistinct-prop}
 use Rattle.srcp_serve.specs.Calls.{peer_of}
-use Rattle.srcp_sockets.specs.Steps.{Step, calls}
+use Rattle.srcp_peers.specs.Steps.{Step, calls}
 
 -- no number was given twice, and none is above the last
 pub record Named (numbers : List ℕ) (last : ℕ) : Type 0 where

@@ -4,8 +4,8 @@ ghost use Rattle.std.specs.Prelude.{◌≡◌};
 ghost use Rattle.srcp_sockets.specs.Follows.{Follows};
 
 use crate::door::SocketDoor;
-use crate::system::System;
 use srcp_core::Core;
+use srcp_peers::System;
 use srcp_rules::Rows;
 use srcp_serve::{Served, serve};
 

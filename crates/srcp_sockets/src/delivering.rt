@@ -3,13 +3,10 @@
 ghost use Rattle.std.specs.Prelude.{◌≡◌, All, true, false};
 ghost use Rattle.srcp_sockets.specs.Delivery.{HasEnded, is_over};
 ghost use Rattle.srcp_sockets.specs.Doors.{AreStanding};
-ghost use Rattle.srcp_sockets.specs.Peers.{is_waiting};
+ghost use Rattle.srcp_peers.specs.Peers.{is_waiting};
 
-use crate::peer::Peer;
-use crate::peers::{flush, wake};
-use crate::readiness::Flush;
-use crate::system::{Ready, System};
-use crate::waiting::PAUSE;
+use srcp_peers::peers::{flush, wake};
+use srcp_peers::{Flush, PAUSE, Peer, Ready, System};
 
 /// How often the sockets are waited for at the end, at most.
 const LAST_LOOKS: u32 = 1_000_000;

@@ -2,11 +2,10 @@
 
 ghost use Rattle.std.specs.Prelude.{◌≡◌, ◌⊎◌, ℕ, Option, Some, None, [], IfOk, OnOk, OnErr};
 ghost use Rattle.srcp_serve.specs.Calls.{one_more};
-ghost use Rattle.srcp_sockets.specs.Turns.{first_turn};
+ghost use Rattle.srcp_peers.specs.Turns.{first_turn};
 
 use crate::sockets::Sockets;
-use crate::system::{Ready, System};
-use crate::turn::Turn;
+use srcp_peers::{Ready, System, Turn};
 use srcp_serve::{Door, DoorFault, Got};
 use std::alloc::{AllocError, Global};
 use std::vec::Vec;
@@ -98,7 +97,7 @@ impl<S: System + Drop> Drop for SocketDoor<S> {
 
 impl<S: System + Drop> Door for SocketDoor<S> {
     ghost use Rattle.std.specs.Prelude.{option_map};
-    ghost use Rattle.srcp_sockets.specs.Steps.{calls};
+    ghost use Rattle.srcp_peers.specs.Steps.{calls};
 
     ghost faults = { λ d. d.faults };
 

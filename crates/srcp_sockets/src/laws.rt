@@ -4,21 +4,21 @@
 ghost use Rattle.std.specs.Prelude.{◌≡◌, ◌++◌, ◌∷◌, ◌==◌, ◌&&◌, ◌||◌, ◌*◌, ◌<◌, ◌≤◌, ◌⊎◌, ℕ, List, length};
 ghost use Rattle.std.specs.Prelude.{slice_index_or, Option, Some, Ok, Err, Result, true, false};
 ghost use Rattle.std.specs.Io.{StartsWith};
-ghost use Rattle.srcp_sockets.specs.declared.peer.Peer.{Peer};
+ghost use Rattle.srcp_peers.specs.declared.peer.Peer.{Peer};
 ghost use Rattle.srcp_serve.specs.declared.door.DoorFault.{DoorFault};
 ghost use Rattle.srcp_serve.specs.declared.door.Got.{Got};
-ghost use Rattle.srcp_sockets.specs.declared.system.Ready.{Ready};
+ghost use Rattle.srcp_peers.specs.declared.system.Ready.{Ready};
 ghost use Rattle.srcp_serve.specs.Calls.{ReadCall, NowCall, WriteCall};
-ghost use Rattle.srcp_sockets.specs.Accounts.{account, is_at_rest, is_short, may_close, may_end, may_fail, may_shut};
-ghost use Rattle.srcp_sockets.specs.Steps.{Closes, Shuts, Step, Told, Waits};
+ghost use Rattle.srcp_peers.specs.Accounts.{account, is_at_rest, is_short, may_close, may_end, may_fail, may_shut};
+ghost use Rattle.srcp_peers.specs.Steps.{Closes, Shuts, Step, Told, Waits};
 ghost use Rattle.srcp_sockets.specs.Doors.{IsThere};
-ghost use Rattle.srcp_sockets.specs.Times.{AreKeptTimes, ArePaced, times};
-ghost use Rattle.srcp_sockets.specs.Streams.{gave, handed, taken, took};
+ghost use Rattle.srcp_sockets.specs.KeptTimes.{AreKeptTimes, ArePaced};
+ghost use Rattle.srcp_peers.specs.Times.{times};
+ghost use Rattle.srcp_peers.specs.Streams.{gave, handed, taken, took};
 
 use crate::door::SocketDoor;
-use crate::queue::MOST_OUTGOING;
-use crate::system::System;
 use srcp_info::LONGEST_LINE;
+use srcp_peers::{MOST_OUTGOING, System};
 use srcp_serve::MOST_WRITES;
 
 /// What each socket took is a prefix of what the door told to have taken for its peer; what the door handed out of a

@@ -3,9 +3,9 @@
 ghost use Rattle.std.specs.Prelude.{◌≡◌, IfOk, ◌<◌, IfSome, length};
 
 use crate::door::MOST_READY;
-use crate::system::{Ready, System};
 use mio::net::{TcpListener, TcpStream};
 use mio::{Events, Interest, Poll, Token};
+use srcp_peers::{Ready, System};
 use srcp_serve::{DoorFault, Got};
 use std::alloc::Global;
 use std::io;

@@ -1,35 +1,33 @@
 //! The system's sockets, with their peers.
 
-ghost use Rattle.std.specs.Prelude.{not, All, false, true, ◌≡◌, ◌<◌, ◌≤◌, ◌+◌, ◌-◌, ◌&&◌, max, ℕ, ◌⊎◌, Option, Some, None};
+ghost use Rattle.std.specs.Prelude.{not, All, false, true, ◌≡◌, ◌<◌, ◌≤◌, ◌+◌, ◌-◌, ◌&&◌, max, ℕ, ◌⊎◌, Option, Some};
+ghost use Rattle.std.specs.Prelude.{None};
 ghost use Rattle.std.specs.Prelude.{Ok, Err, Result, IfErr, IfNone, IfOk, IfSome, List, [], length, slice_index_or};
 ghost use Rattle.std.specs.Prelude.{vec_capacity};
-ghost use Rattle.srcp_sockets.specs.declared.peer.Peer.{Peer};
+ghost use Rattle.srcp_peers.specs.declared.peer.Peer.{Peer};
 ghost use Rattle.srcp_sockets.specs.Delivery.{HasEnded, patience_after};
 ghost use Rattle.srcp_sockets.specs.Facts.{Stands-prop};
 ghost use Rattle.std.specs.List.{list_any};
 ghost use Rattle.std.specs.Option.{option_map};
 ghost use Rattle.srcp_sockets.specs.Names.{IsNamed, IsNamed-prop};
-ghost use Rattle.srcp_sockets.specs.Times.{IsTimed, IsTimed-prop, refused_newcomer};
-ghost use Rattle.srcp_sockets.specs.Accounts.{is_short};
-ghost use Rattle.srcp_sockets.specs.Peers.{is_resting};
-ghost use Rattle.srcp_sockets.specs.Turns.{first_turn, flushing, has_ticked, is_pending, room_of, time_left};
-ghost use Rattle.srcp_sockets.specs.Waiting.{IsWithin};
+ghost use Rattle.srcp_sockets.specs.KeptTimes.{IsTimed, IsTimed-prop};
+ghost use Rattle.srcp_peers.specs.Times.{refused_newcomer};
+ghost use Rattle.srcp_peers.specs.Accounts.{is_short};
+ghost use Rattle.srcp_peers.specs.Peers.{is_resting, holds_input, is_closable, is_here};
+ghost use Rattle.srcp_peers.specs.Turns.{first_turn, flushing, has_ticked, is_pending, room_of, time_left};
+ghost use Rattle.srcp_peers.specs.Waiting.{IsWithin};
 ghost use Rattle.srcp_serve.specs.Calls.{ExpectCall, NowCall, AcceptCall, ReadCall, WriteCall, CloseCall};
-ghost use Rattle.srcp_sockets.specs.Steps.{Accepts, SaysNothing, SaysOne, Step, Tells};
-ghost use Rattle.srcp_sockets.specs.Listeners.{refused_listening};
-ghost use Rattle.srcp_sockets.specs.Peers.{holds_input, is_closable, is_here};
-ghost use Rattle.srcp_sockets.specs.Doors.{AreMarked, AreRead, IsMissing, IsPresent, Stands};
+ghost use Rattle.srcp_peers.specs.Steps.{Accepts, SaysNothing, SaysOne, Step, Tells};
+ghost use Rattle.srcp_peers.specs.Listeners.{refused_listening};
+ghost use Rattle.srcp_peers.specs.AllPeers.{AreMarked};
+ghost use Rattle.srcp_sockets.specs.Doors.{AreRead, IsMissing, IsPresent, Stands};
 
 use crate::delivering::deliver;
-use crate::leaving::{MOST_LEAVING, count_leaving, first_gone, first_shut};
-use crate::peer::Peer;
-use crate::peers::{begin_visits, flush, listen, wake};
-use crate::queue::Queues;
-use crate::readiness::Flush;
-use crate::stay::PATIENCE;
-use crate::system::{Ready, Refusal, System, refusal_of};
-use crate::turn::Turn;
-use crate::waiting::{Listening, longest_wait};
+use srcp_peers::peers::{begin_visits, flush, listen, wake};
+use srcp_peers::{
+    Flush, Listening, MOST_LEAVING, PATIENCE, Peer, Queues, Ready, Refusal, System, Turn,
+    count_leaving, first_gone, first_shut, longest_wait, refusal_of,
+};
 use srcp_serve::{DoorFault, Got, MOST_WRITES};
 use std::alloc::{AllocError, Global};
 use std::vec::Vec;

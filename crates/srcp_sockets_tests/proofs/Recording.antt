@@ -2,7 +2,7 @@
 use Rattle.std.proofs.Common.{◌≡◌, List, [], ◌∷◌, ◌++◌, Option, Some, None, refl, sym, ap, ◌∙◌}
 use Rattle.std.specs.Prelude.{IfSome, MatchOption, map, option_map}
 use Rattle.std.proofs.lemmas.List.{map-append}
-use Rattle.srcp_sockets.specs.Steps.{Step, Tells}
+use Rattle.srcp_peers.specs.Steps.{Step, Tells}
 
 -- it tells one step more if it keeps it behind the others, or keeps none from then on
 pub tells_kept : {A V : Type 0} (kept : V → List A) (step : A → Step) (old new : Option V) (a : A)

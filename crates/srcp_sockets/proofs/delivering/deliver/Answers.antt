@@ -1,7 +1,7 @@
 use Rattle.std.proofs.Common.{Some, sym, ◌∙◌, inl, inr, true≢false}
 use Rattle.std.specs.Prelude.{fold, take}
 use Rattle.srcp_sockets.specs.Doors.{AreStanding}
-use Rattle.srcp_sockets.specs.Listeners.{woken_listening}
+use Rattle.srcp_peers.specs.Listeners.{woken_listening}
 use Rattle.srcp_sockets.proofs.Delivered.{are_delivered, waited_clocked, waited_keeps, waited_more, waited_none}
 use Rattle.srcp_sockets.proofs.Parting.{stands_clocked}
 use Rattle.srcp_sockets.proofs.Standing.{stands_turned}

@@ -1,11 +1,11 @@
 use Rattle.std.proofs.Common.{◌≡◌, ◌∙◌, ◌⊎◌, ◌++◌, List, inl, inr, ap, sym, true}
 use Rattle.std.specs.Prelude.{ℕ, slice_index_or}
-use Rattle.srcp_sockets.specs.declared.readiness.Writing.{Writing}
-use Rattle.srcp_sockets.specs.declared.readiness.Writing.TheVariants as output
-use Rattle.srcp_sockets.specs.Accounts.{Sent, account}
-use Rattle.srcp_sockets.specs.Peers.{WritesAs}
-use Rattle.srcp_sockets.specs.Streams.{taken, took}
-use Rattle.srcp_sockets.proofs.Tellings.{taken_is, took_is}
+use Rattle.srcp_peers.specs.declared.readiness.Writing.{Writing}
+use Rattle.srcp_peers.specs.declared.readiness.Writing.TheVariants as output
+use Rattle.srcp_peers.specs.Accounts.{Sent, account}
+use Rattle.srcp_peers.specs.Peers.{WritesAs}
+use Rattle.srcp_peers.specs.Streams.{taken, took}
+use Rattle.srcp_peers.proofs.Tellings.{taken_is, took_is}
 use Rattle.srcp_sockets.proofs.laws.untaken_is_held.Goals as goal
 
 held_as : (sent : Sent) (outgoing written took_all : List ℕ) (state : Writing) → sent.written ≡ written → sent.took ≡ took_all

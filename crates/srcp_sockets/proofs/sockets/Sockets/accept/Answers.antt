@@ -1,5 +1,5 @@
 use Rattle.srcp_serve.specs.Calls.{AcceptCall}
-use Rattle.srcp_sockets.proofs.Saying.{says_after}
+use Rattle.srcp_peers.proofs.Saying.{says_after}
 use Rattle.srcp_sockets.proofs.sockets.Sockets.accept.Goals as goal
 
 pub returns-clause-told : goal.returns-clause-told

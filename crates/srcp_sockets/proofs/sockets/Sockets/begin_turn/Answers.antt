@@ -1,4 +1,4 @@
-use Rattle.srcp_sockets.proofs.Saying.{says_then}
+use Rattle.srcp_peers.proofs.Saying.{says_then}
 use Rattle.srcp_sockets.proofs.sockets.Sockets.begin_turn.Goals as goal
 
 pub returns-clause-calls : goal.returns-clause-calls

@@ -1,9 +1,10 @@
 use Rattle.std.proofs.Common.{◌≡◌, ◌∙◌, ℕ, not, List, rules, subst, sym}
 use Rattle.std.specs.Prelude.{All}
 use Rattle.std.proofs.lemmas.List.{with_items_is}
-use Rattle.srcp_sockets.specs.declared.peer.Peer.{Peer}
-use Rattle.srcp_sockets.specs.Doors.{AreMarked, Stands}
-use Rattle.srcp_sockets.specs.Turns.{room_of}
+use Rattle.srcp_peers.specs.declared.peer.Peer.{Peer}
+use Rattle.srcp_peers.specs.AllPeers.{AreMarked}
+use Rattle.srcp_sockets.specs.Doors.{Stands}
+use Rattle.srcp_peers.specs.Turns.{room_of}
 use Rattle.srcp_sockets.proofs.Naming.{named_silent}
 use Rattle.srcp_sockets.proofs.Serving.{all_read}
 use Rattle.srcp_sockets.proofs.Standing.{stands_turned}

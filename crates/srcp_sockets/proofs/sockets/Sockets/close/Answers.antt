@@ -1,9 +1,9 @@
 use Rattle.std.proofs.Common.{◌∙◌, ap, refl, sym, Ok, Err}
-use Rattle.srcp_sockets.specs.declared.peer.Peer.{Peer}
+use Rattle.srcp_peers.specs.declared.peer.Peer.{Peer}
 use Rattle.srcp_serve.specs.declared.door.DoorFault.TheVariants.{Close}
 use Rattle.srcp_serve.specs.Calls.{CloseCall}
 use Rattle.srcp_sockets.proofs.Clocking.{clock_is}
-use Rattle.srcp_sockets.proofs.Saying.{says_call}
+use Rattle.srcp_peers.proofs.Saying.{says_call}
 use Rattle.srcp_sockets.proofs.Naming.{named_call}
 use Rattle.srcp_sockets.proofs.Parting.{stands_let_go, stands_missing}
 use Rattle.srcp_sockets.proofs.Timing.{timed_close}

@@ -1,12 +1,12 @@
 use Rattle.std.proofs.Common.{List, refl, sym, subst}
-use Rattle.srcp_sockets.specs.declared.peer.Peer.{Peer}
+use Rattle.srcp_peers.specs.declared.peer.Peer.{Peer}
 use Rattle.srcp_sockets.specs.Doors.{Stands}
-use Rattle.srcp_sockets.specs.Steps.{Closes}
+use Rattle.srcp_peers.specs.Steps.{Closes}
 use Rattle.srcp_sockets.proofs.Clocking.{clock_is}
-use Rattle.srcp_sockets.proofs.Saying.{says_step}
+use Rattle.srcp_peers.proofs.Saying.{says_step, keeps_step}
 use Rattle.srcp_sockets.proofs.Naming.{named_silent}
 use Rattle.srcp_sockets.proofs.Parting.{stands_closed_at}
-use Rattle.srcp_sockets.proofs.Timing.{keeps_step, timed_kept}
+use Rattle.srcp_sockets.proofs.Timing.{timed_kept}
 use Rattle.srcp_sockets.proofs.sockets.Sockets.close_at.Goals as goal
 
 pub invariant_of-self : goal.invariant_of-self

@@ -1,5 +1,5 @@
 use Rattle.std.proofs.Common.{◌∙◌, refl}
-use Rattle.srcp_sockets.proofs.Saying.{says_none, says_then}
+use Rattle.srcp_peers.proofs.Saying.{says_none, says_then}
 use Rattle.srcp_sockets.proofs.sockets.Sockets.close_gone.Goals as goal
 
 pub loop-init : goal.loop-init

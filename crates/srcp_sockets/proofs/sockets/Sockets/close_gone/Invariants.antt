@@ -1,5 +1,5 @@
 use Rattle.std.proofs.Common.{◌≡◌}
-use Rattle.srcp_sockets.specs.Steps.{SaysNothing}
+use Rattle.srcp_peers.specs.Steps.{SaysNothing}
 use Rattle.srcp_sockets.proofs.sockets.Sockets.close_gone.Given as goal
 
 abbrev pub invariant-loop : goal.invariant-loop

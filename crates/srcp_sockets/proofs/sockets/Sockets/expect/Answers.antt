@@ -1,7 +1,7 @@
 use Rattle.std.proofs.Common.{refl}
 use Rattle.srcp_serve.specs.Calls.{ExpectCall}
-use Rattle.srcp_sockets.specs.Steps.{Told}
-use Rattle.srcp_sockets.proofs.Saying.{says_call}
+use Rattle.srcp_peers.specs.Steps.{Told}
+use Rattle.srcp_peers.proofs.Saying.{says_call}
 use Rattle.srcp_sockets.proofs.Naming.{named_call}
 use Rattle.srcp_sockets.proofs.Standing.{stands_step}
 use Rattle.srcp_sockets.proofs.Timing.{timed_expect}

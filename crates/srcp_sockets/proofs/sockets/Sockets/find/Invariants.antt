@@ -1,7 +1,7 @@
 use Rattle.std.proofs.Common.{ℕ, ◌<◌, ◌≡◌}
 use Rattle.std.specs.Prelude.{false, slice_index_or}
-use Rattle.srcp_sockets.specs.declared.peer.Peer.{Peer}
-use Rattle.srcp_sockets.specs.Peers.{is_here}
+use Rattle.srcp_peers.specs.declared.peer.Peer.{Peer}
+use Rattle.srcp_peers.specs.Peers.{is_here}
 use Rattle.srcp_sockets.proofs.sockets.Sockets.find.Given as goal
 
 abbrev pub invariant-loop-place : goal.invariant-loop-place

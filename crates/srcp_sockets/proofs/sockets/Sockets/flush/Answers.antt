@@ -1,6 +1,6 @@
 use Rattle.std.proofs.Common.{◌∙◌, List, rules, subst, sym}
 use Rattle.std.proofs.lemmas.List.{with_items_is}
-use Rattle.srcp_sockets.specs.declared.peer.Peer.{Peer}
+use Rattle.srcp_peers.specs.declared.peer.Peer.{Peer}
 use Rattle.srcp_sockets.specs.Doors.{Stands}
 use Rattle.srcp_sockets.proofs.Naming.{named_silent}
 use Rattle.srcp_sockets.proofs.Standing.{stands_turned}

@@ -1,8 +1,8 @@
 use Rattle.std.proofs.Common.{refl, Ok}
 use Rattle.srcp_serve.specs.declared.door.Got.TheVariants.{Nothing}
 use Rattle.srcp_serve.specs.Calls.{ReadCall}
-use Rattle.srcp_sockets.specs.Steps.{Told}
-use Rattle.srcp_sockets.proofs.Saying.{says_call}
+use Rattle.srcp_peers.specs.Steps.{Told}
+use Rattle.srcp_peers.proofs.Saying.{says_call}
 use Rattle.srcp_sockets.proofs.Naming.{named_call}
 use Rattle.srcp_sockets.proofs.Standing.{stands_step}
 use Rattle.srcp_sockets.proofs.Timing.{timed_nothing}

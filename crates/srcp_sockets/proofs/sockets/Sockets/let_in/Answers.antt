@@ -2,15 +2,15 @@ use Rattle.std.specs.declared.io.ErrorKind.{ErrorKind}
 use Rattle.std.specs.Prelude.{Result, filter_map}
 use Rattle.std.proofs.Common.{◌≡◌, ◌∙◌, ◌∷◌, ◌++◌, [], ap, refl, rules, sym, subst, arith, true, Ok, Err, Some}
 use Rattle.srcp_serve.specs.Calls.{AcceptCall, peer_of}
-use Rattle.srcp_sockets.specs.declared.system.Refusal.{Refusal}
-use Rattle.srcp_sockets.specs.declared.system.Refusal.TheVariants.{Later, Again, Fault}
-use Rattle.srcp_sockets.specs.declared.waiting.Listening.{Listening}
+use Rattle.srcp_peers.specs.declared.system.Refusal.{Refusal}
+use Rattle.srcp_peers.specs.declared.system.Refusal.TheVariants.{Later, Again, Fault}
+use Rattle.srcp_peers.specs.declared.waiting.Listening.{Listening}
 use Rattle.srcp_sockets.specs.Doors.{Stands}
-use Rattle.srcp_sockets.specs.Listeners.{refused_listening}
-use Rattle.srcp_sockets.specs.Steps.{Accepts}
-use Rattle.srcp_sockets.specs.Times.{is_told, refused_newcomer}
-use Rattle.srcp_sockets.proofs.Keeping.{own}
-use Rattle.srcp_sockets.proofs.Saying.{says_after, says_call, says_step}
+use Rattle.srcp_peers.specs.Listeners.{refused_listening}
+use Rattle.srcp_peers.specs.Steps.{Accepts}
+use Rattle.srcp_peers.specs.Times.{is_told, refused_newcomer}
+use Rattle.srcp_peers.proofs.Keeping.{own}
+use Rattle.srcp_peers.proofs.Saying.{says_after, says_call, says_step}
 use Rattle.srcp_sockets.proofs.Naming.{named_call, named_come, named_silent, nobody_named}
 use Rattle.srcp_sockets.proofs.Coming.{stands_came, stands_refused}
 use Rattle.srcp_sockets.proofs.Standing.{stands_told}

@@ -1,4 +1,4 @@
-use Rattle.srcp_sockets.proofs.Saying.{says_none}
+use Rattle.srcp_peers.proofs.Saying.{says_none}
 use Rattle.srcp_sockets.proofs.sockets.Sockets.look.Goals as goal
 
 pub returns-then-held : goal.returns-then-held

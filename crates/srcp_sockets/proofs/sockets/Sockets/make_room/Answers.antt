@@ -1,7 +1,7 @@
 use Rattle.std.proofs.Common.{◌≡◌, ◌<◌, List, length, subst, true}
 use Rattle.std.specs.Prelude.{slice_index_or}
-use Rattle.srcp_sockets.specs.declared.peer.Peer.{Peer}
-use Rattle.srcp_sockets.specs.Peers.{is_closable}
+use Rattle.srcp_peers.specs.declared.peer.Peer.{Peer}
+use Rattle.srcp_peers.specs.Peers.{is_closable}
 use Rattle.srcp_sockets.proofs.sockets.Sockets.make_room.Goals as goal
 
 pub close_at-requires : goal.close_at-requires
@@ -9,7 +9,7 @@ close_at-requires g c =
     let place = c.in-Some.place in
     let clock = c.args.self.now.turn.clock in
     record {
-      within = subst (λ (ps : List Peer). place < length ps) c.as_slice.ensures.value c.in-Some.ensures.found.0;
+      within = subst (λ (ps : List Peer). place < length ps) c.as_slice.ensures.value c.in-Some.ensures.closable.0;
       closable = λ d. subst (λ (ps : List Peer). is_closable clock (slice_index_or ps place d) ≡ true) c.as_slice.ensures.value
-          (c.in-Some.ensures.found.1 clock d);
+          (c.in-Some.ensures.closable.1 clock d);
     }

@@ -1,7 +1,7 @@
 use Rattle.std.proofs.Common.{refl}
 use Rattle.srcp_serve.specs.Calls.{NowCall}
-use Rattle.srcp_sockets.specs.Steps.{Clocks}
-use Rattle.srcp_sockets.proofs.Saying.{says_after, says_call, says_step}
+use Rattle.srcp_peers.specs.Steps.{Clocks}
+use Rattle.srcp_peers.proofs.Saying.{says_after, says_call, says_step}
 use Rattle.srcp_sockets.proofs.Naming.{named_call, named_silent}
 use Rattle.srcp_sockets.proofs.Parting.{stands_clocked}
 use Rattle.srcp_sockets.proofs.Serving.{read_clocked, stands_now}

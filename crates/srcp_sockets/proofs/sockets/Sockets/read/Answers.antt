@@ -1,9 +1,9 @@
 use Rattle.std.proofs.Common.{◌∙◌, ℕ, ap, refl, sym, subst, true≢false}
-use Rattle.srcp_sockets.specs.declared.peer.Peer.{Peer}
+use Rattle.srcp_peers.specs.declared.peer.Peer.{Peer}
 use Rattle.srcp_serve.specs.Calls.{ReadCall}
-use Rattle.srcp_sockets.specs.Peers.{IsKept}
-use Rattle.srcp_sockets.specs.Steps.{SaysOne}
-use Rattle.srcp_sockets.proofs.Saying.{says_call}
+use Rattle.srcp_peers.specs.Peers.{IsKept}
+use Rattle.srcp_peers.specs.Steps.{SaysOne}
+use Rattle.srcp_peers.proofs.Saying.{says_call}
 use Rattle.srcp_sockets.proofs.Naming.{named_call}
 use Rattle.srcp_sockets.proofs.Standing.{stands_one}
 use Rattle.srcp_sockets.proofs.Timing.{line_kept, timed_read}

@@ -1,6 +1,6 @@
 use Rattle.std.proofs.Common.{refl}
 use Rattle.srcp_serve.specs.Calls.{ReadCall}
-use Rattle.srcp_sockets.proofs.Saying.{says_call}
+use Rattle.srcp_peers.proofs.Saying.{says_call}
 use Rattle.srcp_sockets.proofs.Naming.{named_call}
 use Rattle.srcp_sockets.proofs.Parting.{stands_missed}
 use Rattle.srcp_sockets.proofs.Timing.{timed_missed}

@@ -1,8 +1,8 @@
 use Rattle.std.proofs.Common.{◌≡◌, ap, refl, ⊎_elim, true, None, [], ◌∷◌}
 use Rattle.std.specs.Prelude.{filter_map}
 use Rattle.srcp_serve.specs.Calls.{AcceptCall, peer_of}
-use Rattle.srcp_sockets.specs.Times.{is_told}
-use Rattle.srcp_sockets.proofs.Saying.{says_call}
+use Rattle.srcp_peers.specs.Times.{is_told}
+use Rattle.srcp_peers.proofs.Saying.{says_call}
 use Rattle.srcp_sockets.proofs.Naming.{named_call}
 use Rattle.srcp_sockets.proofs.Standing.{stands_told}
 use Rattle.srcp_sockets.proofs.Timing.{timed_unasked}

@@ -1,15 +1,15 @@
 use Rattle.std.proofs.Common.{◌≡◌, ◌∙◌, List, rules, refl, sym, subst, false, true}
 use Rattle.std.specs.Prelude.{All}
 use Rattle.std.proofs.lemmas.List.{with_items_is}
-use Rattle.srcp_sockets.specs.declared.peer.Peer.{Peer}
-use Rattle.srcp_sockets.specs.declared.turn.Turn.{Turn}
-use Rattle.srcp_sockets.specs.declared.waiting.Listening.{Listening}
-use Rattle.srcp_sockets.specs.Accounts.{is_short}
+use Rattle.srcp_peers.specs.declared.peer.Peer.{Peer}
+use Rattle.srcp_peers.specs.declared.turn.Turn.{Turn}
+use Rattle.srcp_peers.specs.declared.waiting.Listening.{Listening}
+use Rattle.srcp_peers.specs.Accounts.{is_short}
 use Rattle.srcp_sockets.specs.Doors.{Stands}
-use Rattle.srcp_sockets.specs.Peers.{is_resting}
-use Rattle.srcp_sockets.specs.Steps.{Waits}
-use Rattle.srcp_sockets.specs.Times.{IsTimed}
-use Rattle.srcp_sockets.proofs.Saying.{says_step}
+use Rattle.srcp_peers.specs.Peers.{is_resting}
+use Rattle.srcp_peers.specs.Steps.{Waits}
+use Rattle.srcp_sockets.specs.KeptTimes.{IsTimed}
+use Rattle.srcp_peers.proofs.Saying.{says_step}
 use Rattle.srcp_sockets.proofs.Naming.{named_silent}
 use Rattle.srcp_sockets.proofs.Waited.{stands_waited}
 use Rattle.srcp_sockets.proofs.Timing.{timed_wait}

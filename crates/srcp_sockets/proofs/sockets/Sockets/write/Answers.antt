@@ -1,9 +1,9 @@
 use Rattle.std.proofs.Common.{◌∙◌, ℕ, ap, refl, subst, Ok, Err}
-use Rattle.srcp_sockets.specs.declared.peer.Peer.{Peer}
+use Rattle.srcp_peers.specs.declared.peer.Peer.{Peer}
 use Rattle.srcp_serve.specs.declared.door.DoorFault.TheVariants.{Write}
 use Rattle.srcp_serve.specs.Calls.{WriteCall}
-use Rattle.srcp_sockets.specs.Steps.{SaysOne}
-use Rattle.srcp_sockets.proofs.Saying.{says_call}
+use Rattle.srcp_peers.specs.Steps.{SaysOne}
+use Rattle.srcp_peers.proofs.Saying.{says_call}
 use Rattle.srcp_sockets.proofs.Naming.{named_call}
 use Rattle.srcp_sockets.proofs.Parting.{stands_unwritten}
 use Rattle.srcp_sockets.proofs.Standing.{stands_one}

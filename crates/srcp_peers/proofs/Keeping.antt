@@ -1,0 +1,488 @@
+-- How what is known of a peer goes on from step to step.
+use Rattle.std.proofs.Common.{◌≡◌, ◌∙◌, ℕ, Bool, true, false, not, List, [], ◌∷◌, ◌++◌, take, drop, length, if◌then◌else◌, Ok, Err}
+use Rattle.std.proofs.Common.{refl, ap, sym, subst, arith, ◌==◌, Option}
+use Rattle.std.specs.Prelude.{◌≢◌, nat_lt, OnErr, Result, ◌&&◌, ◌||◌, fold}
+use Rattle.std.proofs.lemmas.List.Sums.{fold-append}
+use Rattle.std.proofs.lemmas.Bool.Decides.{nat_tests}
+use Rattle.std.specs.declared.io.ErrorKind.{ErrorKind}
+use Rattle.srcp_peers.specs.declared.system.Ready.{Ready}
+use Rattle.srcp_peers.specs.declared.system.Refusal.{Refusal}
+use Rattle.srcp_peers.specs.declared.system.Refusal.TheVariants.{Later, Again, Fault}
+use Rattle.srcp_peers.specs.declared.readiness.Reading.{Reading}
+use Rattle.srcp_peers.specs.declared.readiness.Reading.TheVariants as input
+use Rattle.srcp_peers.specs.declared.readiness.Writing.{Writing}
+use Rattle.srcp_peers.specs.declared.readiness.Writing.TheVariants as output
+use Rattle.srcp_peers.specs.declared.peer.Peer.{Peer}
+use Rattle.srcp_peers.specs.declared.stay.Stay.TheVariants as stay
+use Rattle.srcp_peers.specs.Steps.{Step, Tells, Reads, Shuts, Writes, Waits, Told}
+use Rattle.srcp_peers.specs.Steps.{refusal_told}
+use Rattle.srcp_serve.specs.Calls.{ReadCall, WriteCall}
+use Rattle.srcp_serve.specs.declared.door.DoorFault.{DoorFault}
+use Rattle.srcp_serve.specs.declared.door.Got.{Got}
+use Rattle.srcp_serve.specs.declared.door.Got.TheVariants as got
+use Rattle.srcp_peers.specs.Accounts.{Account, Sent, Received, account, account_step, told_step, is_at_rest, is_short, may_end, may_fail}
+use Rattle.srcp_peers.specs.Accounts.{refused_read, refused_write, shut_down, untouched, waited, wrote, woken, woken_sent}
+use Rattle.srcp_peers.specs.Accounts.{woken_came}
+use Rattle.srcp_door.specs.Pacing.{line_after}
+use Rattle.srcp_peers.specs.declared.ending.Ending.{Ending}
+use Rattle.srcp_door.specs.declared.pacing.Line.{Line}
+use Rattle.srcp_door.specs.declared.pacing.Line.TheVariants as line
+use Rattle.srcp_door.specs.declared.pacing.Share.{Share}
+use Rattle.srcp_peers.specs.Peers.{Agrees, ComesAs, IsKept, MayEnd, MayFail, ReadsAs, Spares, WritesAs, after_wake, queued_more, given}
+use Rattle.srcp_peers.specs.Peers.{is_lost, is_resting, may_have, missed, refused, taken, woken_input, woken_output}
+use Rattle.srcp_peers.specs.Turns.{got_bytes}
+use Rattle.srcp_peers.proofs.States.{again_writes, comes_here, handed_as, read_comes, reads_here, unread_comes, unwritten_as, woken_comes}
+use Rattle.srcp_peers.proofs.States.{woken_writes, written_as, wrote_as}
+use Rattle.srcp_peers.proofs.Lined.{line_after-append}
+use Rattle.srcp_peers.proofs.Staying.{may_end_then, may_fail_then, shut_agrees, stays_drop, stays_here}
+use Rattle.srcp_peers.proofs.Wanting.{noted_agrees, wants_less, wants_woken, was_read}
+use Rattle.srcp_peers.proofs.Resting.{resting}
+
+-- an account after one more step
+pub account_more : (socket : ℕ) (log : List Step) (step : Step) → account socket (log ++ step ∷ []) ≡ account_step socket
+    (account socket log) step
+account_more socket log step = fold-append (account_step socket) untouched log (step ∷ [])
+
+-- a peer is what its account says after a step, if so it was before
+pub kept_after : (old new : Option (List Step)) (step : Step) (p q : Peer) → Tells old step new → q.number ≡ p.number
+    → ((a : Account) → Agrees a p → Agrees (account_step p.number a step) q) → IsKept old p → IsKept new q
+kept_after old new step p q tells same follows kept later is =
+    let t = tells later is in
+    let before : Agrees (account p.number t.0) p = kept t.0 t.1 in
+    let after : Agrees (account_step p.number (account p.number t.0) step) q = follows (account p.number t.0) before in
+    let more : account p.number later ≡ account_step p.number (account p.number t.0) step = ap (account p.number) t.2
+    ∙ account_more p.number t.0 step in
+    subst (λ (n : ℕ). Agrees (account n later) q) (sym same) (subst (λ (a : Account). Agrees a q) (sym more) after)
+
+-- the account of another socket stays
+pub spares_after : (other : ℕ) (old new : Option (List Step)) (step : Step) → Tells old step new
+    → ((a : Account) → account_step other a step ≡ a) → Spares other old new
+spares_after other old new step tells same later is =
+    let t = tells later is in
+    (t.0, t.1, ap (account other) t.2 ∙ account_more other t.0 step ∙ same (account other t.0))
+
+pub spares_none : (other : ℕ) (told : Option (List Step)) → Spares other told told
+spares_none other told later is = (later, is, refl)
+
+pub spares_then : (other : ℕ) (old mid new : Option (List Step)) → Spares other old mid → Spares other mid new → Spares other old new
+spares_then other old mid new first second later is =
+    let s = second later is in
+    let f = first s.0 s.1 in
+    (f.0, f.1, s.2 ∙ f.2)
+
+-- ---- whose step it is
+
+pub own : (n : ℕ) → (n == n) ≡ true
+own n = grind (arith, nat_tests)
+
+pub alien : (n other : ℕ) → other ≢ n → (n == other) ≡ false
+alien n other differ = grind (arith, nat_tests)
+
+pub picks : {X : Type 0} (b : Bool) (x y : X) → b ≡ true → (if b then x else y) ≡ x
+picks b x y e = ap (λ c. if c then x else y) e
+
+pub skips : {X : Type 0} (b : Bool) (x y : X) → b ≡ false → (if b then x else y) ≡ y
+skips b x y e = ap (λ c. if c then x else y) e
+
+pub spares_write : (n other : ℕ) (old new : Option (List Step)) (bytes : List ℕ) (answer : Result ℕ ErrorKind) → other ≢ n
+    → Tells old (Writes n bytes answer) new → Spares other old new
+spares_write n other old new bytes answer differ tells =
+    spares_after other old new (Writes n bytes answer) tells (λ a. skips (n == other) _ a (alien n other differ))
+
+pub spares_read : (n other : ℕ) (old new : Option (List Step)) (buffer : List ℕ) (answer : Result ℕ ErrorKind) → other ≢ n
+    → Tells old (Reads n buffer answer) new → Spares other old new
+spares_read n other old new buffer answer differ tells =
+    spares_after other old new (Reads n buffer answer) tells (λ a. skips (n == other) _ a (alien n other differ))
+
+-- ---- the steps of a peer
+
+agrees_own : (b : Bool) (x y : Account) (p : Peer) → b ≡ true → Agrees x p → Agrees (if b then x else y) p
+agrees_own b x y p e h = subst (λ (a : Account). Agrees a p) (sym (picks b x y e)) h
+
+pub kept_write : (old new : Option (List Step)) (p : Peer) (count : ℕ) (asked : Bool) → p.output ≡ output.Open
+    → Tells old (Writes p.number p.outgoing (Ok count)) new → IsKept old p
+    → IsKept new (record p { outgoing = drop count p.outgoing; output = taken count (length p.outgoing); asked = asked })
+kept_write old new p count asked is_open tells kept =
+    let q : Peer = record p { outgoing = drop count p.outgoing; output = taken count (length p.outgoing); asked = asked } in
+    kept_after old new (Writes p.number p.outgoing (Ok count)) p q tells refl
+    (λ (a : Account) (h : Agrees a p). agrees_own (p.number == p.number) _ a q (own p.number) (record {
+      cut = h.cut;
+      reads = h.reads;
+      stays = stays_drop a.watched a.leave p.outgoing p.stay count h.stays;
+      rightly = h.rightly;
+      unread = h.unread;
+      served = h.served;
+      writes = wrote_as a.sent p.outgoing count (subst (WritesAs a.sent p.outgoing) is_open h.writes);
+      line = h.line;
+      honest = h.honest;
+      rested = h.rested;
+    })) kept
+
+-- a write that failed says nothing of what the core has
+refused_cut : (sent : Sent) (said : Refusal) → (refused_write sent said).cut ≡ sent.cut
+refused_cut sent Later = refl
+refused_cut sent Again = refl
+refused_cut sent Fault = refl
+
+pub kept_refused : (old new : Option (List Step)) (p : Peer) (fault : ErrorKind) (asked : Bool) → p.output ≡ output.Open
+    → Tells old (Writes p.number p.outgoing (Err fault)) new → IsKept old p
+    → IsKept new (record p { output = refused p.output (refusal_told fault); asked = asked })
+kept_refused old new p fault asked is_open tells kept =
+    let q : Peer = record p { output = refused p.output (refusal_told fault); asked = asked } in
+    kept_after old new (Writes p.number p.outgoing (Err fault)) p q tells refl
+    (λ (a : Account) (h : Agrees a p). agrees_own (p.number == p.number) (record a { sent = wrote a.sent p.outgoing (Err fault) }) a q
+    (own p.number) (record {
+      cut = refused_cut a.sent (refusal_told fault) ∙ h.cut;
+      reads = h.reads;
+      stays = h.stays;
+      rightly = h.rightly;
+      unread = h.unread;
+      served = h.served;
+      writes = subst (λ (s : Writing). WritesAs (wrote a.sent p.outgoing (Err fault)) p.outgoing (refused s (refusal_told fault)))
+          (sym is_open)
+          (unwritten_as a.sent p.outgoing fault (subst (WritesAs a.sent p.outgoing) is_open h.writes));
+      line = h.line;
+      honest = h.honest;
+      rested = h.rested;
+    })) kept
+
+pub kept_read : (old new : Option (List Step)) (p : Peer) (buffer : List ℕ) (count : ℕ) → may_have p.input ≡ true
+    → Tells old (Reads p.number buffer (Ok count)) new → IsKept old p
+    → IsKept new (record p { incoming = p.incoming ++ take count buffer; input = given p.input count (length buffer) })
+kept_read old new p buffer count ready tells kept =
+    let q : Peer = record p { incoming = p.incoming ++ take count buffer; input = given p.input count (length buffer) } in
+    kept_after old new (Reads p.number buffer (Ok count)) p q tells refl
+    (λ (a : Account) (h : Agrees a p). agrees_own (p.number == p.number) _ a q (own p.number) (record {
+      cut = h.cut;
+      reads = read_comes a.received p.incoming buffer count p.input p.stay ready h.reads;
+      writes = h.writes;
+      stays = h.stays;
+      rightly = h.rightly;
+      unread = was_read a.watched;
+      served = h.served;
+      line = h.line;
+      honest = h.honest;
+      rested = h.rested;
+    })) kept
+
+-- a read that failed hands out nothing
+refused_handed : (received : Received) (said : Refusal) → (refused_read received said).handed ≡ received.handed
+refused_handed received Later = refl
+refused_handed received Again = refl
+refused_handed received Fault = refl
+
+pub kept_missed : (old new : Option (List Step)) (p : Peer) (buffer : List ℕ) (fault : ErrorKind) → may_have p.input ≡ true
+    → Tells old (Reads p.number buffer (Err fault)) new → IsKept old p
+    → IsKept new (record p { input = missed p.input (refusal_told fault) })
+kept_missed old new p buffer fault ready tells kept =
+    let q : Peer = record p { input = missed p.input (refusal_told fault) } in
+    kept_after old new (Reads p.number buffer (Err fault)) p q tells refl
+    (λ (a : Account) (h : Agrees a p). agrees_own (p.number == p.number) _ a q (own p.number) (record {
+      cut = h.cut;
+      reads = unread_comes a.received p.incoming buffer fault p.input p.stay ready h.reads;
+      writes = h.writes;
+      stays = h.stays;
+      rightly = h.rightly;
+      unread = was_read a.watched;
+      served = h.served;
+      line = h.line ∙ ap (line_after line.Ended) (sym (refused_handed a.received (refusal_told fault)));
+      honest = h.honest;
+      rested = h.rested;
+    })) kept
+
+pub kept_shut : (old new : Option (List Step)) (p : Peer) (since : ℕ) → p.stay ≡ stay.Leaving since → p.outgoing ≡ []
+    → is_lost p.output ≡ false → Tells old (Shuts p.number) new → IsKept old p → IsKept new (record p { stay = stay.Shut since })
+kept_shut old new p since leaving none sound tells kept =
+    let q : Peer = record p { stay = stay.Shut since } in
+    kept_after old new (Shuts p.number) p q tells refl
+    (λ (a : Account) (h : Agrees a p). agrees_own (p.number == p.number) (shut_down a) a q (own p.number)
+    (shut_agrees a p since leaving none sound h)) kept
+
+pub spares_shut : (n other : ℕ) (old new : Option (List Step)) → other ≢ n → Tells old (Shuts n) new → Spares other old new
+spares_shut n other old new differ tells =
+    spares_after other old new (Shuts n) tells (λ a. skips (n == other) (shut_down a) a (alien n other differ))
+
+pub kept_taken : (old new : Option (List Step)) (p : Peer) (bytes : List ℕ) (count : ℕ) (ending : Ending) (room : ℕ)
+    → p.stay ≡ stay.Here
+    → Tells old (Told (WriteCall p.number bytes (Ok count))) new → IsKept old p
+    → IsKept new (record p {
+      outgoing = queued_more p.output p.outgoing (take count bytes);
+      cut = nat_lt count (length bytes);
+      ending = ending;
+      room = room;
+    })
+kept_taken old new p bytes count ending room here tells kept =
+    let q : Peer = record p {
+      outgoing = queued_more p.output p.outgoing (take count bytes);
+      cut = nat_lt count (length bytes);
+      ending = ending;
+      room = room;
+    } in
+    kept_after old new (Told (WriteCall p.number bytes (Ok count))) p q tells refl
+    (λ (a : Account) (h : Agrees a p). agrees_own (p.number == p.number) _ a q (own p.number) (record {
+      cut = refl;
+      reads = h.reads;
+      writes = written_as a.sent p.outgoing (take count bytes) p.output h.writes;
+      stays = stays_here a.watched a.leave p.outgoing (queued_more p.output p.outgoing (take count bytes)) p.stay here h.stays;
+      rightly = h.rightly;
+      unread = h.unread;
+      served = h.served;
+      line = h.line;
+      honest = h.honest;
+      rested = h.rested;
+    })) kept
+
+-- what a read of the door told
+got_agrees : (a : Account) (p : Peer) (answer : Result Got DoorFault) (buffer rest : List ℕ) (share : Share) (asked : Bool)
+    → p.stay ≡ stay.Here → p.incoming ≡ got_bytes answer buffer ++ rest
+    → share.line ≡ line_after p.share.line (got_bytes answer buffer)
+    → (answer ≡ Ok got.Ended → MayEnd p) → OnErr answer (MayFail p) → Agrees a p
+    → Agrees (told_step p.number a (ReadCall p.number answer buffer)) (record p { incoming = rest; share = share; asked = asked })
+got_agrees a p (Ok (got.Bytes count)) buffer rest share asked here is lined ended failed h =
+    let q : Peer = record p { incoming = rest; share = share; asked = asked } in
+    let r = reads_here a.received p.incoming p.input p.stay here h.reads in
+    agrees_own (p.number == p.number) _ a q (own p.number) (record {
+      cut = h.cut;
+      reads = comes_here (record a.received { handed = a.received.handed ++ take count buffer }) rest p.input p.stay here
+          (handed_as a.received (take count buffer) rest p.input (subst (λ (b : List ℕ). ReadsAs a.received b p.input) is r));
+      writes = h.writes;
+      stays = h.stays;
+      rightly = h.rightly;
+      unread = λ e. wants_less p.input p.incoming (got_bytes (Ok (got.Bytes count)) buffer) rest is (h.unread e);
+      served = h.served;
+      line = lined ∙ ap (λ (l : Line). line_after l (take count buffer)) h.line
+          ∙ sym (line_after-append line.Ended a.received.handed (take count buffer));
+      honest = h.honest;
+      rested = h.rested;
+    })
+got_agrees a p (Ok got.Nothing) buffer rest share asked here is lined ended failed h = record {
+  cut = h.cut;
+  reads = subst (λ (b : List ℕ). ComesAs a.received b p.input p.stay) is h.reads;
+  writes = h.writes;
+  stays = h.stays;
+  rightly = h.rightly;
+  unread = λ e. wants_less p.input p.incoming (got_bytes (Ok got.Nothing) buffer) rest is (h.unread e);
+  served = h.served;
+  line = lined ∙ h.line;
+  honest = h.honest;
+  rested = h.rested;
+}
+got_agrees a p (Ok got.Ended) buffer rest share asked here is lined ended failed h =
+    let q : Peer = record p { incoming = rest; share = share; asked = asked } in
+    let e = ended refl in
+    let r : ReadsAs a.received p.incoming input.Ended = subst (ReadsAs a.received p.incoming) e.0
+    (reads_here a.received p.incoming p.input p.stay here h.reads) in
+    agrees_own (p.number == p.number) _ a q (own p.number) (record {
+      cut = h.cut;
+      reads = subst (λ (b : List ℕ). ComesAs a.received b p.input p.stay) is h.reads;
+      writes = h.writes;
+      stays = h.stays;
+      rightly = h.rightly;
+      unread = λ e. wants_less p.input p.incoming (got_bytes (Ok got.Ended) buffer) rest is (h.unread e);
+      served = h.served;
+      line = lined ∙ h.line;
+      honest = ap (λ b. b && may_end a) h.honest
+          ∙ may_end_then a p.incoming p.outgoing p.output r.0 r.2 e.1 e.3 e.4 h.writes;
+      rested = h.rested;
+    })
+got_agrees a p (Err fault) buffer rest share asked here is lined ended failed h =
+    let q : Peer = record p { incoming = rest; share = share; asked = asked } in
+    agrees_own (p.number == p.number) _ a q (own p.number) (record {
+      cut = h.cut;
+      reads = subst (λ (b : List ℕ). ComesAs a.received b p.input p.stay) is h.reads;
+      writes = h.writes;
+      stays = h.stays;
+      rightly = h.rightly;
+      unread = λ e. wants_less p.input p.incoming (got_bytes (Err fault) buffer) rest is (h.unread e);
+      served = h.served;
+      line = lined ∙ h.line;
+      honest = ap (λ b. b && may_fail a) h.honest ∙ may_fail_then a p here failed h;
+      rested = h.rested;
+    })
+
+pub kept_got : (old new : Option (List Step)) (p q : Peer) (answer : Result Got DoorFault) (buffer : List ℕ)
+    → p.stay ≡ stay.Here → q ≡ record p { incoming = q.incoming; share = q.share; asked = q.asked }
+    → p.incoming ≡ got_bytes answer buffer ++ q.incoming
+    → q.share.line ≡ line_after p.share.line (got_bytes answer buffer)
+    → (answer ≡ Ok got.Ended → MayEnd p) → OnErr answer (MayFail p)
+    → Tells old (Told (ReadCall p.number answer buffer)) new → IsKept old p → IsKept new q
+kept_got old new p q answer buffer here same is lined ended failed tells kept =
+    subst (IsKept new) (sym same)
+    (kept_after old new (Told (ReadCall p.number answer buffer)) p
+    (record p { incoming = q.incoming; share = q.share; asked = q.asked }) tells refl
+    (λ (a : Account) (h : Agrees a p). got_agrees a p answer buffer q.incoming q.share q.asked here is lined ended failed h) kept)
+
+-- its socket is tried again
+pub kept_again : (told : Option (List Step)) (p : Peer) (again : Bool) → IsKept told p
+    → IsKept told (record p { output = woken_output p.output again })
+kept_again told p again kept log is =
+    let h = kept log is in
+    record {
+      cut = h.cut;
+      reads = h.reads;
+      writes = again_writes (account p.number log).sent p.outgoing p.output again h.writes;
+      stays = h.stays;
+      rightly = h.rightly;
+      unread = h.unread;
+      served = h.served;
+      line = h.line;
+      honest = h.honest;
+      rested = h.rested;
+    }
+
+-- its mark was cleared, or it went on on the way to its end
+pub kept_visit : (told : Option (List Step)) (p : Peer) (share : Share) (ending : Ending) (room : ℕ) → share.line ≡ p.share.line
+    → IsKept told p → IsKept told (record p { share = share; ending = ending; room = room })
+kept_visit told p share ending room same kept log is =
+    let h = kept log is in
+    record {
+      cut = h.cut;
+      reads = h.reads;
+      writes = h.writes;
+      stays = h.stays;
+      rightly = h.rightly;
+      unread = h.unread;
+      served = h.served;
+      line = same ∙ h.line;
+      honest = h.honest;
+      rested = h.rested;
+    }
+
+-- ---- the sockets that a wait found ready
+
+pub woken_agrees : (a : Account) (p : Peer) (ready : Ready) → Agrees a p → Agrees (woken p.number a ready) (after_wake p ready)
+woken_agrees a p ready h = by (ready.socket == p.number)
+  where
+    by : (b : Bool) → Agrees (if b then record a {
+      sent = woken_sent a.sent ready.writable;
+      received = woken_came a.received ready.readable (ready.closed || ready.urgent);
+    } else a) (if b then record p {
+      input = woken_input p.input ready.readable (ready.closed || ready.urgent);
+      output = woken_output p.output ready.writable;
+    } else p)
+    by true = record {
+      cut = h.cut;
+      reads = woken_comes a.received p.incoming p.input p.stay ready.readable (ready.closed || ready.urgent) h.reads;
+      stays = h.stays;
+      rightly = h.rightly;
+      unread = λ e. wants_woken p.input p.incoming ready.readable (ready.closed || ready.urgent) (h.unread e);
+      served = h.served;
+      writes = woken_writes a.sent p.outgoing p.output ready.writable h.writes;
+      line = h.line;
+      honest = h.honest;
+      rested = h.rested;
+    }
+    by false = h
+
+pub woken_number : (p : Peer) (ready : Ready) → (after_wake p ready).number ≡ p.number
+woken_number p ready = by (ready.socket == p.number)
+  where
+    by : (b : Bool) → (if b then record p {
+      input = woken_input p.input ready.readable (ready.closed || ready.urgent);
+      output = woken_output p.output ready.writable;
+    } else p).number ≡ p.number
+    by true = refl
+    by false = refl
+
+pub all_woken : (n : ℕ) (a : Account) (p : Peer) (ready : List Ready) → p.number ≡ n → Agrees a p
+    → Agrees (fold (woken n) a ready) (fold after_wake p ready)
+all_woken n a p [] same h = h
+all_woken n a p (one ∷ more) same h =
+    let first : Agrees (woken p.number a one) (after_wake p one) = woken_agrees a p one h in
+    let here : Agrees (woken n a one) (after_wake p one) = subst (λ (m : ℕ). Agrees (woken m a one) (after_wake p one)) same first in
+    all_woken n (woken n a one) (after_wake p one) more (woken_number p one ∙ same) here
+
+pub all_number : (p : Peer) (ready : List Ready) → (fold after_wake p ready).number ≡ p.number
+all_number p [] = refl
+all_number p (one ∷ more) = all_number (after_wake p one) more ∙ woken_number p one
+
+pub unless_long : (short rests : Bool) → (short ≡ false → rests ≡ true) → (short || rests) ≡ true
+unless_long true rests f = refl
+unless_long false rests f = f refl
+
+pub or_so : (b c : Bool) → c ≡ true → (b || c) ≡ true
+or_so true c e = refl
+or_so false c e = e
+
+-- a wait, long only where the peer rests
+pub kept_waited : (old new : Option (List Step)) (p : Peer) (most : Option ℕ) (count : ℕ) (ready : List Ready)
+    → (is_short most ≡ false → is_resting p ≡ true)
+    → Tells old (Waits most count ready) new → IsKept old p → IsKept new (fold after_wake p (take count ready))
+kept_waited old new p most count ready rest tells kept =
+    kept_after old new (Waits most count ready) p (fold after_wake p (take count ready)) tells (all_number p (take count ready))
+    (λ (a : Account) (h : Agrees a p). noted_agrees (fold (woken p.number) (waited p.number a most) (take count ready))
+    (fold after_wake p (take count ready)) (all_woken p.number (waited p.number a most) p (take count ready) refl (record {
+      cut = h.cut;
+      reads = h.reads;
+      writes = h.writes;
+      stays = h.stays;
+      rightly = h.rightly;
+      unread = h.unread;
+      served = h.served;
+      line = h.line;
+      honest = h.honest;
+      rested = ap (λ b. b && (not (a.watched || (p.number == 0)) || (is_short most || is_at_rest a.sent a.received))) h.rested
+          ∙ or_so (not (a.watched || (p.number == 0))) (is_short most || is_at_rest a.sent a.received)
+          (unless_long (is_short most) (is_at_rest a.sent a.received) (λ long. resting a p h (rest long)));
+    }))) kept
+
+-- ---- the same, by the names that a function gives to the parts
+
+pub wrote_peer : (old new : Option (List Step)) (p : Peer) (count all : ℕ) (front left : List ℕ) (out : Writing) (asked : Bool)
+    → p.output ≡ output.Open
+    → front ≡ p.outgoing → left ≡ drop count p.outgoing → all ≡ length p.outgoing → out ≡ taken count all
+    → Tells old (Writes p.number front (Ok count)) new → IsKept old p
+    → IsKept new (record p { outgoing = left; output = out; asked = asked })
+wrote_peer old new p count all front left out asked is_open fronted lefted alled outed tells kept =
+    let told : Tells old (Writes p.number p.outgoing (Ok count)) new = subst
+    (λ (f : List ℕ). Tells old (Writes p.number f (Ok count)) new) fronted tells in
+    let k = kept_write old new p count asked is_open told kept in
+    subst (λ (o : Writing). IsKept new (record p { outgoing = left; output = o; asked = asked })) (sym (outed ∙ ap (taken count) alled))
+    (subst (λ (l : List ℕ). IsKept new (record p { outgoing = l; output = taken count (length p.outgoing); asked = asked }))
+    (sym lefted) k)
+
+pub refused_peer : (old new : Option (List Step)) (p : Peer) (fault : ErrorKind) (front : List ℕ) (said : Refusal) (out : Writing)
+    (asked : Bool) → p.output ≡ output.Open
+    → front ≡ p.outgoing → said ≡ refusal_told fault → out ≡ refused p.output said
+    → Tells old (Writes p.number front (Err fault)) new → IsKept old p → IsKept new (record p { output = out; asked = asked })
+refused_peer old new p fault front said out asked is_open fronted is outed tells kept =
+    let told : Tells old (Writes p.number p.outgoing (Err fault)) new = subst
+    (λ (f : List ℕ). Tells old (Writes p.number f (Err fault)) new) fronted tells in
+    subst (λ (o : Writing). IsKept new (record p { output = o; asked = asked })) (sym (outed ∙ ap (refused p.output) is))
+    (kept_refused old new p fault asked is_open told kept)
+
+pub read_peer : (old new : Option (List Step)) (p : Peer) (buffer after : List ℕ) (count room : ℕ) (state : Reading)
+    → may_have p.input ≡ true
+    → after ≡ p.incoming ++ take count buffer → room ≡ length buffer → state ≡ given p.input count room
+    → Tells old (Reads p.number buffer (Ok count)) new → IsKept old p → IsKept new (record p { incoming = after; input = state })
+read_peer old new p buffer after count room state ready aftered roomed stated tells kept =
+    subst (λ (s : Reading). IsKept new (record p { incoming = after; input = s })) (sym (stated ∙ ap (given p.input count) roomed))
+    (subst (λ (a : List ℕ). IsKept new (record p { incoming = a; input = given p.input count (length buffer) })) (sym aftered)
+    (kept_read old new p buffer count ready tells kept))
+
+pub missed_peer : (old new : Option (List Step)) (p : Peer) (buffer after : List ℕ) (fault : ErrorKind) (said : Refusal) (state : Reading)
+    → may_have p.input ≡ true
+    → after ≡ p.incoming → said ≡ refusal_told fault → state ≡ missed p.input said
+    → Tells old (Reads p.number buffer (Err fault)) new → IsKept old p → IsKept new (record p { incoming = after; input = state })
+missed_peer old new p buffer after fault said state ready aftered is stated tells kept =
+    subst (λ (s : Reading). IsKept new (record p { incoming = after; input = s })) (sym (stated ∙ ap (missed p.input) is))
+    (subst (λ (a : List ℕ). IsKept new (record p { incoming = a; input = missed p.input (refusal_told fault) })) (sym aftered)
+    (kept_missed old new p buffer fault ready tells kept))
+
+-- a call about one socket spares the others
+told_other : (n other : ℕ) (a : Account) (answer : Result Got DoorFault) (buffer : List ℕ) → other ≢ n → told_step other a
+    (ReadCall n answer buffer) ≡ a
+told_other n other a (Ok (got.Bytes count)) buffer differ = skips (n == other) _ a (alien n other differ)
+told_other n other a (Ok got.Nothing) buffer differ = refl
+told_other n other a (Ok got.Ended) buffer differ = skips (n == other) _ a (alien n other differ)
+told_other n other a (Err fault) buffer differ = skips (n == other) _ a (alien n other differ)
+
+pub spares_got : (n other : ℕ) (old new : Option (List Step)) (answer : Result Got DoorFault) (buffer : List ℕ) → other ≢ n
+    → Tells old (Told (ReadCall n answer buffer)) new → Spares other old new
+spares_got n other old new answer buffer differ tells =
+    spares_after other old new (Told (ReadCall n answer buffer)) tells (λ a. told_other n other a answer buffer differ)
+
+pub spares_taken : (n other : ℕ) (old new : Option (List Step)) (bytes : List ℕ) (count : ℕ) → other ≢ n
+    → Tells old (Told (WriteCall n bytes (Ok count))) new → Spares other old new
+spares_taken n other old new bytes count differ tells =
+    spares_after other old new (Told (WriteCall n bytes (Ok count))) tells (λ a. skips (n == other) _ a (alien n other differ))

@@ -1,0 +1,10 @@
+pub mod QueueLaws
+pub mod States
+pub mod Resting
+pub mod Wanting
+pub mod Staying
+pub mod Saying
+pub mod Keeping
+pub mod Lists
+pub mod Tellings
+pub mod Lined

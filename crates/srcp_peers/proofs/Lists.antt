@@ -1,0 +1,199 @@
+-- All peers of a door, when a step changes one of them.
+use Rattle.std.proofs.Common.{◌≡◌, ◌∙◌, ℕ, ◌<◌, ◌≤◌, ◌+◌, List, length, refl, ap, sym, subst, arith, ⊎_elim, get_or, set, get_or-set_other}
+use Rattle.std.proofs.Common.{get_or-set_same, ◌==◌, Option, Some}
+use Rattle.std.specs.Prelude.{◌≢◌, All, Bool, false, true, fold, slice_index_or, take, not, ◌&&◌}
+use Rattle.std.proofs.lemmas.Bool.{cases_eq}
+use Rattle.std.proofs.lemmas.List.{get_or_default, length-set}
+use Rattle.std.proofs.lemmas.List.Sums.{fold_more}
+use Rattle.srcp_peers.specs.declared.peer.Peer.{Peer}
+use Rattle.srcp_peers.specs.declared.system.Ready.{Ready}
+use Rattle.srcp_peers.specs.Steps.{Clocks, Step, Tells, Waits}
+use Rattle.srcp_peers.specs.Accounts.{Account, is_short, account}
+use Rattle.srcp_peers.specs.Peers.{Agrees, IsKept, Spares, IsRead, after_wake, is_resting}
+use Rattle.srcp_peers.specs.AllPeers.{AreApart, AreKept, AreThose, AreWithin, IsAbsent}
+use Rattle.srcp_peers.proofs.Keeping.{alien, kept_after, kept_waited, skips}
+use Rattle.srcp_peers.proofs.Staying.{clocked_agrees}
+
+-- a peer of which nothing is told stays what its account says
+pub kept_spared : (old new : Option (List Step)) (p : Peer) → Spares p.number old new → IsKept old p → IsKept new p
+kept_spared old new p spares kept later is =
+    let s = spares later is in
+    subst (λ (a : Account). Agrees a p) (sym s.2) (kept s.0 s.1)
+
+-- all peers, after a step that changed one of them and told nothing of the others
+pub set_kept : (old new : Option (List Step)) (peers : List Peer) (i : ℕ) (p q : Peer) → i < length peers
+    → AreApart peers → AreKept old peers → IsKept new q
+    → ((other : ℕ) → other ≢ (get_or peers i p).number → Spares other old new) → AreKept new (set peers i q)
+set_kept old new peers i p q within apart kept after spares k d lt =
+    let low : k < length peers = omega (arith, lt, length-set peers i q) in
+    ⊎_elim
+    (λ (e : k ≡ i). subst (IsKept new) (sym (ap (λ n. get_or (set peers i q) n d) e ∙ get_or-set_same peers i q d within)) after)
+    (λ (ne : k ≡ i → ⊥).
+    let differ : (get_or peers k d).number ≢ (get_or peers i p).number = λ (same : (get_or peers k d).number ≡ (get_or peers i p).number).
+    apart k i d low within ne (same ∙ ap (λ (x : Peer). x.number) (get_or_default peers i p d within)) in
+    subst (IsKept new) (sym (get_or-set_other peers i k q d ne))
+    (kept_spared old new (get_or peers k d) (spares (get_or peers k d).number differ) (kept k d low)))
+    (cases_eq k i)
+
+-- the sockets stay apart where the one keeps its number
+pub set_apart : (peers : List Peer) (i : ℕ) (p q : Peer) → i < length peers → q.number ≡ (get_or peers i p).number
+    → AreApart peers → AreApart (set peers i q)
+set_apart peers i p q within same apart j k d lj lk differ e =
+    let low_j : j < length peers = omega (arith, lj, length-set peers i q) in
+    let low_k : k < length peers = omega (arith, lk, length-set peers i q) in
+    apart j k d low_j low_k differ (sym (numbers j low_j) ∙ e ∙ numbers k low_k)
+  where
+    numbers : (n : ℕ) → n < length peers → (get_or (set peers i q) n d).number ≡ (get_or peers n d).number
+    numbers n low = ⊎_elim
+        (λ (e : n ≡ i). ap (λ (x : Peer). x.number) (ap (λ m. get_or (set peers i q) m d) e ∙ get_or-set_same peers i q d within) ∙ same
+        ∙ ap (λ (x : Peer). x.number) (get_or_default peers i p d within ∙ ap (λ m. get_or peers m d) (sym e)))
+        (λ (ne : n ≡ i → ⊥). ap (λ (x : Peer). x.number) (get_or-set_other peers i n q d ne))
+        (cases_eq n i)
+
+-- the same peers, where one keeps its number
+pub set_those : (first peers : List Peer) (i : ℕ) (p q : Peer) → i < length peers → length peers ≡ length first
+    → q.number ≡ (get_or peers i p).number → AreThose first peers → AreThose first (set peers i q)
+set_those first peers i p q within long same those k d lt = numbers k (omega (arith, long)) ∙ those k d lt
+  where
+    numbers : (n : ℕ) → n < length peers → (get_or (set peers i q) n d).number ≡ (get_or peers n d).number
+    numbers n low = ⊎_elim
+        (λ (e : n ≡ i). ap (λ (x : Peer). x.number) (ap (λ m. get_or (set peers i q) m d) e ∙ get_or-set_same peers i q d within) ∙ same
+        ∙ ap (λ (x : Peer). x.number) (get_or_default peers i p d within ∙ ap (λ m. get_or peers m d) (sym e)))
+        (λ (ne : n ≡ i → ⊥). ap (λ (x : Peer). x.number) (get_or-set_other peers i n q d ne))
+        (cases_eq n i)
+
+-- who has none of these sockets has none of them later
+pub absent_there : (other : ℕ) (first peers : List Peer) (i : ℕ) (p : Peer) → i < length peers → length peers ≡ length first
+    → AreThose first peers → IsAbsent other first → other ≢ (get_or peers i p).number
+absent_there other first peers i p within long those absent e =
+    let low : i < length first = omega (arith, long) in
+    absent i p low (sym (those i p low) ∙ sym e)
+
+pub absent_later : (other : ℕ) (first peers : List Peer) → length peers ≡ length first → AreThose first peers → IsAbsent other first
+    → IsAbsent other peers
+absent_later other first peers long those absent k d lt e =
+    let low : k < length first = omega (arith, lt, long) in
+    absent k d low (sym (those k d low) ∙ e)
+
+pub absent_before : (other : ℕ) (first peers : List Peer) → length peers ≡ length first → AreThose first peers → IsAbsent other peers
+    → IsAbsent other first
+absent_before other first peers long those absent k d lt e =
+    let low : k < length peers = omega (arith, lt, long) in
+    absent k d low (those k d lt ∙ e)
+
+pub apart_later : (first peers : List Peer) → length peers ≡ length first → AreThose first peers → AreApart first → AreApart peers
+apart_later first peers long those apart j k d lj lk differ e =
+    let lj' : j < length first = omega (arith, lj, long) in
+    let lk' : k < length first = omega (arith, lk, long) in
+    apart j k d lj' lk' differ (sym (those j d lj') ∙ e ∙ those k d lk')
+
+pub within_later : (last : ℕ) (first peers : List Peer) → length peers ≡ length first → AreThose first peers → AreWithin last first
+    → AreWithin last peers
+within_later last first peers long those within k d lt =
+    let low : k < length first = omega (arith, lt, long) in
+    let w = within k d low in
+    (subst (λ (n : ℕ). 0 < n) (sym (those k d low)) w.0, subst (λ (n : ℕ). n ≤ last) (sym (those k d low)) w.1)
+
+-- all peers after a clock was read
+pub clocked_all : (old new : Option (List Step)) (peers : List Peer) (answer : Option ℕ) → Tells old (Clocks answer) new
+    → AreKept old peers → AreKept new peers
+clocked_all old new peers answer tells kept k d lt =
+    let p : Peer = slice_index_or peers k d in
+    kept_after old new (Clocks answer) p p tells refl (λ a h. clocked_agrees a p answer h) (kept k d lt)
+
+-- the marks of those that were visited, and the others as they were
+pub set_marked : (first peers : List Peer) (i : ℕ) (p q : Peer) (clear : Bool) → i < length peers
+    → q.share.mark ≡ (not clear && (get_or peers i p).share.mark)
+    → ((k : ℕ) (d : Peer) → i ≤ k → slice_index_or peers k d ≡ slice_index_or first k d)
+    → ((k : ℕ) (d : Peer) → k < i → (slice_index_or peers k d).share.mark ≡ (not clear && (slice_index_or first k d).share.mark))
+    → (k : ℕ) (d : Peer) → k < i + 1
+    → (slice_index_or (set peers i q) k d).share.mark ≡ (not clear && (slice_index_or first k d).share.mark)
+set_marked first peers i p q clear within marked rest before k d lt = ⊎_elim
+    (λ (e : k ≡ i). ap (λ (x : Peer). x.share.mark) (ap (λ n. get_or (set peers i q) n d) e ∙ get_or-set_same peers i q d within) ∙ marked
+    ∙ ap (λ (x : Peer). not clear && x.share.mark)
+    (get_or_default peers i p d within ∙ rest i d (omega arith) ∙ ap (λ n. get_or first n d) (sym e)))
+    (λ (ne : k ≡ i → ⊥). ap (λ (x : Peer). x.share.mark) (get_or-set_other peers i k q d ne) ∙ before k d (omega (arith, lt, ne)))
+    (cases_eq k i)
+
+-- so many lines may be queued for each that was visited
+pub set_rooms : (peers : List Peer) (i : ℕ) (q : Peer) (room : ℕ) → i < length peers → q.room ≡ room
+    → ((k : ℕ) (d : Peer) → k < i → (slice_index_or peers k d).room ≡ room)
+    → (k : ℕ) (d : Peer) → k < i + 1 → (slice_index_or (set peers i q) k d).room ≡ room
+set_rooms peers i q room within is before k d lt = ⊎_elim
+    (λ (e : k ≡ i). ap (λ (x : Peer). x.room) (ap (λ n. get_or (set peers i q) n d) e ∙ get_or-set_same peers i q d within) ∙ is)
+    (λ (ne : k ≡ i → ⊥). ap (λ (x : Peer). x.room) (get_or-set_other peers i k q d ne) ∙ before k d (omega (arith, lt, ne)))
+    (cases_eq k i)
+
+pub set_rest : (first peers : List Peer) (i : ℕ) (q : Peer)
+    → ((k : ℕ) (d : Peer) → i ≤ k → slice_index_or peers k d ≡ slice_index_or first k d)
+    → (k : ℕ) (d : Peer) → i + 1 ≤ k → slice_index_or (set peers i q) k d ≡ slice_index_or first k d
+set_rest first peers i q rest k d late = get_or-set_other peers i k q d (λ e. omega (arith, late, e)) ∙ rest k d (omega (arith, late))
+
+-- a socket that was found ready says nothing of the others
+woken_other : (p : Peer) (ready : Ready) → p.number ≢ ready.socket → after_wake p ready ≡ p
+woken_other p ready differ = skips (ready.socket == p.number) _ p (alien ready.socket p.number differ)
+
+pub woken_none : (peers : List Peer) (ready : Ready) → IsAbsent ready.socket peers → (k : ℕ) (d : Peer) → k < length peers
+    → slice_index_or peers k d ≡ after_wake (slice_index_or peers k d) ready
+woken_none peers ready absent k d lt = sym (woken_other (slice_index_or peers k d) ready (absent k d lt))
+
+pub woken_set : (peers : List Peer) (i : ℕ) (p q : Peer) (ready : Ready) → i < length peers
+    → (get_or peers i p).number ≡ ready.socket → q ≡ after_wake (get_or peers i p) ready → AreApart peers
+    → (k : ℕ) (d : Peer) → k < length peers → slice_index_or (set peers i q) k d ≡ after_wake (slice_index_or peers k d) ready
+woken_set peers i p q ready within there woken apart k d lt = ⊎_elim
+    (λ (e : k ≡ i). ap (λ n. get_or (set peers i q) n d) e ∙ get_or-set_same peers i q d within ∙ woken
+    ∙ ap (λ (x : Peer). after_wake x ready) (get_or_default peers i p d within ∙ ap (λ n. get_or peers n d) (sym e)))
+    (λ (ne : k ≡ i → ⊥). get_or-set_other peers i k q d ne ∙ sym (woken_other (get_or peers k d) ready
+    (λ same. apart k i d lt within ne (same ∙ sym there ∙ ap (λ (x : Peer). x.number) (get_or_default peers i p d within)))))
+    (cases_eq k i)
+
+-- one more socket was found ready
+pub woken_more : (peers before later : List Peer) (ready : List Ready) (n : ℕ) (one : Ready) → n < length ready
+    → one ≡ get_or ready n one → length before ≡ length peers
+    → ((k : ℕ) (d : Peer) → k < length peers → slice_index_or before k d ≡ fold after_wake (slice_index_or peers k d) (take n ready))
+    → ((k : ℕ) (d : Peer) → k < length before → slice_index_or later k d ≡ after_wake (slice_index_or before k d) one)
+    → (k : ℕ) (d : Peer) → k < length peers
+    → slice_index_or later k d ≡ fold after_wake (slice_index_or peers k d) (take (n + 1) ready)
+woken_more peers before later ready n one within here long woken wakes k d lt =
+    wakes k d (omega (arith, lt, long)) ∙ ap (λ (x : Peer). after_wake x one) (woken k d lt)
+    ∙ sym (fold_more after_wake (slice_index_or peers k d) ready n one within
+    ∙ ap (after_wake (fold after_wake (slice_index_or peers k d) (take n ready))) (sym here))
+
+-- all peers after a wait, which is long only where all rest
+pub waited_all : (old new : Option (List Step)) (peers later : List Peer) (most : Option ℕ) (count : ℕ) (ready : List Ready)
+    → (is_short most ≡ false → All (λ peer. is_resting peer ≡ true) peers) → Tells old (Waits most count ready) new
+    → length later ≡ length peers
+    → ((k : ℕ) (d : Peer) → k < length peers → slice_index_or later k d ≡ fold after_wake (slice_index_or peers k d) (take count ready))
+    → AreKept old peers → AreKept new later
+waited_all old new peers later most count ready rest tells long woken kept k d lt =
+    let low : k < length peers = omega (arith, long) in
+    subst (IsKept new) (sym (woken k d low))
+    (kept_waited old new (slice_index_or peers k d) most count ready (λ e. rest e k d low) tells (kept k d low))
+
+-- ---- who is spared
+
+-- what held of an account holds of it after steps that say nothing of it
+pub spared : (P : Account → Type 0) (socket : ℕ) (old new : Option (List Step)) → Spares socket old new
+    → ((log : List Step) → old ≡ Some log → P (account socket log)) → (log : List Step) → new ≡ Some log → P (account socket log)
+spared P socket old new spares before log is =
+    let s = spares log is in
+    subst P (sym s.2) (before s.0 s.1)
+
+-- ---- all peers are read
+
+-- one more is, and the others stay so
+pub set_read : (old new : Option (List Step)) (peers : List Peer) (i : ℕ) (p q : Peer) → i < length peers → AreApart peers
+    → q.number ≡ (get_or peers i p).number → ((other : ℕ) → other ≢ (get_or peers i p).number → Spares other old new)
+    → IsRead new (get_or peers i p).number → ((k : ℕ) (d : Peer) → k < i → IsRead old (get_or peers k d).number)
+    → (k : ℕ) (d : Peer) → k < i + 1 → IsRead new (get_or (set peers i q) k d).number
+set_read old new peers i p q within apart same others here below k d lt = ⊎_elim
+    (λ (e : k ≡ i). subst (IsRead new) (sym (ap (λ n. (get_or (set peers i q) n d).number) e
+    ∙ ap (λ (x : Peer). x.number) (get_or-set_same peers i q d within) ∙ same)) here)
+    (λ (ne : k ≡ i → ⊥).
+    let low : k < i = omega (arith, lt, ne) in
+    let differ : (get_or peers k d).number ≢ (get_or peers i p).number = λ (e : (get_or peers k d).number ≡ (get_or peers i p).number).
+    apart k i d (omega (arith, low, within)) within ne (e ∙ ap (λ (x : Peer). x.number) (get_or_default peers i p d within)) in
+    subst (IsRead new) (sym (ap (λ (x : Peer). x.number) (get_or-set_other peers i k q d ne)))
+    (spared (λ (a : Account). (a.watched && a.unread) ≡ false) (get_or peers k d).number old new
+    (others (get_or peers k d).number differ) (below k d low)))
+    (cases_eq k i)

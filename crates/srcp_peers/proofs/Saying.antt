@@ -1,0 +1,67 @@
+-- Which steps are calls of the door, and which say nothing of the time.
+use Rattle.std.proofs.Common.{◌≡◌, ◌∙◌, List, [], ◌∷◌, ◌++◌}
+use Rattle.std.proofs.Common.{Option, None, ℕ, refl, ap, append-nil}
+use Rattle.std.proofs.lemmas.List.Elements.{filter_map-append}
+use Rattle.srcp_peers.specs.Steps.{Step, SaysNothing, SaysOne, Tells, Accepts, Clocks, Closes, Reads, Shuts, Writes, Waits, Told, calls}
+use Rattle.srcp_peers.specs.Steps.{call_of}
+use Rattle.srcp_serve.specs.Calls.{Call}
+use Rattle.std.proofs.lemmas.List.Sums.{fold-append}
+use Rattle.srcp_peers.specs.Times.{KeepsTimes, Times, first_times, times, times_step}
+
+pub says_none : (told : Option (List Step)) → SaysNothing told told
+says_none told later is = (later, is, refl)
+
+pub says_then : (old mid new : Option (List Step)) → SaysNothing old mid → SaysNothing mid new → SaysNothing old new
+says_then old mid new first second later is =
+    let s = second later is in
+    let f = first s.0 s.1 in
+    (f.0, f.1, s.2 ∙ f.2)
+
+-- one step more that is none
+calls_skip : (log : List Step) (step : Step) → call_of step ≡ None → calls (log ++ step ∷ []) ≡ calls log
+calls_skip log (Accepts n answer) e = filter_map-append call_of log (Accepts n answer ∷ []) ∙ append-nil (calls log)
+calls_skip log (Reads n buffer answer) e = filter_map-append call_of log (Reads n buffer answer ∷ []) ∙ append-nil (calls log)
+calls_skip log (Writes n bytes answer) e = filter_map-append call_of log (Writes n bytes answer ∷ []) ∙ append-nil (calls log)
+calls_skip log (Waits most count ready) e = filter_map-append call_of log (Waits most count ready ∷ []) ∙ append-nil (calls log)
+calls_skip log (Shuts n) e = filter_map-append call_of log (Shuts n ∷ []) ∙ append-nil (calls log)
+calls_skip log (Closes n) e = filter_map-append call_of log (Closes n ∷ []) ∙ append-nil (calls log)
+calls_skip log (Clocks answer) e = filter_map-append call_of log (Clocks answer ∷ []) ∙ append-nil (calls log)
+calls_skip log (Told call) e = cc
+
+pub says_step : (old new : Option (List Step)) (step : Step) → Tells old step new → call_of step ≡ None → SaysNothing old new
+says_step old new step tells none later is =
+    let t = tells later is in
+    (t.0, t.1, ap calls t.2 ∙ calls_skip t.0 step none)
+
+-- one call of the door
+pub says_call : (old new : Option (List Step)) (call : Call) → Tells old (Told call) new → SaysOne old call new
+says_call old new call tells later is =
+    let t = tells later is in
+    (t.0, t.1, ap calls t.2 ∙ filter_map-append call_of t.0 (Told call ∷ []))
+
+pub says_after : (old mid new : Option (List Step)) (call : Call) → SaysNothing old mid → SaysOne mid call new → SaysOne old call new
+says_after old mid new call first second later is =
+    let s = second later is in
+    let f = first s.0 s.1 in
+    (f.0, f.1, s.2 ∙ ap (λ c. c ++ call ∷ []) f.2)
+
+-- ---- steps that say nothing of the time
+
+pub times_more : (wall start : ℕ) (log : List Step) (step : Step)
+    → times wall start (log ++ step ∷ []) ≡ times_step (times wall start log) step
+times_more wall start log step = fold-append times_step (first_times wall start) log (step ∷ [])
+
+pub keeps_none : (told : Option (List Step)) → KeepsTimes told told
+keeps_none told later is = (later, is, λ wall start. refl)
+
+pub keeps_then : (old mid new : Option (List Step)) → KeepsTimes old mid → KeepsTimes mid new → KeepsTimes old new
+keeps_then old mid new first second later is =
+    let s = second later is in
+    let f = first s.0 s.1 in
+    (f.0, f.1, λ wall start. s.2 wall start ∙ f.2 wall start)
+
+pub keeps_step : (old new : Option (List Step)) (step : Step) → Tells old step new → ((t : Times) → times_step t step ≡ t)
+    → KeepsTimes old new
+keeps_step old new step tells same later is =
+    let t = tells later is in
+    (t.0, t.1, λ wall start. ap (times wall start) t.2 ∙ times_more wall start t.0 step ∙ same (times wall start t.0))

@@ -1,0 +1,244 @@
+-- How far a peer is let go, by its account.
+use Rattle.std.proofs.Common.{◌≡◌, ◌∙◌, ℕ, Bool, true, false, not, List, [], ◌++◌, drop, length, refl, ap, sym, subst, arith, ◌==◌}
+use Rattle.std.proofs.Common.{true≢false, Option, append-nil, ⊎_elim}
+use Rattle.std.specs.Prelude.{◌&&◌, ◌||◌, cond}
+use Rattle.std.proofs.lemmas.List.{drop_all}
+use Rattle.srcp_peers.specs.Steps.{Step}
+use Rattle.srcp_peers.specs.declared.peer.Peer.{Peer}
+use Rattle.srcp_peers.specs.declared.readiness.Reading.{Reading}
+use Rattle.srcp_peers.specs.declared.readiness.Reading.TheVariants as input
+use Rattle.srcp_peers.specs.declared.readiness.Writing.{Writing}
+use Rattle.srcp_peers.specs.declared.readiness.Writing.TheVariants as output
+use Rattle.srcp_peers.specs.declared.stay.Stay.{Stay}
+use Rattle.srcp_peers.specs.declared.stay.Stay.TheVariants as stay
+use Rattle.srcp_peers.specs.Accounts.{Account, Leave, Received, Sent, account, clocked, clock_after, is_held, is_overdue, is_owed, let_go}
+use Rattle.srcp_peers.specs.Accounts.{may_close, may_end, may_fail, shut_down}
+use Rattle.srcp_peers.specs.Peers.{Agrees, ComesAs, IsKept, MayFail, ReadsAs, StaysAs, WritesAs, closable_as, is_closable, is_here, is_lost}
+use Rattle.srcp_peers.proofs.Resting.{held_is, owed_is}
+use Rattle.srcp_peers.proofs.States.{comes_starts, reads_here}
+use Rattle.srcp_peers.proofs.Wanting.{wants_less}
+
+-- one that is there stays so, whatever is queued for it
+pub stays_here : (watched : Bool) (leave : Leave) (before after : List ℕ) (here : Stay) → here ≡ stay.Here
+    → StaysAs watched leave before here → StaysAs watched leave after here
+stays_here watched leave before after stay.Here e h = h
+stays_here watched leave before after (stay.Leaving since) e h = h
+stays_here watched leave before after (stay.Shut since) e h = absurd cc
+
+-- its socket took something of what is queued
+pub stays_drop : (watched : Bool) (leave : Leave) (outgoing : List ℕ) (here : Stay) (count : ℕ) → StaysAs watched leave outgoing here
+    → StaysAs watched leave (drop count outgoing) here
+stays_drop watched leave outgoing stay.Here count h = h
+stays_drop watched leave outgoing (stay.Leaving since) count h = h
+stays_drop watched leave outgoing (stay.Shut since) count h =
+    (h.0, h.1, h.2, h.3, ap (drop count) h.4 ∙ drop_all count [] (omega arith))
+
+-- a clock was read
+stays_clocked : (watched : Bool) (leave : Leave) (clock : ℕ) (outgoing : List ℕ) (here : Stay) → StaysAs watched leave outgoing here
+    → StaysAs watched (record leave { clock = clock }) outgoing here
+stays_clocked watched leave clock outgoing stay.Here h = h
+stays_clocked watched leave clock outgoing (stay.Leaving since) h = h
+stays_clocked watched leave clock outgoing (stay.Shut since) h = h
+
+pub clocked_agrees : (a : Account) (p : Peer) (answer : Option ℕ) → Agrees a p → Agrees (clocked a answer) p
+clocked_agrees a p answer h = record {
+  reads = h.reads;
+  writes = h.writes;
+  stays = stays_clocked a.watched a.leave (clock_after a.leave.clock answer) p.outgoing p.stay h.stays;
+  rightly = h.rightly;
+  unread = h.unread;
+  served = h.served;
+  cut = h.cut;
+  line = h.line;
+  honest = h.honest;
+  rested = h.rested;
+}
+
+-- ---- it is let go
+
+pub let_go_agrees : (a : Account) (p : Peer) (since : ℕ) → p.stay ≡ stay.Here → a.leave.clock ≡ since → Agrees a p
+    → Agrees (let_go a) (record p { stay = stay.Leaving since })
+let_go_agrees a p since here clock h =
+    let s : StaysAs a.watched a.leave p.outgoing stay.Here = subst (StaysAs a.watched a.leave p.outgoing) here h.stays in
+    record {
+      reads = comes_starts a.received p.incoming p.input p.stay h.reads;
+      writes = h.writes;
+      stays = (refl, s.1, ap (λ w. cond w a.leave.clock a.leave.since) s.0 ∙ clock, s.2);
+      rightly = h.rightly;
+      unread = λ e. absurd (true≢false (sym e));
+      served = h.served;
+      cut = h.cut;
+      line = h.line;
+      honest = h.honest;
+      rested = h.rested;
+    }
+
+-- one that was let go before
+stays_gone : (a : Account) (outgoing : List ℕ) (here : Stay) → is_here here ≡ false → StaysAs a.watched a.leave outgoing here
+    → StaysAs false (record a.leave { since = cond a.watched a.leave.clock a.leave.since }) outgoing here
+stays_gone a outgoing stay.Here e h = absurd (true≢false e)
+stays_gone a outgoing (stay.Leaving since) e h = (refl, h.1, ap (λ w. cond w a.leave.clock a.leave.since) h.0 ∙ h.2, h.3)
+stays_gone a outgoing (stay.Shut since) e h = (refl, h.1, ap (λ w. cond w a.leave.clock a.leave.since) h.0 ∙ h.2, h.3, h.4)
+
+pub gone_agrees : (a : Account) (p : Peer) → is_here p.stay ≡ false → Agrees a p → Agrees (let_go a) p
+gone_agrees a p gone h = record {
+  reads = h.reads;
+  writes = h.writes;
+  stays = stays_gone a p.outgoing p.stay gone h.stays;
+  rightly = h.rightly;
+  unread = λ e. absurd (true≢false (sym e));
+  served = h.served;
+  cut = h.cut;
+  line = h.line;
+  honest = h.honest;
+  rested = h.rested;
+}
+
+-- what was read of one that was let go is dropped
+dropped_as : (received : Received) (incoming : List ℕ) (state : Reading) (here : Stay) → is_here here ≡ false
+    → ComesAs received incoming state here → ComesAs received [] state here
+dropped_as received incoming state stay.Here e h = absurd (true≢false e)
+dropped_as received incoming state (stay.Leaving since) e h = h
+dropped_as received incoming state (stay.Shut since) e h = h
+
+pub kept_dropped : (told : Option (List Step)) (p : Peer) → is_here p.stay ≡ false → IsKept told p
+    → IsKept told (record p { incoming = [] })
+kept_dropped told p gone kept log is =
+    let h = kept log is in
+    record {
+      reads = dropped_as (account p.number log).received p.incoming p.input p.stay gone h.reads;
+      writes = h.writes;
+      stays = h.stays;
+      rightly = h.rightly;
+      unread = λ e. wants_less p.input p.incoming p.incoming [] (sym (append-nil p.incoming)) (h.unread e);
+      served = h.served;
+      cut = h.cut;
+      line = h.line;
+      honest = h.honest;
+      rested = h.rested;
+    }
+
+-- ---- it is shut down
+
+-- nothing is owed where nothing is queued, but to a socket that takes no more
+owed_none : (sent : Sent) (outgoing : List ℕ) (state : Writing) → is_lost state ≡ false → outgoing ≡ [] → WritesAs sent outgoing state
+    → is_owed sent ≡ false
+owed_none sent outgoing output.Open e none h = owed_is sent outgoing h.0 ∙ ap (λ (o : List ℕ). not (length o == 0)) none
+owed_none sent outgoing output.Full e none h = owed_is sent outgoing h.0 ∙ ap (λ (o : List ℕ). not (length o == 0)) none
+owed_none sent outgoing output.Lost e none h = absurd (true≢false e)
+
+ends : (ended held owed : Bool) → ended ≡ true → held ≡ false → owed ≡ false → (ended && (not held && not owed)) ≡ true
+ends ended held owed e h o = rw (e, h, o) refl
+
+-- its end may be told
+pub may_end_then : (a : Account) (incoming outgoing : List ℕ) (state : Writing) → a.received.gave ≡ a.received.handed ++ incoming
+    → a.received.ended ≡ true → incoming ≡ [] → outgoing ≡ [] → is_lost state ≡ false → WritesAs a.sent outgoing state
+    → may_end a ≡ true
+may_end_then a incoming outgoing state came over none taken sound w =
+    ends a.received.ended (is_held a.received) (is_owed a.sent) over
+    (held_is a.received incoming came ∙ ap (λ (i : List ℕ). not (length i == 0)) none) (owed_none a.sent outgoing state sound taken w)
+
+shuts : (rightly watched kept shut owed : Bool) → rightly ≡ true → watched ≡ false → kept ≡ true → shut ≡ false → owed ≡ false
+    → (rightly && ((not watched && kept) && (not shut && not owed))) ≡ true
+shuts rightly watched kept shut owed r w o s n = rw (r, w, o, s, n) refl
+
+pub shut_agrees : (a : Account) (p : Peer) (since : ℕ) → p.stay ≡ stay.Leaving since → p.outgoing ≡ [] → is_lost p.output ≡ false
+    → Agrees a p → Agrees (shut_down a) (record p { stay = stay.Shut since })
+shut_agrees a p since leaving none kept h =
+    let s : StaysAs a.watched a.leave p.outgoing (stay.Leaving since) = subst (StaysAs a.watched a.leave p.outgoing) leaving h.stays in
+    record {
+      reads = comes_starts a.received p.incoming p.input p.stay h.reads;
+      writes = h.writes;
+      stays = (s.0, s.1, s.2, refl, none);
+      rightly = shuts a.leave.rightly a.watched a.leave.kept a.leave.shut (is_owed a.sent) h.rightly s.0 s.1 s.3
+          (owed_none a.sent p.outgoing p.output kept none h.writes);
+      unread = h.unread;
+      served = h.served;
+      cut = h.cut;
+      line = h.line;
+      honest = h.honest;
+      rested = h.rested;
+    }
+
+-- ---- it is closed
+
+closes_late : (watched kept shut owed lost over : Bool) → watched ≡ false → kept ≡ true → (lost || over) ≡ true
+    → ((not watched && kept) && ((shut && not owed) || (lost || over))) ≡ true
+closes_late watched kept shut owed lost over w o e = rw (w, o, e) (by (shut && not owed))
+  where
+    by : (b : Bool) → (b || true) ≡ true
+    by true = refl
+    by false = refl
+
+closes_shut : (watched kept shut owed lost over : Bool) → watched ≡ false → kept ≡ true → shut ≡ true → owed ≡ false
+    → ((not watched && kept) && ((shut && not owed) || (lost || over))) ≡ true
+closes_shut watched kept shut owed lost over w o s n = rw (w, o, s, n) refl
+
+-- a write found that it takes no more
+lost_is : (sent : Sent) (outgoing : List ℕ) (state : Writing) → is_lost state ≡ true → WritesAs sent outgoing state → sent.lost ≡ true
+lost_is sent outgoing output.Open e h = absurd (true≢false (sym e))
+lost_is sent outgoing output.Full e h = absurd (true≢false (sym e))
+lost_is sent outgoing output.Lost e h = h.1
+
+or_lost : (x over lost : Bool) → (x || over) ≡ true → (x ≡ true → lost ≡ true) → (lost || over) ≡ true
+or_lost true over lost e f = ap (λ b. b || over) (f refl)
+or_lost false over lost e f = ap (λ b. lost || b) e ∙ by lost
+  where
+    by : (b : Bool) → (b || true) ≡ true
+    by true = refl
+    by false = refl
+
+closable_then : (a : Account) (outgoing : List ℕ) (state : Writing) (here : Stay) (clock : ℕ) → a.leave.clock ≡ clock
+    → closable_as clock state here ≡ true → WritesAs a.sent outgoing state → StaysAs a.watched a.leave outgoing here
+    → (may_close a ≡ true) × (a.watched ≡ false)
+closable_then a outgoing state stay.Here clock is e w h = absurd (true≢false (sym e))
+closable_then a outgoing state (stay.Leaving since) clock is e w h = (
+  closes_late a.watched a.leave.kept a.leave.shut (is_owed a.sent) a.sent.lost (is_overdue a.leave.clock a.leave.since) h.0 h.1
+      (or_lost (is_lost state) (is_overdue a.leave.clock a.leave.since) a.sent.lost
+      (ap (λ c. is_lost state || is_overdue c a.leave.since) is ∙ ap (λ s. is_lost state || is_overdue clock s) h.2 ∙ e)
+      (λ l. lost_is a.sent outgoing state l w)),
+  h.0,
+)
+closable_then a outgoing state (stay.Shut since) clock is e w h = (by state w, h.0)
+  where
+    by : (o : Writing) → WritesAs a.sent outgoing o → may_close a ≡ true
+    by output.Open w = closes_shut a.watched a.leave.kept a.leave.shut (is_owed a.sent) a.sent.lost
+        (is_overdue a.leave.clock a.leave.since) h.0 h.1 h.3 (owed_none a.sent outgoing output.Open refl h.4 w)
+    by output.Full w = closes_shut a.watched a.leave.kept a.leave.shut (is_owed a.sent) a.sent.lost
+        (is_overdue a.leave.clock a.leave.since) h.0 h.1 h.3 (owed_none a.sent outgoing output.Full refl h.4 w)
+    by output.Lost w = closes_late a.watched a.leave.kept a.leave.shut (is_owed a.sent) a.sent.lost
+        (is_overdue a.leave.clock a.leave.since) h.0 h.1 (ap (λ b. b || is_overdue a.leave.clock a.leave.since) w.1)
+
+-- a peer that may be closed may be so by its account
+pub may_close_then : (a : Account) (p : Peer) (clock : ℕ) → a.leave.clock ≡ clock → is_closable clock p ≡ true → Agrees a p
+    → (may_close a ≡ true) × (a.watched ≡ false)
+may_close_then a p clock is e h = closable_then a p.outgoing p.output p.stay clock is e h.writes h.stays
+
+-- ---- it is told to be lost
+
+fails_read : (gone failed lost : Bool) → failed ≡ true → (gone || (failed || lost)) ≡ true
+fails_read true failed lost e = refl
+fails_read false failed lost e = ap (λ f. f || lost) e
+
+fails_write : (gone failed lost : Bool) → lost ≡ true → (gone || (failed || lost)) ≡ true
+fails_write true failed lost e = refl
+fails_write false true lost e = refl
+fails_write false false lost e = e
+
+-- a peer that may be told to be lost may be so by its account
+pub may_fail_then : (a : Account) (p : Peer) → p.stay ≡ stay.Here → MayFail p → Agrees a p → may_fail a ≡ true
+may_fail_then a p here failed h = ⊎_elim
+    (λ (e : p.input ≡ input.Failed).
+    let r : ReadsAs a.received p.incoming input.Failed = subst (ReadsAs a.received p.incoming) e
+    (reads_here a.received p.incoming p.input p.stay here h.reads) in
+    fails_read (not a.watched) a.received.failed a.sent.lost r.1)
+    (λ (e : is_lost p.output ≡ true).
+    fails_write (not a.watched) a.received.failed a.sent.lost (lost_is a.sent p.outgoing p.output e h.writes))
+    failed
+
+-- one that was let go is not there by its account
+pub gone_unwatched : (a : Account) (outgoing : List ℕ) (here : Stay) → is_here here ≡ false
+    → StaysAs a.watched a.leave outgoing here → a.watched ≡ false
+gone_unwatched a outgoing stay.Here e h = absurd (true≢false e)
+gone_unwatched a outgoing (stay.Leaving since) e h = h.0
+gone_unwatched a outgoing (stay.Shut since) e h = h.0

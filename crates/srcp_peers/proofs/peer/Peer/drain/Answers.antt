@@ -1,0 +1,31 @@
+use Rattle.std.proofs.Common.{◌∙◌, refl, ap}
+use Rattle.srcp_peers.specs.Peers.{is_here}
+use Rattle.srcp_peers.proofs.Saying.{says_none, says_then, keeps_none, keeps_then}
+use Rattle.srcp_peers.proofs.Keeping.{spares_none, spares_then}
+use Rattle.srcp_peers.proofs.peer.Peer.drain.Goals as goal
+
+pub loop-init : goal.loop-init
+loop-init g c = record {
+  kept = c.requires.kept;
+  gone = c.requires.gone;
+  others = λ other differ. spares_none other (g.S.System.told c.args.system.now);
+  calls = says_none (g.S.System.told c.args.system.now);
+  times = keeps_none (g.S.System.told c.args.system.now);
+  number = refl;
+}
+
+pub loop-preserved : goal.loop-preserved
+loop-preserved g c =
+    let first = g.S.System.told c.args.system.now in
+    let old = g.S.System.told c.loop.system in
+    let new = g.S.System.told c.skip.new.system in
+    let was = c.loop.invariant in
+    record {
+      kept = c.skip.ensures.kept;
+      gone = ap is_here c.skip.ensures.stay ∙ was.gone;
+      others = λ other differ. spares_then other first old new (was.others other differ)
+          (c.skip.ensures.others other (λ e. differ (e ∙ was.number)));
+      calls = says_then first old new was.calls c.skip.ensures.calls;
+      times = keeps_then first old new was.times c.skip.ensures.times;
+      number = c.skip.ensures.number ∙ was.number;
+    }

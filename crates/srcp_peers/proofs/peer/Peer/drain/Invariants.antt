@@ -1,0 +1,15 @@
+use Rattle.std.proofs.Common.{◌≡◌, ◌≢◌, ℕ, false}
+use Rattle.srcp_peers.specs.Steps.{SaysNothing}
+use Rattle.srcp_peers.specs.Times.{KeepsTimes}
+use Rattle.srcp_peers.specs.Peers.{IsKept, Spares, is_here}
+use Rattle.srcp_peers.proofs.peer.Peer.drain.Given as goal
+
+abbrev pub invariant-loop : goal.invariant-loop
+invariant-loop g l = record {
+  kept : IsKept (g.S.System.told l.system) l.self;
+  gone : is_here l.self.stay ≡ false;
+  others : (other : ℕ) → other ≢ l.fn.self.number → Spares other (g.S.System.told l.fn.system) (g.S.System.told l.system);
+  calls : SaysNothing (g.S.System.told l.fn.system) (g.S.System.told l.system);
+  times : KeepsTimes (g.S.System.told l.fn.system) (g.S.System.told l.system);
+  number : l.self.number ≡ l.fn.self.number;
+}

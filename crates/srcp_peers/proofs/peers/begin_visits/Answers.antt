@@ -1,0 +1,50 @@
+use Rattle.std.proofs.Common.{ap, arith, refl}
+use Rattle.srcp_door.specs.declared.pacing.Share.{Share}
+use Rattle.srcp_peers.specs.declared.peer.Peer.{Peer}
+use Rattle.srcp_peers.proofs.Saying.{says_none, says_then, keeps_none, keeps_then}
+use Rattle.srcp_peers.proofs.Keeping.{spares_none, spares_then}
+use Rattle.srcp_peers.proofs.Lists.{set_read, absent_there, set_apart, set_kept, set_marked, set_rest, set_rooms, set_those}
+use Rattle.srcp_peers.proofs.peers.begin_visits.Goals as goal
+
+pub loop-peer-init : goal.loop-peer-init
+loop-peer-init g c = record {
+  kept = c.requires.kept;
+  apart = c.requires.apart;
+  those = λ k d lt. refl;
+  others = λ other absent. spares_none other (g.S.System.told c.args.system.now);
+  calls = says_none (g.S.System.told c.args.system.now);
+  times = keeps_none (g.S.System.told c.args.system.now);
+  read = λ k d lt. absurd (omega (arith, lt));
+  marked = λ k d lt. absurd (omega (arith, lt));
+  rooms = λ k d lt. absurd (omega (arith, lt));
+  rest = λ k d late. refl;
+}
+
+pub loop-peer-preserved : goal.loop-peer-preserved
+loop-peer-preserved g c = record {
+  kept = set_kept (g.S.System.told c.loop-peer.system) (g.S.System.told c.begin_visit.new.system) c.loop-peer.peers c.loop-peer.peer-index
+      c.peer-item.result c.begin_visit.new.self (omega arith) c.loop-peer.invariant.apart c.loop-peer.invariant.kept
+      c.begin_visit.ensures.kept c.begin_visit.ensures.others;
+  apart = set_apart c.loop-peer.peers c.loop-peer.peer-index c.peer-item.result c.begin_visit.new.self (omega arith)
+      c.begin_visit.ensures.number c.loop-peer.invariant.apart;
+  those = set_those c.args.peers.now c.loop-peer.peers c.loop-peer.peer-index c.peer-item.result c.begin_visit.new.self (omega arith)
+      c.loop-peer.auto.peers c.begin_visit.ensures.number c.loop-peer.invariant.those;
+  others = λ other absent. spares_then other (g.S.System.told c.args.system.now) (g.S.System.told c.loop-peer.system)
+      (g.S.System.told c.begin_visit.new.system)
+      (c.loop-peer.invariant.others other absent)
+      (c.begin_visit.ensures.others other (absent_there other c.args.peers.now c.loop-peer.peers c.loop-peer.peer-index c.peer-item.result
+      (omega arith)
+      c.loop-peer.auto.peers c.loop-peer.invariant.those absent));
+  calls = says_then (g.S.System.told c.args.system.now) (g.S.System.told c.loop-peer.system) (g.S.System.told c.begin_visit.new.system)
+      c.loop-peer.invariant.calls c.begin_visit.ensures.calls;
+  times = keeps_then (g.S.System.told c.args.system.now) (g.S.System.told c.loop-peer.system) (g.S.System.told c.begin_visit.new.system)
+      c.loop-peer.invariant.times c.begin_visit.ensures.times;
+  read = set_read (g.S.System.told c.loop-peer.system) (g.S.System.told c.begin_visit.new.system) c.loop-peer.peers
+      c.loop-peer.peer-index c.peer-item.result c.begin_visit.new.self (omega arith) c.loop-peer.invariant.apart
+      c.begin_visit.ensures.number c.begin_visit.ensures.others c.begin_visit.ensures.read c.loop-peer.invariant.read;
+  marked = set_marked c.args.peers.now c.loop-peer.peers c.loop-peer.peer-index c.peer-item.result c.begin_visit.new.self c.args.clear
+      (omega arith) (ap (λ (s : Share). s.mark) c.begin_visit.ensures.mark) c.loop-peer.invariant.rest c.loop-peer.invariant.marked;
+  rooms = set_rooms c.loop-peer.peers c.loop-peer.peer-index c.begin_visit.new.self c.args.room (omega arith)
+      (ap (λ (p : Peer). p.room) c.begin_visit.ensures.same) c.loop-peer.invariant.rooms;
+  rest = set_rest c.args.peers.now c.loop-peer.peers c.loop-peer.peer-index c.begin_visit.new.self c.loop-peer.invariant.rest;
+}

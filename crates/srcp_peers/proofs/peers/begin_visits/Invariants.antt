@@ -1,0 +1,22 @@
+use Rattle.std.specs.Prelude.{◌≡◌, ℕ, ◌<◌, ◌≤◌, ◌&&◌, not, slice_index_or}
+use Rattle.srcp_peers.specs.declared.peer.Peer.{Peer}
+use Rattle.srcp_peers.specs.Steps.{SaysNothing}
+use Rattle.srcp_peers.specs.Times.{KeepsTimes}
+use Rattle.srcp_peers.specs.Peers.{Spares, IsRead}
+use Rattle.srcp_peers.specs.AllPeers.{AreApart, AreKept, AreThose, IsAbsent}
+use Rattle.srcp_peers.proofs.peers.begin_visits.Given as goal
+
+abbrev pub invariant-loop-peer : goal.invariant-loop-peer
+invariant-loop-peer g l = record {
+  kept : AreKept (g.S.System.told l.system) l.peers;
+  apart : AreApart l.peers;
+  those : AreThose l.fn.peers l.peers;
+  others : (other : ℕ) → IsAbsent other l.fn.peers → Spares other (g.S.System.told l.fn.system) (g.S.System.told l.system);
+  calls : SaysNothing (g.S.System.told l.fn.system) (g.S.System.told l.system);
+  times : KeepsTimes (g.S.System.told l.fn.system) (g.S.System.told l.system);
+  read : (k : ℕ) (d : Peer) → k < l.peer-index → IsRead (g.S.System.told l.system) (slice_index_or l.peers k d).number;
+  marked : (k : ℕ) (d : Peer) → k < l.peer-index
+      → (slice_index_or l.peers k d).share.mark ≡ (not l.clear && (slice_index_or l.fn.peers k d).share.mark);
+  rooms : (k : ℕ) (d : Peer) → k < l.peer-index → (slice_index_or l.peers k d).room ≡ l.room;
+  rest : (k : ℕ) (d : Peer) → l.peer-index ≤ k → slice_index_or l.peers k d ≡ slice_index_or l.fn.peers k d;
+}

@@ -1,0 +1,36 @@
+use Rattle.std.proofs.Common.{arith, refl}
+use Rattle.srcp_peers.proofs.Saying.{says_none, says_then, keeps_none, keeps_then}
+use Rattle.srcp_peers.proofs.Keeping.{spares_none, spares_then}
+use Rattle.srcp_peers.proofs.Lists.{absent_there, set_apart, set_kept, set_those}
+use Rattle.srcp_peers.proofs.peers.flush.Goals as goal
+
+pub loop-peer-init : goal.loop-peer-init
+loop-peer-init g c = record {
+  kept = c.requires.kept;
+  apart = c.requires.apart;
+  those = λ k d lt. refl;
+  others = λ other absent. spares_none other (g.S.System.told c.args.system.now);
+  calls = says_none (g.S.System.told c.args.system.now);
+  times = keeps_none (g.S.System.told c.args.system.now);
+}
+
+pub loop-peer-preserved : goal.loop-peer-preserved
+loop-peer-preserved g c = record {
+  kept = set_kept (g.S.System.told c.loop-peer.system) (g.S.System.told c.hand_over.new.system) c.loop-peer.peers c.loop-peer.peer-index
+      c.peer-item.result c.hand_over.new.self (omega arith) c.loop-peer.invariant.apart c.loop-peer.invariant.kept
+      c.hand_over.ensures.kept c.hand_over.ensures.others;
+  apart = set_apart c.loop-peer.peers c.loop-peer.peer-index c.peer-item.result c.hand_over.new.self (omega arith)
+      c.hand_over.ensures.number c.loop-peer.invariant.apart;
+  those = set_those c.args.peers.now c.loop-peer.peers c.loop-peer.peer-index c.peer-item.result c.hand_over.new.self (omega arith)
+      c.loop-peer.auto.peers c.hand_over.ensures.number c.loop-peer.invariant.those;
+  others = λ other absent. spares_then other (g.S.System.told c.args.system.now) (g.S.System.told c.loop-peer.system)
+      (g.S.System.told c.hand_over.new.system)
+      (c.loop-peer.invariant.others other absent)
+      (c.hand_over.ensures.others other (absent_there other c.args.peers.now c.loop-peer.peers c.loop-peer.peer-index c.peer-item.result
+      (omega arith)
+      c.loop-peer.auto.peers c.loop-peer.invariant.those absent));
+  calls = says_then (g.S.System.told c.args.system.now) (g.S.System.told c.loop-peer.system) (g.S.System.told c.hand_over.new.system)
+      c.loop-peer.invariant.calls c.hand_over.ensures.calls;
+  times = keeps_then (g.S.System.told c.args.system.now) (g.S.System.told c.loop-peer.system) (g.S.System.told c.hand_over.new.system)
+      c.loop-peer.invariant.times c.hand_over.ensures.times;
+}

@@ -1,0 +1,261 @@
+-- What the steps so far say of one socket.
+use Rattle.std.specs.Prelude.{ℕ, ◌+◌, ◌-◌, ◌==◌, ◌&&◌, ◌||◌, nat_le, nat_lt, Bool, true, false, not, cond}
+use Rattle.std.specs.Prelude.{if◌then◌else◌, List, [], ◌++◌, length, take, fold, Option, Some, None, Result, Ok, Err}
+use Rattle.std.specs.declared.io.ErrorKind.{ErrorKind}
+use Rattle.srcp_peers.specs.declared.system.Ready.{Ready}
+use Rattle.srcp_peers.specs.declared.system.Refusal.{Refusal}
+use Rattle.srcp_peers.specs.declared.system.Refusal.TheVariants.{Later, Again, Fault}
+use Rattle.srcp_peers.specs.Steps.{Step, Accepts, Clocks, Closes, Reads, Shuts, Writes, Waits, Told, refusal_told}
+use Rattle.srcp_serve.specs.Calls.{Call, ExpectCall, NowCall, AcceptCall, ReadCall, WriteCall, CloseCall}
+use Rattle.srcp_serve.specs.declared.door.Got.TheVariants as got
+
+-- what was sent to it
+pub record Sent : Type 0 where
+  pub written : List ℕ  -- what the door told to have taken for it
+  pub took : List ℕ  -- what the socket took
+  pub full : Bool  -- a write was cut, and since then it was not found ready for more
+  pub lost : Bool  -- a write found that it takes no more
+  pub cut : Bool  -- the door took less than it was last handed for it: the core has more
+
+-- what came of it
+pub record Received : Type 0 where
+  pub gave : List ℕ  -- what the socket gave
+  pub handed : List ℕ  -- what the door handed out of it
+  pub quiet : Bool  -- a read found nothing or left space, and since then it was not found ready
+  pub draining : Bool  -- it was found closed or with urgent data, and since then no read found nothing
+  pub ended : Bool  -- a read found its end
+  pub failed : Bool  -- a read failed
+
+-- how it was let go
+pub record Leave : Type 0 where
+  pub clock : ℕ  -- what the clock that is never set showed last, in milliseconds; 0 until it is read
+  pub since : ℕ  -- what it showed when the socket was let go
+  pub kept : Bool  -- it was accepted, and was not closed
+  pub shut : Bool  -- it was told that nothing more is written to it
+  pub rightly : Bool  -- it was shut down and closed only when it might be
+
+pub record Account : Type 0 where
+  pub sent : Sent
+  pub received : Received
+  pub leave : Leave
+  pub watched : Bool  -- it was accepted, and was not let go
+  pub honest : Bool  -- its end, and that it is lost, was told only when it might be
+  pub unread : Bool  -- a read might find something when a wait was over, with less than a piece held, and none was made
+  pub served : Bool  -- no moment was told while it was there and unread
+  pub rested : Bool  -- each long wait found it at rest
+
+-- nothing happened to it
+abbrev pub untouched : Account
+untouched = record {
+  sent = record { written = []; took = []; full = false; lost = false; cut = false };
+  received = record { gave = []; handed = []; quiet = false; draining = false; ended = false; failed = false };
+  leave = record { clock = 0; since = 0; kept = false; shut = false; rightly = true };
+  watched = false;
+  unread = false;
+  served = true;
+  honest = true;
+  rested = true;
+}
+
+-- ---- when it may be waited for
+
+-- something was taken for it that its socket did not take
+abbrev pub is_owed : Sent → Bool
+is_owed sent = nat_lt (length sent.took) (length sent.written)
+
+-- as much is queued as may be
+abbrev pub is_full : Sent → Bool
+is_full sent = length sent.took + 40960 == length sent.written
+
+-- something came of it that was not handed out
+abbrev pub is_held : Received → Bool
+is_held received = nat_lt (length received.handed) (length received.gave)
+
+-- nothing is to be handed out or told of it, and its socket has none: its end is told once all is taken
+abbrev pub is_silent : Received → (owed : Bool) → Bool
+is_silent received owed = not (is_held received) && ((received.quiet && (not received.ended && not received.failed))
+    || (received.ended && owed))
+
+-- nothing happens to it unless its socket is found ready: all that was taken for it was taken by the socket, or that
+-- was found to refuse it since; and if the core has more for it, so that it takes nothing of it, there is no room
+-- for more, and else there is nothing of it
+abbrev pub is_at_rest : Sent → Received → Bool
+is_at_rest sent received = not sent.lost && ((not (is_owed sent) || sent.full) && cond sent.cut (is_full sent)
+    (is_silent received (is_owed sent)))
+
+-- its end may be told: a read found it, all that came was handed out, and its socket took all that was taken for it
+abbrev pub may_end : Account → Bool
+may_end a = a.received.ended && (not (is_held a.received) && not (is_owed a.sent))
+
+-- a read of it may be told to have failed: a read or a write of its socket failed, or it is not there
+abbrev pub may_fail : Account → Bool
+may_fail a = not a.watched || (a.received.failed || a.sent.lost)
+
+-- a wait that ends by itself, and soon: in 8 milliseconds
+abbrev pub is_short : Option ℕ → Bool
+is_short None = false
+is_short (Some most) = nat_lt most 9
+
+-- ---- when it may be shut down and closed
+
+-- it was let go, and is not closed
+abbrev pub is_leaving : Account → Bool
+is_leaving a = not a.watched && a.leave.kept
+
+-- a peer that was let go then is kept no longer now
+abbrev pub is_overdue : (clock since : ℕ) → Bool
+is_overdue clock since = nat_le 10000 (clock - since)
+
+-- once: all that was taken for it was taken by the socket
+abbrev pub may_shut : Account → Bool
+may_shut a = is_leaving a && (not a.leave.shut && not (is_owed a.sent))
+
+-- once: so it was, and it was shut down; or a write found that it takes no more; or its time is over
+abbrev pub may_close : Account → Bool
+may_close a = is_leaving a
+    && ((a.leave.shut && not (is_owed a.sent)) || (a.sent.lost || is_overdue a.leave.clock a.leave.since))
+
+-- ---- what a step says
+
+abbrev pub refused_write : Sent → Refusal → Sent
+refused_write sent Later = record sent { full = true }
+refused_write sent Again = sent
+refused_write sent Fault = record sent { lost = true }
+
+abbrev pub wrote : Sent → List ℕ → Result ℕ ErrorKind → Sent
+wrote sent bytes (Ok count) = record sent {
+  took = sent.took ++ take count bytes;
+  full = nat_lt count (length bytes);
+  lost = sent.lost || (count == 0);
+}
+wrote sent bytes (Err fault) = refused_write sent (refusal_told fault)
+
+abbrev pub refused_read : Received → Refusal → Received
+refused_read received Later = record received { quiet = true; draining = false }
+refused_read received Again = received
+refused_read received Fault = record received { failed = true }
+
+abbrev pub read_in : Received → List ℕ → Result ℕ ErrorKind → Received
+read_in received buffer (Ok count) = record received {
+  gave = received.gave ++ take count buffer;
+  quiet = not received.draining && nat_lt count (length buffer);
+  ended = received.ended || (count == 0);
+}
+read_in received buffer (Err fault) = refused_read received (refusal_told fault)
+
+abbrev pub read_of : Account → List ℕ → Result ℕ ErrorKind → Account
+read_of a buffer answer = record a { received = read_in a.received buffer answer; unread = false }
+
+abbrev pub woken_sent : Sent → Bool → Sent
+woken_sent sent writable = record sent { full = sent.full && not writable }
+
+abbrev pub woken_came : Received → (readable closed : Bool) → Received
+woken_came received readable closed = record received {
+  quiet = received.quiet && not (readable || closed);
+  draining = received.draining || closed;
+}
+
+abbrev pub woken : ℕ → Account → Ready → Account
+woken socket a ready = if ready.socket == socket then record a {
+  sent = woken_sent a.sent ready.writable;
+  received = woken_came a.received ready.readable (ready.closed || ready.urgent);
+} else a
+
+-- a wait begins: a long one is for peers at rest. The listener, which is socket 0, is always open
+abbrev pub waited : ℕ → Account → Option ℕ → Account
+waited socket a most = record a {
+  rested = a.rested && (not (a.watched || (socket == 0)) || (is_short most || is_at_rest a.sent a.received));
+}
+
+-- a read may find something, and less than a piece is held
+abbrev pub is_wanted : Received → Bool
+is_wanted received = (not received.quiet && (not received.ended && not received.failed))
+    && nat_lt (length received.gave) (length received.handed + 256)
+
+-- a wait is over
+abbrev pub noted : Account → Account
+noted a = record a { unread = is_wanted a.received }
+
+-- a newcomer is accepted: its socket may have something and take something
+abbrev pub accepted : Account → Result Unit ErrorKind → Account
+accepted a (Ok done) = record a {
+  sent = record a.sent { full = false; lost = false; cut = false };
+  received = record a.received { quiet = false; draining = false; ended = false; failed = false };
+  leave = record a.leave { kept = true; shut = false };
+  watched = true;
+  unread = false;
+}
+accepted a (Err fault) = a
+
+-- what the listener said
+abbrev pub heard_refusal : Received → Refusal → Received
+heard_refusal received Later = record received { quiet = true }
+heard_refusal received Again = received
+heard_refusal received Fault = received
+
+abbrev pub heard : Received → Result Unit ErrorKind → Received
+heard received (Ok done) = received
+heard received (Err fault) = heard_refusal received (refusal_told fault)
+
+-- the core lets it go
+abbrev pub let_go : Account → Account
+let_go a = record a {
+  watched = false;
+  leave = record a.leave { since = cond a.watched a.leave.clock a.leave.since };
+}
+
+-- it is shut down
+abbrev pub shut_down : Account → Account
+shut_down a = record a { leave = record a.leave { shut = true; rightly = a.leave.rightly && may_shut a } }
+
+-- it is closed
+abbrev pub closed : Account → Account
+closed a = record a { leave = record a.leave { kept = false; rightly = a.leave.rightly && may_close a } }
+
+-- a clock was read
+abbrev pub clock_after : ℕ → Option ℕ → ℕ
+clock_after clock (Some time) = time
+clock_after clock None = clock
+
+abbrev pub clocked : Account → Option ℕ → Account
+clocked a answer = record a { leave = record a.leave { clock = clock_after a.leave.clock answer } }
+
+-- what a call of the door says
+abbrev pub told_step : ℕ → Account → Call → Account
+told_step socket a (ReadCall who (Ok (got.Bytes count)) buffer) =
+    if who == socket then record a {
+      received = record a.received { handed = a.received.handed ++ take count buffer };
+    } else a
+told_step socket a (ReadCall who (Ok got.Ended) buffer) = if who == socket
+    then record a { honest = a.honest && may_end a } else a
+told_step socket a (ReadCall who (Ok got.Nothing) buffer) = a
+told_step socket a (ReadCall who (Err fault) buffer) = if who == socket
+    then record a { honest = a.honest && may_fail a } else a
+told_step socket a (WriteCall who bytes (Ok count)) =
+    if who == socket then record a {
+      sent = record a.sent { written = a.sent.written ++ take count bytes; cut = nat_lt count (length bytes) };
+    } else a
+told_step socket a (WriteCall who bytes (Err fault)) = if who == socket
+    then record a { honest = a.honest && not a.watched } else a
+told_step socket a (CloseCall who answer) = if who == socket then let_go a else a
+told_step socket a (ExpectCall due slack) = a
+told_step socket a (NowCall answer) = record a { served = a.served && not (a.watched && a.unread) }
+told_step socket a (AcceptCall answer) = a
+
+abbrev pub account_step : ℕ → Account → Step → Account
+account_step socket a (Accepts number answer) =
+    if socket == 0 then record a { received = heard a.received answer } else if number == socket then accepted a answer
+    else a
+account_step socket a (Reads who buffer answer) = if who == socket
+    then read_of a buffer answer else a
+account_step socket a (Writes who bytes answer) = if who == socket then record a { sent = wrote a.sent bytes answer }
+    else a
+account_step socket a (Waits most count ready) = noted (fold (woken socket) (waited socket a most) (take count ready))
+account_step socket a (Shuts who) = if who == socket then shut_down a else a
+account_step socket a (Closes who) = if who == socket then closed a else a
+account_step socket a (Clocks answer) = clocked a answer
+account_step socket a (Told call) = told_step socket a call
+
+-- what all steps say of it
+abbrev pub account : ℕ → List Step → Account
+account socket log = fold (account_step socket) untouched log

@@ -1,0 +1,33 @@
+-- What holds of all peers of a door.
+use Rattle.std.specs.Prelude.{◌&&◌, ◌≡◌, ◌≢◌, ℕ, ◌<◌, ◌≤◌, Bool, List, length, slice_index_or, Option, not}
+use Rattle.srcp_peers.specs.declared.peer.Peer.{Peer}
+use Rattle.srcp_peers.specs.Steps.{Step}
+use Rattle.srcp_peers.specs.Peers.{IsKept}
+
+-- each is what its account says
+abbrev pub AreKept : Option (List Step) → List Peer → Type 0
+AreKept told peers = (k : ℕ) (d : Peer) → k < length peers → IsKept told (slice_index_or peers k d)
+
+-- no two have one socket
+abbrev pub AreApart : List Peer → Type 0
+AreApart peers = (j k : ℕ) (d : Peer) → j < length peers → k < length peers → j ≢ k
+    → (slice_index_or peers j d).number ≢ (slice_index_or peers k d).number
+
+-- their sockets are numbered from 1 on
+abbrev pub AreWithin : ℕ → List Peer → Type 0
+AreWithin last peers = (k : ℕ) (d : Peer) → k < length peers → (0 < (slice_index_or peers k d).number)
+    × ((slice_index_or peers k d).number ≤ last)
+
+-- none has this socket
+abbrev pub IsAbsent : ℕ → List Peer → Type 0
+IsAbsent socket peers = (k : ℕ) (d : Peer) → k < length peers → (slice_index_or peers k d).number ≢ socket
+
+-- they are the same peers
+abbrev pub AreThose : List Peer → List Peer → Type 0
+AreThose old new = (k : ℕ) (d : Peer) → k < length old → (slice_index_or new k d).number
+    ≡ (slice_index_or old k d).number
+
+-- with `clear` no mark stays, and else each
+abbrev pub AreMarked : (clear : Bool) → (old new : List Peer) → Type 0
+AreMarked clear old new = (k : ℕ) (d : Peer) → k < length old → (slice_index_or new k d).share.mark
+    ≡ (not clear && (slice_index_or old k d).share.mark)

@@ -1,0 +1,10 @@
+pub mod Accounts
+pub mod AllPeers
+pub mod Ends
+pub mod Listeners
+pub mod Peers
+pub mod Steps
+pub mod Streams
+pub mod Times
+pub mod Turns
+pub mod Waiting

@@ -1,0 +1,281 @@
+-- What a peer's states mean.
+use Rattle.std.specs.Prelude.{◌≡◌, ◌⊎◌, ℕ, ◌==◌, ◌&&◌, ◌||◌, nat_lt, Bool, true, false, not, if◌then◌else◌, cond, List}
+use Rattle.std.specs.Prelude.{[], ◌++◌, length, take, drop, Option, Some, Result, Ok, Err}
+use Rattle.std.specs.Io.{StartsWith}
+use Rattle.std.specs.declared.io.ErrorKind.{ErrorKind}
+use Rattle.srcp_peers.specs.declared.system.Ready.{Ready}
+use Rattle.srcp_peers.specs.declared.system.Refusal.{Refusal}
+use Rattle.srcp_peers.specs.declared.system.Refusal.TheVariants.{Later, Again, Fault}
+use Rattle.srcp_peers.specs.declared.readiness.Reading.{Reading}
+use Rattle.srcp_peers.specs.declared.readiness.Reading.TheVariants as input
+use Rattle.srcp_peers.specs.declared.readiness.Writing.{Writing}
+use Rattle.srcp_peers.specs.declared.readiness.Writing.TheVariants as output
+use Rattle.srcp_peers.specs.declared.readiness.Flush.{Flush}
+use Rattle.srcp_peers.specs.declared.readiness.Flush.TheVariants as flush
+use Rattle.srcp_peers.specs.declared.peer.Peer.{Peer}
+use Rattle.srcp_peers.specs.declared.stay.Stay.{Stay}
+use Rattle.srcp_peers.specs.declared.stay.Stay.TheVariants as stay
+use Rattle.srcp_door.specs.Pacing.{line_after}
+use Rattle.srcp_peers.specs.declared.ending.Ending.TheVariants as ending
+use Rattle.srcp_door.specs.declared.pacing.Line.TheVariants as line
+use Rattle.srcp_peers.specs.Steps.{Step, Reads, Tells, Writes, refusal_told}
+use Rattle.srcp_peers.specs.Accounts.{Account, Leave, Sent, Received, account, is_overdue}
+
+-- what a state of the input means, if `incoming` is held of it
+abbrev pub ReadsAs : Received → List ℕ → Reading → Type 0
+ReadsAs received incoming input.Ready = (received.gave ≡ received.handed ++ incoming) × (received.failed ≡ false)
+    × (received.ended ≡ false) × (received.draining ≡ false)
+ReadsAs received incoming input.Draining = (received.gave ≡ received.handed ++ incoming) × (received.failed ≡ false)
+    × (received.ended ≡ false)
+ReadsAs received incoming input.Quiet = (received.gave ≡ received.handed ++ incoming) × (received.failed ≡ false)
+    × (received.ended ≡ false) × (received.draining ≡ false) × (received.quiet ≡ true)
+ReadsAs received incoming input.Ended = (received.gave ≡ received.handed ++ incoming) × (received.failed ≡ false)
+    × (received.ended ≡ true)
+ReadsAs received incoming input.Failed = (received.gave ≡ received.handed ++ incoming) × (received.failed ≡ true)
+
+-- what a state of the output means, if `outgoing` is queued for it
+abbrev pub WritesAs : Sent → List ℕ → Writing → Type 0
+WritesAs sent outgoing output.Open = (sent.written ≡ sent.took ++ outgoing) × (sent.lost ≡ false)
+WritesAs sent outgoing output.Full = (sent.written ≡ sent.took ++ outgoing) × (sent.lost ≡ false) × (sent.full ≡ true)
+WritesAs sent outgoing output.Lost = StartsWith sent.written sent.took × (sent.lost ≡ true)
+
+-- what is known of what came of a peer: what comes of one that was let go is dropped
+abbrev pub ComesAs : Received → List ℕ → Reading → Stay → Type 0
+ComesAs received incoming state stay.Here = ReadsAs received incoming state
+ComesAs received incoming state (stay.Leaving since) = StartsWith received.gave received.handed
+ComesAs received incoming state (stay.Shut since) = StartsWith received.gave received.handed
+
+-- what it means that a peer stays so, if `outgoing` is queued for it
+abbrev pub StaysAs : (watched : Bool) → Leave → List ℕ → Stay → Type 0
+StaysAs watched leave outgoing stay.Here = (watched ≡ true) × (leave.kept ≡ true) × (leave.shut ≡ false)
+StaysAs watched leave outgoing (stay.Leaving since) = (watched ≡ false) × (leave.kept ≡ true) × (leave.since ≡ since)
+    × (leave.shut ≡ false)
+StaysAs watched leave outgoing (stay.Shut since) = (watched ≡ false) × (leave.kept ≡ true) × (leave.since ≡ since)
+    × (leave.shut ≡ true) × (outgoing ≡ [])
+
+-- a read may find something
+abbrev pub may_have : Reading → Bool
+may_have input.Ready = true
+may_have input.Draining = true
+may_have input.Quiet = false
+may_have input.Ended = false
+may_have input.Failed = false
+
+-- it is read in the next visit: less than a piece is held
+abbrev pub is_wanting : Reading → List ℕ → Bool
+is_wanting state incoming = may_have state && nat_lt (length incoming) 256
+
+-- a peer is what its account says
+pub record Agrees (a : Account) (p : Peer) : Type 0 where
+  pub reads : ComesAs a.received p.incoming p.input p.stay
+  pub writes : WritesAs a.sent p.outgoing p.output
+  pub stays : StaysAs a.watched a.leave p.outgoing p.stay
+  pub rightly : a.leave.rightly ≡ true
+  pub unread : (a.watched && a.unread) ≡ true → is_wanting p.input p.incoming ≡ true
+  pub served : a.served ≡ true
+  pub cut : a.sent.cut ≡ p.cut
+  pub line : p.share.line ≡ line_after line.Ended a.received.handed
+  pub honest : a.honest ≡ true
+  pub rested : a.rested ≡ true
+
+-- so it is after all steps
+abbrev pub IsKept : Option (List Step) → Peer → Type 0
+IsKept told p = (log : List Step) → told ≡ Some log → Agrees (account p.number log) p
+
+-- the steps that came say nothing of this socket
+abbrev pub Spares : ℕ → Option (List Step) → Option (List Step) → Type 0
+Spares socket old new = (later : List Step) → new ≡ Some later
+    → (log : List Step) × (old ≡ Some log) × (account socket later ≡ account socket log)
+
+-- the step that came is a read of this socket
+abbrev pub Asks : ℕ → Option (List Step) → Option (List Step) → Type 0
+Asks socket old new = (buffer : List ℕ) × (answer : Result ℕ ErrorKind) × Tells old (Reads socket buffer answer) new
+
+-- the step that came is a write of these bytes to this socket
+abbrev pub Offers : ℕ → List ℕ → Option (List Step) → Option (List Step) → Type 0
+Offers socket bytes old new = (answer : Result ℕ ErrorKind) × Tells old (Writes socket bytes answer) new
+
+-- ---- what answers make of a peer
+
+abbrev pub refused : Writing → Refusal → Writing
+refused state Later = output.Full
+refused state Again = state
+refused state Fault = output.Lost
+
+-- a write of `all` bytes that took `count` of them
+abbrev pub taken : (count all : ℕ) → Writing
+taken count all = if count == 0 then output.Lost else if nat_lt count all then output.Full else output.Open
+
+abbrev pub after_write : Peer → Result ℕ ErrorKind → Peer
+after_write p (Ok count) = record p { outgoing = drop count p.outgoing; output = taken count (length p.outgoing) }
+after_write p (Err fault) = record p { output = refused p.output (refusal_told fault) }
+
+-- more is queued, unless the socket takes no more
+abbrev pub queued_more : Writing → List ℕ → List ℕ → List ℕ
+queued_more output.Open outgoing bytes = outgoing ++ bytes
+queued_more output.Full outgoing bytes = outgoing ++ bytes
+queued_more output.Lost outgoing bytes = outgoing
+
+-- a read that gave `count` bytes, if there was room for `room`
+abbrev pub given_some : Reading → Bool → Reading
+given_some input.Ready true = input.Quiet
+given_some input.Ready false = input.Ready
+given_some input.Draining left = input.Draining
+given_some input.Quiet left = input.Quiet
+given_some input.Ended left = input.Ended
+given_some input.Failed left = input.Failed
+
+abbrev pub given : Reading → ℕ → ℕ → Reading
+given state count room = if count == 0 then input.Ended else given_some state (nat_lt count room)
+
+abbrev pub missed : Reading → Refusal → Reading
+missed state Later = input.Quiet
+missed state Again = state
+missed state Fault = input.Failed
+
+abbrev pub after_read : Peer → List ℕ → Result ℕ ErrorKind → Peer
+after_read p buffer (Ok count) = record p {
+  incoming = p.incoming ++ take count buffer;
+  input = given p.input count (length buffer);
+}
+after_read p buffer (Err fault) = record p { input = missed p.input (refusal_told fault) }
+
+-- its socket was found ready
+abbrev pub woken_input : Reading → (readable closed : Bool) → Reading
+woken_input input.Ready readable closed = cond closed input.Draining input.Ready
+woken_input input.Draining readable closed = input.Draining
+woken_input input.Quiet readable closed = cond closed input.Draining (cond readable input.Ready input.Quiet)
+woken_input input.Ended readable closed = input.Ended
+woken_input input.Failed readable closed = input.Failed
+
+abbrev pub woken_output : Writing → Bool → Writing
+woken_output output.Open writable = output.Open
+woken_output output.Full writable = cond writable output.Open output.Full
+woken_output output.Lost writable = output.Lost
+
+abbrev pub after_wake : Peer → Ready → Peer
+after_wake p ready = if ready.socket == p.number then record p {
+  input = woken_input p.input ready.readable (ready.closed || ready.urgent);
+  output = woken_output p.output ready.writable;
+} else p
+
+-- its socket takes no more
+abbrev pub is_lost : Writing → Bool
+is_lost output.Open = false
+is_lost output.Full = false
+is_lost output.Lost = true
+
+-- ---- what a turn does with a peer
+
+abbrev pub flushes_all : Flush → Bool
+flushes_all flush.Answers = false
+flushes_all flush.All = true
+flushes_all flush.Again = true
+
+-- sockets that refused more are tried, though they were not found ready
+abbrev pub tries_again : Flush → Bool
+tries_again flush.Answers = false
+tries_again flush.All = false
+tries_again flush.Again = true
+
+-- what is queued is flushed: an answer, unless input of the peer is held that the core takes; and much
+abbrev pub is_due : Flush → Peer → Bool
+is_due what p = flushes_all what
+    || (nat_lt 3160 (length p.outgoing) || (p.asked && (p.cut || (length p.incoming == 0))))
+
+-- it is there
+abbrev pub is_here : Stay → Bool
+is_here stay.Here = true
+is_here (stay.Leaving since) = false
+is_here (stay.Shut since) = false
+
+-- it was let go, and is owed nothing
+abbrev pub is_shut : Stay → Bool
+is_shut stay.Here = false
+is_shut (stay.Leaving since) = false
+is_shut (stay.Shut since) = true
+
+-- input of it is held that the core takes
+abbrev pub holds_input : Peer → Bool
+holds_input p = is_here p.stay && (not p.cut && not (length p.incoming == 0))
+
+-- something is queued for it that its socket may still take
+abbrev pub is_waiting : Peer → Bool
+is_waiting p = not (length p.outgoing == 0) && not (is_lost p.output)
+
+-- its input is over, and none of it held
+abbrev pub is_over : List ℕ → Reading → Bool
+is_over incoming input.Ready = false
+is_over incoming input.Draining = false
+is_over incoming input.Quiet = false
+is_over incoming input.Ended = length incoming == 0
+is_over incoming input.Failed = false
+
+-- its end may be told: its input is over and was handed out, a visit had no more for it, and its socket took all
+abbrev pub MayEnd : Peer → Type 0
+MayEnd p = (p.input ≡ input.Ended) × (p.incoming ≡ []) × (p.ending ≡ ending.Settled) × (p.outgoing ≡ [])
+    × (is_lost p.output ≡ false)
+
+-- it may be told to be lost: a read or a write of its socket failed
+abbrev pub MayFail : Peer → Type 0
+MayFail p = (p.input ≡ input.Failed) ⊎ (is_lost p.output ≡ true)
+
+-- ---- what a peer may wait for
+
+-- nothing is queued that its socket may take
+abbrev pub rests_writing : List ℕ → Writing → Bool
+rests_writing outgoing output.Open = length outgoing == 0
+rests_writing outgoing output.Full = true
+rests_writing outgoing output.Lost = false
+
+-- no input of it is held or may come without a word of its socket, and its end is not to be told
+abbrev pub rests_reading : List ℕ → Reading → Bool
+rests_reading outgoing input.Ready = false
+rests_reading outgoing input.Draining = false
+rests_reading outgoing input.Quiet = true
+rests_reading outgoing input.Ended = not (length outgoing == 0)
+rests_reading outgoing input.Failed = false
+
+-- nothing is to be done for it
+abbrev pub has_rest : Peer → Bool
+has_rest p = rests_writing p.outgoing p.output
+    && cond p.cut (length p.outgoing == 40960) ((length p.incoming == 0) && rests_reading p.outgoing p.input)
+
+-- it is there, and may be waited for
+abbrev pub is_resting : Peer → Bool
+is_resting p = is_here p.stay && has_rest p
+
+-- ---- when a peer may be closed
+
+abbrev pub closable_as : (clock : ℕ) → Writing → Stay → Bool
+closable_as clock state stay.Here = false
+closable_as clock state (stay.Leaving since) = is_lost state || is_overdue clock since
+closable_as clock state (stay.Shut since) = true
+
+-- it was let go, and is owed nothing, or lost, or its time is over
+abbrev pub is_closable : (clock : ℕ) → Peer → Bool
+is_closable clock p = closable_as clock p.output p.stay
+
+-- no read finds anything any more
+abbrev pub has_ended : Reading → Bool
+has_ended input.Ready = false
+has_ended input.Draining = false
+has_ended input.Quiet = false
+has_ended input.Ended = true
+has_ended input.Failed = true
+
+abbrev pub gone_as : (clock : ℕ) → Reading → Writing → Stay → Bool
+gone_as clock came state stay.Here = false
+gone_as clock came state (stay.Leaving since) = is_lost state || is_overdue clock since
+gone_as clock came state (stay.Shut since) = is_lost state || (has_ended came || is_overdue clock since)
+
+-- nothing is left to do for it: it was let go, and is owed nothing and ended too, or lost, or its time is over
+abbrev pub is_gone : (clock : ℕ) → Peer → Bool
+is_gone clock p = gone_as clock p.input p.output p.stay
+
+-- ---- who is read
+
+-- while it is there it is not unread
+abbrev pub IsRead : Option (List Step) → ℕ → Type 0
+IsRead told socket = (log : List Step) → told ≡ Some log
+    → ((account socket log).watched && (account socket log).unread) ≡ false

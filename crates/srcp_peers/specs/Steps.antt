@@ -1,0 +1,57 @@
+-- What the system was asked and answered, and what the door told between it.
+use Rattle.std.specs.Prelude.{◌≡◌, ℕ, List, [], ◌∷◌, ◌++◌, filter_map, Option, Some, None, Result}
+use Rattle.std.specs.declared.io.ErrorKind.{ErrorKind}
+use Rattle.std.specs.declared.io.ErrorKind.TheVariants as kind
+use Rattle.srcp_peers.specs.declared.system.Ready.{Ready}
+use Rattle.srcp_peers.specs.declared.system.Refusal.{Refusal}
+use Rattle.srcp_peers.specs.declared.system.Refusal.TheVariants.{Later, Again, Fault}
+use Rattle.srcp_serve.specs.Calls.{Call}
+
+-- a call of the system with its answer, or a call of the door
+pub data Step : Type 0 where
+  -- the number that a newcomer's socket was to have
+  Accepts : (number : ℕ) (answer : Result Unit ErrorKind) → Step
+  -- the buffer after a read, and how many bytes are in front of it
+  Reads : (socket : ℕ) (buffer : List ℕ) (answer : Result ℕ ErrorKind) → Step
+  -- what was handed over, and how many bytes of it were taken
+  Writes : (socket : ℕ) (bytes : List ℕ) (answer : Result ℕ ErrorKind) → Step
+  -- how long a wait may be, and which sockets it found ready
+  Waits : (most : Option ℕ) (count : ℕ) (ready : List Ready) → Step
+  -- a socket was told that nothing more is written to it
+  Shuts : (socket : ℕ) → Step
+  -- a socket was closed
+  Closes : (socket : ℕ) → Step
+  -- what the clock showed, in milliseconds, if it could be read
+  Clocks : (answer : Option ℕ) → Step
+  -- a call of the door, at its end
+  Told : (call : Call) → Step
+
+-- what is told after a step is what was told before it, and the step
+abbrev pub Tells : Option (List Step) → Step → Option (List Step) → Type 0
+Tells old step new = (later : List Step) → new ≡ Some later
+    → (log : List Step) × (old ≡ Some log) × (later ≡ log ++ step ∷ [])
+
+-- the call of the door, if it is one
+abbrev pub call_of : Step → Option Call
+call_of (Told call) = Some call
+call_of other = None
+
+-- the calls of the door alone
+abbrev pub calls : List Step → List Call
+calls log = filter_map call_of log
+
+-- the steps that came are no calls of the door
+abbrev pub SaysNothing : Option (List Step) → Option (List Step) → Type 0
+SaysNothing old new = (later : List Step) → new ≡ Some later
+    → (log : List Step) × (old ≡ Some log) × (calls later ≡ calls log)
+
+-- the steps that came are one call of the door, and calls of the system
+abbrev pub SaysOne : Option (List Step) → Call → Option (List Step) → Type 0
+SaysOne old call new = (later : List Step) → new ≡ Some later
+    → (log : List Step) × (old ≡ Some log) × (calls later ≡ calls log ++ call ∷ [])
+
+-- what a call of the system that failed says of a socket
+abbrev pub refusal_told : ErrorKind → Refusal
+refusal_told kind.WouldBlock = Later
+refusal_told kind.Interrupted = Again
+refusal_told _ = Fault

@@ -1,0 +1,159 @@
+-- What a turn is after a call of the door.
+use Rattle.std.specs.Prelude.{ℕ, ◌-◌, ◌/◌, ◌==◌, ◌||◌, ◌&&◌, nat_le, nat_lt, Bool, true, false, not, cond}
+use Rattle.std.specs.Prelude.{List, [], take, Option, Some, None, Result, Ok, Err}
+use Rattle.std.specs.Option.{option_map}
+use Rattle.srcp_door.specs.Moments.{next_moment, passed, target}
+use Rattle.srcp_door.specs.Pacing.{pace_of, spent, weight_of}
+use Rattle.srcp_door.specs.declared.pacing.Line.{Line}
+use Rattle.srcp_door.specs.declared.pacing.Pace.TheVariants.{Paced}
+use Rattle.srcp_serve.specs.declared.door.DoorFault.{DoorFault}
+use Rattle.srcp_serve.specs.declared.door.Got.{Got}
+use Rattle.srcp_serve.specs.declared.door.Got.TheVariants as got
+use Rattle.srcp_serve.specs.Calls.{Call, ExpectCall, NowCall, AcceptCall, ReadCall, WriteCall, CloseCall}
+use Rattle.srcp_peers.specs.declared.readiness.Flush.{Flush}
+use Rattle.srcp_peers.specs.declared.readiness.Flush.TheVariants.{Again, All, Answers}
+use Rattle.srcp_peers.specs.declared.turn.Turn.{Turn}
+
+-- the turn that follows nothing, if the wall clock and the one that is never set showed this at the start
+abbrev pub first_turn : (wall start : ℕ) → Turn
+first_turn wall start = record {
+  timekeeper = record { wall = wall; start = start; last = wall };
+  clock = 0;
+  due = None;
+  slack = None;
+  before = None;
+  busy = true;
+  late = false;
+  pace = Paced 0;
+  ends = false;
+}
+
+-- a call of the door after which a panel may have something coming: a peer came, was written to or was closed
+abbrev pub stirs : Call → Bool
+stirs (AcceptCall (Ok (Some peer))) = true
+stirs (AcceptCall (Ok None)) = false
+stirs (AcceptCall (Err fault)) = false
+stirs (WriteCall peer bytes (Ok count)) = not (count == 0)
+stirs (WriteCall peer bytes (Err fault)) = true
+stirs (CloseCall peer answer) = true
+stirs other = false
+
+-- after a call other than a read and that for the moment
+abbrev pub after_call : Turn → Call → Turn
+after_call turn (ExpectCall due slack) = record turn { due = due; slack = slack; before = turn.slack }
+after_call turn (NowCall answer) = turn
+after_call turn (ReadCall peer answer buffer) = turn
+after_call turn other = record turn { busy = turn.busy || stirs other }
+
+-- ---- a read
+
+-- the bytes that it handed out
+abbrev pub got_bytes : Result Got DoorFault → List ℕ → List ℕ
+got_bytes (Ok (got.Bytes count)) buffer = take count buffer
+got_bytes (Ok got.Nothing) buffer = []
+got_bytes (Ok got.Ended) buffer = []
+got_bytes (Err fault) buffer = []
+
+-- it told the end of a peer, or that it is lost
+abbrev pub tells_end : Result Got DoorFault → Bool
+tells_end (Ok (got.Bytes count)) = false
+tells_end (Ok got.Nothing) = false
+tells_end (Ok got.Ended) = true
+tells_end (Err fault) = true
+
+-- after that no other is told in the turn
+abbrev pub ended : Turn → Turn
+ended turn = record turn { busy = true; ends = false }
+
+-- after bytes were handed out of a peer whose line was that: what they weigh, no more may weigh
+abbrev pub handed_out : Turn → Line → List ℕ → Turn
+handed_out turn line bytes = record turn { busy = true; pace = spent turn.pace (weight_of line bytes) }
+
+abbrev pub after_read : Turn → Line → Result Got DoorFault → List ℕ → Turn
+after_read turn line (Ok (got.Bytes count)) buffer = handed_out turn line (take count buffer)
+after_read turn line (Ok got.Nothing) buffer = turn
+after_read turn line (Ok got.Ended) buffer = ended turn
+after_read turn line (Err fault) buffer = ended turn
+
+-- a wait begins the next turn
+abbrev pub after_wait : Turn → Turn
+after_wait turn = record turn { busy = false }
+
+-- ---- the moment
+
+-- the moment that is to be told, if the clock that is never set shows this time: what this stands for, or a step of
+-- 10 milliseconds if something falls due meanwhile; at most 10 minutes are made up in such steps
+abbrev pub moment_at : Turn → (time : ℕ) → ℕ
+moment_at turn time =
+    next_moment 10 600000 (passed turn.timekeeper.last (target turn.timekeeper time) turn.due)
+    (target turn.timekeeper time)
+
+-- the moment was asked for: from then on lines of a turn's weight may be handed out, and the end of one peer be told
+abbrev pub begun : Turn → (tick : Bool) → Turn
+begun turn tick = record turn { pace = pace_of turn.slack tick; ends = true }
+
+-- after a moment was told; the turn is late if the moment is behind the time
+abbrev pub told_at : Turn → (time moment : ℕ) → Turn
+told_at turn time moment = record (begun turn (not (time == turn.clock))) {
+  timekeeper = record { wall = turn.timekeeper.wall; start = turn.timekeeper.start; last = moment };
+  clock = time;
+  late = nat_lt moment (target turn.timekeeper time);
+}
+
+-- ---- the wait
+
+-- a wait for what falls due ends earlier by a 128th
+abbrev pub earlier : ℕ → ℕ
+earlier left = left - left / 128
+
+-- how long the next wait may be, if something falls due: not at all in a turn that is late
+abbrev pub time_left : Turn → Option ℕ
+time_left turn = cond turn.late (Some 0) (option_map (λ due. earlier (due - turn.timekeeper.last)) turn.due)
+
+-- something happened, and there is a panel that may have to be written to for it
+abbrev pub is_pending : (slack : Option ℕ) → (stirred : Bool) → Bool
+is_pending None stirred = false
+is_pending (Some left) stirred = stirred
+
+-- so few changes can a panel take that no line may go until the clock goes on
+abbrev pub is_behind : (slack : Option ℕ) → Bool
+is_behind None = false
+is_behind (Some left) = nat_le left 160
+
+-- so few that not every line may go
+abbrev pub is_short : (slack : Option ℕ) → Bool
+is_short None = false
+is_short (Some left) = nat_lt left 171
+
+-- how many changes the panels lack for a line to go before the clock goes on; as many as a peer is written lines in a
+-- visit if there is no panel
+abbrev pub lack : (slack : Option ℕ) → ℕ
+lack None = 300
+lack (Some left) = 160 - left
+
+-- how many lines may be queued in a visit for a peer whose socket refuses more: what the panels lack, if input is held
+abbrev pub room_of : (holds : Bool) → (slack : Option ℕ) → ℕ
+room_of true slack = lack slack
+room_of false slack = 300
+
+-- how long a turn stands still though there is something to do: as long as the clock takes to go on, if a panel is so
+-- far behind for the second turn
+abbrev pub stop : Turn → ℕ
+stop turn = cond (is_behind turn.before && is_behind turn.slack) 1 0
+
+-- the clock went on since it showed that, or the turn stands still until it does
+abbrev pub has_ticked : Turn → (flushed : ℕ) → Bool
+has_ticked turn flushed = not (turn.clock == flushed) || nat_lt 0 (stop turn)
+
+-- what is flushed: all once the clock went on, and before a wait for more than what is ready; the sockets that refused
+-- more are tried again then if not every line may go
+abbrev pub flushing : (ticked held : Bool) → Turn → Flush
+flushing true held turn = cond (is_short turn.slack) Again All
+flushing false held turn = cond (held || is_pending turn.slack turn.busy) Answers All
+
+-- a read that handed out input, or told its end
+abbrev pub hands_out : Result Got DoorFault → Bool
+hands_out (Ok (got.Bytes count)) = true
+hands_out (Ok got.Nothing) = false
+hands_out (Ok got.Ended) = true
+hands_out (Err fault) = false

@@ -1,0 +1,186 @@
+//! What becomes of a peer that was let go: its socket is written what is queued, is shut down behind that, and is read
+//! until its input ends. A socket that is closed with input in it would reset the connection, and the peer would
+//! lose what it did not read.
+
+ghost use Rattle.std.specs.Prelude.{◌≡◌, ◌≢◌, ◌<◌, ℕ, [], true, false, IfSome, length, slice_index_or, filter, not};
+ghost use Rattle.std.specs.Prelude.{position};
+ghost use Rattle.srcp_peers.specs.declared.peer.Peer.{Peer};
+ghost use Rattle.srcp_peers.specs.Steps.{SaysNothing};
+ghost use Rattle.srcp_peers.specs.Times.{KeepsTimes};
+ghost use Rattle.srcp_peers.specs.Peers.{IsKept, Spares, is_closable, is_gone, is_here, is_lost, is_shut};
+
+use crate::peer::Peer;
+use crate::readiness::Flush;
+use crate::stay::{Stay, is_overdue};
+use crate::system::System;
+
+/// How often the socket of a peer that was let go is read in a turn: what still comes is dropped as fast as it comes.
+const MOST_DRAINED: u32 = 64;
+
+/// How many peers that were let go are kept before one goes for a newcomer.
+pub const MOST_LEAVING: usize = 64;
+
+impl Peer {
+    /// Lets it go, at that time of the clock that is never set.
+    pub fn let_go(&mut self, since: u64)
+        ensures { self.new ≡ record self.old { stay = Stay.Leaving since } }
+    {
+        self.stay = Stay::Leaving { since };
+    }
+
+    /// Flushes a peer that is there, and goes on with one that was let go.
+    #[inline(always)]
+    pub(crate) fn hand_over<S: System>(&mut self, system: &mut S, what: Flush)
+        requires { IsKept (S.told system.old) self.old }
+        ensures kept { IsKept (S.told system.new) self.new }
+        ensures others { (other : ℕ) → other ≢ self.old.number → Spares other (S.told system.old) (S.told system.new) }
+        ensures calls { SaysNothing (S.told system.old) (S.told system.new) }
+        ensures times { KeepsTimes (S.told system.old) (S.told system.new) }
+        ensures number { self.new.number ≡ self.old.number }
+    {
+        if self.stay.is_here() {
+            self.flush(system, what);
+        } else {
+            self.part(system);
+        }
+    }
+
+    /// Goes on with a peer that was let go.
+    #[inline(never)]
+    fn part<S: System>(&mut self, system: &mut S)
+        requires { IsKept (S.told system.old) self.old }
+        ensures kept { IsKept (S.told system.new) self.new }
+        ensures others { (other : ℕ) → other ≢ self.old.number → Spares other (S.told system.old) (S.told system.new) }
+        ensures calls { SaysNothing (S.told system.old) (S.told system.new) }
+        ensures times { KeepsTimes (S.told system.old) (S.told system.new) }
+        ensures number { self.new.number ≡ self.old.number }
+    {
+        match self.stay {
+            Stay::Here => (),
+            Stay::Leaving { since } => self.finish(system, since),
+            Stay::Shut { .. } => self.drain(system),
+        }
+    }
+
+    /// Writes what is queued, and shuts the socket down once that is taken.
+    fn finish<S: System>(&mut self, system: &mut S, since: u64)
+        requires kept { IsKept (S.told system.old) self.old }
+        requires leaving { self.old.stay ≡ Stay.Leaving since }
+        ensures kept { IsKept (S.told system.new) self.new }
+        ensures others { (other : ℕ) → other ≢ self.old.number → Spares other (S.told system.old) (S.told system.new) }
+        ensures calls { SaysNothing (S.told system.old) (S.told system.new) }
+        ensures times { KeepsTimes (S.told system.old) (S.told system.new) }
+        ensures number { self.new.number ≡ self.old.number }
+    {
+        self.flush(system, Flush::All);
+        if self.outgoing.is_empty() && !self.output.is_lost() {
+            self.shut_down(system, since);
+        }
+    }
+
+    /// Tells its socket that nothing more is written.
+    fn shut_down<S: System>(&mut self, system: &mut S, since: u64)
+        requires kept { IsKept (S.told system.old) self.old }
+        requires leaving { self.old.stay ≡ Stay.Leaving since }
+        requires taken { self.old.outgoing ≡ [] }
+        requires sound { is_lost self.old.output ≡ false }
+        ensures kept { IsKept (S.told system.new) self.new }
+        ensures others { (other : ℕ) → other ≢ self.old.number → Spares other (S.told system.old) (S.told system.new) }
+        ensures calls { SaysNothing (S.told system.old) (S.told system.new) }
+        ensures times { KeepsTimes (S.told system.old) (S.told system.new) }
+        ensures number { self.new.number ≡ self.old.number }
+    {
+        system.shutdown(self.number);
+        self.stay = Stay::Shut { since };
+    }
+
+    /// Drops what its socket gives, as far as a turn goes.
+    fn drain<S: System>(&mut self, system: &mut S)
+        requires kept { IsKept (S.told system.old) self.old }
+        requires gone { is_here self.old.stay ≡ false }
+        ensures kept { IsKept (S.told system.new) self.new }
+        ensures others { (other : ℕ) → other ≢ self.old.number → Spares other (S.told system.old) (S.told system.new) }
+        ensures calls { SaysNothing (S.told system.old) (S.told system.new) }
+        ensures times { KeepsTimes (S.told system.old) (S.told system.new) }
+        ensures number { self.new.number ≡ self.old.number }
+    {
+        for _ in 0..MOST_DRAINED {
+            if !self.input.is_ready() {
+                return;
+            }
+            self.skip(system);
+        }
+    }
+
+    /// Drops what was read of it, and reads once more.
+    fn skip<S: System>(&mut self, system: &mut S)
+        requires kept { IsKept (S.told system.old) self.old }
+        requires gone { is_here self.old.stay ≡ false }
+        ensures kept { IsKept (S.told system.new) self.new }
+        ensures others { (other : ℕ) → other ≢ self.old.number → Spares other (S.told system.old) (S.told system.new) }
+        ensures calls { SaysNothing (S.told system.old) (S.told system.new) }
+        ensures times { KeepsTimes (S.told system.old) (S.told system.new) }
+        ensures number { self.new.number ≡ self.old.number }
+        ensures stay { self.new.stay ≡ self.old.stay }
+    {
+        self.drop_input();
+        self.fill(system);
+    }
+
+    /// Drops what was read of it.
+    fn drop_input(&mut self)
+        ensures { self.new ≡ record self.old { incoming = [] } }
+    {
+        let count = self.incoming.len();
+        self.incoming.drop_front(count);
+    }
+
+    /// Returns whether nothing is left to do for it.
+    fn is_gone(&self, clock: u64) -> bool
+        ensures is { result ≡ is_gone clock self.now }
+        ensures closable { result ≡ true → is_closable clock self.now ≡ true }
+    {
+        match self.stay {
+            Stay::Here => false,
+            Stay::Leaving { since } => self.output.is_lost() || is_overdue(clock, since),
+            Stay::Shut { since } => {
+                self.output.is_lost() || self.input.has_ended() || is_overdue(clock, since)
+            }
+        }
+    }
+
+    /// Returns whether it was let go and is owed nothing.
+    fn is_shut(&self) -> bool
+        ensures { result ≡ is_shut self.now.stay }
+    {
+        match self.stay {
+            Stay::Here | Stay::Leaving { .. } => false,
+            Stay::Shut { .. } => true,
+        }
+    }
+}
+
+/// Returns how many were let go.
+pub fn count_leaving(peers: &[Peer]) -> usize
+    ensures { result ≡ length (filter (λ peer. not (is_here peer.stay)) peers.now) }
+{
+    peers.iter().filter(|peer| !peer.stay.is_here()).count()
+}
+
+/// Returns the index of the first peer for which nothing is left to do, at that time of the clock that is never set.
+pub fn first_gone(peers: &[Peer], clock: u64) -> Option<usize>
+    ensures first { result ≡ position (is_gone clock) peers.now }
+    ensures closable { IfSome result (λ place. (place < length peers.now)
+        × ((d : Peer) → is_closable clock (slice_index_or peers.now place d) ≡ true)) }
+{
+    peers.iter().position(|peer| peer.is_gone(clock))
+}
+
+/// Returns the index of the first peer that was let go and is owed nothing.
+pub fn first_shut(peers: &[Peer]) -> Option<usize>
+    ensures first { result ≡ position (λ peer. is_shut peer.stay) peers.now }
+    ensures closable { IfSome result (λ place. (place < length peers.now)
+        × ((clock : ℕ) (d : Peer) → is_closable clock (slice_index_or peers.now place d) ≡ true)) }
+{
+    peers.iter().position(|peer| peer.is_shut())
+}

@@ -1,0 +1,436 @@
+//! A peer with its socket.
+
+ghost use Rattle.std.specs.Prelude.{◌≡◌, ◌≢◌, ◌<◌, ◌≤◌, ◌++◌, ◌==◌, ◌&&◌, true, false, not, ℕ, List, [], Option, Some};
+ghost use Rattle.std.specs.Prelude.{Ok, IfErr, OnErr, length, take, drop, min, fold};
+ghost use Rattle.srcp_peers.specs.Steps.{SaysNothing, Tells, Told};
+ghost use Rattle.srcp_serve.specs.Calls.{ReadCall, WriteCall};
+ghost use Rattle.srcp_peers.specs.Times.{KeepsTimes};
+ghost use Rattle.srcp_peers.specs.Peers.{Asks, IsKept, MayEnd, MayFail, Offers, Spares, IsRead, after_wake, has_rest};
+ghost use Rattle.srcp_peers.specs.Peers.{holds_input, is_due, is_over, is_resting, is_waiting, is_wanting, may_have};
+ghost use Rattle.srcp_peers.specs.Peers.{queued_more, tries_again, woken_output};
+ghost use Rattle.srcp_peers.specs.declared.readiness.Reading.{Reading};
+ghost use Rattle.srcp_peers.specs.declared.readiness.Writing.{Writing};
+ghost use Rattle.srcp_peers.specs.Turns.{after_read, got_bytes, tells_end};
+ghost use Rattle.srcp_peers.specs.Ends.{begun, written};
+ghost use Rattle.srcp_door.specs.Pacing.{IsShort, fits, line_after, weight_of};
+ghost use Rattle.srcp_peers.specs.declared.ending.Ending.{Ending};
+ghost use Rattle.srcp_door.specs.declared.pacing.Line.{Line};
+
+use crate::ending::Ending;
+use crate::queue::{MOST_INCOMING, MOST_OUTGOING, Outgoing, Queue, Queues};
+use crate::readiness::{Flush, Reading, Writing};
+use crate::stay::Stay;
+use crate::system::{Ready, System, refusal_of};
+use crate::turn::Turn;
+use srcp_core::MOST_IN_PIECE;
+use srcp_door::{Line, Share};
+use srcp_info::LONGEST_LINE;
+use srcp_serve::{DoorFault, Got, MOST_WRITES};
+
+/// How many bytes of a peer may wait until the clock goes on. What else may be queued holds the lines that a peer is
+/// written in a visit at most.
+const MOST_WAITING: usize = MOST_OUTGOING - MOST_WRITES as usize * LONGEST_LINE;
+
+/// What is to be told of a peer of which nothing is held.
+#[derive(Clone, Copy)]
+enum Due {
+    /// Nothing now.
+    Nothing,
+    /// Its end.
+    End,
+    /// That it is lost.
+    Fault,
+}
+
+/// A peer and its socket.
+#[derive(Drop)]
+pub struct Peer {
+    /// The number of its socket.
+    pub number: u32,
+    /// How many lines may still be queued for it in this visit while its socket refuses more.
+    pub room: u32,
+    /// What it was written that its socket did not take yet.
+    pub outgoing: Outgoing,
+    /// What was read of it and not handed out.
+    pub incoming: Queue<MOST_INCOMING>,
+    /// What a read may find.
+    pub input: Reading,
+    /// What a write may find.
+    pub output: Writing,
+    /// Whether less was taken for it than was handed over last: the core has more for it, and takes nothing of it.
+    pub cut: bool,
+    /// Whether it is there.
+    pub stay: Stay,
+    /// Its share of the lines that are handed out.
+    pub share: Share,
+    /// How far it is on the way to its end.
+    pub ending: Ending,
+    /// Whether input of it was handed out since it was flushed: what it is written then is an answer.
+    pub asked: bool,
+}
+
+/// What a read of a peer gave.
+#[derive(Clone, Copy)]
+pub struct Handed {
+    /// What is told of it.
+    pub got: Result<Got, DoorFault>,
+    /// Whether a line was kept back of a peer that got none since the marks were cleared.
+    pub refused: bool,
+}
+
+impl Peer {
+    /// Returns a newcomer. It has its mark, so that newcomers don't keep the others from their lines.
+    pub fn new(number: u32, queues: Queues) -> Peer
+        ensures { result ≡ record {
+          number = number;
+          outgoing = [];
+          incoming = [];
+          input = Reading.Ready;
+          output = Writing.Open;
+          cut = false;
+          stay = Stay.Here;
+          share = record { line = Line.Ended; mark = true };
+          ending = Ending.Open;
+          asked = true;
+          room = MOST_WRITES;
+        } }
+    {
+        let Queues { outgoing, incoming } = queues;
+        Peer {
+            number,
+            outgoing,
+            incoming,
+            input: Reading::Ready,
+            output: Writing::Open,
+            cut: false,
+            stay: Stay::Here,
+            share: Share {
+                line: Line::Ended,
+                mark: true,
+            },
+            ending: Ending::Open,
+            asked: true,
+            room: MOST_WRITES,
+        }
+    }
+
+    /// Notes what its socket was found ready for.
+    pub fn wake(&mut self, ready: Ready)
+        ensures { self.new ≡ after_wake self.old ready }
+    {
+        if ready.socket == self.number {
+            self.input = self
+                .input
+                .woken(ready.readable, ready.closed || ready.urgent);
+            self.output = self.output.woken(ready.writable);
+        }
+    }
+
+    /// Writes once what is queued, if its socket may take something, and what is flushed says that it is to.
+    #[inline(always)]
+    pub fn flush<S: System>(&mut self, system: &mut S, what: Flush)
+        requires { IsKept (S.told system.old) self.old }
+        ensures kept { IsKept (S.told system.new) self.new }
+        ensures others { (other : ℕ) → other ≢ self.old.number → Spares other (S.told system.old) (S.told system.new) }
+        ensures calls { SaysNothing (S.told system.old) (S.told system.new) }
+        ensures times { KeepsTimes (S.told system.old) (S.told system.new) }
+        ensures number { self.new.number ≡ self.old.number }
+        ensures stay { self.new.stay ≡ self.old.stay }
+        ensures offered { woken_output self.old.output (tries_again what) ≡ Writing.Open → self.old.outgoing ≢ []
+            → is_due what self.old ≡ true
+            → Offers self.old.number self.old.outgoing (S.told system.old) (S.told system.new) }
+    {
+        self.output = self.output.woken(what.tries_again());
+        self.write_out(system, what);
+    }
+
+    #[inline(always)]
+    fn write_out<S: System>(&mut self, system: &mut S, what: Flush)
+        requires { IsKept (S.told system.old) self.old }
+        ensures kept { IsKept (S.told system.new) self.new }
+        ensures others { (other : ℕ) → other ≢ self.old.number → Spares other (S.told system.old) (S.told system.new) }
+        ensures calls { SaysNothing (S.told system.old) (S.told system.new) }
+        ensures times { KeepsTimes (S.told system.old) (S.told system.new) }
+        ensures number { self.new.number ≡ self.old.number }
+        ensures stay { self.new.stay ≡ self.old.stay }
+        ensures offered { self.old.output ≡ Writing.Open → self.old.outgoing ≢ [] → is_due what self.old ≡ true
+            → Offers self.old.number self.old.outgoing (S.told system.old) (S.told system.new) }
+    {
+        if !self.output.is_open() || self.outgoing.is_empty() || !self.is_due(what) {
+            return;
+        }
+        self.asked = false;
+        let all = self.outgoing.len();
+        match system.write(self.number, self.outgoing.front()) {
+            Ok(count) => {
+                self.outgoing.drop_front(count);
+                self.output = Writing::taken(count, all);
+            }
+            Err(fault) => self.output = self.output.refused(refusal_of(fault)),
+        }
+    }
+
+    /// Returns whether what is queued is flushed. An answer is, unless input of the peer is held, since more is to come
+    /// then; and so is much.
+    fn is_due(&self, what: Flush) -> bool
+        ensures { result ≡ is_due what self.now }
+    {
+        what.is_all()
+            || self.outgoing.len() > MOST_WAITING
+            || self.asked && (self.cut || self.incoming.is_empty())
+    }
+
+    /// Begins a visit: reads its socket, and goes on on the way to its end. With `clear` its mark is cleared. At
+    /// most `room` lines may be queued in the visit while its socket refuses more.
+    pub fn begin_visit<S: System>(&mut self, system: &mut S, clear: bool, room: u32)
+        requires { IsKept (S.told system.old) self.old }
+        ensures kept { IsKept (S.told system.new) self.new }
+        ensures others { (other : ℕ) → other ≢ self.old.number → Spares other (S.told system.old) (S.told system.new) }
+        ensures calls { SaysNothing (S.told system.old) (S.told system.new) }
+        ensures times { KeepsTimes (S.told system.old) (S.told system.new) }
+        ensures number { self.new.number ≡ self.old.number }
+        ensures stay { self.new.stay ≡ self.old.stay }
+        ensures asked { may_have self.old.input ≡ true → length self.old.incoming < MOST_IN_PIECE
+            → Asks self.old.number (S.told system.old) (S.told system.new) }
+        ensures read { IsRead (S.told system.new) self.old.number }
+        ensures ending { self.new.ending ≡ begun self.old.ending (is_over self.new.incoming self.new.input) }
+        ensures mark { self.new.share ≡ record self.old.share { mark = not clear && self.old.share.mark } }
+        ensures same { self.new ≡ record self.old {
+          incoming = self.new.incoming;
+          input = self.new.input;
+          share = self.new.share;
+          ending = self.new.ending;
+          room = room;
+        } }
+    {
+        self.fill(system);
+        self.room = room;
+        self.share.mark = !clear && self.share.mark;
+        self.ending = self.ending.begin_visit(self.input.is_over(&self.incoming));
+    }
+
+    /// Returns whether a read may find something and less than a piece is held.
+    fn is_wanting(&self) -> bool
+        ensures is { result ≡ is_wanting self.now.input self.now.incoming }
+        ensures yes { result ≡ true → (may_have self.now.input ≡ true) × (length self.now.incoming < MOST_IN_PIECE) }
+        ensures no { result ≡ false → may_have self.now.input ≡ true → MOST_IN_PIECE ≤ length self.now.incoming }
+    {
+        self.input.is_ready() && self.incoming.len() < MOST_IN_PIECE
+    }
+
+    /// Reads its socket once, if a read may find something and less than a piece is held.
+    #[inline(always)]
+    pub(crate) fn fill<S: System>(&mut self, system: &mut S)
+        requires { IsKept (S.told system.old) self.old }
+        ensures kept { IsKept (S.told system.new) self.new }
+        ensures others { (other : ℕ) → other ≢ self.old.number → Spares other (S.told system.old) (S.told system.new) }
+        ensures calls { SaysNothing (S.told system.old) (S.told system.new) }
+        ensures times { KeepsTimes (S.told system.old) (S.told system.new) }
+        ensures number { self.new.number ≡ self.old.number }
+        ensures asked { may_have self.old.input ≡ true → length self.old.incoming < MOST_IN_PIECE
+            → Asks self.old.number (S.told system.old) (S.told system.new) }
+        ensures read { IsRead (S.told system.new) self.old.number }
+        ensures same { self.new ≡ record self.old { incoming = self.new.incoming; input = self.new.input } }
+    {
+        if !self.is_wanting() {
+            return;
+        }
+        let room = MOST_INCOMING - self.incoming.len();
+        match self.incoming.read_from(system, self.number) {
+            Ok(count) => self.input = self.input.given(count, room),
+            Err(fault) => self.input = self.input.missed(refusal_of(fault)),
+        }
+    }
+
+    /// Moves what was read into the front of a buffer, as far as the turn's lines go, or tells the end or the fault
+    /// behind it, if the turn told no other.
+    pub fn read<S: System>(&mut self, system: &mut S, turn: &mut Turn, buffer: &mut [u8]) -> Handed
+        requires kept { IsKept (S.told system.old) self.old }
+        requires here { self.old.stay ≡ Stay.Here }
+        ensures kept { IsKept (S.told system.new) self.new }
+        ensures told { Tells (S.told system.old) (Told (ReadCall self.old.number result.got buffer.new))
+            (S.told system.new) }
+        ensures count { (n : ℕ) → result.got ≡ Ok (Got.Bytes n) → (0 < n) × (n ≤ length buffer.new) }
+        ensures fault { IfErr result.got (λ fault. fault ≡ DoorFault.Read) }
+        ensures others { (other : ℕ) → other ≢ self.old.number → Spares other (S.told system.old) (S.told system.new) }
+        ensures number { self.new.number ≡ self.old.number }
+        ensures turn { turn.new ≡ after_read turn.old self.old.share.line result.got buffer.new }
+        ensures fits { fits turn.old.pace (weight_of self.old.share.line (got_bytes result.got buffer.new)) ≡ true }
+        ensures ends { tells_end result.got ≡ true → turn.old.ends ≡ true }
+        ensures refused { result.refused ≡ true → IsShort turn.new.pace }
+    {
+        let handed = self.take_out(turn, buffer);
+        system.told_read(self.number, handed.got, buffer);
+        handed
+    }
+
+    fn take_out(&mut self, turn: &mut Turn, buffer: &mut [u8]) -> Handed
+        ensures bytes { self.old.incoming ≡ got_bytes result.got buffer.new ++ self.new.incoming }
+        ensures ended { result.got ≡ Ok Got.Ended → MayEnd self.old }
+        ensures failed { OnErr result.got (MayFail self.old) }
+        ensures count { (n : ℕ) → result.got ≡ Ok (Got.Bytes n) → (0 < n) × (n ≤ length buffer.new) }
+        ensures fault { IfErr result.got (λ fault. fault ≡ DoorFault.Read) }
+        ensures line { self.new.share.line ≡ line_after self.old.share.line (got_bytes result.got buffer.new) }
+        ensures turn { turn.new ≡ after_read turn.old self.old.share.line result.got buffer.new }
+        ensures fits { fits turn.old.pace (weight_of self.old.share.line (got_bytes result.got buffer.new)) ≡ true }
+        ensures ends { tells_end result.got ≡ true → turn.old.ends ≡ true }
+        ensures refused { result.refused ≡ true → IsShort turn.new.pace }
+        ensures same { self.new ≡ record self.old {
+          incoming = self.new.incoming;
+          share = self.new.share;
+          asked = self.new.asked;
+        } }
+    {
+        if self.incoming.is_empty() {
+            return Handed {
+                got: self.told_end(turn),
+                refused: false,
+            };
+        }
+        self.hand_out(turn, buffer)
+    }
+
+    /// Moves what is held of it into the front of a buffer, as far as the turn's lines go.
+    fn hand_out(&mut self, turn: &mut Turn, buffer: &mut [u8]) -> Handed
+        ensures bytes { self.old.incoming ≡ got_bytes result.got buffer.new ++ self.new.incoming }
+        ensures ended { tells_end result.got ≡ false }
+        ensures count { (n : ℕ) → result.got ≡ Ok (Got.Bytes n) → (0 < n) × (n ≤ length buffer.new) }
+        ensures line { self.new.share.line ≡ line_after self.old.share.line (got_bytes result.got buffer.new) }
+        ensures turn { turn.new ≡ after_read turn.old self.old.share.line result.got buffer.new }
+        ensures fits { fits turn.old.pace (weight_of self.old.share.line (got_bytes result.got buffer.new)) ≡ true }
+        ensures refused { result.refused ≡ true → IsShort turn.new.pace }
+        ensures same { self.new ≡ record self.old {
+          incoming = self.new.incoming;
+          share = self.new.share;
+          asked = self.new.asked;
+        } }
+    {
+        let within = MOST_IN_PIECE.min(buffer.len()).min(self.incoming.len());
+        let allowed = turn.allow(&mut self.share, &self.incoming.front()[..within]);
+        let count = allowed.count;
+        if count == 0 {
+            return Handed {
+                got: Ok(Got::Nothing),
+                refused: allowed.refused,
+            };
+        }
+        buffer[..count].copy_from_slice(&self.incoming.front()[..count]);
+        self.incoming.drop_front(count);
+        self.asked = true;
+        Handed {
+            got: Ok(Got::Bytes(count)),
+            refused: allowed.refused,
+        }
+    }
+
+    /// Returns what is told if nothing is held of it: its end or a fault, if the turn told no other.
+    fn told_end(&self, turn: &mut Turn) -> Result<Got, DoorFault>
+        ensures none { (n : ℕ) → result ≢ Ok (Got.Bytes n) }
+        ensures bytes { (buffer : List ℕ) → got_bytes result buffer ≡ [] }
+        ensures ended { result ≡ Ok Got.Ended → self.now.incoming ≡ [] → MayEnd self.now }
+        ensures failed { OnErr result (MayFail self.now) }
+        ensures fault { IfErr result (λ fault. fault ≡ DoorFault.Read) }
+        ensures turn { (line : Line) (buffer : List ℕ) → turn.new ≡ after_read turn.old line result buffer }
+        ensures ends { tells_end result ≡ true → turn.old.ends ≡ true }
+    {
+        match self.due_end() {
+            Due::Nothing => Ok(Got::Nothing),
+            Due::End => turn.tell_end(),
+            Due::Fault => turn.tell_fault(),
+        }
+    }
+
+    /// Returns what is to be told if nothing is held of it.
+    fn due_end(&self) -> Due
+        ensures end { result ≡ Due.End → self.now.incoming ≡ [] → MayEnd self.now }
+        ensures fault { result ≡ Due.Fault → MayFail self.now }
+    {
+        if self.output.is_lost() {
+            return Due::Fault;
+        }
+        match self.input {
+            Reading::Failed => Due::Fault,
+            Reading::Ended if self.ending.is_settled() && self.outgoing.is_empty() => Due::End,
+            _ => Due::Nothing,
+        }
+    }
+
+    /// Takes bytes, as many as there is space for, and returns how many. What is written to a lost peer goes nowhere.
+    pub fn write<S: System>(&mut self, system: &mut S, bytes: &[u8]) -> usize
+        requires kept { IsKept (S.told system.old) self.old }
+        requires here { self.old.stay ≡ Stay.Here }
+        ensures kept { IsKept (S.told system.new) self.new }
+        ensures count { result ≤ length bytes.now }
+        ensures told { Tells (S.told system.old) (Told (WriteCall self.old.number bytes.now (Ok result)))
+            (S.told system.new) }
+        ensures others { (other : ℕ) → other ≢ self.old.number → Spares other (S.told system.old) (S.told system.new) }
+        ensures number { self.new.number ≡ self.old.number }
+    {
+        let count = self.enqueue(bytes);
+        self.cut = count < bytes.len();
+        if !self.ending.is_open() {
+            self.ending = self.ending.written(!self.cut);
+        }
+        system.told_write(self.number, bytes, Ok(count));
+        count
+    }
+
+    /// Gathers bytes, as many as there is space for, and returns how many.
+    fn enqueue(&mut self, bytes: &[u8]) -> usize
+        ensures count { result ≤ length bytes.now }
+        ensures new { self.new ≡ record self.old {
+          outgoing = queued_more self.old.output self.old.outgoing (take result bytes.now);
+          room = self.new.room;
+        } }
+    {
+        match self.output {
+            Writing::Open => (),
+            Writing::Full if self.room > 0 => self.room -= 1,
+            Writing::Full => return 0,
+            Writing::Lost => return bytes.len(),
+        }
+        self.outgoing.take(bytes)
+    }
+
+    /// Returns whether input of it is held that the core takes.
+    pub fn holds_input(&self) -> bool
+        ensures { result ≡ holds_input self.now }
+    {
+        self.stay.is_here() && !self.cut && !self.incoming.is_empty()
+    }
+
+    /// Returns whether something is queued that its socket may still take.
+    pub fn is_owed(&self) -> bool
+        ensures { result ≡ is_waiting self.now }
+    {
+        !self.outgoing.is_empty() && !self.output.is_lost()
+    }
+
+    /// Returns whether it is there, and something happens to it though no socket is found ready.
+    pub(crate) fn is_busy(&self) -> bool
+        ensures { is_resting self.now ≡ true → result ≡ false }
+    {
+        self.stay.is_here() && !self.is_resting()
+    }
+
+    /// Returns whether it is there, and nothing happens to it unless its socket is found ready.
+    pub fn is_resting(&self) -> bool
+        ensures { result ≡ is_resting self.now }
+    {
+        self.stay.is_here() && self.has_rest()
+    }
+
+    /// Returns whether nothing is to be done for it unless its socket is found ready.
+    fn has_rest(&self) -> bool
+        ensures { result ≡ has_rest self.now }
+    {
+        if !self.output.is_resting(&self.outgoing) {
+            return false;
+        }
+        if self.cut {
+            self.outgoing.len() == MOST_OUTGOING
+        } else {
+            self.incoming.is_empty() && self.input.is_resting(&self.outgoing)
+        }
+    }
+}

@@ -1,0 +1,110 @@
+//! What a turn does with all peers.
+
+ghost use Rattle.std.specs.Prelude.{◌≡◌, ◌<◌, ℕ, All, IfNone, IfSome, length, fold, slice_index_or};
+ghost use Rattle.srcp_peers.specs.declared.peer.Peer.{Peer};
+ghost use Rattle.srcp_peers.specs.Steps.{SaysNothing};
+ghost use Rattle.srcp_peers.specs.Times.{KeepsTimes};
+ghost use Rattle.srcp_peers.specs.Peers.{Spares, IsRead, after_wake};
+ghost use Rattle.srcp_peers.specs.AllPeers.{AreApart, AreKept, AreMarked, AreThose, IsAbsent};
+ghost use Rattle.srcp_peers.specs.Listeners.{woken_listening};
+
+use crate::peer::Peer;
+use crate::readiness::Flush;
+use crate::system::{Ready, System};
+use crate::waiting::Listening;
+
+/// Flushes each peer that is there, and goes on with those that were let go. Returns whether one was.
+pub fn flush<S: System>(system: &mut S, peers: &mut [Peer], what: Flush) -> bool
+    requires kept { AreKept (S.told system.old) peers.old }
+    requires apart { AreApart peers.old }
+    ensures kept { AreKept (S.told system.new) peers.new }
+    ensures those { AreThose peers.old peers.new }
+    ensures others { (other : ℕ) → IsAbsent other peers.old → Spares other (S.told system.old) (S.told system.new) }
+    ensures calls { SaysNothing (S.told system.old) (S.told system.new) }
+    ensures times { KeepsTimes (S.told system.old) (S.told system.new) }
+{
+    let mut leaving = false;
+    for peer in peers.iter_mut() {
+        leaving |= !peer.stay.is_here();
+        peer.hand_over(system, what);
+    }
+    leaving
+}
+
+/// Begins the visit of each peer; with `clear` the marks are cleared. At most `room` lines may be queued for each whose
+/// socket refuses more.
+pub fn begin_visits<S: System>(system: &mut S, peers: &mut [Peer], clear: bool, room: u32)
+    requires kept { AreKept (S.told system.old) peers.old }
+    requires apart { AreApart peers.old }
+    ensures kept { AreKept (S.told system.new) peers.new }
+    ensures those { AreThose peers.old peers.new }
+    ensures others { (other : ℕ) → IsAbsent other peers.old → Spares other (S.told system.old) (S.told system.new) }
+    ensures calls { SaysNothing (S.told system.old) (S.told system.new) }
+    ensures times { KeepsTimes (S.told system.old) (S.told system.new) }
+    ensures read { (k : ℕ) (d : Peer) → k < length peers.new
+        → IsRead (S.told system.new) (slice_index_or peers.new k d).number }
+    ensures marks { AreMarked clear peers.old peers.new }
+    ensures rooms { All (λ peer. peer.room ≡ room) peers.new }
+{
+    for peer in peers.iter_mut() {
+        peer.begin_visit(system, clear, room);
+    }
+}
+
+/// Notes which sockets are ready.
+pub fn wake(peers: &mut [Peer], ready: &[Ready])
+    requires { AreApart peers.old }
+    ensures { (k : ℕ) (d : Peer) → k < length peers.old
+        → slice_index_or peers.new k d ≡ fold after_wake (slice_index_or peers.old k d) ready.now }
+{
+    for one in ready {
+        wake_one(peers, *one);
+    }
+}
+
+/// Notes that a socket is ready.
+fn wake_one(peers: &mut [Peer], ready: Ready)
+    requires { AreApart peers.old }
+    ensures { (k : ℕ) (d : Peer) → k < length peers.old
+        → slice_index_or peers.new k d ≡ after_wake (slice_index_or peers.old k d) ready }
+{
+    let Some(place) = place_of(peers, ready.socket) else {
+        return;
+    };
+    peers[place].wake(ready);
+}
+
+/// Returns the index of the peer with that socket, if one has it.
+fn place_of(peers: &[Peer], socket: u32) -> Option<usize>
+    ensures found { IfSome result (λ place. (place < length peers.now)
+        × ((d : Peer) → (slice_index_or peers.now place d).number ≡ socket)) }
+    ensures absent { IfNone result (IsAbsent socket peers.now) }
+{
+    for place in 0..peers.len() {
+        if peers[place].number == socket {
+            return Some(place);
+        }
+    }
+    None
+}
+
+/// Notes whether the listener is ready.
+pub fn listen(listening: Listening, ready: &[Ready]) -> Listening
+    ensures { result ≡ fold woken_listening listening ready.now }
+{
+    let mut heard = listening;
+    for one in ready {
+        heard = heard_more(heard, *one);
+    }
+    heard
+}
+
+fn heard_more(listening: Listening, ready: Ready) -> Listening
+    ensures { result ≡ woken_listening listening ready }
+{
+    if ready.socket == 0 && (ready.readable || ready.closed || ready.urgent) {
+        Listening::Ready
+    } else {
+        listening
+    }
+}

@@ -1,0 +1,188 @@
+//! Bytes that are held in order until they are handed over.
+
+ghost use Rattle.std.specs.Prelude.{◌≡◌, ◌<◌, ◌≤◌, ◌+◌, ◌-◌, ◌++◌, ◌==◌, [], ℕ, List, IfOk, MatchResult, length, take};
+ghost use Rattle.std.specs.Prelude.{drop, min, slice_range};
+ghost use Rattle.srcp_peers.specs.Steps.{Tells, Reads};
+
+use crate::system::System;
+use std::alloc::{AllocError, Global};
+use std::io::ErrorKind;
+use std::marker::Model;
+use std::vec::Vec;
+
+/// How many bytes are queued for a peer at most.
+pub const MOST_OUTGOING: usize = 40_960;
+
+/// How many bytes are read ahead at most.
+pub const MOST_INCOMING: usize = 4_096;
+
+/// What a peer was written that its socket did not take yet.
+pub type Outgoing = Queue<MOST_OUTGOING>;
+
+/// The queues of a peer that is still to come: nothing is held in them.
+#[derive(Drop)]
+pub struct Queues {
+    /// What it is written.
+    pub outgoing: Outgoing,
+    /// What is read of it.
+    pub incoming: Queue<MOST_INCOMING>,
+    ghost sent: { outgoing ≡ [] },
+    ghost came: { incoming ≡ [] },
+}
+
+impl Queues {
+    /// Returns both.
+    ///
+    /// # Errors
+    /// If memory is refused.
+    pub fn new(alloc: Global) -> Result<Queues, AllocError> {
+        Ok(Queues {
+            outgoing: Queue::new(alloc)?,
+            incoming: Queue::new(alloc)?,
+        })
+    }
+}
+
+/// Bytes in the order in which they came, at most `MOST`. Seen as a list.
+#[derive(Drop)]
+pub struct Queue<const MOST: usize> {
+    // The bytes from `start` to `end` are held.
+    buffer: Vec<u8>,
+    start: usize,
+    end: usize,
+}
+
+impl<const MOST: usize> Model for Queue<MOST> {
+    ghost use Rattle.std.specs.Prelude.{◌≡◌, ◌≤◌, List, ℕ, length, slice_range};
+
+    ghost Value = { List ℕ };
+
+    ghost view = { λ h. slice_range h.buffer.items h.start h.end };
+
+    ghost invariant = { λ h. (h.start ≤ h.end) × (h.end ≤ MOST) × (length h.buffer.items ≡ MOST) };
+}
+
+impl<const MOST: usize> Queue<MOST> {
+    /// Returns none yet. No other call takes memory.
+    ///
+    /// # Errors
+    /// If memory is refused.
+    pub fn new(alloc: Global) -> Result<Queue<MOST>, AllocError>
+        ensures { IfOk result (λ held. held ≡ []) }
+    {
+        let mut buffer = Vec::new(alloc);
+        buffer.resize(MOST, 0)?;
+        Ok(Queue {
+            buffer,
+            start: 0,
+            end: 0,
+        })
+    }
+
+    /// Returns how many are held.
+    pub fn len(&self) -> usize
+        ensures count { result ≡ length self.now }
+        ensures most { result ≤ MOST }
+    {
+        self.end - self.start
+    }
+
+    /// Returns whether none is held.
+    pub fn is_empty(&self) -> bool
+        ensures { result ≡ (length self.now == 0) }
+    {
+        self.start == self.end
+    }
+
+    /// Takes bytes, as many as there is space for, and returns how many those are.
+    pub fn take(&mut self, bytes: &[u8]) -> usize
+        ensures count { result ≡ min (length bytes.now) (MOST - length self.old) }
+        ensures held { self.new ≡ self.old ++ take result bytes.now }
+    {
+        if bytes.len() > MOST - self.end {
+            return self.take_at_front(bytes);
+        }
+        put(&mut self.buffer, self.end, bytes);
+        self.end += bytes.len();
+        bytes.len()
+    }
+
+    /// Moves what is held to the front of the buffer, and takes bytes, as many as there is space for behind it.
+    #[inline(never)]
+    fn take_at_front(&mut self, bytes: &[u8]) -> usize
+        ensures count { result ≡ min (length bytes.now) (MOST - length self.old) }
+        ensures held { self.new ≡ self.old ++ take result bytes.now }
+    {
+        move_to_front(&mut self.buffer, self.start, self.end);
+        self.end -= self.start;
+        self.start = 0;
+        let count = bytes.len().min(MOST - self.end);
+        put(&mut self.buffer, self.end, &bytes[..count]);
+        self.end += count;
+        count
+    }
+
+    /// Reads once of a socket, as much as there is space for, and returns how many bytes came.
+    ///
+    /// # Errors
+    /// Those of the system. Then the bytes stay as they are.
+    pub fn read_from<S: System>(&mut self, system: &mut S, socket: u32) -> Result<usize, ErrorKind>
+        requires { length self.old < MOST }
+        ensures { (buffer : List ℕ) × (length buffer ≡ MOST - length self.old)
+            × Tells (S.told system.old) (Reads socket buffer result) (S.told system.new)
+            × MatchResult result (λ count. (count ≤ length buffer) × (self.new ≡ self.old ++ take count buffer))
+            (λ _. self.new ≡ self.old) }
+    {
+        move_to_front(&mut self.buffer, self.start, self.end);
+        self.end -= self.start;
+        self.start = 0;
+        match system.read(socket, &mut self.buffer[self.end..]) {
+            Ok(count) => {
+                self.end += count;
+                Ok(count)
+            }
+            Err(fault) => Err(fault),
+        }
+    }
+
+    /// Returns the bytes, the one that came first in front.
+    pub fn front(&self) -> &[u8]
+        ensures { result.now ≡ self.now }
+    {
+        &self.buffer[self.start..self.end]
+    }
+
+    /// Drops `count` bytes, from the first on.
+    pub fn drop_front(&mut self, count: usize)
+        requires { count ≤ length self.old }
+        ensures { self.new ≡ drop count self.old }
+    {
+        self.start += count;
+        if self.start == self.end {
+            self.start = 0;
+            self.end = 0;
+        }
+    }
+}
+
+/// Puts bytes into a buffer, from the index `at` on.
+#[inline(always)]
+fn put(buffer: &mut Vec<u8>, at: usize, bytes: &[u8])
+    requires { at + length bytes.now ≤ length buffer.old.items }
+    ensures put { (start : ℕ) → start ≤ at → slice_range buffer.new.items start (at + length bytes.now)
+        ≡ slice_range buffer.old.items start at ++ bytes.now }
+    ensures len { length buffer.new.items ≡ length buffer.old.items }
+{
+    buffer[at..at + bytes.len()].copy_from_slice(bytes);
+}
+
+/// Moves the bytes from `start` to `end` to the front of a buffer.
+fn move_to_front(buffer: &mut Vec<u8>, start: usize, end: usize)
+    requires { (start ≤ end) × (end ≤ length buffer.old.items) }
+    ensures moved { slice_range buffer.new.items 0 (end - start) ≡ slice_range buffer.old.items start end }
+    ensures len { length buffer.new.items ≡ length buffer.old.items }
+{
+    if start > 0 {
+        buffer.copy_within(start..end, 0);
+    }
+}

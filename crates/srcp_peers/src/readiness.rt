@@ -1,0 +1,210 @@
+//! What a read and a write of a peer's socket may find, and what is flushed to it.
+
+ghost use Rattle.std.specs.Prelude.{◌≡◌, ◌≢◌, true, false};
+ghost use Rattle.srcp_peers.specs.Peers.{flushes_all, given, is_lost, is_over, may_have, missed, refused};
+ghost use Rattle.srcp_peers.specs.Peers.{rests_reading, has_ended, rests_writing, taken, tries_again, woken_input};
+ghost use Rattle.srcp_peers.specs.Peers.{woken_output};
+
+use crate::queue::{MOST_INCOMING, Outgoing, Queue};
+use crate::system::Refusal;
+
+/// What a read of a socket may find.
+#[derive(Clone, Copy)]
+pub enum Reading {
+    /// Something, for all that is known.
+    Ready,
+    /// Something behind urgent data, or the end, which no event tells again: it is read until nothing comes.
+    Draining,
+    /// Nothing, until the socket is found ready.
+    Quiet,
+    /// A read found the end.
+    Ended,
+    /// A read failed.
+    Failed,
+}
+
+/// What a write to a socket may find.
+#[derive(Clone, Copy)]
+pub enum Writing {
+    /// Room, for all that is known.
+    Open,
+    /// None, until the socket is found ready.
+    Full,
+    /// The socket takes no more.
+    Lost,
+}
+
+/// What is flushed of what is queued for the peers.
+#[derive(Clone, Copy)]
+pub enum Flush {
+    /// Answers, and what is queued for a peer if that is much.
+    Answers,
+    /// All.
+    All,
+    /// All, and a socket that refused more is tried though it was not found ready: the system finds it so only once
+    /// much of its room is free.
+    Again,
+}
+
+impl Flush {
+    /// Returns whether all is flushed.
+    pub(crate) fn is_all(self) -> bool
+        ensures { result ≡ flushes_all self }
+    {
+        !matches!(self, Flush::Answers)
+    }
+
+    /// Returns whether a socket is tried that refused more.
+    pub(crate) fn tries_again(self) -> bool
+        ensures { result ≡ tries_again self }
+    {
+        matches!(self, Flush::Again)
+    }
+}
+
+impl Reading {
+    /// Returns whether a read may find something.
+    pub(crate) fn is_ready(self) -> bool
+        ensures { result ≡ may_have self }
+    {
+        match self {
+            Reading::Ready | Reading::Draining => true,
+            Reading::Quiet | Reading::Ended | Reading::Failed => false,
+        }
+    }
+
+    /// Returns whether no read finds anything any more.
+    pub(crate) fn has_ended(self) -> bool
+        ensures { result ≡ has_ended self }
+    {
+        match self {
+            Reading::Ready | Reading::Draining | Reading::Quiet => false,
+            Reading::Ended | Reading::Failed => true,
+        }
+    }
+
+    /// Returns what follows a read that gave `count` bytes, if there was room for `room`.
+    pub(crate) fn given(self, count: usize, room: usize) -> Reading
+        ensures { result ≡ given self count room }
+    {
+        if count == 0 {
+            return Reading::Ended;
+        }
+        match self {
+            Reading::Ready if count < room => Reading::Quiet,
+            Reading::Ready => Reading::Ready,
+            Reading::Draining => Reading::Draining,
+            Reading::Quiet => Reading::Quiet,
+            Reading::Ended => Reading::Ended,
+            Reading::Failed => Reading::Failed,
+        }
+    }
+
+    /// Returns what follows a read that failed.
+    pub(crate) fn missed(self, said: Refusal) -> Reading
+        ensures { result ≡ missed self said }
+    {
+        match said {
+            Refusal::Later => Reading::Quiet,
+            Refusal::Again => self,
+            Refusal::Fault => Reading::Failed,
+        }
+    }
+
+    /// Returns what follows a socket that was found ready.
+    pub(crate) fn woken(self, readable: bool, drains: bool) -> Reading
+        ensures { result ≡ woken_input self readable drains }
+    {
+        match self {
+            Reading::Ready | Reading::Quiet if drains => Reading::Draining,
+            Reading::Quiet if readable => Reading::Ready,
+            state => state,
+        }
+    }
+
+    /// Returns whether the input is over, and none of it held.
+    pub(crate) fn is_over(self, incoming: &Queue<MOST_INCOMING>) -> bool
+        ensures { result ≡ is_over incoming.now self }
+    {
+        matches!(self, Reading::Ended) && incoming.is_empty()
+    }
+
+    /// Returns whether nothing is to be told of it but what its socket says.
+    pub(crate) fn is_resting(self, outgoing: &Outgoing) -> bool
+        ensures { result ≡ rests_reading outgoing.now self }
+    {
+        match self {
+            Reading::Ready | Reading::Draining | Reading::Failed => false,
+            Reading::Quiet => true,
+            Reading::Ended => !outgoing.is_empty(),
+        }
+    }
+}
+
+impl Writing {
+    /// Returns whether a write may be taken.
+    pub(crate) fn is_open(self) -> bool
+        ensures yes { result ≡ true → self ≡ Writing.Open }
+        ensures no { result ≡ false → self ≢ Writing.Open }
+    {
+        match self {
+            Writing::Open => true,
+            Writing::Full | Writing::Lost => false,
+        }
+    }
+
+    /// Returns whether the socket takes no more.
+    pub(crate) fn is_lost(self) -> bool
+        ensures { result ≡ is_lost self }
+    {
+        match self {
+            Writing::Lost => true,
+            Writing::Open | Writing::Full => false,
+        }
+    }
+
+    /// Returns what follows a write of `all` bytes of which `count` were taken.
+    pub(crate) fn taken(count: usize, all: usize) -> Writing
+        ensures { result ≡ taken count all }
+    {
+        if count == 0 {
+            Writing::Lost
+        } else if count < all {
+            Writing::Full
+        } else {
+            Writing::Open
+        }
+    }
+
+    /// Returns what follows a write that failed.
+    pub(crate) fn refused(self, said: Refusal) -> Writing
+        ensures { result ≡ refused self said }
+    {
+        match said {
+            Refusal::Later => Writing::Full,
+            Refusal::Again => self,
+            Refusal::Fault => Writing::Lost,
+        }
+    }
+
+    /// Returns what follows a socket that was found ready.
+    pub(crate) fn woken(self, writable: bool) -> Writing
+        ensures { result ≡ woken_output self writable }
+    {
+        match self {
+            Writing::Full if writable => Writing::Open,
+            state => state,
+        }
+    }
+
+    /// Returns whether nothing is queued that the socket may take.
+    pub(crate) fn is_resting(self, outgoing: &Outgoing) -> bool
+        ensures { result ≡ rests_writing outgoing.now self }
+    {
+        match self {
+            Writing::Open => outgoing.is_empty(),
+            Writing::Full => true,
+            Writing::Lost => false,
+        }
+    }
+}

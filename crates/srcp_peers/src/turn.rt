@@ -1,0 +1,261 @@
+//! What a door knows of the turn that it is in.
+
+ghost use Rattle.std.specs.Prelude.{◌≡◌, ◌<◌, ◌≤◌, ◌-◌, ◌/◌, ◌||◌, ◌⊎◌, true, false, ℕ, List, Some, None, Ok, Err};
+ghost use Rattle.std.specs.Prelude.{IfErr, cond, length, take};
+ghost use Rattle.srcp_serve.specs.Calls.{ExpectCall, AcceptCall, WriteCall, CloseCall};
+ghost use Rattle.srcp_door.specs.Pacing.{Allows, IsShort, fits, line_after, weight_of};
+ghost use Rattle.srcp_door.specs.declared.pacing.Line.{Line};
+ghost use Rattle.srcp_peers.specs.Turns.{after_call, after_read, after_wait, begun, earlier, ended, first_turn};
+ghost use Rattle.srcp_peers.specs.Turns.{handed_out, is_behind, is_pending, is_short, lack, moment_at, stop};
+ghost use Rattle.srcp_peers.specs.Turns.{tells_end, time_left, told_at};
+
+use srcp_door::{Allowed, MOST_SLACK, Pace, RESERVE, Share, Timekeeper};
+use srcp_feed::MOST_WAITING;
+use srcp_rules::MOST_CHANGES;
+use srcp_serve::{DoorFault, Got, MOST_WRITES};
+
+// The most changes that may wait for a panel are those that may come before one overruns for which none waits.
+const _: () = prove!(MOST_SLACK == MOST_WAITING);
+
+/// A wait for what falls due ends earlier than it by this part of the wait: the system may end a wait late by a
+/// thousandth of it, or a two-hundredth for a process of low priority. The turns behind it wait for the rest.
+const EARLIER: u64 = 128;
+
+/// What a door knows of its turn.
+#[derive(Drop)]
+pub struct Turn {
+    /// The clocks at the start, and the moment that was told last.
+    pub timekeeper: Timekeeper,
+    /// What the clock that is never set showed when that moment was told, in milliseconds; 0 before the first.
+    pub clock: u64,
+    /// The moment at which something falls due next, if anything does.
+    pub due: Option<u64>,
+    /// How many more changes may come upon each panel, if there is one.
+    pub slack: Option<usize>,
+    /// The same, as it was said in the turn before.
+    pub before: Option<usize>,
+    /// Whether something happened since the last wait.
+    pub busy: bool,
+    /// Whether the moment that was told last is behind the time.
+    pub late: bool,
+    /// How much the lines may still weigh that are handed out.
+    pub pace: Pace,
+    /// Whether the end of a peer may still be told.
+    pub ends: bool,
+}
+
+impl Turn {
+    /// Returns the turn that follows nothing, by the wall clock and the clock that is never set, in milliseconds.
+    pub fn first(wall: u64, start: u64) -> Turn
+        ensures { result ≡ first_turn wall start }
+    {
+        Turn {
+            timekeeper: Timekeeper::new(wall, start),
+            clock: 0,
+            due: None,
+            slack: None,
+            before: None,
+            busy: true,
+            late: false,
+            pace: Pace::Paced { left: 0 },
+            ends: false,
+        }
+    }
+
+    /// Returns how many milliseconds the next wait may take, if anything falls due.
+    pub(crate) fn left(&self) -> Option<u64>
+        ensures { result ≡ time_left self.now }
+    {
+        if self.late {
+            return Some(0);
+        }
+        match self.due {
+            Some(due) => Some(earlier(self.timekeeper.left_until(due))),
+            None => None,
+        }
+    }
+
+    /// Returns whether a panel may have something coming.
+    pub fn is_pending(&self) -> bool
+        ensures { result ≡ is_pending self.now.slack self.now.busy }
+    {
+        match self.slack {
+            Some(_) => self.busy,
+            None => false,
+        }
+    }
+
+    /// Returns how many milliseconds a turn stands still though there is something to do: 1 if a panel is so far behind
+    /// for the second turn that no line may go until the clock goes on.
+    pub fn stop(&self) -> u64
+        ensures { result ≡ stop self.now }
+    {
+        u64::from(is_behind(self.before) && is_behind(self.slack))
+    }
+
+    /// Returns how many changes the panels lack for a line to go before the clock goes on; as many as a peer is written
+    /// lines in a visit if there is no panel.
+    pub fn lack(&self) -> u32
+        ensures { result ≡ lack self.now.slack }
+    {
+        match self.slack {
+            Some(slack) => u32::try_from(RESERVE.saturating_sub(slack)).unwrap_or(MOST_WRITES),
+            None => MOST_WRITES,
+        }
+    }
+
+    /// Returns whether the panels can take less than a line may bring.
+    pub fn is_short(&self) -> bool
+        ensures { result ≡ is_short self.now.slack }
+    {
+        self.slack
+            .is_some_and(|slack| slack < RESERVE + MOST_CHANGES)
+    }
+
+    /// Notes what falls due next, and how much the panels can still take.
+    pub fn expect(&mut self, due: Option<u64>, slack: Option<usize>)
+        ensures { self.new ≡ after_call self.old (ExpectCall due slack) }
+    {
+        self.due = due;
+        self.before = self.slack;
+        self.slack = slack;
+    }
+
+    /// Notes that a wait began.
+    pub fn wait(&mut self)
+        ensures { self.new ≡ after_wait self.old }
+    {
+        self.busy = false;
+    }
+
+    /// Returns the moment that is to be told, if the clock that is never set shows a time. Moments never go back. After
+    /// a stall they catch up in steps of 10 milliseconds, from the moment on at which something falls due. From now on
+    /// lines may be handed out again, as many as the panels can take, and the end of one peer may be told.
+    ///
+    /// # Errors
+    /// `Now` if the clock cannot be read.
+    pub fn tell(&mut self, shown: Option<u64>) -> Result<u64, DoorFault>
+        ensures none { shown ≡ None → (result ≡ Err DoorFault.Now) × (self.new ≡ begun self.old false) }
+        ensures some { (time : ℕ) → shown ≡ Some time
+            → (result ≡ Ok (moment_at self.old time)) × (self.new ≡ told_at self.old time (moment_at self.old time)) }
+        ensures fault { IfErr result (λ fault. fault ≡ DoorFault.Now) }
+    {
+        let Some(time) = shown else {
+            self.begin(false);
+            return Err(DoorFault::Now);
+        };
+        self.timekeeper.pass(time, self.due);
+        let moment = self.timekeeper.tell(time);
+        self.late = self.timekeeper.is_late(time);
+        self.begin(time != self.clock);
+        self.clock = time;
+        Ok(moment)
+    }
+
+    /// Lets through what may go in a turn; `tick` says whether the clock went on.
+    fn begin(&mut self, tick: bool)
+        ensures { self.new ≡ begun self.old tick }
+    {
+        self.pace = Pace::of_turn(self.slack, tick);
+        self.ends = true;
+    }
+
+    /// Returns whether the end of a peer may be told now. If so, it is the one of this turn.
+    pub(crate) fn allow_end(&mut self) -> bool
+        ensures allowed { result ≡ self.old.ends }
+        ensures new { self.new ≡ cond result (ended self.old) self.old }
+    {
+        let allowed = self.ends;
+        self.busy = self.busy || allowed;
+        self.ends = false;
+        allowed
+    }
+
+    /// Returns what is told of a peer whose end is due: that, if the turn told no other.
+    pub(crate) fn tell_end(&mut self) -> Result<Got, DoorFault>
+        ensures told { (result ≡ Ok Got.Nothing) ⊎ (result ≡ Ok Got.Ended) }
+        ensures new { (line : Line) (buffer : List ℕ) → self.new ≡ after_read self.old line result buffer }
+        ensures ends { tells_end result ≡ true → self.old.ends ≡ true }
+    {
+        if self.allow_end() {
+            Ok(Got::Ended)
+        } else {
+            Ok(Got::Nothing)
+        }
+    }
+
+    /// Returns what is told of a peer that is lost or is not there: that, if the turn told no other end.
+    ///
+    /// # Errors
+    /// `Read` if it did not.
+    pub fn tell_fault(&mut self) -> Result<Got, DoorFault>
+        ensures told { (result ≡ Ok Got.Nothing) ⊎ (result ≡ Err DoorFault.Read) }
+        ensures new { (line : Line) (buffer : List ℕ) → self.new ≡ after_read self.old line result buffer }
+        ensures ends { tells_end result ≡ true → self.old.ends ≡ true }
+    {
+        if self.allow_end() {
+            Err(DoorFault::Read)
+        } else {
+            Ok(Got::Nothing)
+        }
+    }
+
+    /// Returns how many bytes of a peer's piece may be handed out now, by its share of the lines, and notes that they
+    /// are.
+    pub(crate) fn allow(&mut self, share: &mut Share, piece: &[u8]) -> Allowed
+        ensures within { result.count ≤ length piece.now }
+        ensures nothing { result.count ≡ 0 → self.new ≡ self.old }
+        ensures some { 0 < result.count → self.new ≡ handed_out self.old share.old.line (take result.count piece.now) }
+        ensures line { share.new.line ≡ line_after share.old.line (take result.count piece.now) }
+        ensures fits { fits self.old.pace (weight_of share.old.line (take result.count piece.now)) ≡ true }
+        ensures allows { Allows self.old.pace share.old piece.now result.count }
+        ensures fair { result.refused ≡ true → IsShort self.new.pace }
+    {
+        let allowed = self.pace.allow(share, piece);
+        self.busy = self.busy || allowed.count > 0;
+        allowed
+    }
+
+    /// Notes who came in.
+    pub fn note_accept(&mut self, answer: Result<Option<u32>, DoorFault>)
+        ensures { self.new ≡ after_call self.old (AcceptCall answer) }
+    {
+        self.note(matches!(answer, Ok(Some(_))));
+    }
+
+    /// Notes what was taken for a peer.
+    pub fn note_write(&mut self, answer: Result<usize, DoorFault>)
+        ensures { (peer : ℕ) (bytes : List ℕ) → self.new ≡ after_call self.old (WriteCall peer bytes answer) }
+    {
+        self.note(!matches!(answer, Ok(0)));
+    }
+
+    /// Notes that a peer was closed.
+    pub fn note_close(&mut self, answer: Result<(), DoorFault>)
+        ensures { (peer : ℕ) → self.new ≡ after_call self.old (CloseCall peer answer) }
+    {
+        let _answer = answer;
+        self.note(true);
+    }
+
+    /// Notes whether something happened.
+    fn note(&mut self, stirs: bool)
+        ensures { self.new ≡ record self.old { busy = self.old.busy || stirs } }
+    {
+        self.busy = self.busy || stirs;
+    }
+}
+
+/// Returns whether a panel that can take `slack` more changes is so far behind that no line may go.
+fn is_behind(slack: Option<usize>) -> bool
+    ensures { result ≡ is_behind slack }
+{
+    slack.is_some_and(|slack| slack <= RESERVE)
+}
+
+/// Returns how long to wait for what falls due after `left` milliseconds.
+fn earlier(left: u64) -> u64
+    ensures { result ≡ earlier left }
+{
+    left - left / EARLIER
+}

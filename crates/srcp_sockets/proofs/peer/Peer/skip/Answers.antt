@@ -1,8 +1,0 @@
-use Rattle.std.proofs.Common.{subst, sym}
-use Rattle.srcp_sockets.specs.Peers.{IsKept}
-use Rattle.srcp_sockets.proofs.Staying.{kept_dropped}
-use Rattle.srcp_sockets.proofs.peer.Peer.skip.Goals as goal
-
-pub fill-requires : goal.fill-requires
-fill-requires g c = subst (IsKept (g.S.System.told c.args.system.now)) (sym c.drop_input.ensures)
-    (kept_dropped (g.S.System.told c.args.system.now) c.args.self.now c.requires.gone c.requires.kept)
