@@ -84,16 +84,6 @@ picks b x y e = ap (λ c. if c then x else y) e
 pub skips : {X : Type 0} (b : Bool) (x y : X) → b ≡ false → (if b then x else y) ≡ y
 skips b x y e = ap (λ c. if c then x else y) e
 
-pub spares_write : (n other : ℕ) (old new : Option (List Step)) (bytes : List ℕ) (answer : Result ℕ ErrorKind) → other ≢ n
-    → Tells old (Writes n bytes answer) new → Spares other old new
-spares_write n other old new bytes answer differ tells =
-    spares_after other old new (Writes n bytes answer) tells (λ a. skips (n == other) _ a (alien n other differ))
-
-pub spares_read : (n other : ℕ) (old new : Option (List Step)) (buffer : List ℕ) (answer : Result ℕ ErrorKind) → other ≢ n
-    → Tells old (Reads n buffer answer) new → Spares other old new
-spares_read n other old new buffer answer differ tells =
-    spares_after other old new (Reads n buffer answer) tells (λ a. skips (n == other) _ a (alien n other differ))
-
 -- ---- the steps of a peer
 
 agrees_own : (b : Bool) (x y : Account) (p : Peer) → b ≡ true → Agrees x p → Agrees (if b then x else y) p
@@ -202,36 +192,6 @@ pub spares_shut : (n other : ℕ) (old new : Option (List Step)) → other ≢ n
 spares_shut n other old new differ tells =
     spares_after other old new (Shuts n) tells (λ a. skips (n == other) (shut_down a) a (alien n other differ))
 
-pub kept_taken : (old new : Option (List Step)) (p : Peer) (bytes : List ℕ) (count : ℕ) (ending : Ending) (room : ℕ)
-    → p.stay ≡ stay.Here
-    → Tells old (Told (WriteCall p.number bytes (Ok count))) new → IsKept old p
-    → IsKept new (record p {
-      outgoing = queued_more p.output p.outgoing (take count bytes);
-      cut = nat_lt count (length bytes);
-      ending = ending;
-      room = room;
-    })
-kept_taken old new p bytes count ending room here tells kept =
-    let q : Peer = record p {
-      outgoing = queued_more p.output p.outgoing (take count bytes);
-      cut = nat_lt count (length bytes);
-      ending = ending;
-      room = room;
-    } in
-    kept_after old new (Told (WriteCall p.number bytes (Ok count))) p q tells refl
-    (λ (a : Account) (h : Agrees a p). agrees_own (p.number == p.number) _ a q (own p.number) (record {
-      cut = refl;
-      reads = h.reads;
-      writes = written_as a.sent p.outgoing (take count bytes) p.output h.writes;
-      stays = stays_here a.watched a.leave p.outgoing (queued_more p.output p.outgoing (take count bytes)) p.stay here h.stays;
-      rightly = h.rightly;
-      unread = h.unread;
-      served = h.served;
-      line = h.line;
-      honest = h.honest;
-      rested = h.rested;
-    })) kept
-
 -- what a read of the door told
 got_agrees : (a : Account) (p : Peer) (answer : Result Got DoorFault) (buffer rest : List ℕ) (share : Share) (asked : Bool)
     → p.stay ≡ stay.Here → p.incoming ≡ got_bytes answer buffer ++ rest
@@ -311,42 +271,6 @@ kept_got old new p q answer buffer here same is lined ended failed tells kept =
     (kept_after old new (Told (ReadCall p.number answer buffer)) p
     (record p { incoming = q.incoming; share = q.share; asked = q.asked }) tells refl
     (λ (a : Account) (h : Agrees a p). got_agrees a p answer buffer q.incoming q.share q.asked here is lined ended failed h) kept)
-
--- its socket is tried again
-pub kept_again : (told : Option (List Step)) (p : Peer) (again : Bool) → IsKept told p
-    → IsKept told (record p { output = woken_output p.output again })
-kept_again told p again kept log is =
-    let h = kept log is in
-    record {
-      cut = h.cut;
-      reads = h.reads;
-      writes = again_writes (account p.number log).sent p.outgoing p.output again h.writes;
-      stays = h.stays;
-      rightly = h.rightly;
-      unread = h.unread;
-      served = h.served;
-      line = h.line;
-      honest = h.honest;
-      rested = h.rested;
-    }
-
--- its mark was cleared, or it went on on the way to its end
-pub kept_visit : (told : Option (List Step)) (p : Peer) (share : Share) (ending : Ending) (room : ℕ) → share.line ≡ p.share.line
-    → IsKept told p → IsKept told (record p { share = share; ending = ending; room = room })
-kept_visit told p share ending room same kept log is =
-    let h = kept log is in
-    record {
-      cut = h.cut;
-      reads = h.reads;
-      writes = h.writes;
-      stays = h.stays;
-      rightly = h.rightly;
-      unread = h.unread;
-      served = h.served;
-      line = same ∙ h.line;
-      honest = h.honest;
-      rested = h.rested;
-    }
 
 -- ---- the sockets that a wait found ready
 
@@ -441,34 +365,6 @@ wrote_peer old new p count all front left out asked is_open fronted lefted alled
     (subst (λ (l : List ℕ). IsKept new (record p { outgoing = l; output = taken count (length p.outgoing); asked = asked }))
     (sym lefted) k)
 
-pub refused_peer : (old new : Option (List Step)) (p : Peer) (fault : ErrorKind) (front : List ℕ) (said : Refusal) (out : Writing)
-    (asked : Bool) → p.output ≡ output.Open
-    → front ≡ p.outgoing → said ≡ refusal_told fault → out ≡ refused p.output said
-    → Tells old (Writes p.number front (Err fault)) new → IsKept old p → IsKept new (record p { output = out; asked = asked })
-refused_peer old new p fault front said out asked is_open fronted is outed tells kept =
-    let told : Tells old (Writes p.number p.outgoing (Err fault)) new = subst
-    (λ (f : List ℕ). Tells old (Writes p.number f (Err fault)) new) fronted tells in
-    subst (λ (o : Writing). IsKept new (record p { output = o; asked = asked })) (sym (outed ∙ ap (refused p.output) is))
-    (kept_refused old new p fault asked is_open told kept)
-
-pub read_peer : (old new : Option (List Step)) (p : Peer) (buffer after : List ℕ) (count room : ℕ) (state : Reading)
-    → may_have p.input ≡ true
-    → after ≡ p.incoming ++ take count buffer → room ≡ length buffer → state ≡ given p.input count room
-    → Tells old (Reads p.number buffer (Ok count)) new → IsKept old p → IsKept new (record p { incoming = after; input = state })
-read_peer old new p buffer after count room state ready aftered roomed stated tells kept =
-    subst (λ (s : Reading). IsKept new (record p { incoming = after; input = s })) (sym (stated ∙ ap (given p.input count) roomed))
-    (subst (λ (a : List ℕ). IsKept new (record p { incoming = a; input = given p.input count (length buffer) })) (sym aftered)
-    (kept_read old new p buffer count ready tells kept))
-
-pub missed_peer : (old new : Option (List Step)) (p : Peer) (buffer after : List ℕ) (fault : ErrorKind) (said : Refusal) (state : Reading)
-    → may_have p.input ≡ true
-    → after ≡ p.incoming → said ≡ refusal_told fault → state ≡ missed p.input said
-    → Tells old (Reads p.number buffer (Err fault)) new → IsKept old p → IsKept new (record p { incoming = after; input = state })
-missed_peer old new p buffer after fault said state ready aftered is stated tells kept =
-    subst (λ (s : Reading). IsKept new (record p { incoming = after; input = s })) (sym (stated ∙ ap (missed p.input) is))
-    (subst (λ (a : List ℕ). IsKept new (record p { incoming = a; input = missed p.input (refusal_told fault) })) (sym aftered)
-    (kept_missed old new p buffer fault ready tells kept))
-
 -- a call about one socket spares the others
 told_other : (n other : ℕ) (a : Account) (answer : Result Got DoorFault) (buffer : List ℕ) → other ≢ n → told_step other a
     (ReadCall n answer buffer) ≡ a
@@ -476,13 +372,3 @@ told_other n other a (Ok (got.Bytes count)) buffer differ = skips (n == other) _
 told_other n other a (Ok got.Nothing) buffer differ = refl
 told_other n other a (Ok got.Ended) buffer differ = skips (n == other) _ a (alien n other differ)
 told_other n other a (Err fault) buffer differ = skips (n == other) _ a (alien n other differ)
-
-pub spares_got : (n other : ℕ) (old new : Option (List Step)) (answer : Result Got DoorFault) (buffer : List ℕ) → other ≢ n
-    → Tells old (Told (ReadCall n answer buffer)) new → Spares other old new
-spares_got n other old new answer buffer differ tells =
-    spares_after other old new (Told (ReadCall n answer buffer)) tells (λ a. told_other n other a answer buffer differ)
-
-pub spares_taken : (n other : ℕ) (old new : Option (List Step)) (bytes : List ℕ) (count : ℕ) → other ≢ n
-    → Tells old (Told (WriteCall n bytes (Ok count))) new → Spares other old new
-spares_taken n other old new bytes count differ tells =
-    spares_after other old new (Told (WriteCall n bytes (Ok count))) tells (λ a. skips (n == other) _ a (alien n other differ))

@@ -69,12 +69,6 @@ absent_there other first peers i p within long those absent e =
     let low : i < length first = omega (arith, long) in
     absent i p low (sym (those i p low) ∙ sym e)
 
-pub absent_later : (other : ℕ) (first peers : List Peer) → length peers ≡ length first → AreThose first peers → IsAbsent other first
-    → IsAbsent other peers
-absent_later other first peers long those absent k d lt e =
-    let low : k < length first = omega (arith, lt, long) in
-    absent k d low (sym (those k d low) ∙ e)
-
 pub absent_before : (other : ℕ) (first peers : List Peer) → length peers ≡ length first → AreThose first peers → IsAbsent other peers
     → IsAbsent other first
 absent_before other first peers long those absent k d lt e =
@@ -133,10 +127,6 @@ set_rest first peers i q rest k d late = get_or-set_other peers i k q d (λ e. o
 woken_other : (p : Peer) (ready : Ready) → p.number ≢ ready.socket → after_wake p ready ≡ p
 woken_other p ready differ = skips (ready.socket == p.number) _ p (alien ready.socket p.number differ)
 
-pub woken_none : (peers : List Peer) (ready : Ready) → IsAbsent ready.socket peers → (k : ℕ) (d : Peer) → k < length peers
-    → slice_index_or peers k d ≡ after_wake (slice_index_or peers k d) ready
-woken_none peers ready absent k d lt = sym (woken_other (slice_index_or peers k d) ready (absent k d lt))
-
 pub woken_set : (peers : List Peer) (i : ℕ) (p q : Peer) (ready : Ready) → i < length peers
     → (get_or peers i p).number ≡ ready.socket → q ≡ after_wake (get_or peers i p) ready → AreApart peers
     → (k : ℕ) (d : Peer) → k < length peers → slice_index_or (set peers i q) k d ≡ after_wake (slice_index_or peers k d) ready
@@ -146,18 +136,6 @@ woken_set peers i p q ready within there woken apart k d lt = ⊎_elim
     (λ (ne : k ≡ i → ⊥). get_or-set_other peers i k q d ne ∙ sym (woken_other (get_or peers k d) ready
     (λ same. apart k i d lt within ne (same ∙ sym there ∙ ap (λ (x : Peer). x.number) (get_or_default peers i p d within)))))
     (cases_eq k i)
-
--- one more socket was found ready
-pub woken_more : (peers before later : List Peer) (ready : List Ready) (n : ℕ) (one : Ready) → n < length ready
-    → one ≡ get_or ready n one → length before ≡ length peers
-    → ((k : ℕ) (d : Peer) → k < length peers → slice_index_or before k d ≡ fold after_wake (slice_index_or peers k d) (take n ready))
-    → ((k : ℕ) (d : Peer) → k < length before → slice_index_or later k d ≡ after_wake (slice_index_or before k d) one)
-    → (k : ℕ) (d : Peer) → k < length peers
-    → slice_index_or later k d ≡ fold after_wake (slice_index_or peers k d) (take (n + 1) ready)
-woken_more peers before later ready n one within here long woken wakes k d lt =
-    wakes k d (omega (arith, lt, long)) ∙ ap (λ (x : Peer). after_wake x one) (woken k d lt)
-    ∙ sym (fold_more after_wake (slice_index_or peers k d) ready n one within
-    ∙ ap (after_wake (fold after_wake (slice_index_or peers k d) (take n ready))) (sym here))
 
 -- all peers after a wait, which is long only where all rest
 pub waited_all : (old new : Option (List Step)) (peers later : List Peer) (most : Option ℕ) (count : ℕ) (ready : List Ready)

@@ -106,10 +106,6 @@ refused state Fault = output.Lost
 abbrev pub taken : (count all : ℕ) → Writing
 taken count all = if count == 0 then output.Lost else if nat_lt count all then output.Full else output.Open
 
-abbrev pub after_write : Peer → Result ℕ ErrorKind → Peer
-after_write p (Ok count) = record p { outgoing = drop count p.outgoing; output = taken count (length p.outgoing) }
-after_write p (Err fault) = record p { output = refused p.output (refusal_told fault) }
-
 -- more is queued, unless the socket takes no more
 abbrev pub queued_more : Writing → List ℕ → List ℕ → List ℕ
 queued_more output.Open outgoing bytes = outgoing ++ bytes

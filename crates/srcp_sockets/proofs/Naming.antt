@@ -39,11 +39,6 @@ named_push xs last n below h = record {
       (cases_lt k (length xs));
 }
 
-pub named_higher : (told : Option (List Step)) (last later : ℕ) → last ≤ later → IsNamed told last → IsNamed told later
-named_higher told last later high named log is =
-    let h = named log is in
-    record { differ = h.differ; within = λ k lt. let w = h.within k lt in omega (arith, w, high) }
-
 pub named_silent : (old new : Option (List Step)) (last : ℕ) → SaysNothing old new → IsNamed old last → IsNamed new last
 named_silent old new last says named later is =
     let s = says later is in
