@@ -34,13 +34,14 @@ impl From<Memory> for RunFault {
 /// `promised` says that memory answered each event in some way (`grants`), and of the events under these answers:
 /// - The record is that of their course (`is`).
 /// - Each information session is told rightly, however its writes are cut (`sessions`). On a registry that stays the
-///   same, its listing is sent, and each device that is there all the time is listed exactly once. A client that applies
-///   all lines holds the registry once the session is settled.
+///   same, its listing is sent, and each device that is there all the time is listed exactly once. A client that
+///   applies all lines holds the registry once the session is settled.
 /// - Each connection is served rightly (`connections`). One that is no information session is sent its replies alone,
 ///   rooms add up, and nothing is sent after an overrun.
 /// - The registry stays whole (`registry`).
-/// - The record counts exactly the answers that refused (`counted`), each of which was asked for (`asked`). If it counts
-///   none, memory gave in each event (`given`), and the course is the one with ample memory (`laws::ample_memory`).
+/// - The record counts exactly the answers that refused (`counted`), each of which was asked for (`asked`). If it
+///   counts none, memory gave in each event (`given`), and the course is the one with ample memory
+///   (`laws::ample_memory`).
 ///
 /// # Errors
 /// Returns `Memory` if memory is refused to the core when it is made, or to the record.

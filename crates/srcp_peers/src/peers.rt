@@ -13,8 +13,8 @@ use crate::readiness::Flush;
 use crate::system::{Ready, System};
 use crate::waiting::Listening;
 
-/// Flushes each peer that is there, and goes on with those that were let go. Returns whether one was.
-pub fn flush<S: System>(system: &mut S, peers: &mut [Peer], what: Flush) -> bool
+/// Flushes each peer that is there, and goes on with those that were let go.
+pub fn flush<S: System>(system: &mut S, peers: &mut [Peer], what: Flush)
     requires kept { AreKept (S.told system.old) peers.old }
     requires apart { AreApart peers.old }
     ensures kept { AreKept (S.told system.new) peers.new }
@@ -23,12 +23,9 @@ pub fn flush<S: System>(system: &mut S, peers: &mut [Peer], what: Flush) -> bool
     ensures calls { SaysNothing (S.told system.old) (S.told system.new) }
     ensures times { KeepsTimes (S.told system.old) (S.told system.new) }
 {
-    let mut leaving = false;
     for peer in peers.iter_mut() {
-        leaving |= !peer.stay.is_here();
         peer.hand_over(system, what);
     }
-    leaving
 }
 
 /// Begins the visit of each peer; with `clear` the marks are cleared. At most `room` lines may be queued for each whose

@@ -5,7 +5,8 @@ use Rattle.srcp_peers.specs.Accounts.{account, is_owed}
 use Rattle.srcp_peers.specs.Steps.{Clocks, Step}
 use Rattle.srcp_peers.specs.Times.{times}
 
--- each socket that was accepted and is not closed took all that was taken for it, or a write found that it takes no more
+-- each socket that was accepted and is not closed took all that was taken for it, or a write found that it takes no
+-- more
 abbrev pub AreDelivered : Option (List Step) → Type 0
 AreDelivered told = (log : List Step) → told ≡ Some log → (socket : ℕ) → (account socket log).leave.kept ≡ true
     → (is_owed (account socket log).sent ≡ false) ⊎ ((account socket log).sent.lost ≡ true)

@@ -23,7 +23,7 @@ pub(crate) fn deliver<S: System>(
     ensures ended { HasEnded until (S.told system.old) (S.told system.new) }
 {
     for _look in 0..LAST_LOOKS {
-        let _leaving = flush(system, peers, Flush::All);
+        flush(system, peers, Flush::All);
         if are_delivered(peers) {
             return;
         }

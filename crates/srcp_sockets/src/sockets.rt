@@ -1,32 +1,29 @@
 //! The system's sockets, with their peers.
 
-ghost use Rattle.std.specs.Prelude.{not, All, false, true, ◌≡◌, ◌<◌, ◌≤◌, ◌+◌, ◌-◌, ◌&&◌, max, ℕ, ◌⊎◌, Option, Some};
-ghost use Rattle.std.specs.Prelude.{None};
-ghost use Rattle.std.specs.Prelude.{Ok, Err, Result, IfErr, IfNone, IfOk, IfSome, List, [], length, slice_index_or};
-ghost use Rattle.std.specs.Prelude.{vec_capacity};
+ghost use Rattle.std.specs.Prelude.{not, All, false, true, ◌≡◌, ◌<◌, ◌≤◌, ◌-◌, ◌&&◌, ℕ, ◌⊎◌, Some, None, Ok, Err};
+ghost use Rattle.std.specs.Prelude.{IfErr, IfNone, IfOk, IfSome, [], length, slice_index_or};
 ghost use Rattle.srcp_peers.specs.declared.peer.Peer.{Peer};
 ghost use Rattle.srcp_sockets.specs.Delivery.{HasEnded, patience_after};
 ghost use Rattle.srcp_sockets.specs.Facts.{Stands-prop};
 ghost use Rattle.std.specs.List.{list_any};
-ghost use Rattle.std.specs.Option.{option_map};
 ghost use Rattle.srcp_sockets.specs.Names.{IsNamed, IsNamed-prop};
 ghost use Rattle.srcp_sockets.specs.KeptTimes.{IsTimed, IsTimed-prop};
-ghost use Rattle.srcp_peers.specs.Times.{refused_newcomer};
 ghost use Rattle.srcp_peers.specs.Accounts.{is_short};
 ghost use Rattle.srcp_peers.specs.Peers.{is_resting, holds_input, is_closable, is_here};
 ghost use Rattle.srcp_peers.specs.Turns.{first_turn, flushing, has_ticked, is_pending, room_of, time_left};
 ghost use Rattle.srcp_peers.specs.Waiting.{IsWithin};
-ghost use Rattle.srcp_serve.specs.Calls.{ExpectCall, NowCall, AcceptCall, ReadCall, WriteCall, CloseCall};
-ghost use Rattle.srcp_peers.specs.Steps.{Accepts, SaysNothing, SaysOne, Step, Tells};
-ghost use Rattle.srcp_peers.specs.Listeners.{refused_listening};
+ghost use Rattle.srcp_serve.specs.Calls.{ExpectCall, NowCall, ReadCall, WriteCall, CloseCall};
+ghost use Rattle.srcp_peers.specs.Steps.{SaysNothing, SaysOne};
 ghost use Rattle.srcp_peers.specs.AllPeers.{AreMarked};
 ghost use Rattle.srcp_sockets.specs.Doors.{AreRead, IsMissing, IsPresent, Stands};
+
+mod newcomers;
 
 use crate::delivering::deliver;
 use srcp_peers::peers::{begin_visits, flush, listen, wake};
 use srcp_peers::{
-    Flush, Listening, MOST_LEAVING, PATIENCE, Peer, Queues, Ready, Refusal, System, Turn,
-    count_leaving, first_gone, first_shut, longest_wait, refusal_of,
+    Flush, Listening, MOST_LEAVING, PATIENCE, Peer, Queues, Ready, System, Turn, first_gone,
+    longest_wait,
 };
 use srcp_serve::{DoorFault, Got, MOST_WRITES};
 use std::alloc::{AllocError, Global};
@@ -81,8 +78,8 @@ impl<S: System + Drop> Sockets<S> {
         let holds = self.holds_input();
         let held = self.goes_on(holds);
         let what = self.flushing(held);
-        let leaving = self.flush(what);
-        self.close_gone(leaving);
+        self.flush(what);
+        self.close_gone();
         self.look(held, ready);
         self.begin_visits(holds);
     }
@@ -144,12 +141,12 @@ impl<S: System + Drop> Sockets<S> {
         self.wait(ready);
     }
 
-    /// Flushes each peer that is there, and goes on with those that were let go. Returns whether one was.
-    fn flush(&mut self, what: Flush) -> bool
+    /// Flushes each peer that is there, and goes on with those that were let go.
+    fn flush(&mut self, what: Flush)
         ensures { SaysNothing (S.told self.old.system) (S.told self.new.system) }
     {
         self.flushed = self.turn.clock;
-        flush(&mut self.system, self.peers.as_mut_slice(), what)
+        flush(&mut self.system, self.peers.as_mut_slice(), what);
     }
 
     /// Waits as long as nothing happens without a word of a socket, and notes which are ready.
@@ -234,83 +231,6 @@ impl<S: System + Drop> Sockets<S> {
         })
     }
 
-    /// Lets in the next peer that wants in, if one does. Its number is above those of all peers before it.
-    ///
-    /// # Errors
-    /// `Accept` if the system failed to let it in, or if memory or the numbers ran out.
-    pub(crate) fn accept(&mut self, alloc: Global) -> Result<Option<u32>, DoorFault>
-        ensures told { SaysOne (S.told self.old.system) (AcceptCall result) (S.told self.new.system) }
-        ensures fault { IfErr result (λ fault. fault ≡ DoorFault.Accept) }
-    {
-        if !self.may_let_in() {
-            return self.tell_nobody(Ok(None));
-        }
-        let Some(number) = self.last.checked_add(1) else {
-            return self.tell_nobody(Err(DoorFault::Accept));
-        };
-        let Ok(queues) = spare_or_new(&mut self.spare, alloc) else {
-            return self.tell_nobody(Err(DoorFault::Accept));
-        };
-        self.let_in(number, queues)
-    }
-
-    /// Returns whether the next peer that wants in may be let in now. If too many are kept that were let go, one of
-    /// them is closed first.
-    fn may_let_in(&mut self) -> bool
-        ensures calls { SaysNothing (S.told self.old.system) (S.told self.new.system) }
-        ensures room { result ≡ true → length self.new.peers.items < vec_capacity self.new.peers }
-    {
-        if self.listening.is_quiet() {
-            return false;
-        }
-        if self.is_crowded() {
-            self.make_room();
-            return false;
-        }
-        true
-    }
-
-    /// Tells that nobody came, or a fault, if the system was not asked.
-    fn tell_nobody(
-        &mut self,
-        answer: Result<Option<u32>, DoorFault>,
-    ) -> Result<Option<u32>, DoorFault>
-        requires { (answer ≡ Ok None) ⊎ (answer ≡ Err DoorFault.Accept) }
-        ensures told { SaysOne (S.told self.old.system) (AcceptCall result) (S.told self.new.system) }
-        ensures same { result ≡ answer }
-    {
-        self.system.told_accept(answer);
-        self.turn.note_accept(answer);
-        answer
-    }
-
-    /// Lets in the next peer that wants in, under that number, if one does.
-    fn let_in(&mut self, number: u32, queues: Queues) -> Result<Option<u32>, DoorFault>
-        requires next { number ≡ self.old.last + 1 }
-        requires room { length self.old.peers.items < vec_capacity self.old.peers }
-        ensures told { SaysOne (S.told self.old.system) (AcceptCall result) (S.told self.new.system) }
-        ensures fault { IfErr result (λ fault. fault ≡ DoorFault.Accept) }
-    {
-        match self.system.accept(number) {
-            Ok(()) => {
-                self.peers.push(Peer::new(number, queues)).unwrap();
-                self.last = number;
-                self.system.told_accept(Ok(Some(number)));
-                self.turn.note_accept(Ok(Some(number)));
-                Ok(Some(number))
-            }
-            Err(fault) => {
-                self.spare = Some(queues);
-                let said = refusal_of(fault);
-                self.listening = Listening::refused(said);
-                let answer = nobody(said);
-                self.system.told_accept(answer);
-                self.turn.note_accept(answer);
-                answer
-            }
-        }
-    }
-
     /// Lets a peer go. It is kept until its socket took what is queued and its input ended, 10 seconds at most.
     pub(crate) fn close(&mut self, number: u32) -> Result<(), DoorFault>
         ensures told { SaysOne (S.told self.old.system) (CloseCall number result) (S.told self.new.system) }
@@ -327,34 +247,11 @@ impl<S: System + Drop> Sockets<S> {
         Ok(())
     }
 
-    /// Returns whether one that was let go has to be closed before anybody is let in.
-    fn is_crowded(&self) -> bool
-        ensures { result ≡ false → length self.now.peers.items < vec_capacity self.now.peers }
-    {
-        self.peers.len() >= self.peers.capacity()
-            || count_leaving(self.peers.as_slice()) >= MOST_LEAVING
-    }
-
-    /// Closes the first peer that was let go and is owed nothing. If there is none, nobody is let in until one is
-    /// closed.
-    fn make_room(&mut self)
+    /// Closes the peers that were let go and for which nothing is left to do.
+    fn close_gone(&mut self)
         ensures calls { SaysNothing (S.told self.old.system) (S.told self.new.system) }
         ensures last { self.new.last ≡ self.old.last }
     {
-        match first_shut(self.peers.as_slice()) {
-            Some(place) => self.close_at(place),
-            None => self.listening = Listening::Refused,
-        }
-    }
-
-    /// Closes the peers that were let go and for which nothing is left to do, if one was let go.
-    fn close_gone(&mut self, leaving: bool)
-        ensures calls { SaysNothing (S.told self.old.system) (S.told self.new.system) }
-        ensures last { self.new.last ≡ self.old.last }
-    {
-        if !leaving {
-            return;
-        }
         for _ in 0..MOST_LEAVING {
             let Some(place) = first_gone(self.peers.as_slice(), self.turn.clock) else {
                 return;
@@ -501,24 +398,5 @@ impl<S: System + Drop> Sockets<S> {
         let count = self.peers[place].write(&mut self.system, bytes);
         self.turn.note_write(Ok(count));
         Ok(count)
-    }
-}
-
-/// Returns the queues that are spare, or new ones.
-fn spare_or_new(spare: &mut Option<Queues>, alloc: Global) -> Result<Queues, AllocError> {
-    match spare.take() {
-        Some(queues) => Ok(queues),
-        None => Queues::new(alloc),
-    }
-}
-
-/// Returns what is told of who wants in after an accept that failed.
-fn nobody(said: Refusal) -> Result<Option<u32>, DoorFault>
-    ensures told { result ≡ refused_newcomer said }
-    ensures fault { IfErr result (λ fault. fault ≡ DoorFault.Accept) }
-{
-    match said {
-        Refusal::Later | Refusal::Again => Ok(None),
-        Refusal::Fault => Err(DoorFault::Accept),
     }
 }

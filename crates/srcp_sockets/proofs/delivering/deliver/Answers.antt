@@ -14,32 +14,32 @@ loop-look-init g c = record { standing = c.requires; waited = waited_none (g.S.S
 pub returns-then-are_delivered : goal.returns-then-are_delivered
 returns-then-are_delivered g c =
     let was = c.loop-look.invariant.standing in
-    let now : AreStanding (g.S.System.told c.flush-leaving.new.system) c.flush-leaving.new.peers = (
+    let now : AreStanding (g.S.System.told c.flush.new.system) c.flush.new.peers = (
       was.0,
       was.1,
-      stands_turned (g.S.System.told c.loop-look.system) (g.S.System.told c.flush-leaving.new.system) c.loop-look.peers
-          c.flush-leaving.new.peers was.0 was.1 c.flush-leaving.auto.peers c.flush-leaving.ensures.kept c.flush-leaving.ensures.those
-          c.flush-leaving.ensures.others was.2,
+      stands_turned (g.S.System.told c.loop-look.system) (g.S.System.told c.flush.new.system) c.loop-look.peers
+          c.flush.new.peers was.0 was.1 c.flush.auto.peers c.flush.ensures.kept c.flush.ensures.those
+          c.flush.ensures.others was.2,
     ) in
     record {
       standing = now;
-      ended = inl (are_delivered (g.S.System.told c.flush-leaving.new.system) c.flush-leaving.new.peers now
+      ended = inl (are_delivered (g.S.System.told c.flush.new.system) c.flush.new.peers now
           (c.are_delivered.ensures c.if-are_delivered.true));
     }
 
 pub returns-then-is_over : goal.returns-then-is_over
 returns-then-is_over g c =
     let was = c.loop-look.invariant.standing in
-    let turned = g.S.System.told c.flush-leaving.new.system in
+    let turned = g.S.System.told c.flush.new.system in
     let clocked = g.S.System.told c.clock-clock.new.self in
     record {
       standing = (
         was.0,
         was.1,
-        stands_clocked turned clocked c.flush-leaving.new.peers was.0 was.1 c.clock-clock.result
-            c.clock-clock.ensures (stands_turned (g.S.System.told c.loop-look.system) turned c.loop-look.peers c.flush-leaving.new.peers
-            was.0 was.1 c.flush-leaving.auto.peers c.flush-leaving.ensures.kept c.flush-leaving.ensures.those
-            c.flush-leaving.ensures.others was.2),
+        stands_clocked turned clocked c.flush.new.peers was.0 was.1 c.clock-clock.result
+            c.clock-clock.ensures (stands_turned (g.S.System.told c.loop-look.system) turned c.loop-look.peers c.flush.new.peers
+            was.0 was.1 c.flush.auto.peers c.flush.ensures.kept c.flush.ensures.those
+            c.flush.ensures.others was.2),
       );
       ended =
           inr (inl
@@ -50,12 +50,12 @@ returns-then-is_over g c =
 pub loop-look-preserved : goal.loop-look-preserved
 loop-look-preserved g c =
     let first = g.S.System.told c.args.system.now in
-    let turned = g.S.System.told c.flush-leaving.new.system in
+    let turned = g.S.System.told c.flush.new.system in
     let clocked = g.S.System.told c.clock-clock.new.self in
     let waited = g.S.System.told c.wait-count.new.self in
     let was = c.loop-look.invariant in
     let standing = was.standing in
-    let peers = c.flush-leaving.new.peers in
+    let peers = c.flush.new.peers in
     let count = c.wait-count.result in
     let ready = c.wait-count.new.ready in
     record {
@@ -66,10 +66,10 @@ loop-look-preserved g c =
             (λ e. absurd (true≢false e)) (λ e. absurd (true≢false e)) c.wait-count.ensures.told c.wake.auto.peers c.wake.ensures
             (stands_clocked turned clocked peers standing.0 standing.1 c.clock-clock.result c.clock-clock.ensures
             (stands_turned (g.S.System.told c.loop-look.system) turned c.loop-look.peers peers standing.0 standing.1
-            c.flush-leaving.auto.peers c.flush-leaving.ensures.kept c.flush-leaving.ensures.those c.flush-leaving.ensures.others
+            c.flush.auto.peers c.flush.ensures.kept c.flush.ensures.those c.flush.ensures.others
             standing.2)),
       );
       waited = waited_more c.loop-look._look first clocked waited (Some 8) count ready c.wait-count.ensures.told
           (waited_clocked c.loop-look._look first turned clocked c.clock-clock.result c.clock-clock.ensures
-          (waited_keeps c.loop-look._look first (g.S.System.told c.loop-look.system) turned was.waited c.flush-leaving.ensures.times));
+          (waited_keeps c.loop-look._look first (g.S.System.told c.loop-look.system) turned was.waited c.flush.ensures.times));
     }

@@ -1,0 +1,131 @@
+//! How a newcomer is let in.
+
+ghost use Rattle.std.specs.Prelude.{false, true, ◌≡◌, ◌<◌, ◌+◌, ◌⊎◌, None, Ok, Err, IfErr, length, vec_capacity};
+ghost use Rattle.srcp_peers.specs.Times.{refused_newcomer};
+ghost use Rattle.srcp_serve.specs.Calls.{AcceptCall};
+ghost use Rattle.srcp_peers.specs.Steps.{SaysNothing, SaysOne};
+
+use super::Sockets;
+use srcp_peers::{
+    Listening, MOST_LEAVING, Peer, Queues, Refusal, System, count_leaving, first_shut, refusal_of,
+};
+use srcp_serve::DoorFault;
+use std::alloc::{AllocError, Global};
+
+impl<S: System + Drop> Sockets<S> {
+    /// Lets in the next peer that wants in, if one does. Its number is above those of all peers before it.
+    ///
+    /// # Errors
+    /// `Accept` if the system failed to let it in, or if memory or the numbers ran out.
+    pub(crate) fn accept(&mut self, alloc: Global) -> Result<Option<u32>, DoorFault>
+        ensures told { SaysOne (S.told self.old.system) (AcceptCall result) (S.told self.new.system) }
+        ensures fault { IfErr result (λ fault. fault ≡ DoorFault.Accept) }
+    {
+        if !self.may_let_in() {
+            return self.tell_nobody(Ok(None));
+        }
+        let Some(number) = self.last.checked_add(1) else {
+            return self.tell_nobody(Err(DoorFault::Accept));
+        };
+        let Ok(queues) = spare_or_new(&mut self.spare, alloc) else {
+            return self.tell_nobody(Err(DoorFault::Accept));
+        };
+        self.let_in(number, queues)
+    }
+
+    /// Returns whether the next peer that wants in may be let in now. If too many are kept that were let go, one of
+    /// them is closed first.
+    fn may_let_in(&mut self) -> bool
+        ensures calls { SaysNothing (S.told self.old.system) (S.told self.new.system) }
+        ensures room { result ≡ true → length self.new.peers.items < vec_capacity self.new.peers }
+    {
+        if self.listening.is_quiet() {
+            return false;
+        }
+        if self.is_crowded() {
+            self.make_room();
+            return false;
+        }
+        true
+    }
+
+    /// Tells that nobody came, or a fault, if the system was not asked.
+    fn tell_nobody(
+        &mut self,
+        answer: Result<Option<u32>, DoorFault>,
+    ) -> Result<Option<u32>, DoorFault>
+        requires { (answer ≡ Ok None) ⊎ (answer ≡ Err DoorFault.Accept) }
+        ensures told { SaysOne (S.told self.old.system) (AcceptCall result) (S.told self.new.system) }
+        ensures same { result ≡ answer }
+    {
+        self.system.told_accept(answer);
+        self.turn.note_accept(answer);
+        answer
+    }
+
+    /// Lets in the next peer that wants in, under that number, if one does.
+    fn let_in(&mut self, number: u32, queues: Queues) -> Result<Option<u32>, DoorFault>
+        requires next { number ≡ self.old.last + 1 }
+        requires room { length self.old.peers.items < vec_capacity self.old.peers }
+        ensures told { SaysOne (S.told self.old.system) (AcceptCall result) (S.told self.new.system) }
+        ensures fault { IfErr result (λ fault. fault ≡ DoorFault.Accept) }
+    {
+        match self.system.accept(number) {
+            Ok(()) => {
+                self.peers.push(Peer::new(number, queues)).unwrap();
+                self.last = number;
+                self.system.told_accept(Ok(Some(number)));
+                self.turn.note_accept(Ok(Some(number)));
+                Ok(Some(number))
+            }
+            Err(fault) => {
+                self.spare = Some(queues);
+                let said = refusal_of(fault);
+                self.listening = Listening::refused(said);
+                let answer = nobody(said);
+                self.system.told_accept(answer);
+                self.turn.note_accept(answer);
+                answer
+            }
+        }
+    }
+
+    /// Returns whether one that was let go has to be closed before anybody is let in.
+    fn is_crowded(&self) -> bool
+        ensures { result ≡ false → length self.now.peers.items < vec_capacity self.now.peers }
+    {
+        self.peers.len() >= self.peers.capacity()
+            || count_leaving(self.peers.as_slice()) >= MOST_LEAVING
+    }
+
+    /// Closes the first peer that was let go and is owed nothing. If there is none, nobody is let in until one is
+    /// closed.
+    fn make_room(&mut self)
+        ensures calls { SaysNothing (S.told self.old.system) (S.told self.new.system) }
+        ensures last { self.new.last ≡ self.old.last }
+    {
+        match first_shut(self.peers.as_slice()) {
+            Some(place) => self.close_at(place),
+            None => self.listening = Listening::Refused,
+        }
+    }
+}
+
+/// Returns the queues that are spare, or new ones.
+fn spare_or_new(spare: &mut Option<Queues>, alloc: Global) -> Result<Queues, AllocError> {
+    match spare.take() {
+        Some(queues) => Ok(queues),
+        None => Queues::new(alloc),
+    }
+}
+
+/// Returns what is told of who wants in after an accept that failed.
+fn nobody(said: Refusal) -> Result<Option<u32>, DoorFault>
+    ensures told { result ≡ refused_newcomer said }
+    ensures fault { IfErr result (λ fault. fault ≡ DoorFault.Accept) }
+{
+    match said {
+        Refusal::Later | Refusal::Again => Ok(None),
+        Refusal::Fault => Err(DoorFault::Accept),
+    }
+}
