@@ -1,6 +1,8 @@
 //! How a newcomer is let in.
 
 ghost use Rattle.std.specs.Prelude.{false, true, ◌≡◌, ◌<◌, ◌+◌, ◌⊎◌, None, Ok, Err, IfErr, length, vec_capacity};
+ghost use Rattle.std.specs.Prelude.{◌||◌, filter, nat_le, not};
+ghost use Rattle.srcp_peers.specs.Peers.{is_here};
 ghost use Rattle.srcp_peers.specs.Times.{refused_newcomer};
 ghost use Rattle.srcp_serve.specs.Calls.{AcceptCall};
 ghost use Rattle.srcp_peers.specs.Steps.{SaysNothing, SaysOne};
@@ -92,7 +94,9 @@ impl<S: System + Drop> Sockets<S> {
 
     /// Returns whether one that was let go has to be closed before anybody is let in.
     fn is_crowded(&self) -> bool
-        ensures { result ≡ false → length self.now.peers.items < vec_capacity self.now.peers }
+        ensures is { result ≡ (nat_le (vec_capacity self.now.peers) (length self.now.peers.items)
+            || nat_le MOST_LEAVING (length (filter (λ peer. not (is_here peer.stay)) self.now.peers.items))) }
+        ensures room { result ≡ false → length self.now.peers.items < vec_capacity self.now.peers }
     {
         self.peers.len() >= self.peers.capacity()
             || count_leaving(self.peers.as_slice()) >= MOST_LEAVING
