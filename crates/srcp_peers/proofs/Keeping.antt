@@ -1,14 +1,13 @@
 -- How what is known of a peer goes on from step to step.
 use Rattle.std.proofs.Common.{◌≡◌, ◌∙◌, ℕ, Bool, true, false, not, List, [], ◌∷◌, ◌++◌, take, drop, length, if◌then◌else◌, Ok, Err}
 use Rattle.std.proofs.Common.{refl, ap, sym, subst, arith, ◌==◌, Option}
-use Rattle.std.specs.Prelude.{◌≢◌, nat_lt, OnErr, Result, ◌&&◌, ◌||◌, fold}
+use Rattle.std.specs.Prelude.{◌≢◌, OnErr, Result, ◌&&◌, ◌||◌, fold}
 use Rattle.std.proofs.lemmas.List.Sums.{fold-append}
 use Rattle.std.proofs.lemmas.Bool.Decides.{nat_tests}
 use Rattle.std.specs.declared.io.ErrorKind.{ErrorKind}
 use Rattle.srcp_peers.specs.declared.system.Ready.{Ready}
 use Rattle.srcp_peers.specs.declared.system.Refusal.{Refusal}
 use Rattle.srcp_peers.specs.declared.system.Refusal.TheVariants.{Later, Again, Fault}
-use Rattle.srcp_peers.specs.declared.readiness.Reading.{Reading}
 use Rattle.srcp_peers.specs.declared.readiness.Reading.TheVariants as input
 use Rattle.srcp_peers.specs.declared.readiness.Writing.{Writing}
 use Rattle.srcp_peers.specs.declared.readiness.Writing.TheVariants as output
@@ -16,7 +15,7 @@ use Rattle.srcp_peers.specs.declared.peer.Peer.{Peer}
 use Rattle.srcp_peers.specs.declared.stay.Stay.TheVariants as stay
 use Rattle.srcp_peers.specs.Steps.{Step, Tells, Reads, Shuts, Writes, Waits, Told}
 use Rattle.srcp_peers.specs.Steps.{refusal_told}
-use Rattle.srcp_serve.specs.Calls.{ReadCall, WriteCall}
+use Rattle.srcp_serve.specs.Calls.{ReadCall}
 use Rattle.srcp_serve.specs.declared.door.DoorFault.{DoorFault}
 use Rattle.srcp_serve.specs.declared.door.Got.{Got}
 use Rattle.srcp_serve.specs.declared.door.Got.TheVariants as got
@@ -24,17 +23,16 @@ use Rattle.srcp_peers.specs.Accounts.{Account, Sent, Received, account, account_
 use Rattle.srcp_peers.specs.Accounts.{refused_read, refused_write, shut_down, untouched, waited, wrote, woken, woken_sent}
 use Rattle.srcp_peers.specs.Accounts.{woken_came}
 use Rattle.srcp_door.specs.Pacing.{line_after}
-use Rattle.srcp_peers.specs.declared.ending.Ending.{Ending}
 use Rattle.srcp_door.specs.declared.pacing.Line.{Line}
 use Rattle.srcp_door.specs.declared.pacing.Line.TheVariants as line
 use Rattle.srcp_door.specs.declared.pacing.Share.{Share}
-use Rattle.srcp_peers.specs.Peers.{Agrees, ComesAs, IsKept, MayEnd, MayFail, ReadsAs, Spares, WritesAs, after_wake, queued_more, given}
+use Rattle.srcp_peers.specs.Peers.{Agrees, ComesAs, IsKept, MayEnd, MayFail, ReadsAs, Spares, WritesAs, after_wake, given}
 use Rattle.srcp_peers.specs.Peers.{is_lost, is_resting, may_have, missed, refused, taken, woken_input, woken_output}
 use Rattle.srcp_peers.specs.Turns.{got_bytes}
-use Rattle.srcp_peers.proofs.States.{again_writes, comes_here, handed_as, read_comes, reads_here, unread_comes, unwritten_as, woken_comes}
-use Rattle.srcp_peers.proofs.States.{woken_writes, written_as, wrote_as}
+use Rattle.srcp_peers.proofs.States.{comes_here, handed_as, read_comes, reads_here, unread_comes, unwritten_as, woken_comes}
+use Rattle.srcp_peers.proofs.States.{woken_writes, wrote_as}
 use Rattle.srcp_peers.proofs.Lined.{line_after-append}
-use Rattle.srcp_peers.proofs.Staying.{may_end_then, may_fail_then, shut_agrees, stays_drop, stays_here}
+use Rattle.srcp_peers.proofs.Staying.{may_end_then, may_fail_then, shut_agrees, stays_drop}
 use Rattle.srcp_peers.proofs.Wanting.{noted_agrees, wants_less, wants_woken, was_read}
 use Rattle.srcp_peers.proofs.Resting.{resting}
 

@@ -4,7 +4,6 @@ use Rattle.std.proofs.Common.{get_or-set_same, ◌==◌, Option, Some}
 use Rattle.std.specs.Prelude.{◌≢◌, All, Bool, false, true, fold, slice_index_or, take, not, ◌&&◌}
 use Rattle.std.proofs.lemmas.Bool.{cases_eq}
 use Rattle.std.proofs.lemmas.List.{get_or_default, length-set}
-use Rattle.std.proofs.lemmas.List.Sums.{fold_more}
 use Rattle.srcp_peers.specs.declared.peer.Peer.{Peer}
 use Rattle.srcp_peers.specs.declared.system.Ready.{Ready}
 use Rattle.srcp_peers.specs.Steps.{Clocks, Step, Tells, Waits}

@@ -1,6 +1,6 @@
 -- What a peer's states mean.
 use Rattle.std.specs.Prelude.{◌≡◌, ◌⊎◌, ℕ, ◌==◌, ◌&&◌, ◌||◌, nat_lt, Bool, true, false, not, if◌then◌else◌, cond, List}
-use Rattle.std.specs.Prelude.{[], ◌++◌, length, take, drop, Option, Some, Result, Ok, Err}
+use Rattle.std.specs.Prelude.{[], ◌++◌, ◌-◌, length, min, take, Option, Some, Result, Ok, Err}
 use Rattle.std.specs.Io.{StartsWith}
 use Rattle.std.specs.declared.io.ErrorKind.{ErrorKind}
 use Rattle.srcp_peers.specs.declared.system.Ready.{Ready}
@@ -111,6 +111,22 @@ abbrev pub queued_more : Writing → List ℕ → List ℕ → List ℕ
 queued_more output.Open outgoing bytes = outgoing ++ bytes
 queued_more output.Full outgoing bytes = outgoing ++ bytes
 queued_more output.Lost outgoing bytes = outgoing
+
+-- how many lines may still be queued while the socket takes no more: each takes one
+abbrev pub room_after : Writing → (room : ℕ) → ℕ
+room_after output.Open room = room
+room_after output.Full room = room - 1
+room_after output.Lost room = room
+
+-- how many of as many bytes as that are queued, if `fitting` of them have space: none without room for a line while the
+-- socket takes no more; what is written to a lost peer goes nowhere
+abbrev pub enqueued_as : Writing → (room fitting all : ℕ) → ℕ
+enqueued_as output.Open room fitting all = fitting
+enqueued_as output.Full room fitting all = if nat_lt 0 room then fitting else 0
+enqueued_as output.Lost room fitting all = all
+
+abbrev pub enqueued : Peer → (bytes : List ℕ) → ℕ
+enqueued p bytes = enqueued_as p.output p.room (min (length bytes) (40960 - length p.outgoing)) (length bytes)
 
 -- a read that gave `count` bytes, if there was room for `room`
 abbrev pub given_some : Reading → Bool → Reading

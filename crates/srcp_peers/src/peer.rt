@@ -1,13 +1,13 @@
 //! A peer with its socket.
 
 ghost use Rattle.std.specs.Prelude.{◌≡◌, ◌≢◌, ◌<◌, ◌≤◌, ◌++◌, ◌==◌, ◌&&◌, true, false, not, ℕ, List, [], Option, Some};
-ghost use Rattle.std.specs.Prelude.{Ok, IfErr, OnErr, length, take, drop, min, fold};
+ghost use Rattle.std.specs.Prelude.{Ok, IfErr, OnErr, length, take, drop, min, fold, nat_lt};
 ghost use Rattle.srcp_peers.specs.Steps.{SaysNothing, Tells, Told};
 ghost use Rattle.srcp_serve.specs.Calls.{ReadCall, WriteCall};
 ghost use Rattle.srcp_peers.specs.Times.{KeepsTimes};
 ghost use Rattle.srcp_peers.specs.Peers.{Asks, IsKept, MayEnd, MayFail, Offers, Spares, IsRead, after_wake, has_rest};
 ghost use Rattle.srcp_peers.specs.Peers.{holds_input, is_due, is_over, is_resting, is_waiting, is_wanting, may_have};
-ghost use Rattle.srcp_peers.specs.Peers.{queued_more, tries_again, woken_output};
+ghost use Rattle.srcp_peers.specs.Peers.{enqueued, queued_more, room_after, tries_again, woken_output};
 ghost use Rattle.srcp_peers.specs.declared.readiness.Reading.{Reading};
 ghost use Rattle.srcp_peers.specs.declared.readiness.Writing.{Writing};
 ghost use Rattle.srcp_peers.specs.Turns.{after_read, got_bytes, tells_end};
@@ -135,7 +135,11 @@ impl Peer {
         ensures calls { SaysNothing (S.told system.old) (S.told system.new) }
         ensures times { KeepsTimes (S.told system.old) (S.told system.new) }
         ensures number { self.new.number ≡ self.old.number }
-        ensures stay { self.new.stay ≡ self.old.stay }
+        ensures same { self.new ≡ record self.old {
+          outgoing = self.new.outgoing;
+          output = self.new.output;
+          asked = self.new.asked;
+        } }
         ensures offered { woken_output self.old.output (tries_again what) ≡ Writing.Open → self.old.outgoing ≢ []
             → is_due what self.old ≡ true
             → Offers self.old.number self.old.outgoing (S.told system.old) (S.told system.new) }
@@ -152,7 +156,11 @@ impl Peer {
         ensures calls { SaysNothing (S.told system.old) (S.told system.new) }
         ensures times { KeepsTimes (S.told system.old) (S.told system.new) }
         ensures number { self.new.number ≡ self.old.number }
-        ensures stay { self.new.stay ≡ self.old.stay }
+        ensures same { self.new ≡ record self.old {
+          outgoing = self.new.outgoing;
+          output = self.new.output;
+          asked = self.new.asked;
+        } }
         ensures offered { self.old.output ≡ Writing.Open → self.old.outgoing ≢ [] → is_due what self.old ≡ true
             → Offers self.old.number self.old.outgoing (S.told system.old) (S.told system.new) }
     {
@@ -258,6 +266,11 @@ impl Peer {
         ensures fits { fits turn.old.pace (weight_of self.old.share.line (got_bytes result.got buffer.new)) ≡ true }
         ensures ends { tells_end result.got ≡ true → turn.old.ends ≡ true }
         ensures refused { result.refused ≡ true → IsShort turn.new.pace }
+        ensures same { self.new ≡ record self.old {
+          incoming = self.new.incoming;
+          share = self.new.share;
+          asked = self.new.asked;
+        } }
     {
         let handed = self.take_out(turn, buffer);
         system.told_read(self.number, handed.got, buffer);
@@ -361,10 +374,17 @@ impl Peer {
         requires here { self.old.stay ≡ Stay.Here }
         ensures kept { IsKept (S.told system.new) self.new }
         ensures count { result ≤ length bytes.now }
+        ensures exact { result ≡ enqueued self.old bytes.now }
         ensures told { Tells (S.told system.old) (Told (WriteCall self.old.number bytes.now (Ok result)))
             (S.told system.new) }
         ensures others { (other : ℕ) → other ≢ self.old.number → Spares other (S.told system.old) (S.told system.new) }
         ensures number { self.new.number ≡ self.old.number }
+        ensures same { self.new ≡ record self.old {
+          outgoing = queued_more self.old.output self.old.outgoing (take result bytes.now);
+          room = room_after self.old.output self.old.room;
+          cut = nat_lt result (length bytes.now);
+          ending = self.new.ending;
+        } }
     {
         let count = self.enqueue(bytes);
         self.cut = count < bytes.len();
@@ -378,9 +398,10 @@ impl Peer {
     /// Gathers bytes, as many as there is space for, and returns how many.
     fn enqueue(&mut self, bytes: &[u8]) -> usize
         ensures count { result ≤ length bytes.now }
+        ensures exact { result ≡ enqueued self.old bytes.now }
         ensures new { self.new ≡ record self.old {
           outgoing = queued_more self.old.output self.old.outgoing (take result bytes.now);
-          room = self.new.room;
+          room = room_after self.old.output self.old.room;
         } }
     {
         match self.output {

@@ -1,7 +1,8 @@
 //! What a door knows of the turn that it is in.
 
 ghost use Rattle.std.specs.Prelude.{◌≡◌, ◌<◌, ◌≤◌, ◌-◌, ◌/◌, ◌||◌, ◌⊎◌, true, false, ℕ, List, Some, None, Ok, Err};
-ghost use Rattle.std.specs.Prelude.{IfErr, cond, length, take};
+ghost use Rattle.std.specs.Prelude.{IfErr, Result, cond, length, take};
+ghost use Rattle.srcp_serve.specs.declared.door.DoorFault.{DoorFault};
 ghost use Rattle.srcp_serve.specs.Calls.{ExpectCall, AcceptCall, WriteCall, CloseCall};
 ghost use Rattle.srcp_door.specs.Pacing.{Allows, IsShort, fits, line_after, weight_of};
 ghost use Rattle.srcp_door.specs.declared.pacing.Line.{Line};
@@ -173,7 +174,7 @@ impl Turn {
 
     /// Returns what is told of a peer whose end is due: that, if the turn told no other.
     pub(crate) fn tell_end(&mut self) -> Result<Got, DoorFault>
-        ensures told { (result ≡ Ok Got.Nothing) ⊎ (result ≡ Ok Got.Ended) }
+        ensures told { result ≡ cond self.old.ends (Ok Got.Ended) (Ok Got.Nothing) }
         ensures new { (line : Line) (buffer : List ℕ) → self.new ≡ after_read self.old line result buffer }
         ensures ends { tells_end result ≡ true → self.old.ends ≡ true }
     {
@@ -189,6 +190,7 @@ impl Turn {
     /// # Errors
     /// `Read` if it did not.
     pub fn tell_fault(&mut self) -> Result<Got, DoorFault>
+        ensures exact { result ≡ cond self.old.ends (Err DoorFault.Read) (Ok Got.Nothing) }
         ensures told { (result ≡ Ok Got.Nothing) ⊎ (result ≡ Err DoorFault.Read) }
         ensures new { (line : Line) (buffer : List ℕ) → self.new ≡ after_read self.old line result buffer }
         ensures ends { tells_end result ≡ true → self.old.ends ≡ true }
@@ -231,10 +233,9 @@ impl Turn {
     }
 
     /// Notes that a peer was closed.
-    pub fn note_close(&mut self, answer: Result<(), DoorFault>)
-        ensures { (peer : ℕ) → self.new ≡ after_call self.old (CloseCall peer answer) }
+    pub fn note_close(&mut self)
+        ensures { (peer : ℕ) (answer : Result Unit DoorFault) → self.new ≡ after_call self.old (CloseCall peer answer) }
     {
-        let _answer = answer;
         self.note(true);
     }
 

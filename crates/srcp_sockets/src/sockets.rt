@@ -238,12 +238,12 @@ impl<S: System + Drop> Sockets<S> {
     {
         let Some(place) = self.place(number) else {
             self.system.told_close(number, Err(DoorFault::Close));
-            self.turn.note_close(Err(DoorFault::Close));
+            self.turn.note_close();
             return Err(DoorFault::Close);
         };
         self.peers[place].let_go(self.turn.clock);
         self.system.told_close(number, Ok(()));
-        self.turn.note_close(Ok(()));
+        self.turn.note_close();
         Ok(())
     }
 

@@ -22,7 +22,8 @@ invariant_of-self g c =
       stands = stands_missing old new c.args.self.now.peers.items c.args.self.now.listening c.args.self.now.last c.args.number (Err Close)
           c.in_default.ensures.none c.told_close.ensures c.args.self.now.stands;
       named = named_call old new c.args.self.now.last call (says_call old new call c.told_close.ensures) refl c.args.self.now.named;
-      timed = timed_close old new c.args.self.now.turn c.note_close.new.self c.args.number (Err Close) c.note_close.ensures
+      timed = timed_close old new c.args.self.now.turn c.note_close.new.self c.args.number (Err Close)
+          (λ peer. c.note_close.ensures peer (Err Close))
           c.told_close.ensures c.args.self.now.timed;
     }
 
@@ -40,7 +41,8 @@ invariant_of-self-2 g c =
           (ap (λ (p : Peer). p.number) at ∙ (there.1 x).0) (ap (λ (p : Peer). p.stay) at ∙ (there.1 x).1) c.let_go.ensures
           (clock_is old c.args.self.now.turn c.args.number c.args.self.now.timed) c.told_close-2.ensures c.args.self.now.stands;
       named = named_call old new c.args.self.now.last call (says_call old new call c.told_close-2.ensures) refl c.args.self.now.named;
-      timed = timed_close old new c.args.self.now.turn c.note_close-2.new.self c.args.number (Ok tt) c.note_close-2.ensures
+      timed = timed_close old new c.args.self.now.turn c.note_close-2.new.self c.args.number (Ok tt)
+          (λ peer. c.note_close-2.ensures peer (Ok tt))
           c.told_close-2.ensures c.args.self.now.timed;
     }
 
