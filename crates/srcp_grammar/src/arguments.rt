@@ -1,4 +1,4 @@
-//! Reads the words behind the group, by what each command asks for.
+//! The words behind the group, by what each command asks for.
 
 ghost use Rattle.std.specs.Prelude.{◌≡◌, ℕ, Ok, Err, MatchResult};
 ghost use Rattle.srcp_grammar.specs.declared.command.Lockable.{Lockable};
@@ -8,10 +8,12 @@ ghost use Rattle.srcp_grammar.specs.Grammar.{addressed, driven, ga_port, get_ga,
 ghost use Rattle.srcp_grammar.specs.Grammar.{named_lock, powered, sensed, switched, term_session, timed_lock};
 
 use crate::command::{Command, Drive, Lockable, PowerSwitch, Sensor, Switch, TimedLock};
-use crate::functions::read_functions;
+use crate::functions::parse_functions;
 use crate::layout::Bus;
-use crate::power_text::text_of;
-use crate::single_words::{bit_of, letter_of, lockable_on, number_in, switch_of, time_of};
+use crate::power_text::parse_text;
+use crate::single_words::{
+    parse_bit, parse_letter, parse_lockable, parse_number, parse_on_off, parse_time,
+};
 use crate::word_count::{next_word, no_more};
 use srcp_info::{
     Code, DriveMode, GREATEST_SPEED, GREATEST_VERSION, Letter, MOST_FUNCTIONS, MOST_SECONDS,
@@ -19,28 +21,28 @@ use srcp_info::{
 };
 use srcp_text::{Words, is_keyword};
 
-/// An address and nothing else.
-pub(crate) fn address(most: u32, mut words: Words<'_>) -> Result<u32, Code>
+/// Reads an address and nothing else.
+pub(crate) fn parse_address(most: u32, mut words: Words<'_>) -> Result<u32, Code>
     ensures { (make : ℕ → Command)
         → MatchResult result (λ address. addressed most make words.entry ≡ Ok (make address))
         (λ code. addressed most make words.entry ≡ Err code) }
 {
     let word = next_word(&mut words)?;
     no_more(words)?;
-    number_in(1, most, word)
+    parse_number(1, most, word)
 }
 
-pub(crate) fn get_session(mut words: Words<'_>) -> Result<Command, Code>
+pub(crate) fn parse_get_session(mut words: Words<'_>) -> Result<Command, Code>
     ensures { result ≡ get_session words.entry }
 {
     let word = next_word(&mut words)?;
     no_more(words)?;
     Ok(Command::GetSession {
-        session: number_in(0, u32::MAX, word)?,
+        session: parse_number(0, u32::MAX, word)?,
     })
 }
 
-pub(crate) fn term_session(mut words: Words<'_>) -> Result<Command, Code>
+pub(crate) fn parse_term_session(mut words: Words<'_>) -> Result<Command, Code>
     ensures { result ≡ term_session words.entry }
 {
     let Some(word) = words.next() else {
@@ -48,26 +50,26 @@ pub(crate) fn term_session(mut words: Words<'_>) -> Result<Command, Code>
     };
     no_more(words)?;
     Ok(Command::TermSession {
-        session: Some(number_in(0, u32::MAX, word)?),
+        session: Some(parse_number(0, u32::MAX, word)?),
     })
 }
 
-/// An accessory's port, from 0 on.
-fn ga_port(bus: &Bus, word: &[u8]) -> Result<u8, Code>
+/// Reads an accessory's port, from 0 on.
+fn parse_port(bus: &Bus, word: &[u8]) -> Result<u8, Code>
     ensures { result ≡ ga_port bus.now word.now }
 {
-    let port = number_in(0, u32::from(bus.ga_ports.saturating_sub(1)), word)?;
+    let port = parse_number(0, u32::from(bus.ga_ports.saturating_sub(1)), word)?;
     Ok(port as u8)
 }
 
-pub(crate) fn get_ga(bus: &Bus, mut words: Words<'_>) -> Result<Command, Code>
+pub(crate) fn parse_get_ga(bus: &Bus, mut words: Words<'_>) -> Result<Command, Code>
     ensures { result ≡ get_ga bus.now words.entry }
 {
     let first = next_word(&mut words)?;
     let second = next_word(&mut words)?;
     no_more(words)?;
-    let address = number_in(1, bus.ga_max, first)?;
-    let port = ga_port(bus, second)?;
+    let address = parse_number(1, bus.ga_max, first)?;
+    let port = parse_port(bus, second)?;
     Ok(Command::GetGa {
         bus: bus.number,
         address,
@@ -75,8 +77,8 @@ pub(crate) fn get_ga(bus: &Bus, mut words: Words<'_>) -> Result<Command, Code>
     })
 }
 
-/// Address, port, value and time.
-pub(crate) fn switched(bus: &Bus, mut words: Words<'_>) -> Result<Switch, Code>
+/// Reads address, port, value and time.
+pub(crate) fn parse_switch(bus: &Bus, mut words: Words<'_>) -> Result<Switch, Code>
     ensures { result ≡ switched bus.now words.entry }
 {
     let first = next_word(&mut words)?;
@@ -86,29 +88,29 @@ pub(crate) fn switched(bus: &Bus, mut words: Words<'_>) -> Result<Switch, Code>
     no_more(words)?;
     Ok(Switch {
         bus: bus.number,
-        address: number_in(1, bus.ga_max, first)?,
-        port: ga_port(bus, second)?,
-        on: bit_of(third)?,
-        time: time_of(fourth)?,
+        address: parse_number(1, bus.ga_max, first)?,
+        port: parse_port(bus, second)?,
+        on: parse_bit(third)?,
+        time: parse_time(fourth)?,
     })
 }
 
-/// Address and letter, then any words.
-pub(crate) fn init_ga(bus: &Bus, mut words: Words<'_>) -> Result<Command, Code>
+/// Reads address and letter. Any words may follow.
+pub(crate) fn parse_init_ga(bus: &Bus, mut words: Words<'_>) -> Result<Command, Code>
     ensures { result ≡ init_ga bus.now words.entry }
 {
     let first = next_word(&mut words)?;
     let second = next_word(&mut words)?;
     Ok(Command::InitGa {
         bus: bus.number,
-        address: number_in(1, bus.ga_max, first)?,
-        letter: letter_of(second)?,
+        address: parse_number(1, bus.ga_max, first)?,
+        letter: parse_letter(second)?,
         ports: bus.ga_ports,
     })
 }
 
-/// Port and value.
-pub(crate) fn sensed(bus: &Bus, mut words: Words<'_>) -> Result<Sensor, Code>
+/// Reads port and value.
+pub(crate) fn parse_sensor(bus: &Bus, mut words: Words<'_>) -> Result<Sensor, Code>
     ensures { result ≡ sensed bus.now words.entry }
 {
     let first = next_word(&mut words)?;
@@ -116,12 +118,12 @@ pub(crate) fn sensed(bus: &Bus, mut words: Words<'_>) -> Result<Sensor, Code>
     no_more(words)?;
     Ok(Sensor {
         bus: bus.number,
-        port: number_in(1, bus.fb_ports, first)?,
-        on: bit_of(second)?,
+        port: parse_number(1, bus.fb_ports, first)?,
+        on: parse_bit(second)?,
     })
 }
 
-/// The greatest address of the bus's locomotives or accessories.
+/// Returns the greatest address of the bus's locomotives or accessories.
 fn address_max(bus: &Bus, group: Lockable) -> u32
     ensures { result ≡ address_max bus.now group }
 {
@@ -131,8 +133,8 @@ fn address_max(bus: &Bus, group: Lockable) -> u32
     }
 }
 
-/// Group and address.
-pub(crate) fn lock(bus: &Bus, mut words: Words<'_>) -> Result<(Lockable, u32), Code>
+/// Reads group and address.
+pub(crate) fn parse_lock(bus: &Bus, mut words: Words<'_>) -> Result<(Lockable, u32), Code>
     ensures { (make : Lockable → ℕ → Command)
         → MatchResult result (λ l. named_lock bus.now make words.entry ≡ Ok (make l.0 l.1))
         (λ code. named_lock bus.now make words.entry ≡ Err code) }
@@ -140,29 +142,29 @@ pub(crate) fn lock(bus: &Bus, mut words: Words<'_>) -> Result<(Lockable, u32), C
     let first = next_word(&mut words)?;
     let second = next_word(&mut words)?;
     no_more(words)?;
-    let group = lockable_on(bus, first)?;
-    Ok((group, number_in(1, address_max(bus, group), second)?))
+    let group = parse_lockable(bus, first)?;
+    Ok((group, parse_number(1, address_max(bus, group), second)?))
 }
 
-/// Group, address and seconds.
-pub(crate) fn timed_lock(bus: &Bus, mut words: Words<'_>) -> Result<TimedLock, Code>
+/// Reads group, address and seconds.
+pub(crate) fn parse_timed_lock(bus: &Bus, mut words: Words<'_>) -> Result<TimedLock, Code>
     ensures { result ≡ timed_lock bus.now words.entry }
 {
     let first = next_word(&mut words)?;
     let second = next_word(&mut words)?;
     let third = next_word(&mut words)?;
     no_more(words)?;
-    let group = lockable_on(bus, first)?;
+    let group = parse_lockable(bus, first)?;
     Ok(TimedLock {
         bus: bus.number,
         group,
-        address: number_in(1, address_max(bus, group), second)?,
-        seconds: number_in(0, MOST_SECONDS, third)?,
+        address: parse_number(1, address_max(bus, group), second)?,
+        seconds: parse_number(0, MOST_SECONDS, third)?,
     })
 }
 
-/// Address, letter, version, steps and number of functions, of which P alone stands for P 1 28 5.
-pub(crate) fn init_gl(bus: &Bus, mut words: Words<'_>) -> Result<Command, Code>
+/// Reads address, letter, version, steps and number of functions. P alone is short for P 1 28 5.
+pub(crate) fn parse_init_gl(bus: &Bus, mut words: Words<'_>) -> Result<Command, Code>
     ensures { result ≡ init_gl bus.now words.entry }
 {
     let first = next_word(&mut words)?;
@@ -173,7 +175,7 @@ pub(crate) fn init_gl(bus: &Bus, mut words: Words<'_>) -> Result<Command, Code>
         }
         return Ok(Command::InitGl {
             bus: bus.number,
-            address: number_in(1, bus.gl_max, first)?,
+            address: parse_number(1, bus.gl_max, first)?,
             letter: Letter::P,
             version: 1,
             steps: 28,
@@ -185,40 +187,40 @@ pub(crate) fn init_gl(bus: &Bus, mut words: Words<'_>) -> Result<Command, Code>
     no_more(words)?;
     Ok(Command::InitGl {
         bus: bus.number,
-        address: number_in(1, bus.gl_max, first)?,
-        letter: letter_of(second)?,
-        version: number_in(0, GREATEST_VERSION, third)?,
-        steps: number_in(1, MOST_STEPS, fourth)?,
-        functions: number_in(0, MOST_FUNCTIONS, fifth)?,
+        address: parse_number(1, bus.gl_max, first)?,
+        letter: parse_letter(second)?,
+        version: parse_number(0, GREATEST_VERSION, third)?,
+        steps: parse_number(1, MOST_STEPS, fourth)?,
+        functions: parse_number(0, MOST_FUNCTIONS, fifth)?,
     })
 }
 
-/// ON or OFF, then the words of the text.
-pub(crate) fn powered(bus: &Bus, mut words: Words<'_>) -> Result<PowerSwitch, Code>
+/// Reads ON or OFF, then the words of the text.
+pub(crate) fn parse_power(bus: &Bus, mut words: Words<'_>) -> Result<PowerSwitch, Code>
     ensures { result ≡ powered bus.now words.entry }
 {
     let first = next_word(&mut words)?;
     Ok(PowerSwitch {
         bus: bus.number,
-        on: switch_of(first)?,
-        text: text_of(words)?,
+        on: parse_on_off(first)?,
+        text: parse_text(words)?,
     })
 }
 
-/// Address, mode, V, Vmax, and at most 29 functions.
+/// Reads address, mode, V, Vmax, and at most 29 functions.
 #[inline(always)]
-pub(crate) fn driven(bus: &Bus, mut words: Words<'_>) -> Result<Drive, Code>
+pub(crate) fn parse_drive(bus: &Bus, mut words: Words<'_>) -> Result<Drive, Code>
     ensures { result ≡ driven bus.now words.entry }
 {
     let first = next_word(&mut words)?;
     let second = next_word(&mut words)?;
     let third = next_word(&mut words)?;
     let fourth = next_word(&mut words)?;
-    let functions = read_functions(words)?;
-    let address = number_in(1, bus.gl_max, first)?;
-    let mode = number_in(0, DriveMode::EmergencyStop as u32, second)?;
-    let v = number_in(0, GREATEST_SPEED, third)?;
-    let vmax = number_in(0, GREATEST_SPEED, fourth)?;
+    let functions = parse_functions(words)?;
+    let address = parse_number(1, bus.gl_max, first)?;
+    let mode = parse_number(0, DriveMode::EmergencyStop as u32, second)?;
+    let v = parse_number(0, GREATEST_SPEED, third)?;
+    let vmax = parse_number(0, GREATEST_SPEED, fourth)?;
     if vmax < v && vmax != 0 {
         return Err(Code::WRONG_VALUE);
     }

@@ -16,7 +16,7 @@ pub const SERVER: Bus = Bus {
     fb_ports: 0,
 };
 
-/// The bus of this number: the server or a configured one.
+/// Returns the bus of this number: the server or one of the layout.
 pub(crate) fn bus_at(buses: &[Bus], number: u8) -> Option<Bus>
     ensures { result ≡ bus_at buses.now number }
 {
@@ -26,7 +26,7 @@ pub(crate) fn bus_at(buses: &[Bus], number: u8) -> Option<Bus>
     bus_numbered(buses, number).copied()
 }
 
-/// Whether the group that the third word of a command names is on the bus.
+/// Returns whether the group that the third word of a command names is on the bus.
 pub(crate) fn has_group(bus: &Bus, group: Named) -> bool
     ensures { result ≡ has_group bus.now group }
 {

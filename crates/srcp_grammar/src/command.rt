@@ -5,7 +5,7 @@ ghost use Rattle.srcp_grammar.specs.Command.{named_of};
 
 use srcp_info::{Bits, Letter, Text};
 
-/// What a word of the first place asks for.
+/// Lists the operations, which the first word of a command names.
 #[derive(Clone, Copy, Debug, PartialEq, Eq)]
 pub enum Operation {
     Get,
@@ -18,7 +18,7 @@ pub enum Operation {
     Reset,
 }
 
-/// What a word of the third place names.
+/// Lists what the third word of a command names.
 #[derive(Clone, Copy, Debug, PartialEq, Eq)]
 pub enum Named {
     Session,
@@ -29,7 +29,7 @@ pub enum Named {
     Lock,
 }
 
-/// The groups whose devices can be locked, as the word behind LOCK names them.
+/// Lists the groups whose devices can be locked, as the word behind LOCK names them.
 #[derive(Clone, Copy, Debug, PartialEq, Eq)]
 pub enum Lockable {
     /// Locomotives.
@@ -38,7 +38,7 @@ pub enum Lockable {
     Ga,
 }
 
-/// What SET and CHECK ask of a locomotive.
+/// Says what SET and CHECK ask of a locomotive.
 #[derive(Clone, Copy, Debug, PartialEq, Eq)]
 pub struct Drive {
     /// The bus.
@@ -47,16 +47,15 @@ pub struct Drive {
     pub address: u32,
     /// The number of its `DriveMode`.
     pub mode: u32,
-    /// V, the speed, from 0 to 65535 and at most `vmax` unless that is 0; kept as 0 in an
-    /// emergency stop.
+    /// V, the speed, from 0 to 65535, and at most `vmax` unless that is 0. In an emergency stop it is kept as 0.
     pub v: u32,
-    /// Vmax, the speed that V is a part of, from 0 to 65535.
+    /// Vmax, the greatest speed, from 0 to 65535. If it is 0 there is none.
     pub vmax: u32,
-    /// The first functions, on or off, at most 29; those not given keep their values.
+    /// The first functions, true if on, at most 29. Those that are not given keep their values.
     pub functions: Bits,
 }
 
-/// What SET and CHECK ask of a port of an accessory.
+/// Says what SET and CHECK ask of a port of an accessory.
 #[derive(Clone, Copy, Debug, PartialEq, Eq)]
 pub struct Switch {
     /// The bus.
@@ -65,36 +64,36 @@ pub struct Switch {
     pub address: u32,
     /// The port, from 0 to one less than the bus gives each accessory.
     pub port: u8,
-    /// Whether it is to be on, which is 1 on the wire.
+    /// True if it is to be on, which is 1 in a line.
     pub on: bool,
-    /// After how many milliseconds a port that is on falls back, from 0 to 60000, of which 0 is
-    /// never; none where it was sent as -1, which is never too.
+    /// After how many milliseconds a port that is on falls back, from 0 to 60000. It is `None` for the word -1. Both 0
+    /// and `None` are never.
     pub time: Option<u32>,
 }
 
-/// What SET and CHECK ask of the power of a bus.
+/// Says what SET and CHECK ask of the power of a bus.
 #[derive(Clone, Copy, Debug, PartialEq, Eq)]
 pub struct PowerSwitch {
     /// The bus.
     pub bus: u8,
-    /// Whether it is to be on.
+    /// True if it is to be on.
     pub on: bool,
-    /// Why, in the sender's words; it may be empty.
+    /// The reason, in the sender's words. It may be empty.
     pub text: Text,
 }
 
-/// What SET and CHECK ask of a feedback port.
+/// Says what SET and CHECK ask of a feedback port.
 #[derive(Clone, Copy, Debug, PartialEq, Eq)]
 pub struct Sensor {
     /// The bus.
     pub bus: u8,
-    /// The feedback port, from 1 to as many as the bus has.
+    /// The feedback port, from 1 to the last that the bus has.
     pub port: u32,
-    /// Whether it is to be on, which is 1 on the wire.
+    /// True if it is to be on, which is 1 in a line.
     pub on: bool,
 }
 
-/// What SET and CHECK ask of a lock.
+/// Says what SET and CHECK ask of a lock.
 #[derive(Clone, Copy, Debug, PartialEq, Eq)]
 pub struct TimedLock {
     /// The bus.
@@ -103,18 +102,17 @@ pub struct TimedLock {
     pub group: Lockable,
     /// The device's address.
     pub address: u32,
-    /// For how many seconds, from 0 to 86400; 0 is as long as the session lasts.
+    /// For how many seconds, from 0 to 86400. If they are 0 it stays as long as the session.
     pub seconds: u32,
 }
 
-/// A command of SRCP 0.8, one variant for each pair of an operation and a group, with the words as
-/// read. In each, `bus` is the number of the bus, from 1 to 250, and `address` that of a device on
-/// it, from 1 to the greatest that the bus has.
+/// A command of SRCP 0.8, one variant for each pair of an operation and a group, with the words as read. `bus` is the
+/// number of a bus, from 1 to 250. `address` is that of a device on it, from 1 to the greatest that the bus has.
 #[derive(Clone, Copy, Debug, PartialEq, Eq)]
 pub enum Command {
     /// Asks for the row of a session.
     GetSession {
-        /// The id that was named; 0 is no session's.
+        /// The id that was named. No session has the id 0.
         session: u32,
     },
     /// Ends the session that sends it.
@@ -131,7 +129,7 @@ pub enum Command {
     SetPower(PowerSwitch),
     /// Answers as `SetPower` does, and changes nothing.
     CheckPower(PowerSwitch),
-    /// Accepted, and changes nothing.
+    /// Is accepted, and changes nothing.
     InitPower {
         /// The bus.
         bus: u8,
@@ -147,7 +145,7 @@ pub enum Command {
     SetGl(Drive),
     /// Answers as `SetGl` does, and changes nothing.
     CheckGl(Drive),
-    /// Makes a locomotive, or makes it afresh where it has other parameters.
+    /// Makes a locomotive, or makes it anew if it has other parameters.
     InitGl {
         /// The bus.
         bus: u8,
@@ -162,7 +160,7 @@ pub enum Command {
         /// How many functions it has, from 0 to 29.
         functions: u32,
     },
-    /// Takes out a locomotive, and its lock first.
+    /// Removes a locomotive, and its lock first.
     TermGl {
         /// The bus.
         bus: u8,
@@ -182,7 +180,7 @@ pub enum Command {
     SetGa(Switch),
     /// Answers as `SetGa` does, and changes nothing.
     CheckGa(Switch),
-    /// Makes an accessory, or makes it afresh where it has another protocol.
+    /// Makes an accessory, or makes it anew if it has another protocol.
     InitGa {
         /// The bus.
         bus: u8,
@@ -193,7 +191,7 @@ pub enum Command {
         /// How many ports the bus gives each accessory, from 2 to 8.
         ports: u8,
     },
-    /// Takes out an accessory, and its lock first.
+    /// Removes an accessory, and its lock first.
     TermGa {
         /// The bus.
         bus: u8,
@@ -204,14 +202,14 @@ pub enum Command {
     GetFb {
         /// The bus.
         bus: u8,
-        /// The feedback port, from 1 to as many as the bus has.
+        /// The feedback port, from 1 to the last that the bus has.
         port: u32,
     },
     /// Sets a feedback port, in place of a sensor.
     SetFb(Sensor),
     /// Answers as `SetFb` does, and changes nothing.
     CheckFb(Sensor),
-    /// Accepted, and changes nothing.
+    /// Is accepted, and changes nothing.
     InitFb {
         /// The bus, which has feedback ports.
         bus: u8,
@@ -229,7 +227,7 @@ pub enum Command {
     SetLock(TimedLock),
     /// Answers as `SetLock` does, and changes nothing.
     CheckLock(TimedLock),
-    /// Takes out the lock of a device.
+    /// Removes the lock of a device.
     TermLock {
         /// The bus.
         bus: u8,

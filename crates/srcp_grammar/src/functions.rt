@@ -5,17 +5,17 @@ ghost use Rattle.std.specs.Prelude.{if◌then◌else◌};
 ghost use Rattle.srcp_info.specs.declared.change.Code.TheVariants.{C418 as TooLong};
 ghost use Rattle.srcp_grammar.specs.Grammar.{bit_of, bits_of};
 
-use crate::single_words::bit_of;
+use crate::single_words::parse_bit;
 use srcp_info::{Bits, Code, MOST_FUNCTIONS};
 use srcp_text::Words;
 
-/// The functions, each 0 or 1. More of them than a locomotive can have are 418, whatever they are;
-/// else the inner result is 412 where one is neither.
-pub(crate) fn read_functions(mut words: Words<'_>) -> Result<Result<Bits, Code>, Code>
+/// Reads the functions, each 0 or 1. More than a locomotive can have are 418, whatever they are. If one is neither, the
+/// inner result is 412.
+pub(crate) fn parse_functions(mut words: Words<'_>) -> Result<Result<Bits, Code>, Code>
     ensures { result ≡ (if nat_lt MOST_FUNCTIONS (length words.entry) then Err TooLong else Ok (bits_of words.entry)) }
 {
     let mut functions = Bits::new();
-    while let Some(read) = next_function(&mut words) {
+    while let Some(read) = parse_next_function(&mut words) {
         if functions.len() == Bits::CAPACITY {
             return Err(Code::TOO_LONG);
         }
@@ -27,9 +27,9 @@ pub(crate) fn read_functions(mut words: Words<'_>) -> Result<Result<Bits, Code>,
     Ok(Ok(functions))
 }
 
-/// Reads the next function; none if no word is left.
+/// Reads the next function. Returns `None` if no word is left.
 #[inline(always)]
-fn next_function(words: &mut Words<'_>) -> Option<Result<bool, Code>>
+fn parse_next_function(words: &mut Words<'_>) -> Option<Result<bool, Code>>
     ensures { MatchOption result (words.old ≡ [])
         (λ read. (word : List ℕ) × (words.old ≡ word ∷ words.new) × (read ≡ bit_of word)) }
 {
@@ -37,7 +37,7 @@ fn next_function(words: &mut Words<'_>) -> Option<Result<bool, Code>>
         return Some(Ok(bit));
     }
     match words.next() {
-        Some(word) => Some(bit_of(word)),
+        Some(word) => Some(parse_bit(word)),
         None => None,
     }
 }

@@ -7,26 +7,26 @@ use srcp_info::{GREATEST_BUS, GREATEST_FB, GREATEST_GA, GREATEST_GL, MOST_PORTS}
 use std::alloc::Global;
 use std::marker::Model;
 
-/// What a bus offers: a group whose field is 0 or false is not on it. Bus 0 is the server itself and
-/// stands in no layout (of SRCP 0.8).
+/// What a bus offers: a group whose field is 0 or false is not on it. Bus 0 of SRCP 0.8 is the server itself, and is in
+/// no layout.
 #[derive(Clone, Copy, Debug, PartialEq, Eq)]
 pub struct Bus {
     /// Its number, from 1 to 250.
     pub number: u8,
-    /// Whether its power can be switched.
+    /// True if its power can be switched.
     pub power: bool,
     /// The greatest address of a locomotive, at most 10239.
     pub gl_max: u32,
     /// The greatest address of an accessory, at most 2044.
     pub ga_max: u32,
-    /// How many ports a device of the group GA has, from 2 to 8; not looked at where ga_max is 0.
+    /// How many ports an accessory has, from 2 to 8. It says nothing if `ga_max` is 0.
     pub ga_ports: u8,
     /// How many feedback ports there are, at most 4096.
     pub fb_ports: u32,
 }
 
 impl Bus {
-    /// Whether the bus is within the limits of its fields.
+    /// Returns whether each field is within its limits.
     fn is_in_range(&self) -> bool
         ensures { IsTrue result ↔ IsBus self.now }
     {
@@ -39,25 +39,25 @@ impl Bus {
     }
 }
 
-/// The bus of this number among these.
+/// Returns the bus of this number among these.
 pub(crate) fn bus_numbered(buses: &[Bus], number: u8) -> Option<&Bus>
     ensures { option_copied result ≡ bus_numbered buses.now number }
 {
     buses.iter().find(|bus| bus.number == number)
 }
 
-/// Why a layout does not take a bus.
+/// Says why a layout does not take a bus.
 #[derive(Clone, Copy, Debug, PartialEq, Eq)]
 pub enum LayoutFault {
-    /// A field is beyond its limit.
+    /// A field is beyond its limits.
     OutOfRange,
     /// The layout has a bus of this number.
     Twice,
-    /// Memory was refused.
+    /// Memory is refused.
     Memory,
 }
 
-/// The buses of a server, by rising number.
+/// Holds the buses of a server, by rising number.
 #[derive(Drop)]
 pub struct Layout {
     buses: Vec<Bus>,
@@ -77,7 +77,7 @@ impl Model for Layout {
 }
 
 impl Layout {
-    /// No bus.
+    /// Makes a layout with no bus.
     pub fn new(alloc: Global) -> Layout
         ensures { result ≡ [] }
     {
@@ -86,10 +86,13 @@ impl Layout {
         }
     }
 
-    /// Takes the bus in. It is refused, and the layout is as before, for the first of these that holds:
-    /// 1. a field is beyond its limit (`OutOfRange`);
+    /// Adds a bus at its place.
+    ///
+    /// # Errors
+    /// Returns the first of these that holds, and then the layout stays as it is:
+    /// 1. a field is beyond its limits (`OutOfRange`);
     /// 2. the layout has a bus of its number (`Twice`);
-    /// 3. memory was refused (`Memory`).
+    /// 3. memory is refused (`Memory`).
     pub fn add(&mut self, bus: Bus) -> Result<(), LayoutFault>
         ensures ok { OnOk result (self.new ≡ with_bus bus self.old) }
         ensures taken { OnOk result (IsBus bus × (has_number self.old bus.number ≡ false)) }
@@ -111,14 +114,14 @@ impl Layout {
         Ok(())
     }
 
-    /// The bus of this number; none where the layout has no such bus.
+    /// Returns the bus of this number, if the layout has one.
     pub fn bus(&self, number: u8) -> Option<&Bus>
         ensures { option_copied result ≡ bus_numbered self.now number }
     {
         bus_numbered(&self.buses, number)
     }
 
-    /// The buses by rising number, each within the limits.
+    /// Returns the buses by rising number, each within the limits.
     pub fn buses(&self) -> &[Bus]
         ensures all { result.now ≡ self.now }
         ensures laid_out { IsLayout self.now }

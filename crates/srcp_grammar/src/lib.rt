@@ -1,4 +1,6 @@
 //! The layout of a server, and which line is which command of it.
+//!
+//! It is no registry: what a command changes, and whether a session may give it, `srcp_rules` says.
 #![tactic(auto)]
 
 ghost use Rattle.std.specs.Prelude.{◌≡◌, ℕ, List, [], ◌∷◌};

@@ -1,4 +1,4 @@
-//! The operations of each group, with their words; any other pair is 423.
+//! The operations of each group, with their words. Any other pair is 423.
 
 ghost use Rattle.std.specs.Prelude.{◌≡◌};
 ghost use Rattle.srcp_grammar.specs.declared.layout.Bus.{Bus};
@@ -6,8 +6,8 @@ ghost use Rattle.srcp_grammar.specs.declared.command.Named.TheVariants as named;
 ghost use Rattle.srcp_grammar.specs.Grammar.{asked};
 
 use crate::arguments::{
-    address, driven, get_ga, get_session, init_ga, init_gl, lock, powered, sensed, switched,
-    term_session, timed_lock,
+    parse_address, parse_drive, parse_get_ga, parse_get_session, parse_init_ga, parse_init_gl,
+    parse_lock, parse_power, parse_sensor, parse_switch, parse_term_session, parse_timed_lock,
 };
 use crate::command::{Command, Named, Operation};
 use crate::layout::Bus;
@@ -15,17 +15,17 @@ use crate::word_count::no_more;
 use srcp_info::Code;
 use srcp_text::Words;
 
-fn session_asked(operation: Operation, words: Words<'_>) -> Result<Command, Code>
+fn parse_session_command(operation: Operation, words: Words<'_>) -> Result<Command, Code>
     ensures { (bus : Bus) → result ≡ asked operation named.Session bus words.entry }
 {
     match operation {
-        Operation::Get => get_session(words),
-        Operation::Term => term_session(words),
+        Operation::Get => parse_get_session(words),
+        Operation::Term => parse_term_session(words),
         _ => Err(Code::UNSUPPORTED_OPERATION),
     }
 }
 
-fn power_asked(operation: Operation, bus: &Bus, words: Words<'_>) -> Result<Command, Code>
+fn parse_power_command(operation: Operation, bus: &Bus, words: Words<'_>) -> Result<Command, Code>
     ensures { result ≡ asked operation named.Power bus.now words.entry }
 {
     let number = bus.number;
@@ -34,82 +34,82 @@ fn power_asked(operation: Operation, bus: &Bus, words: Words<'_>) -> Result<Comm
             no_more(words)?;
             Ok(Command::GetPower { bus: number })
         }
-        Operation::Set => Ok(Command::SetPower(powered(bus, words)?)),
-        Operation::Check => Ok(Command::CheckPower(powered(bus, words)?)),
+        Operation::Set => Ok(Command::SetPower(parse_power(bus, words)?)),
+        Operation::Check => Ok(Command::CheckPower(parse_power(bus, words)?)),
         Operation::Init => Ok(Command::InitPower { bus: number }),
         _ => Err(Code::UNSUPPORTED_OPERATION),
     }
 }
 
-fn gl_asked(operation: Operation, bus: &Bus, words: Words<'_>) -> Result<Command, Code>
+fn parse_gl_command(operation: Operation, bus: &Bus, words: Words<'_>) -> Result<Command, Code>
     ensures { result ≡ asked operation named.Gl bus.now words.entry }
 {
     let number = bus.number;
     match operation {
         Operation::Get => Ok(Command::GetGl {
             bus: number,
-            address: address(bus.gl_max, words)?,
+            address: parse_address(bus.gl_max, words)?,
         }),
-        Operation::Set => Ok(Command::SetGl(driven(bus, words)?)),
-        Operation::Check => Ok(Command::CheckGl(driven(bus, words)?)),
-        Operation::Init => init_gl(bus, words),
+        Operation::Set => Ok(Command::SetGl(parse_drive(bus, words)?)),
+        Operation::Check => Ok(Command::CheckGl(parse_drive(bus, words)?)),
+        Operation::Init => parse_init_gl(bus, words),
         Operation::Term => Ok(Command::TermGl {
             bus: number,
-            address: address(bus.gl_max, words)?,
+            address: parse_address(bus.gl_max, words)?,
         }),
         _ => Err(Code::UNSUPPORTED_OPERATION),
     }
 }
 
-fn ga_asked(operation: Operation, bus: &Bus, words: Words<'_>) -> Result<Command, Code>
+fn parse_ga_command(operation: Operation, bus: &Bus, words: Words<'_>) -> Result<Command, Code>
     ensures { result ≡ asked operation named.Ga bus.now words.entry }
 {
     let number = bus.number;
     match operation {
-        Operation::Get => get_ga(bus, words),
-        Operation::Set => Ok(Command::SetGa(switched(bus, words)?)),
-        Operation::Check => Ok(Command::CheckGa(switched(bus, words)?)),
-        Operation::Init => init_ga(bus, words),
+        Operation::Get => parse_get_ga(bus, words),
+        Operation::Set => Ok(Command::SetGa(parse_switch(bus, words)?)),
+        Operation::Check => Ok(Command::CheckGa(parse_switch(bus, words)?)),
+        Operation::Init => parse_init_ga(bus, words),
         Operation::Term => Ok(Command::TermGa {
             bus: number,
-            address: address(bus.ga_max, words)?,
+            address: parse_address(bus.ga_max, words)?,
         }),
         _ => Err(Code::UNSUPPORTED_OPERATION),
     }
 }
 
-fn fb_asked(operation: Operation, bus: &Bus, words: Words<'_>) -> Result<Command, Code>
+fn parse_fb_command(operation: Operation, bus: &Bus, words: Words<'_>) -> Result<Command, Code>
     ensures { result ≡ asked operation named.Fb bus.now words.entry }
 {
     let number = bus.number;
     match operation {
         Operation::Get => Ok(Command::GetFb {
             bus: number,
-            port: address(bus.fb_ports, words)?,
+            port: parse_address(bus.fb_ports, words)?,
         }),
-        Operation::Set => Ok(Command::SetFb(sensed(bus, words)?)),
-        Operation::Check => Ok(Command::CheckFb(sensed(bus, words)?)),
+        Operation::Set => Ok(Command::SetFb(parse_sensor(bus, words)?)),
+        Operation::Check => Ok(Command::CheckFb(parse_sensor(bus, words)?)),
         Operation::Init => Ok(Command::InitFb { bus: number }),
         _ => Err(Code::UNSUPPORTED_OPERATION),
     }
 }
 
-fn lock_asked(operation: Operation, bus: &Bus, words: Words<'_>) -> Result<Command, Code>
+fn parse_lock_command(operation: Operation, bus: &Bus, words: Words<'_>) -> Result<Command, Code>
     ensures { result ≡ asked operation named.Lock bus.now words.entry }
 {
     match operation {
         Operation::Get => {
-            let (group, address) = lock(bus, words)?;
+            let (group, address) = parse_lock(bus, words)?;
             Ok(Command::GetLock {
                 bus: bus.number,
                 group,
                 address,
             })
         }
-        Operation::Set => Ok(Command::SetLock(timed_lock(bus, words)?)),
-        Operation::Check => Ok(Command::CheckLock(timed_lock(bus, words)?)),
+        Operation::Set => Ok(Command::SetLock(parse_timed_lock(bus, words)?)),
+        Operation::Check => Ok(Command::CheckLock(parse_timed_lock(bus, words)?)),
         Operation::Term => {
-            let (group, address) = lock(bus, words)?;
+            let (group, address) = parse_lock(bus, words)?;
             Ok(Command::TermLock {
                 bus: bus.number,
                 group,
@@ -120,9 +120,9 @@ fn lock_asked(operation: Operation, bus: &Bus, words: Words<'_>) -> Result<Comma
     }
 }
 
-/// The command of the operation and the group.
+/// Reads the words of a command of that operation and group.
 #[inline(always)]
-pub(crate) fn asked_of(
+pub(crate) fn parse_group_command(
     operation: Operation,
     group: Named,
     bus: &Bus,
@@ -131,11 +131,11 @@ pub(crate) fn asked_of(
     ensures { result ≡ asked operation group bus.now words.entry }
 {
     match group {
-        Named::Session => session_asked(operation, words),
-        Named::Power => power_asked(operation, bus, words),
-        Named::Gl => gl_asked(operation, bus, words),
-        Named::Ga => ga_asked(operation, bus, words),
-        Named::Fb => fb_asked(operation, bus, words),
-        Named::Lock => lock_asked(operation, bus, words),
+        Named::Session => parse_session_command(operation, words),
+        Named::Power => parse_power_command(operation, bus, words),
+        Named::Gl => parse_gl_command(operation, bus, words),
+        Named::Ga => parse_ga_command(operation, bus, words),
+        Named::Fb => parse_fb_command(operation, bus, words),
+        Named::Lock => parse_lock_command(operation, bus, words),
     }
 }

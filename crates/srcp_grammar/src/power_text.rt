@@ -6,7 +6,7 @@ ghost use Rattle.srcp_grammar.specs.Grammar.{text_of};
 use srcp_info::{Code, LONGEST_TEXT, Text, is_text};
 use srcp_text::Words;
 
-/// Appends a word, where there is room.
+/// Appends a word, for which there is room.
 fn push_word(text: &mut Text, word: &[u8])
     requires { length text.old + length word.now ≤ LONGEST_TEXT }
     ensures { text.new ≡ text.old ++ word.now }
@@ -16,8 +16,8 @@ fn push_word(text: &mut Text, word: &[u8])
     }
 }
 
-/// The words joined by one space each, where that can be a text; else 412.
-pub(crate) fn text_of(mut words: Words<'_>) -> Result<Text, Code>
+/// Joins the words by one space each. If that can be no text it is 412.
+pub(crate) fn parse_text(mut words: Words<'_>) -> Result<Text, Code>
     ensures { result ≡ text_of words.entry }
 {
     let mut text = Text::new();

@@ -11,9 +11,9 @@ use crate::layout::Bus;
 use srcp_info::{Code, Letter, MOST_MILLISECONDS};
 use srcp_text::{is_keyword, read_number};
 
-/// A number from `least` to `most`; any other word is 412.
+/// Reads a number from `least` to `most`. Any other word is 412.
 #[inline(always)]
-pub(crate) fn number_in(least: u32, most: u32, word: &[u8]) -> Result<u32, Code>
+pub(crate) fn parse_number(least: u32, most: u32, word: &[u8]) -> Result<u32, Code>
     ensures { result ≡ number_in least most word.now }
 {
     match read_number(word, most) {
@@ -22,19 +22,19 @@ pub(crate) fn number_in(least: u32, most: u32, word: &[u8]) -> Result<u32, Code>
     }
 }
 
-/// Reads 0 or 1; any other word is 412. The words "0" and "1" themselves are read without a call.
-pub(crate) fn bit_of(word: &[u8]) -> Result<bool, Code>
+/// Reads 0 or 1. Any other word is 412. The words "0" and "1" themselves are read without a call.
+pub(crate) fn parse_bit(word: &[u8]) -> Result<bool, Code>
     ensures { result ≡ bit_of word.now }
 {
     match word {
         b"0" => Ok(false),
         b"1" => Ok(true),
-        _ => Ok(number_in(0, 1, word)? == 1),
+        _ => Ok(parse_number(0, 1, word)? == 1),
     }
 }
 
-/// A decoder protocol; any other word is 420.
-pub(crate) fn letter_of(word: &[u8]) -> Result<Letter, Code>
+/// Reads a decoder protocol. Any other word is 420.
+pub(crate) fn parse_letter(word: &[u8]) -> Result<Letter, Code>
     ensures { result ≡ letter_of word.now }
 {
     if is_keyword(b"N", word) {
@@ -52,8 +52,8 @@ pub(crate) fn letter_of(word: &[u8]) -> Result<Letter, Code>
     Err(Code::UNSUPPORTED_DEVICE_PROTOCOL)
 }
 
-/// ON or OFF; any other word is 412.
-pub(crate) fn switch_of(word: &[u8]) -> Result<bool, Code>
+/// Reads ON or OFF. Any other word is 412.
+pub(crate) fn parse_on_off(word: &[u8]) -> Result<bool, Code>
     ensures { result ≡ switch_of word.now }
 {
     if is_keyword(b"ON", word) {
@@ -65,18 +65,18 @@ pub(crate) fn switch_of(word: &[u8]) -> Result<bool, Code>
     Err(Code::WRONG_VALUE)
 }
 
-/// Milliseconds up to 60000, or none where the word is -1.
-pub(crate) fn time_of(word: &[u8]) -> Result<Option<u32>, Code>
+/// Reads milliseconds up to 60000. Returns `None` for the word -1. Any other word is 412.
+pub(crate) fn parse_time(word: &[u8]) -> Result<Option<u32>, Code>
     ensures { result ≡ time_of word.now }
 {
     if word == b"-1".as_slice() {
         return Ok(None);
     }
-    Ok(Some(number_in(0, MOST_MILLISECONDS, word)?))
+    Ok(Some(parse_number(0, MOST_MILLISECONDS, word)?))
 }
 
-/// The operation that the first word of a command names; any other word is 410.
-pub(crate) fn operation_of(word: &[u8]) -> Result<Operation, Code>
+/// Reads the operation, the first word of a command. Any other word is 410.
+pub(crate) fn parse_operation(word: &[u8]) -> Result<Operation, Code>
     ensures { result ≡ ok_or (named_in operations word.now) UnknownCommand }
 {
     if is_keyword(b"GET", word) {
@@ -106,8 +106,8 @@ pub(crate) fn operation_of(word: &[u8]) -> Result<Operation, Code>
     Err(Code::UNKNOWN_COMMAND)
 }
 
-/// The group that the third word of a command names; any other word is 421.
-pub(crate) fn group_of(word: &[u8]) -> Result<Named, Code>
+/// Reads the group, the third word of a command. Any other word is 421.
+pub(crate) fn parse_group(word: &[u8]) -> Result<Named, Code>
     ensures { result ≡ ok_or (named_in groups word.now) UnsupportedDevice }
 {
     if is_keyword(b"SESSION", word) {
@@ -131,8 +131,8 @@ pub(crate) fn group_of(word: &[u8]) -> Result<Named, Code>
     Err(Code::UNSUPPORTED_DEVICE)
 }
 
-/// The group of a LOCK command, which has to be on the bus; any other word is 412.
-pub(crate) fn lockable_on(bus: &Bus, word: &[u8]) -> Result<Lockable, Code>
+/// Reads the group of a LOCK command, which has to be on the bus. Any other word is 412.
+pub(crate) fn parse_lockable(bus: &Bus, word: &[u8]) -> Result<Lockable, Code>
     ensures { result ≡ lockable_on bus.now word.now }
 {
     if is_keyword(b"GL", word) && bus.gl_max > 0 {

@@ -6,7 +6,7 @@ ghost use Rattle.srcp_info.specs.declared.change.Code.TheVariants.{C418 as TooLo
 use srcp_info::Code;
 use srcp_text::Words;
 
-/// The next word; where there is none the command is too short, 419.
+/// Returns the next word. If there is none the command is too short: 419.
 pub(crate) fn next_word<'a>(words: &mut Words<'a>) -> Result<&'a [u8], Code>
     ensures { MatchResult result (λ word. words.old ≡ word.now ∷ words.new)
         (λ code. (words.old ≡ []) × (code ≡ TooShort)) }
@@ -17,7 +17,7 @@ pub(crate) fn next_word<'a>(words: &mut Words<'a>) -> Result<&'a [u8], Code>
     }
 }
 
-/// Nothing, where no word is left; else the command is too long, 418.
+/// Checks that no word is left. If one is, the command is too long: 418.
 pub(crate) fn no_more(mut words: Words<'_>) -> Result<(), Code>
     ensures { MatchResult result (λ _. words.entry ≡ [])
         (λ code. ((word : List ℕ) × (others : List (List ℕ)) × (words.entry ≡ word ∷ others)) × (code ≡ TooLong)) }

@@ -10,6 +10,6 @@ use Rattle.srcp_grammar.proofs.parse.parse_command.Goals as goal
 pub returns-clause-fits : goal.returns-clause-fits
 returns-clause-fits c =
     let layout = c.args.layout.now in
-    let read : c.commanded.result ≡ reads layout c.args.line.now =
-    c.commanded.ensures ∙ (λ i. commanded (c.buses.ensures.all i) (c.words.ensures.words i)) in
+    let read : c.parse_words.result ≡ reads layout c.args.line.now =
+    c.parse_words.ensures ∙ (λ i. commanded (c.buses.ensures.all i) (c.words.ensures.words i)) in
     subst (λ (r : Result Command Code). IfOk r (IsCommandOf layout)) (sym read) (reads_fits layout c.buses.ensures.laid_out c.args.line.now)

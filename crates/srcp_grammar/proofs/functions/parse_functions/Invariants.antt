@@ -1,7 +1,7 @@
 use Rattle.std.proofs.Common.{◌≡◌, ◌+◌, ◌≤◌, length}
 use Rattle.srcp_grammar.specs.Grammar.{bits_of}
 use Rattle.srcp_grammar.proofs.BitLaws.{and_bits}
-use Rattle.srcp_grammar.proofs.functions.read_functions.Given as goal
+use Rattle.srcp_grammar.proofs.functions.parse_functions.Given as goal
 
 abbrev pub invariant-loop-read : goal.invariant-loop-read
 invariant-loop-read l = record {

@@ -1,7 +1,7 @@
 use Rattle.std.proofs.Common.{ℕ, List, ◌++◌, sym, ap, ◌∙◌}
 use Rattle.std.specs.List.{join_with_byte}
 use Rattle.srcp_grammar.proofs.WordTextLaws.{spaced, join-spaced}
-use Rattle.srcp_grammar.proofs.power_text.text_of.Goals as goal
+use Rattle.srcp_grammar.proofs.power_text.parse_text.Goals as goal
 
 pub loop-word-init : goal.loop-word-init
 loop-word-init c =
