@@ -1,10 +1,10 @@
 -- What holds of every core, and what its walks over places and rows do.
 pub mod PlaceLaws
-pub mod KeysEnd
 pub mod EveryPlaceIsTold
 pub mod ChangesOneByOne
 pub mod DueInOneWalk
 pub mod PlacesCover
+pub mod PanelsAreListed
 pub mod PanelsStay
 pub mod SessionRows
 pub mod CoreStaysSound

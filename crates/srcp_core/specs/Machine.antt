@@ -83,6 +83,11 @@ abbrev pub has_panel : Option Place → Bool
 has_panel None = false
 has_panel (Some p) = is_panel p.panel
 
+-- the keys of the connections that have an information session
+abbrev pub panel_keys : List (Option Place) → List ℕ
+panel_keys [] = []
+panel_keys (place ∷ places) = if has_panel place then 0 ∷ map suc (panel_keys places) else map suc (panel_keys places)
+
 -- its change queue overflowed
 abbrev pub has_overrun : Panel → Bool
 has_overrun Absent = false
@@ -199,12 +204,6 @@ changed_at key change held = record held { places = changed_places key change he
 -- every connection is told the change
 abbrev pub told_all : Change → List (Option Place) → List (Option Place)
 told_all change places = map (option_map (told_place change)) places
-
--- those before that key are told it
-abbrev pub told_upto : Change → ℕ → List (Option Place) → List (Option Place)
-told_upto change zero places = places
-told_upto change (suc key) [] = []
-told_upto change (suc key) (place ∷ places) = option_map (told_place change) place ∷ told_upto change key places
 
 -- and is told each change in turn
 abbrev pub told_each : List Change → List (Option Place) → List (Option Place)

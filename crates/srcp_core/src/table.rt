@@ -20,6 +20,7 @@ use srcp_index::Indexed;
 use srcp_rules::{Layout, Memory, Obeyed, Rows};
 use std::alloc::Global;
 use std::marker::Model;
+use walk::PanelKeys;
 
 /// Holds the registry of a layout, and the connections to it with their sessions.
 ///
@@ -50,8 +51,8 @@ pub struct Core<'a, R: Rows> {
     moment: u64,
     last_id: u32,
     connections: Slab<Connection>,
-    // True if a connection has an information session.
-    panels: bool,
+    /// The keys of the connections that have an information session.
+    panels: PanelKeys,
     denied: u64,
     /// The line of `200 OK` at the moment of the last reply that had it.
     accepted: Accepted,
@@ -61,9 +62,8 @@ pub struct Core<'a, R: Rows> {
 
 impl<'a, R: Rows> Model for Core<'a, R> {
     ghost use Rattle.std.specs.Prelude.{◌≡◌, ◌≤◌};
-    ghost use Rattle.std.specs.List.{list_any};
     ghost use Rattle.srcp_core.specs.Held.{Held, IsSound};
-    ghost use Rattle.srcp_core.specs.Machine.{has_panel};
+    ghost use Rattle.srcp_core.specs.Machine.{panel_keys};
     ghost use Rattle.srcp_core.specs.declared.limits.TheConstants.{MOST_CONNECTIONS};
 
     ghost Value = { Held };
@@ -88,7 +88,7 @@ impl<'a, R: Rows> Model for Core<'a, R> {
           denied = c.denied;
         })
         × (R.buses c.rows ≡ c.layout.now) × (MOST_CONNECTIONS ≤ c.connections.capacity)
-        × (c.panels ≡ list_any has_panel c.connections.slots) };
+        × (c.panels.items ≡ panel_keys c.connections.slots) };
 }
 
 impl<'a, R: Rows> Core<'a, R> {
@@ -118,7 +118,7 @@ impl<'a, R: Rows> Core<'a, R> {
             moment,
             last_id,
             connections,
-            panels: false,
+            panels: PanelKeys::new(),
             denied: 0,
             accepted: Accepted::at(moment),
             obeyed: Obeyed::new(),

@@ -1,51 +1,57 @@
 -- The walk that tells every connection a change.
-use Rattle.std.proofs.Common.{◌≡◌, ℕ, zero, suc, ◌+◌, List, [], ◌∷◌, refl, ap, sym, ◌∙◌, add-one}
-use Rattle.std.specs.Prelude.{Option, Some, None, slice_index_or, slice_set, count_by, is_some, Bool, if◌then◌else◌}
+use Rattle.std.proofs.Common.{◌≡◌, ℕ, zero, suc, ◌+◌, List, [], ◌∷◌, map, refl, ap, sym, ◌∙◌, true≢false}
+use Rattle.std.specs.Prelude.{Option, Some, None, slice_index_or, count_by, is_some, fold, Bool, true, false}
+use Rattle.std.specs.Prelude.{if◌then◌else◌}
 use Rattle.std.specs.Option.{option_map}
 use Rattle.std.proofs.lemmas.List.Sums.{sum_by-cons}
 use Rattle.srcp_info.specs.declared.change.Change.{Change}
-use Rattle.srcp_core.specs.Held.{Place}
-use Rattle.srcp_core.specs.Machine.{told_place, told_all, told_upto}
+use Rattle.srcp_core.specs.Held.{Place, place_at}
+use Rattle.srcp_core.specs.Machine.{told_place, told_all, told_feed, panel_keys, is_panel, feed_in, changed_places, changed_in}
+use Rattle.srcp_core.specs.declared.connection.Panel.{Panel}
+use Rattle.srcp_core.specs.declared.connection.Panel.TheVariants.{Absent, Listening, Overran}
 
-pub told_upto_at : (change : Change) (key : ℕ) (places : List (Option Place))
-    → slice_index_or (told_upto change key places) key None ≡ slice_index_or places key None
-told_upto_at change zero places = refl
-told_upto_at change (suc key) [] = refl
-told_upto_at change (suc key) (place ∷ places) = told_upto_at change key places
+-- the connection of that key is told the change
+abbrev pub told_key : Change → List (Option Place) → ℕ → List (Option Place)
+told_key change places key = changed_places key (told_place change) places
 
-pub told_upto_none : (change : Change) (key : ℕ) (places : List (Option Place)) → slice_index_or places key None ≡ None
-    → told_upto change (suc key) places ≡ told_upto change key places
-told_upto_none change zero [] h = refl
-told_upto_none change zero (place ∷ places) h = rw h refl
-told_upto_none change (suc key) [] h = refl
-told_upto_none change (suc key) (place ∷ places) h =
-    ap (λ ps. option_map (told_place change) place ∷ ps) (told_upto_none change key places h)
+told_key_behind : (change : Change) (slot : Option Place) (places : List (Option Place)) (key : ℕ)
+    → told_key change (slot ∷ places) (suc key) ≡ slot ∷ told_key change places key
+told_key_behind change slot places key = by (place_at places key)
+  where
+    by : (found : Option Place)
+        → changed_in (suc key) (told_place change) (slot ∷ places) found ≡ slot ∷ changed_in key (told_place change) places found
+    by None = refl
+    by (Some place) = refl
 
-pub told_upto_some : (change : Change) (key : ℕ) (places : List (Option Place)) (place : Place)
-    → slice_index_or places key None ≡ Some place
-    → told_upto change (suc key) places ≡ slice_set (told_upto change key places) key (Some (told_place change place))
-told_upto_some change zero [] place h = cc
-told_upto_some change zero (p ∷ places) place h = rw h refl
-told_upto_some change (suc key) [] place h = cc
-told_upto_some change (suc key) (p ∷ places) place h =
-    ap (λ ps. option_map (told_place change) p ∷ ps) (told_upto_some change key places place h)
+told_behind : (change : Change) (slot : Option Place) (places : List (Option Place)) (keys : List ℕ)
+    → fold (told_key change) (slot ∷ places) (map suc keys) ≡ slot ∷ fold (told_key change) places keys
+told_behind change slot places [] = refl
+told_behind change slot places (key ∷ keys) =
+    ap (λ ps. fold (told_key change) ps (map suc keys)) (told_key_behind change slot places key)
+    ∙ told_behind change slot (told_key change places key) keys
 
-pub told_step_some : (change : Change) (key : ℕ) (places now : List (Option Place)) (place : Place) → now ≡ told_upto change key places
-    → slice_index_or now key None ≡ Some place
-    → slice_set now key (Some (told_place change place)) ≡ told_upto change (key + 1) places
-told_step_some change key places now place e h =
-    let here : slice_index_or places key None ≡ Some place =
-    sym (told_upto_at change key places) ∙ ap (λ ps. slice_index_or ps key None) (sym e) ∙ h in
-    ap (λ ps. slice_set ps key (Some (told_place change place))) e ∙ sym (told_upto_some change key places place here)
-    ∙ ap (λ k. told_upto change k places) (sym (add-one key))
+untold : (change : Change) (place : Place) (panel : Panel) → place.panel ≡ panel → is_panel panel ≡ false → told_place change place ≡ place
+untold change place Absent e none = ap (λ panel. told_feed change place (feed_in panel)) e
+untold change place (Listening feed) e none = absurd (true≢false none)
+untold change place Overran e none = absurd (true≢false none)
 
-pub told_step_none : (change : Change) (key : ℕ) (places now : List (Option Place)) → now ≡ told_upto change key places
-    → slice_index_or now key None ≡ None
-    → now ≡ told_upto change (key + 1) places
-told_step_none change key places now e h =
-    let here : slice_index_or places key None ≡ None =
-    sym (told_upto_at change key places) ∙ ap (λ ps. slice_index_or ps key None) (sym e) ∙ h in
-    e ∙ sym (told_upto_none change key places here) ∙ ap (λ k. told_upto change k places) (sym (add-one key))
+-- to tell the panels is to tell all
+pub told_panels : (change : Change) (places : List (Option Place))
+    → fold (told_key change) places (panel_keys places) ≡ told_all change places
+told_panels change [] = refl
+told_panels change (None ∷ places) =
+    told_behind change None places (panel_keys places) ∙ ap (λ ps. None ∷ ps) (told_panels change places)
+told_panels change (Some place ∷ places) = by (is_panel place.panel) refl (told_panels change places)
+  where
+    by : (is : Bool) → is_panel place.panel ≡ is → fold (told_key change) places (panel_keys places) ≡ told_all change places
+        → fold (told_key change) (Some place ∷ places) (if is then 0 ∷ map suc (panel_keys places) else map suc (panel_keys places))
+        ≡ Some (told_place change place) ∷ told_all change places
+    by true e rest =
+        told_behind change (Some (told_place change place)) places (panel_keys places)
+        ∙ ap (λ ps. Some (told_place change place) ∷ ps) rest
+    by false e rest =
+        told_behind change (Some place) places (panel_keys places)
+        ∙ (λ i. Some (sym (untold change place place.panel refl e) i) ∷ rest i)
 
 pub count_by_cons : {X : Type 0} (p : X → Bool) (x : X) (xs : List X) → count_by p (x ∷ xs) ≡ (if p x then 1 else 0) + count_by p xs
 count_by_cons p x xs = sum_by-cons (λ y. if p y then 1 else 0) x xs

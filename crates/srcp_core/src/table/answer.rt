@@ -16,7 +16,7 @@ ghost use Rattle.srcp_core.specs.Machine.{steps_answered, steps_gone, steps_gree
 ghost use Rattle.srcp_core.specs.Machine.{IsAsked};
 
 use super::Core;
-use super::walk::{any_panel, free_all, tell_all, tell_each};
+use super::walk::{free_all, panel_keys, tell_all, tell_each};
 use crate::connection::Panel;
 use crate::handshake::Greeting;
 use crate::limits::{LAST_ID, MOST_UNSENT};
@@ -36,19 +36,19 @@ struct Outcome {
 impl<'a, R: Rows> Core<'a, R> {
     /// Answers a line. Returns the record of it.
     #[inline(always)]
-    pub(super) fn answer(&mut self, conn: usize, asked: Asked) -> LineRecord
-        requires asked { IsAsked conn asked self.old }
-        requires room { length (unsent_at conn self.old) + longest_answer asked ≤ MOST_UNSENT }
-        ensures core { self.new ≡ answered result.granted conn asked self.old }
-        ensures steps { steps_in result ≡ steps_answered result.granted asked self.old }
+    pub(super) fn answer(&mut self, conn: usize, asked: &Asked) -> LineRecord
+        requires asked { IsAsked conn asked.now self.old }
+        requires room { length (unsent_at conn self.old) + longest_answer asked.now ≤ MOST_UNSENT }
+        ensures core { self.new ≡ answered result.granted conn asked.now self.old }
+        ensures steps { steps_in result ≡ steps_answered result.granted asked.now self.old }
         ensures counted { self.new.denied ≡ denied_by self.old.denied (result.granted ∷ []) }
     {
         // Read for the invariant of the type, which says that the core is sound.
         let _ = &self.layout;
         match asked {
             Asked::Dropped => LineRecord::nothing(),
-            Asked::Greets { mode, greeting } => self.greet(conn, mode, greeting),
-            Asked::Commands { session, command } => self.command(conn, session, command),
+            Asked::Greets { mode, greeting } => self.greet(conn, *mode, *greeting),
+            Asked::Commands { session, command } => self.command(conn, *session, command),
         }
     }
 
@@ -120,31 +120,36 @@ impl<'a, R: Rows> Core<'a, R> {
         let panel = Panel::of_mode(self.alloc, mode, &self.rows)?;
         let change = begin_session(&mut self.rows, id, self.moment, mode)?;
         self.last_id = id;
-        tell_all(&mut self.connections, self.panels, &change);
+        tell_all(&mut self.connections, self.panels.as_slice(), &change);
         let Some(connection) = self.connections.get_mut(conn) else {
             return Ok(());
         };
         connection.enter(id, panel);
-        self.panels = any_panel(&self.connections);
+        self.panels = panel_keys(&self.connections);
         Ok(())
     }
 
     /// Answers a line of a command session.
     #[inline(always)]
-    fn command(&mut self, conn: usize, session: u32, command: Result<Command, Code>) -> LineRecord
+    fn command(
+        &mut self,
+        conn: usize,
+        session: u32,
+        command: &Result<Command, Code>,
+    ) -> LineRecord
         requires session { IsSessionAt session conn self.old }
         requires row { is_there (session_device session) self.old.rows ≡ true }
-        requires command { IfOk command (IsCommandOf self.old.buses) }
-        requires room { length (unsent_at conn self.old) + longest_answer (Asked.Commands session command)
+        requires command { IfOk command.now (IsCommandOf self.old.buses) }
+        requires room { length (unsent_at conn self.old) + longest_answer (Asked.Commands session command.now)
             ≤ MOST_UNSENT }
-        ensures core { self.new ≡ commanded result.granted conn session command self.old }
-        ensures steps { steps_in result ≡ steps_commanded result.granted session command self.old }
+        ensures core { self.new ≡ commanded result.granted conn session command.now self.old }
+        ensures steps { steps_in result ≡ steps_commanded result.granted session command.now self.old }
         ensures counted { self.new.denied ≡ denied_by self.old.denied (result.granted ∷ []) }
     {
         match command {
-            Ok(command) => self.obey(conn, session, &command),
+            Ok(command) => self.obey(conn, session, command),
             Err(code) => {
-                self.reply(conn, &Reply::Refused(code));
+                self.reply(conn, &Reply::Refused(*code));
                 LineRecord::nothing()
             }
         }
@@ -212,7 +217,7 @@ impl<'a, R: Rows> Core<'a, R> {
         }
         tell_each(
             &mut self.connections,
-            self.panels,
+            self.panels.as_slice(),
             self.obeyed.changes.as_slice(),
         );
         Some(Outcome {
@@ -233,7 +238,7 @@ impl<'a, R: Rows> Core<'a, R> {
         free_all(
             &mut self.rows,
             &mut self.connections,
-            self.panels,
+            self.panels.as_slice(),
             session,
             self.moment,
         );

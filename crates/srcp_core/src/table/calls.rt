@@ -6,7 +6,7 @@ ghost use Rattle.srcp_core.specs.Machine.{advanced, hung_up, slack_at};
 ghost use Rattle.srcp_core.specs.Waits.{least};
 
 use super::Core;
-use super::walk::{any_panel, carry_out_due, free_all, least_slack};
+use super::walk::{carry_out_due, free_all, least_slack, panel_keys};
 use crate::record::CoreFault;
 use srcp_rules::Rows;
 
@@ -21,7 +21,7 @@ impl<'a, R: Rows> Core<'a, R> {
         carry_out_due(
             &mut self.rows,
             &mut self.connections,
-            self.panels,
+            self.panels.as_slice(),
             self.moment,
         );
     }
@@ -41,7 +41,7 @@ impl<'a, R: Rows> Core<'a, R> {
     pub fn slack(&self) -> Option<usize>
         ensures { result ≡ least (map slack_at self.now.places) }
     {
-        if !self.panels {
+        if self.panels.is_empty() {
             return None;
         }
         least_slack(&self.connections)
@@ -61,12 +61,12 @@ impl<'a, R: Rows> Core<'a, R> {
         let Some(connection) = self.connections.try_remove(conn) else {
             return Err(CoreFault::NoSuch);
         };
-        self.panels = any_panel(&self.connections);
+        self.panels = panel_keys(&self.connections);
         if let Some(session) = connection.live_session() {
             free_all(
                 &mut self.rows,
                 &mut self.connections,
-                self.panels,
+                self.panels.as_slice(),
                 session,
                 self.moment,
             );

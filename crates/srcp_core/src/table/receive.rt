@@ -76,7 +76,7 @@ impl<'a, R: Rows> Core<'a, R> {
         ensures line { IfSome result (λ r. IsLineAnswered conn piece.now start r.0 r.1 self.old self.new) }
     {
         let (stop, asked) = self.hear(conn, piece, start)?;
-        Some((stop, self.answer(conn, asked)))
+        Some((stop, self.answer(conn, &asked)))
     }
 
     /// Reads the piece on from `start`. Returns the offset after its next line, and what that line asks for.

@@ -1,29 +1,36 @@
 //! Walks over all connections, and over the changes of a moment and of a session's end.
-ghost use Rattle.std.specs.Prelude.{◌≡◌, ◌≤◌, map};
-ghost use Rattle.std.specs.List.{AllByRecursion, list_any};
+ghost use Rattle.std.specs.Prelude.{◌≡◌, ◌≤◌, count_by, is_some, map};
+ghost use Rattle.std.specs.List.{AllByRecursion};
 ghost use Rattle.srcp_info.specs.declared.change.Change.{Change};
 ghost use Rattle.srcp_info.specs.WellFormed.{IsWellFormed};
 ghost use Rattle.srcp_rules.specs.Due.{due, freed};
 ghost use Rattle.srcp_rules.specs.State.{IsWhole, updated_all};
-ghost use Rattle.srcp_core.specs.Machine.{has_panel, slack_at, told_all, told_each, told_upto};
+ghost use Rattle.srcp_core.specs.Machine.{panel_keys, slack_at, told_all, told_each};
 ghost use Rattle.srcp_core.specs.Waits.{least, lesser};
 
 use crate::connection::Connection;
+use crate::limits::MOST_CONNECTIONS;
+use arrayvec::ArrayVec;
 use slab::Slab;
 use srcp_feed::ChangeLine;
 use srcp_info::{Change, Cursor};
 use srcp_rules::{Rows, due_next, free_next};
 
-/// Returns whether a connection has an information session.
-pub(crate) fn any_panel(connections: &Slab<Connection>) -> bool
-    ensures { result ≡ list_any has_panel connections.now.slots }
+/// The keys of the connections that have an information session.
+pub(crate) type PanelKeys = ArrayVec<usize, MOST_CONNECTIONS>;
+
+/// Returns the keys of the connections that have an information session, in order.
+pub(crate) fn panel_keys(connections: &Slab<Connection>) -> PanelKeys
+    requires { count_by is_some connections.now.slots ≤ MOST_CONNECTIONS }
+    ensures { result.items ≡ panel_keys connections.now.slots }
 {
-    for (_, connection) in connections.iter() {
+    let mut keys = ArrayVec::new();
+    for (key, connection) in connections.iter() {
         if connection.is_panel() {
-            return true;
+            keys.push(key);
         }
     }
-    false
+    keys
 }
 
 /// Returns how many more changes each information session can queue, if there is one.
@@ -48,42 +55,29 @@ fn lesser(one: Option<usize>, other: Option<usize>) -> Option<usize>
     }
 }
 
-/// Tells every connection the change. If none has an information session, it walks over no connection.
-pub(crate) fn tell_all(connections: &mut Slab<Connection>, panels: bool, change: &Change)
-    requires panels { panels ≡ list_any has_panel connections.old.slots }
+/// Tells every connection the change. `panels` are the keys of those that have an information session.
+#[tactic(auto, using(crate::proofs::Invariants::EveryPlaceIsTold::told_panels))]
+pub(crate) fn tell_all(connections: &mut Slab<Connection>, panels: &[usize], change: &Change)
+    requires panels { panels.now ≡ panel_keys connections.old.slots }
     requires change { IsWellFormed change.now }
     ensures slots { connections.new.slots ≡ told_all change.now connections.old.slots }
     ensures capacity { connections.new.capacity ≡ connections.old.capacity }
 {
-    if !panels {
+    if panels.is_empty() {
         return;
     }
-    let end = end_of_keys(connections);
     let told = ChangeLine::new(change);
-    for key in 0..end {
-        if let Some(connection) = connections.get_mut(key) {
+    for key in panels {
+        if let Some(connection) = connections.get_mut(*key) {
             connection.tell(&told);
         }
     }
 }
 
-/// Returns one more than the greatest key of a connection, or 0 if there is none.
-fn end_of_keys(connections: &Slab<Connection>) -> usize
-    ensures { (change : Change)
-        → told_upto change result connections.now.slots ≡ told_all change connections.now.slots }
-{
-    // Called for its contract, which says that no key is greater.
-    let _ = connections.capacity();
-    match connections.iter().next_back() {
-        Some((key, _)) => key + 1,
-        None => 0,
-    }
-}
-
 /// Tells every connection each change in turn.
 #[tactic(auto, using(crate::proofs::Invariants::PanelsStay::panels_told_each))]
-pub(crate) fn tell_each(connections: &mut Slab<Connection>, panels: bool, changes: &[Change])
-    requires panels { panels ≡ list_any has_panel connections.old.slots }
+pub(crate) fn tell_each(connections: &mut Slab<Connection>, panels: &[usize], changes: &[Change])
+    requires panels { panels.now ≡ panel_keys connections.old.slots }
     requires changes { AllByRecursion IsWellFormed changes.now }
     ensures slots { connections.new.slots ≡ told_each changes.now connections.old.slots }
     ensures capacity { connections.new.capacity ≡ connections.old.capacity }
@@ -97,12 +91,12 @@ pub(crate) fn tell_each(connections: &mut Slab<Connection>, panels: bool, change
 pub(crate) fn free_all<R: Rows>(
     rows: &mut R,
     connections: &mut Slab<Connection>,
-    panels: bool,
+    panels: &[usize],
     session: u32,
     moment: u64,
 )
     requires whole { IsWhole (R.buses rows.old) (R.state rows.old) }
-    requires panels { panels ≡ list_any has_panel connections.old.slots }
+    requires panels { panels.now ≡ panel_keys connections.old.slots }
     ensures layout { R.buses rows.new ≡ R.buses rows.old }
     ensures rows { R.state rows.new ≡ updated_all (freed (R.state rows.old) session moment) (R.state rows.old) }
     ensures slots { connections.new.slots
@@ -118,11 +112,11 @@ pub(crate) fn free_all<R: Rows>(
 pub(crate) fn carry_out_due<R: Rows>(
     rows: &mut R,
     connections: &mut Slab<Connection>,
-    panels: bool,
+    panels: &[usize],
     moment: u64,
 )
     requires whole { IsWhole (R.buses rows.old) (R.state rows.old) }
-    requires panels { panels ≡ list_any has_panel connections.old.slots }
+    requires panels { panels.now ≡ panel_keys connections.old.slots }
     ensures layout { R.buses rows.new ≡ R.buses rows.old }
     ensures rows { R.state rows.new ≡ updated_all (due (R.state rows.old) moment) (R.state rows.old) }
     ensures slots { connections.new.slots

@@ -1,11 +1,21 @@
 use Rattle.std.proofs.Common.{◌≡◌, ◌+◌, ◌≤◌, sym, ap, ◌∙◌, subst, arith}
+use Rattle.std.specs.Prelude.{count_by, is_some}
 use Rattle.std.specs.Option.{option_copied_mut}
 use Rattle.srcp_core.specs.Held.{Held, IsSound}
 use Rattle.srcp_core.specs.Machine.{session_begun}
 use Rattle.srcp_core.proofs.Invariants.CoreStaysSound.{begun_is, sound_begun}
-use Rattle.srcp_core.proofs.Invariants.PlacesCover.{set_as, none_as}
+use Rattle.srcp_core.proofs.Invariants.EveryPlaceIsTold.{told_all_count}
+use Rattle.srcp_core.proofs.Invariants.PlacesCover.{set_as, none_as, set_count}
 use Rattle.srcp_core.proofs.Invariants.PanelsStay.{panels_told}
 use Rattle.srcp_core.proofs.table.Core.begin.Goals as goal
+
+pub panel_keys-self-inside-requires : goal.panel_keys-self-inside-requires
+panel_keys-self-inside-requires g c =
+    let there = sym c.get_mut.ensures.value ∙ ap option_copied_mut c.in-Some.is in
+    let before = c.self.inside.connections.slots in
+    let told = ap (count_by is_some) c.tell_all.ensures.slots ∙ told_all_count c.in_ok-change.change before in
+    let set = set_count c.tell_all.new.connections.slots c.args.conn c.in-Some.connection.now c.enter.new.self there in
+    omega (arith, c.self.invariant.0.few, told, set)
 
 pub returns-clause-ok : goal.returns-clause-ok
 returns-clause-ok g c =
@@ -63,7 +73,7 @@ invariant_of-self-2 g c =
           (sound_begun c.args.conn c.args.id c.args.mode held c.self.invariant.0.moment next (omega arith) c.self.invariant.0),
       c.in_ok-change.ensures.layout ∙ c.self.invariant.1,
       subst (λ n. 64 ≤ n) (sym c.tell_all.ensures.capacity) c.self.invariant.2,
-      c.any_panel-self-inside.ensures,
+      c.panel_keys-self-inside.ensures,
     )
 
 pub invariant_of-self-in_default : goal.invariant_of-self-in_default

@@ -29,7 +29,7 @@ invariant_of-self-2 g c =
     given_took held.rows _ c.args.session held.moment c.args.command.now _ c.obey_into.ensures.obeyed
     (c.is_denied.ensures.given c.if-is_denied.false) in (
       sound_carried_as held (effect held.rows c.args.session held.moment c.args.command.now).updates _ _ did.rows
-          (c.tell_each.ensures.slots ∙ ap (λ cs. told_each cs held.places) (c.as_slice.ensures.value ∙ did.told.changes))
+          (c.tell_each.ensures.slots ∙ ap (λ cs. told_each cs held.places) (c.as_slice-2.ensures.value ∙ did.told.changes))
           (sound_obeyed c.args.session held.moment c.args.command.now held c.self.invariant.0.moment of row c.self.invariant.0),
       c.obey_into.ensures.layout ∙ c.self.invariant.1,
       subst (λ n. 64 ≤ n) (sym c.tell_each.ensures.capacity) c.self.invariant.2,

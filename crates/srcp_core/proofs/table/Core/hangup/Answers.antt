@@ -29,5 +29,5 @@ invariant_of-self-in-Some-live_session g c =
           (sound_hung_up c.args.conn held c.in-Some.connection session there live.0 live.1 count c.self.invariant.0),
       c.free_all.ensures.layout ∙ c.self.invariant.1,
       subst (λ n. 64 ≤ n) (sym (c.free_all.ensures.capacity ∙ c.in-Some.ensures.capacity)) c.self.invariant.2,
-      rw (c.free_all.ensures.slots, panels_told_each) c.any_panel-self-inside.ensures,
+      rw (c.free_all.ensures.slots, panels_told_each) c.panel_keys-self-inside.ensures,
     )

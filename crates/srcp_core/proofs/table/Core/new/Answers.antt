@@ -1,8 +1,7 @@
 use Rattle.std.proofs.Common.{sym, ap, subst, ◌∙◌}
-use Rattle.std.specs.List.{list_any}
 use Rattle.srcp_grammar.specs.Layout.{IsLayout}
 use Rattle.srcp_rules.specs.State.{opening}
-use Rattle.srcp_core.specs.Machine.{has_panel}
+use Rattle.srcp_core.specs.Machine.{panel_keys}
 use Rattle.srcp_core.proofs.Invariants.CoreStaysSound.{sound_opening}
 use Rattle.srcp_core.proofs.table.Core.new.Goals as goal
 
@@ -20,5 +19,5 @@ invariant_of-result g c = (
       c.in_ok-connections.connections.slots c.in_ok-connections.ensures.empty,
   c.stamp_all.ensures.layout ∙ c.in_ok-rows.ensures.layout,
   c.in_ok-connections.ensures.capacity,
-  sym (ap (list_any has_panel) c.in_ok-connections.ensures.empty),
+  c.new.ensures ∙ sym (ap panel_keys c.in_ok-connections.ensures.empty),
 )
