@@ -1,5 +1,5 @@
 -- Rows in entries by rising number: what a look-up and a change of them come to at the entry of one number.
-use Rattle.std.specs.Prelude.{◌≡◌, ℕ, ◌<◌, ◌≤◌, Bool, true, false, not, ◌&&◌, cond, List, [], ◌∷◌, ◌++◌, flat_map, Some, None}
+use Rattle.std.specs.Prelude.{◌≡◌, ℕ, ◌<◌, Bool, true, false, not, ◌&&◌, cond, List, [], ◌∷◌, ◌++◌, flat_map, Some, None}
 use Rattle.std.proofs.Common.{refl, sym, ap, subst, ◌∙◌, arith, true≢false, inl, inr, ◌⊎◌}
 use Rattle.std.proofs.lemmas.Cmp.{nat_cmp_total, ranked, tied_itself}
 use Rattle.std.proofs.lemmas.List.{append-nil}
@@ -23,7 +23,7 @@ use Rattle.srcp_info.proofs.ClientLaws.{all_append, all_filter}
 use Rattle.srcp_info.proofs.KeyLaws.{nat_tie}
 use Rattle.srcp_rules.specs.State.{State, row_at, row_after}
 use Rattle.srcp_rules.proofs.KeyLaws.{same_key, same_key-true}
-use Rattle.srcp_grammar.proofs.FindLaws.{each-weaken, each_filtered}
+use Rattle.srcp_grammar.proofs.FindLaws.{each-weaken}
 use Rattle.srcp_rules.specs.Nested.{listed, AreSorted, entry_at}
 use Rattle.srcp_rules.proofs.PutLaws.{find_past, find_before, find_behind}
 
@@ -366,16 +366,3 @@ each-listed rows Q (e ∷ es) a = all_append Q (rows e.1) (listed rows es) a.0 (
 pub each-between : {X : Type 0} (Q : ℕ × X → Type 0) (n : ℕ) (es : List (ℕ × X)) → AllByRecursion Q es
     → AllByRecursion Q (entries_between nat_cmp (Included n) Unbounded es)
 each-between Q n es a = all_filter Q (λ e. range_contains nat_cmp (Included n) Unbounded e.0) es a
-
-from_of : (n m : ℕ) (o : Ordering) → nat_cmp n m ≡ o → (is_le o && true) ≡ true → n ≤ m
-from_of n m Less e h = let below = below_of n m e in omega (arith, below)
-from_of n m Equal e h = let equal = nat_tie n m e in omega (arith, equal)
-from_of n m Greater e h = absurd (true≢false (sym h))
-
--- whose numbers are in the bounds
-pub each-from : {X : Type 0} (Q : ℕ × X → Type 0) (n : ℕ) (es : List (ℕ × X)) → AllByRecursion Q es
-    → AllByRecursion (λ e. Q e × (n ≤ e.0)) (entries_between nat_cmp (Included n) Unbounded es)
-each-from Q n es a =
-    each-weaken {P = λ e. Q e × (range_contains nat_cmp (Included n) Unbounded e.0 ≡ true)}
-    (λ e t. (t.0, from_of n e.0 (nat_cmp n e.0) refl t.1))
-    (entries_between nat_cmp (Included n) Unbounded es) (each_filtered Q (λ e. range_contains nat_cmp (Included n) Unbounded e.0) es a)

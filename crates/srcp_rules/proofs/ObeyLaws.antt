@@ -23,7 +23,7 @@ use Rattle.srcp_grammar.specs.declared.command.Command.TheVariants.{SetPower, Se
 use Rattle.srcp_grammar.specs.Devices.{key_at, power_device, fb_device, device_in, lock_on}
 use Rattle.srcp_rules.specs.State.{State, Update, IsRowOf, IsWhole, has_row, row_at, is_there}
 use Rattle.srcp_rules.specs.State.{functions_of, row_put}
-use Rattle.srcp_rules.specs.Effect.{done, checked, first_refusal, refused, refused_or_not, accepted, unless_refused, lock_end, port_end}
+use Rattle.srcp_rules.specs.Effect.{done, first_refusal, refused, accepted, unless_refused, lock_end, port_end}
 use Rattle.srcp_rules.specs.Effect.{functions_after}
 use Rattle.srcp_rules.specs.Obeyed.{MayObey}
 use Rattle.srcp_rules.proofs.EffectLaws.{NoneApplies, lock_value, lock_end_fits, port_end_fits, is_not, found_few, as_many}
@@ -63,18 +63,6 @@ none_applies (refusal ∷ others) e = by refusal.0 refl (none_applies others) e
         → None ≡ result_err (cond b (Err refusal.1) (unless_refused others [])) → (refusal.0 ≡ false) × NoneApplies others
     by true t later e = absurd (let f : ⊥ = cc in f)
     by false t later e = (t, later e)
-
--- CHECK is refused as SET is, and changes nothing
-pub checked_is : (refusals : List (Bool × Code)) (updates : List Update)
-    → refused_or_not (first_refusal refusals) ≡ checked (unless_refused refusals updates)
-checked_is [] updates = refl
-checked_is (refusal ∷ others) updates = by refusal.0 (checked_is others updates)
-  where
-    by : (b : Bool) → refused_or_not (first_refusal others) ≡ checked (unless_refused others updates)
-        → refused_or_not (result_err (cond b (Err refusal.1) (unless_refused others [])))
-        ≡ checked (cond b (Err refusal.1) (unless_refused others updates))
-    by true later = refl
-    by false later = later
 
 -- ---- a locomotive is there where its state row is
 

@@ -10,7 +10,6 @@ use Rattle.std.specs.Cmp.{second_so}
 use Rattle.std.specs.Option.{ok_or, option_map, option_and_then, unwrap_or}
 use Rattle.std.specs.Str.{bytes_eq, str_to_ascii_lowercase}
 use Rattle.srcp_info.specs.declared.key.Key.{Key}
-use Rattle.srcp_info.specs.declared.value.Value.TheVariants as value
 use Rattle.srcp_info.specs.declared.change.Reply.TheVariants.{Accepted}
 use Rattle.srcp_info.specs.Key.{first_key}
 use Rattle.srcp_info.specs.declared.change.Code.{Code}

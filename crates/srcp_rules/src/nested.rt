@@ -1,9 +1,8 @@
 //! A keeper of rows by bus, group and address.
 
-ghost use Rattle.std.specs.Prelude.{◌≡◌, ◌<◌, [], ◌∷◌, ◌++◌, true, map, Some, IfOk, IfSome, OnOk, option_copied};
+ghost use Rattle.std.specs.Prelude.{◌≡◌, ◌<◌, [], ◌∷◌, ◌++◌, true, map, Some, IfOk, IfSome, OnOk};
 ghost use Rattle.std.specs.List.{AllByRecursion};
 ghost use Rattle.std.specs.Map.{keys_of};
-ghost use Rattle.std.specs.BTreeMap.{get};
 ghost use Rattle.srcp_info.specs.declared.key.Key.{Key};
 ghost use Rattle.srcp_info.specs.Key.{has_reached};
 ghost use Rattle.srcp_grammar.specs.Layout.{server};
@@ -162,15 +161,6 @@ fn add_bus(buses: &mut BTreeMap<u8, BusRows>, number: u8, rows: BusRows) -> Resu
         Ok(_) => Ok(()),
         Err(_) => Err(Memory),
     }
-}
-
-/// Finds the value at a key. A range compares keys in fewer steps than a look-up, but costs more if keys are few.
-#[inline(always)]
-fn value_at<K: Ord + Copy, V>(entries: &BTreeMap<K, V>, key: K) -> Option<&V>
-    ensures { option_copied result ≡ get K.cmp entries.now key }
-{
-    let (found, value) = entries.range(key..).next()?;
-    key.cmp(found).is_eq().then_some(value)
 }
 
 /// A bus below which the cursor has reached all keys.
