@@ -24,7 +24,7 @@ use Rattle.srcp_grammar.specs.Layout.{IsLayout, row_count}
 use Rattle.srcp_grammar.specs.Devices.{key_at, power_device, fb_device}
 use Rattle.srcp_rules.specs.State.{State, IsRising, IsRowOf, MayFall, row_at, put_row, without, opening, opening_on, first_row}
 use Rattle.srcp_rules.specs.State.{holder_of, holder_in}
-use Rattle.srcp_rules.specs.Rows.{AreNewRowsOf, put_rows}
+use Rattle.srcp_rules.specs.Rows.{AreNewRowsOf, most_rows, put_rows}
 use Rattle.srcp_rules.proofs.KeyLaws.{same_key, same_key-itself, same_key-true}
 use Rattle.srcp_grammar.proofs.FindLaws.{each-weaken}
 use Rattle.srcp_rules.proofs.StateLaws.{at-filter, row_key, row_at_key, row_at-put_other, each_found}
@@ -33,7 +33,7 @@ use Rattle.srcp_rules.proofs.OpeningLaws.{opening_whole}
 use Rattle.srcp_index.specs.declared.indexes.Indexes.{Indexes}
 use Rattle.srcp_index.specs.Pairs.{Held, before}
 use Rattle.srcp_index.specs.Ranked.{ranked}
-use Rattle.srcp_index.specs.Indexed.{IsIndexed, HasPairs, HasRoom, IsRankedRow, due_of, goer, goers, may_go, may_rank, pairs_of, port_count}
+use Rattle.srcp_index.specs.Indexed.{IsIndexed, HasPairs, HasRoom, IsRankedRow, due_of, goer, goers, may_go, may_rank, pairs_of}
 use Rattle.srcp_index.specs.Indexed.{put_ranked, take_ranked, with_pair, without_pair, with_row, with_rows, without_row}
 use Rattle.srcp_index.proofs.Pairs.{before_weak, before_tie}
 use Rattle.srcp_index.proofs.Ranked.{length-put, length-ranked, ranked-ranked}
@@ -121,7 +121,7 @@ module _ where
   held_goes g port (value.GaInit letter) v s = absurd (true≢false (sym s))
   held_goes g port (value.Fb on) v s = absurd (true≢false (sym s))
 
-  one_port : (g : Group) → IsTrue (is_lock g) → port_count g ≡ 1
+  one_port : (g : Group) → IsTrue (is_lock g) → most_rows g ≡ 1
   one_port group.LockGl l = refl
   one_port group.LockGa l = refl
   one_port group.Session l = absurd (true≢false (sym l))
@@ -130,7 +130,7 @@ module _ where
   one_port group.Ga l = absurd (true≢false (sym l))
   one_port group.Fb l = absurd (true≢false (sym l))
 
-  port_within : (g : Group) (port : ℕ) (shows : Value) → IsValueAt g port shows → port < port_count g
+  port_within : (g : Group) (port : ℕ) (shows : Value) → IsValueAt g port shows → port < most_rows g
   port_within g port (value.Lock seconds session) v = let e = v.1 in rw (one_port g v.0) (omega arith)
   port_within g port (value.GaPort on) v = let e = v.1.1 in rw v.0 (omega arith)
   port_within g port (value.Session mode) v = let e = v.1 in rw v.0 (omega arith)
@@ -551,20 +551,20 @@ module _ (device : Device) where
       )
 
   -- a key of the device has a port that its group may have
-  own_below : (k : Key) → k.port < port_count k.group
-      → not (owns device k && nat_lt k.port (port_count device.group)) ≡ not (owns device k)
+  own_below : (k : Key) → k.port < most_rows k.group
+      → not (owns device k && nat_lt k.port (most_rows device.group)) ≡ not (owns device k)
   own_below k within = by (owns device k) refl
     where
-      by : (b : Bool) → owns device k ≡ b → not (b && nat_lt k.port (port_count device.group)) ≡ not b
+      by : (b : Bool) → owns device k ≡ b → not (b && nat_lt k.port (most_rows device.group)) ≡ not b
       by false e = refl
       by true e =
-          let same = ap (λ (d : Device). port_count d.group) (device_from_owns device k e) in
-          ap not (lt-ltb k.port (port_count device.group) (subst (λ n. k.port < n) same within))
+          let same = ap (λ (d : Device). most_rows d.group) (device_from_owns device k e) in
+          ap not (lt-ltb k.port (most_rows device.group) (subst (λ n. k.port < n) same within))
 
   pub but_below-all : (state : State) → AllByRecursion IsRankedRow state
-      → but_below device (port_count device.group) state ≡ without device state
+      → but_below device (most_rows device.group) state ≡ without device state
   but_below-all state h =
-      filter_alike (λ row. not (owns device row.shown.key && nat_lt row.shown.key.port (port_count device.group)))
+      filter_alike (λ row. not (owns device row.shown.key && nat_lt row.shown.key.port (most_rows device.group)))
       (λ row. not (owns device row.shown.key)) state (each-weaken {P = IsRankedRow} (λ row r. own_below row.shown.key r.port) state h)
 
 -- a row of the device that is taken out
@@ -630,6 +630,6 @@ module _ (device : Device) (port : ℕ) (state : State) where
           (dropped_one (but_below device port state) both count h row left_there row_goes)
 
 pub dropped_all : (device : Device) (port : ℕ) (state : State) (both : Indexes) (count : ℕ) → AllByRecursion IsRankedRow state
-    → port ≡ port_count device.group → IsIndexed (but_below device port state) both count → IsIndexed (without device state) both count
+    → port ≡ most_rows device.group → IsIndexed (but_below device port state) both count → IsIndexed (without device state) both count
 dropped_all device port state both count rows last h = subst (λ left. IsIndexed left both count)
     (ap (λ p. but_below device p state) last ∙ but_below-all device state rows) h

@@ -9,6 +9,7 @@ use Rattle.srcp_info.specs.declared.key.Key.{Key}
 use Rattle.srcp_info.specs.declared.change.Row.{Row}
 use Rattle.srcp_info.specs.WellFormed.{can_go}
 use Rattle.srcp_rules.specs.State.{State, IsRising, holder_of}
+use Rattle.srcp_rules.specs.Rows.{most_rows}
 use Rattle.srcp_index.specs.declared.index.Pair.{Pair}
 use Rattle.srcp_index.specs.declared.indexes.Indexes.{Indexes}
 use Rattle.srcp_index.specs.Pairs.{Held, before}
@@ -101,21 +102,11 @@ goer row = if may_go row then 1 else 0
 abbrev pub goers : State → ℕ
 goers state = sum_by goer state
 
--- how many ports the rows of a device of the group may have, from 0 on
-abbrev pub port_count : Group → ℕ
-port_count group.Session = 1
-port_count group.Power = 1
-port_count group.Gl = 2
-port_count group.Ga = 9
-port_count group.Fb = 1
-port_count group.LockGl = 1
-port_count group.LockGa = 1
-
 -- no row has a rank but of an accessory or a lock, and its port is one that its group may have
 pub record IsRankedRow (row : Row) : Type 0 where
   pub due : IsSome (due_of row) → IsTrue (may_rank row.shown.key.group)
   pub held : IsSome (holder_of row) → IsTrue (may_rank row.shown.key.group)
-  pub port : row.shown.key.port < port_count row.shown.key.group
+  pub port : row.shown.key.port < most_rows row.shown.key.group
 
 -- the index has the pairs of the rows, and room for `count` pairs
 pub record HasPairs (rank : Row → Option ℕ) (state : State) (index : Held) (count : ℕ) : Type 0 where

@@ -3,11 +3,11 @@ ghost use Rattle.std.specs.Prelude.{◌≡◌, ◌+◌, ◌<◌, ◌≤◌, leng
 ghost use Rattle.std.specs.List.{AllByRecursion};
 ghost use Rattle.srcp_index.specs.Earliest.{IsEarliestDue};
 ghost use Rattle.srcp_info.specs.WellFormed.{can_go};
-ghost use Rattle.srcp_index.specs.Indexed.{IsIndexed, goers, may_rank, port_count};
+ghost use Rattle.srcp_index.specs.Indexed.{IsIndexed, goers, may_rank};
 
 use crate::indexes::Indexes;
 use srcp_info::{Cursor, Device, Group, Key, Row};
-use srcp_rules::{Layout, Memory, Rows};
+use srcp_rules::{Layout, Memory, Rows, most_rows};
 use std::alloc::Global;
 use std::marker::Model;
 
@@ -99,7 +99,7 @@ impl<R: Rows> Rows for Indexed<R> {
     }
 
     fn drop_device(&mut self, device: Device) {
-        for port in 0..port_count(device.group) {
+        for port in 0..most_rows(device.group) {
             let key = Key {
                 bus: device.bus,
                 group: device.group,
@@ -120,17 +120,6 @@ fn may_rank(group: Group) -> bool
     ensures { result ≡ may_rank group }
 {
     matches!(group, Group::Ga | Group::LockGl | Group::LockGa)
-}
-
-/// Returns how many ports the rows of such a device may have, from 0 on.
-fn port_count(group: Group) -> u8
-    ensures { result ≡ port_count group }
-{
-    match group {
-        Group::Ga => 9,
-        Group::Gl => 2,
-        _ => 1,
-    }
 }
 
 /// Returns how many of the rows are of devices that come and go.

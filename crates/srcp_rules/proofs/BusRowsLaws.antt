@@ -22,7 +22,8 @@ use Rattle.srcp_grammar.specs.Devices.{fb_device, power_device}
 use Rattle.srcp_rules.specs.State.{State, IsRising, first_row, has_row, put_row, row_after, row_at, without}
 use Rattle.srcp_rules.specs.Rows.{put_rows}
 use Rattle.srcp_rules.specs.declared.nested.bus_rows.BusRows.{BusRows}
-use Rattle.srcp_rules.specs.Nested.{AreDevices, AreOfDevice, AreOfGroup, AreRowsOfBus, AreSorted, IsIn, bus_groups, bus_rows, device_rows}
+use Rattle.srcp_rules.specs.declared.nested.bus_rows.TheConstants.{GROUPS}
+use Rattle.srcp_rules.specs.Nested.{AreDevices, AreOfDevice, AreOfGroup, AreRowsOfBus, AreSorted, IsIn, bus_rows, device_rows}
 use Rattle.srcp_rules.specs.Nested.{entry_at, group_rows}
 use Rattle.srcp_grammar.proofs.FindLaws.{each-weaken}
 use Rattle.srcp_rules.proofs.ListedLaws.{IsTagged, each-listed, row_at-listed, row_after-own}
@@ -37,7 +38,7 @@ place_of key = group_place key.group
 
 -- the rows of the groups by their places
 abbrev by_place : BusRows → List (ℕ × State)
-by_place rows = map (λ g. (group_place g, group_rows rows g)) bus_groups
+by_place rows = map (λ g. (group_place g, group_rows rows g)) GROUPS
 
 places_rise : (rows : BusRows) → AreSorted (by_place rows)
 unfolding IsStrictlySortedBy

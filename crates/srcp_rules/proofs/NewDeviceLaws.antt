@@ -15,8 +15,8 @@ use Rattle.srcp_grammar.specs.declared.layout.Bus.{Bus}
 use Rattle.srcp_grammar.specs.Layout.{bus_at, row_count, rows_if, rows_on}
 use Rattle.srcp_grammar.specs.Devices.{key_at}
 use Rattle.srcp_rules.specs.State.{State, IsRising, has_row}
-use Rattle.srcp_rules.specs.Rows.{AreNewRowsOf, AreRowsOf}
-use Rattle.srcp_rules.specs.Nested.{AreOfDevice, most_rows}
+use Rattle.srcp_rules.specs.Rows.{AreNewRowsOf, AreRowsOf, most_rows}
+use Rattle.srcp_rules.specs.Nested.{AreOfDevice}
 use Rattle.srcp_grammar.proofs.FindLaws.{each-weaken}
 use Rattle.srcp_rules.proofs.OrderLaws.{port_order}
 

@@ -1,5 +1,5 @@
 -- How a keeper lays out rows: a record for each bus, and in it the devices that come and go by address.
-use Rattle.std.specs.Prelude.{◌≡◌, ℕ, ◌<◌, false, IsTrue, List, [], ◌∷◌, length, map, flat_map, Option}
+use Rattle.std.specs.Prelude.{◌≡◌, ℕ, ◌<◌, false, IsTrue, List, ◌∷◌, length, map, flat_map, Option}
 use Rattle.std.specs.List.{AllByRecursion}
 use Rattle.std.specs.List.Sorted.{IsStrictlySortedBy}
 use Rattle.std.specs.Map.{keys_of, lookup}
@@ -15,6 +15,7 @@ use Rattle.srcp_grammar.specs.declared.layout.Bus.{Bus}
 use Rattle.srcp_grammar.specs.Layout.{IsLayout, row_count, server}
 use Rattle.srcp_rules.specs.State.{State, IsRising, is_there}
 use Rattle.srcp_rules.specs.declared.nested.bus_rows.BusRows.{BusRows}
+use Rattle.srcp_rules.specs.declared.nested.bus_rows.TheConstants.{GROUPS}
 
 -- the key is of the group of the bus
 abbrev pub IsIn : (bus : ℕ) → Group → Key → Type 0
@@ -51,7 +52,7 @@ pub record AreDevices (bus : ℕ) (group : Group) (devices : List (ℕ × State)
   pub each : AllByRecursion (λ e. AreOfDevice bus group e.0 e.1) devices
   pub sorted : AreSorted devices
 
--- ---- the rows of a bus
+-- ---- the rows of a bus, group by group in the order of a listing
 
 -- these are rows of the group of the bus, by rising key
 pub record AreOfGroup (bus : ℕ) (group : Group) (rows : State) : Type 0 where
@@ -68,10 +69,6 @@ pub record AreRowsOfBus (bus : ℕ) (rows : BusRows) : Type 0 where
   pub locomotive_locks : AreDevices bus LockGl rows.locomotive_locks
   pub accessory_locks : AreDevices bus LockGa rows.accessory_locks
 
--- the groups of a bus, in the order of a listing
-abbrev pub bus_groups : List Group
-bus_groups = Session ∷ Power ∷ Gl ∷ Ga ∷ Fb ∷ LockGl ∷ LockGa ∷ []
-
 -- the rows of one group of a bus
 abbrev pub group_rows : BusRows → Group → State
 group_rows rows Session = rows.sessions.items
@@ -82,15 +79,9 @@ group_rows rows Fb = rows.feedback.items
 group_rows rows LockGl = device_rows rows.locomotive_locks
 group_rows rows LockGa = device_rows rows.accessory_locks
 
--- the rows of a bus
+-- the rows of a bus, group by group in the order of a listing
 abbrev pub bus_rows : BusRows → State
-bus_rows rows = flat_map (group_rows rows) bus_groups
-
--- how many rows a device of the group has at most
-abbrev pub most_rows : Group → ℕ
-most_rows Gl = 2
-most_rows Ga = 9
-most_rows other = 1
+bus_rows rows = flat_map (group_rows rows) GROUPS
 
 -- ---- the rows of all buses
 

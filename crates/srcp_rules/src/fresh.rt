@@ -88,7 +88,7 @@ fn clear_port(moment: u64, device: Device, port: u8) -> Row
 }
 
 /// The fresh rows of an accessory with the most ports that one has.
-fn most_rows(moment: u64, device: Device, letter: Letter) -> [Row; MOST_ROWS]
+fn ga_rows(moment: u64, device: Device, letter: Letter) -> [Row; MOST_ROWS]
     ensures { result
         ≡ row_put moment (key_at device 0) (value.GaInit letter) None
         ∷ map (λ port. row_put moment (key_at device port) (value.GaPort false) None)
@@ -123,7 +123,7 @@ pub(crate) fn init_ga<R: Rows>(
         (Command.InitGa place.bus place.address letter ports) obeyed.new }
     ensures layout { R.buses rows.new ≡ R.buses rows.old }
 {
-    let most = most_rows(sender.moment, device_in(Lockable::Ga, place), letter);
+    let most = ga_rows(sender.moment, device_in(Lockable::Ga, place), letter);
     let init = Value::GaInit { letter };
     init_device(
         rows,

@@ -5,16 +5,27 @@ ghost use Rattle.srcp_info.specs.declared.key.Device.{Device};
 ghost use Rattle.srcp_info.specs.WellFormed.{can_go};
 ghost use Rattle.srcp_grammar.specs.declared.layout.Bus.{Bus};
 ghost use Rattle.srcp_rules.specs.Due.{first_due, first_held};
-ghost use Rattle.srcp_rules.specs.Rows.{AreNewRowsOf, put_rows};
+ghost use Rattle.srcp_rules.specs.Rows.{AreNewRowsOf, most_rows, put_rows};
 ghost use Rattle.srcp_rules.specs.State.{State, IsRowOf, has_row, opening, put_row, row_at, row_after, without};
 
 use crate::obeyed::Memory;
 use srcp_grammar::Layout;
-use srcp_info::{Cursor, Device, Key, MOST_PORTS, Row};
+use srcp_info::{Cursor, Device, Group, Key, MOST_PORTS, Row};
 use std::alloc::Global;
 
 /// How many rows a device has at most: those of an accessory with the most ports.
 pub(crate) const MOST_ROWS: usize = 1 + MOST_PORTS as usize;
+
+/// Returns how many rows a device of the group has at most. Their ports are those below it.
+pub fn most_rows(group: Group) -> u8
+    ensures { result ≡ most_rows group }
+{
+    match group {
+        Group::Gl => 2,
+        Group::Ga => MOST_ROWS as u8,
+        _ => 1,
+    }
+}
 
 /// What keeps the rows of a registry, and the layout that they are of. The rows are in order of bus,
 /// group, address and port.

@@ -5,10 +5,10 @@ ghost use Rattle.std.specs.List.{range_with_len};
 ghost use Rattle.srcp_info.specs.declared.value.Value.TheVariants as value;
 ghost use Rattle.srcp_info.specs.Key.{device_of};
 ghost use Rattle.srcp_info.specs.WellFormed.{can_go};
-ghost use Rattle.srcp_rules.specs.Rows.{put_rows};
+ghost use Rattle.srcp_rules.specs.Rows.{most_rows, put_rows};
 ghost use Rattle.srcp_grammar.specs.Devices.{fb_device, key_at};
 ghost use Rattle.srcp_rules.specs.State.{first_row, has_row, opening_on, put_row, row_after, row_at, without};
-ghost use Rattle.srcp_rules.specs.Nested.{AreOfDevice, AreRowsOfBus, bus_rows, group_rows, most_rows};
+ghost use Rattle.srcp_rules.specs.Nested.{AreOfDevice, AreRowsOfBus, bus_rows, group_rows};
 
 use crate::first_rows::{power_row, push_ports};
 use crate::nested::devices::Devices;

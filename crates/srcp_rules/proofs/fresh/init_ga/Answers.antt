@@ -29,8 +29,8 @@ init_device-requires-clause-fresh g c =
     let state = g.R.Rows.state c.args.rows.now in
     let device = device_in lockable.Ga c.args.place.bus c.args.place.address in
     let rows =
-    handed buses state c.args.sender.session c.args.sender.moment c.args.sender.fits c.most_rows-most.result c.device_in.result device
-    c.args.letter c.args.ports c.from.result c.requires.may.of.1 c.most_rows-most.ensures c.device_in.ensures c.from.ensures in
+    handed buses state c.args.sender.session c.args.sender.moment c.args.sender.fits c.ga_rows-most.result c.device_in.result device
+    c.args.letter c.args.ports c.from.result c.requires.may.of.1 c.ga_rows-most.ensures c.device_in.ensures c.from.ensures in
     subst (λ (rows : List Row). AreRowsOf buses device rows) (sym rows)
     (ga_rows buses state c.args.sender.session c.args.sender.moment c.args.sender.fits c.args.place.bus c.args.place.address
     c.args.letter c.args.ports c.requires.may)
@@ -41,8 +41,8 @@ returns-clause-obeyed g c =
     let state = g.R.Rows.state c.args.rows.now in
     let device = device_in lockable.Ga c.args.place.bus c.args.place.address in
     let rows =
-    handed buses state c.args.sender.session c.args.sender.moment c.args.sender.fits c.most_rows-most.result c.device_in.result device
-    c.args.letter c.args.ports c.from.result c.requires.may.of.1 c.most_rows-most.ensures c.device_in.ensures c.from.ensures in
+    handed buses state c.args.sender.session c.args.sender.moment c.args.sender.fits c.ga_rows-most.result c.device_in.result device
+    c.args.letter c.args.ports c.from.result c.requires.may.of.1 c.ga_rows-most.ensures c.device_in.ensures c.from.ensures in
     subst
     (λ (updates : List Update).
     TookUnless (not (is_there device state))

@@ -52,7 +52,7 @@ invariant_of-self g c =
     subst (λ rows. IsIndexed rows c.loop-port.self-inside.indexes c.loop-port.self-inside.count)
     (ap (λ rows. without c.args.device (g.R.Rows.state rows)) (sym c.loop-port.invariant.rows) ∙ sym c.drop_device.ensures.rows)
     (dropped_all c.args.device c.loop-port.port state c.loop-port.self-inside.indexes c.loop-port.self-inside.count
-    c.self.invariant.rows (omega (arith, c.loop-port-test.false, c.loop-port.auto.port-end, c.port_count-port-end.ensures))
+    c.self.invariant.rows (omega (arith, c.loop-port-test.false, c.loop-port.auto.port-end, c.most_rows-port-end.ensures))
     c.loop-port.invariant.indexed)
 
 pub returns-clause-layout : goal.returns-clause-layout

@@ -7,8 +7,8 @@ use Rattle.srcp_info.specs.Key.{device_of}
 use Rattle.srcp_rules.specs.declared.nested.bus_rows.BusRows.{BusRows}
 use Rattle.srcp_grammar.specs.Devices.{key_at}
 use Rattle.srcp_rules.specs.State.{State, has_row}
-use Rattle.srcp_rules.specs.Rows.{put_rows}
-use Rattle.srcp_rules.specs.Nested.{AreDevices, AreOfDevice, AreRowsOfBus, IsIn, bus_rows, group_rows, most_rows}
+use Rattle.srcp_rules.specs.Rows.{most_rows, put_rows}
+use Rattle.srcp_rules.specs.Nested.{AreDevices, AreOfDevice, AreRowsOfBus, IsIn, bus_rows, group_rows}
 use Rattle.srcp_grammar.proofs.FindLaws.{each-weaken}
 use Rattle.srcp_rules.proofs.BusRowsLaws.{WithGroup, has_row-group, of_group-added, on_ok, put_rows-group}
 use Rattle.srcp_rules.proofs.nested.bus_rows.BusRows.add.Goals as goal
