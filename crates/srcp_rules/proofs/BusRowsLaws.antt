@@ -50,12 +50,12 @@ places_rise rows = (
   ),
 )
 
--- what follows where a call succeeds
+-- what follows if a call succeeds
 pub on_ok : {T E A B : Type 0} → (A → B) → (r : Result T E) → OnOk r A → OnOk r B
 on_ok f (Ok x) a = f a
 on_ok f (Err e) a = tt
 
--- and where it fails
+-- and if it fails
 pub on_err : {T E A B : Type 0} → (A → B) → (r : Result T E) → OnErr r A → OnErr r B
 on_err f (Ok x) a = tt
 on_err f (Err e) a = f a

@@ -132,7 +132,7 @@ module _ (buses : List Bus) (moment : ℕ) (now : IsMoment moment) where
     step update updates e key =
         first_step (filter (is_due moment) state) update updates (each_filtered Known (is_due moment) state known) e key
 
-    -- ---- where nothing is due
+    -- ---- if nothing is due
 
     nothing_due : (rows : List Row) → map (λ row. due_change moment row.shown.key row.shown.value) rows ≡ []
         → AllByRecursion (λ row. ⊥) rows

@@ -261,7 +261,7 @@ module _ {X : Type 0} (rows : X → State) (tag : Key → ℕ) (P : Key → Type
     set_rows e es a b s x w is ih Greater p h =
         ap (λ zs. rows e.1 ++ zs) (ih h) ∙ sym (right (rows e.1) (listed rows es) (entry_below n e (above_of n e.0 p) a))
 
-    -- a change where the number has an entry
+    -- a change if the number has an entry
     pub listed-set_value : (es : List (ℕ × X)) → AllByRecursion IsTagged es → AreSorted es → (x w : X) → entry_at n es ≡ Some x
         → rows w ≡ op (rows x) → listed rows (set_value (is_at (nat_cmp n)) es w) ≡ op (listed rows es)
     unfolding IsStrictlySortedBy
@@ -330,7 +330,7 @@ module _ {X : Type 0} (rows : X → State) (tag : Key → ℕ) (P : Key → Type
     absent_rows none e es a b s ih Greater p h =
         ap (λ zs. rows e.1 ++ zs) (ih h) ∙ sym (right (rows e.1) (listed rows es) (entry_below n e (above_of n e.0 p) a))
 
-    -- and one where the number has no entry
+    -- and one if the number has no entry
     pub listed-absent : op [] ≡ [] → (es : List (ℕ × X)) → AllByRecursion IsTagged es → AreSorted es → entry_at n es ≡ None
         → listed rows es ≡ op (listed rows es)
     unfolding IsStrictlySortedBy

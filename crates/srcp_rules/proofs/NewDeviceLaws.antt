@@ -133,7 +133,7 @@ module _ (device : Device) where
       some : (l n : ℕ) → suc l ≡ n → 0 < n
       some l n e = omega (arith, e)
 
-  -- where there is a first row, it is the device's, and the layout has the device
+  -- if there is a first row, it is the device's, and the layout has the device
   first_device : (buses : List Bus) (rows : State) (first : Row) → Some first ≡ slice_get rows 0 → AreRowsOf buses device rows
       → (0 < length rows) × (0 < row_count buses device) × (device_of first.shown.key ≡ device)
   first_device buses [] first e h = absurd (none-some first (sym e))

@@ -160,7 +160,7 @@ module _ (state : State) (session moment : ℕ) where
         ap (λ rows. gone_rows rows ++ own (is_there (session_device session) state)) first.1,
       )
 
-  -- where it has none its own row goes
+  -- if it has none its own row goes
   pub freed_own : (there : Bool) → first_held session state ≡ None → is_there (session_device session) state ≡ there
       → freed state session moment ≡ own there
   freed_own there found e =

@@ -64,7 +64,7 @@ none_applies (refusal ∷ others) e = by refusal.0 refl (none_applies others) e
     by true t later e = absurd (let f : ⊥ = cc in f)
     by false t later e = (t, later e)
 
--- ---- a locomotive is there where its state row is
+-- ---- a locomotive is there if its state row is
 
 -- a row that is found is one of the layout
 placed : (buses : List Bus) (state : State) → IsWhole buses state
@@ -72,7 +72,7 @@ placed : (buses : List Bus) (state : State) → IsWhole buses state
 placed buses state whole key None e h = absurd (let f : ⊥ = cc in f)
 placed buses state whole key (Some row) e h = subst (IsKeyOf buses) (row_at_key key state row e) (whole.rows key row e).place
 
--- each of two tests passes where the other does
+-- each of two tests passes if the other does
 alike : (a b : Bool) → (a ≡ true → b ≡ true) → (b ≡ true → a ≡ true) → a ≡ b
 alike true b down up = let t : b ≡ true = down refl in cc
 alike false true down up = up refl

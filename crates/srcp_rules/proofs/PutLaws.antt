@@ -85,7 +85,7 @@ pub put_rows-before : (rows xs ys : State) → AllByRecursion (λ row. AllByRecu
 put_rows-before [] xs ys h = refl
 put_rows-before (row ∷ rows) xs ys h = ap (put_rows rows) (put_row-before row xs ys h.0) ∙ put_rows-before rows (put_row row xs) ys h.1
 
--- rows by rising key, where there are none
+-- rows by rising key, if there are none
 pub put_rows-new : (rows : State) → IsRising rows → put_rows rows [] ≡ rows
 put_rows-new [] h = refl
 put_rows-new (row ∷ rows) h =
@@ -112,7 +112,7 @@ module _ (device : Device) where
       ∙ ap (λ zs. filter stays xs ++ zs)
       (filter_every stays ys (each-weaken {P = λ y. owns device y.shown.key ≡ false} (λ y e. ap not e) ys h))
 
-  -- where all are the device's, none is left
+  -- if all are the device's, none is left
   pub without-all : (xs : State) → AllByRecursion (λ x. owns device x.shown.key ≡ true) xs → without device xs ≡ []
   without-all xs h = filter_no_one stays xs (each-weaken {P = λ x. owns device x.shown.key ≡ true} (λ x e. ap not e) xs h)
 

@@ -99,7 +99,7 @@ pub rising-put_rows : (rows : List Row) (state : State) → IsRising state → I
 rising-put_rows [] state h = h
 rising-put_rows (row ∷ rows) state h = rising-put_rows rows (put_row row state) (rising_put row_key row state h)
 
--- and where they are added or not
+-- and if they are added or not
 pub rising-added : {E : Type 0} (added before after : State) (r : Result (Unit {0}) E) → OnOk r (after ≡ put_rows added before)
     → OnErr r (after ≡ before) → IsRising before → IsRising after
 rising-added added before after (Ok u) e f h = subst IsRising (sym e) (rising-put_rows added before h)
@@ -166,7 +166,7 @@ any-keys key (row ∷ rows) = ap (λ b. same_key row.shown.key key || b) (any-ke
 
 module _ (buses : List Bus) (device : Device) (rows : List Row) (all : AreRowsOf buses device rows) (state : State)
     (whole : IsWhole buses state) where
-  -- each of them is there where the device is
+  -- each of them is there if the device is
   pub each_there : is_there device state ≡ true → AllByRecursion (λ row. IsRowOf buses row × (has_row row.shown.key state ≡ true)) rows
   each_there there =
       each_and (IsRowOf buses) (λ row. has_row row.shown.key state ≡ true) rows all.each

@@ -83,7 +83,7 @@ beyond-next at row (first ∷ state) rising e = by (beyond-next at row state ris
         let same : first ≡ row = cc in
         subst (λ other. Next at other (first ∷ state)) same (next_here at first state rising r)
 
--- where there is none, none is beyond
+-- if there is none, none is beyond
 pub beyond-none : (at : Cursor) (state : State) → row_after at state ≡ None → beyond at state ≡ []
 beyond-none at [] e = refl
 beyond-none at (first ∷ state) e = by (beyond-none at state) (has_reached at first.shown.key) refl e

@@ -1,4 +1,4 @@
--- Rows in entries by rising number, where keys go by that number: the entries after a row is set, a device added or taken out.
+-- Rows in entries by rising number, if keys go by that number: the entries after a row is set, a device added or taken out.
 use Rattle.std.specs.Prelude.{◌≡◌, ℕ, ◌<◌, false, List, [], ◌∷◌, ◌++◌, Some, None}
 use Rattle.std.proofs.Common.{refl, sym, subst, arith}
 use Rattle.std.specs.List.{AllByRecursion}
@@ -108,14 +108,14 @@ module _ {X : Type 0} (rows : X → State) (tag : Key → ℕ) (P : Key → Type
         → listed rows (insert_entry nat_cmp es n w) ≡ put_rows added (listed rows es)
     listed-put_rows_new es a s w e is = listed-insert_entry rows tag P n (put_rows added) add_left add_right es a s w e is
 
-  -- where the rows of an entry are as before, so are all
+  -- if the rows of an entry stay, so do all
   pub listed-same : (n : ℕ) (es : List (ℕ × X)) → AllByRecursion (IsTagged rows tag P) es → AreSorted es → (x w : X)
       → entry_at n es ≡ Some x → rows w ≡ rows x → listed rows (set_value (is_at (nat_cmp n)) es w) ≡ listed rows es
   listed-same n es a s x w e is = listed-set_value rows tag P n (λ state. state) (λ xs ys h. refl) (λ xs ys h. refl) es a s x w e is
 
   -- ---- the rows of all entries
 
-  -- where the rows of each entry rise, so do all
+  -- if the rows of each entry rise, so do all
   pub listed-rising : (es : List (ℕ × X)) → AllByRecursion (IsTagged rows tag P) es → AreSorted es
       → AllByRecursion (λ e. IsRising (rows e.1)) es → IsRising (listed rows es)
   unfolding IsStrictlySortedBy

@@ -1,4 +1,4 @@
--- What became of a command, against what the command does.
+-- The outcome of a command, against what the command does.
 use Rattle.std.specs.Prelude.{◌≡◌, ℕ, Bool, IsTrue, ◌⊎◌, List, map}
 use Rattle.srcp_info.specs.declared.change.Code.TheVariants.{C500}
 use Rattle.srcp_info.specs.declared.change.Reply.TheVariants.{Accepted}
@@ -10,7 +10,7 @@ use Rattle.srcp_grammar.specs.Devices.{session_device}
 use Rattle.srcp_rules.specs.State.{State, IsWhole, is_there, updated_all}
 use Rattle.srcp_rules.specs.Effect.{Effect, effect, adds_rows, refused}
 
--- it tells the reply and the changes of the effect, and whether the session ends
+-- the outcome has the reply and the changes of the effect, and says whether the session ends
 pub record IsTold (did : Effect) (obeyed : Obeyed) : Type 0 where
   pub reply : obeyed.reply ≡ did.reply
   pub changes : obeyed.changes.items ≡ map (λ update. update.change) did.updates
@@ -27,7 +27,7 @@ pub record WantsMemory (did : Effect) (before after : State) (obeyed : Obeyed) :
   pub told : IsTold (refused C500) obeyed
   pub rows : after ≡ before
 
--- the effect took place, or, where rows are added, memory was refused
+-- the effect took place, or rows are added and memory was refused
 abbrev pub TookUnless : (adds : Bool) → Effect → (before after : State) → Obeyed → Type 0
 TookUnless adds did before after obeyed =
     Took did before after obeyed ⊎ (IsTrue adds × WantsMemory did before after obeyed)
@@ -37,7 +37,7 @@ abbrev pub IsObeyed : (before after : State) → (session moment : ℕ) → Comm
 IsObeyed before after session moment command obeyed =
     TookUnless (adds_rows before command) (effect before session moment command) before after obeyed
 
--- what a command may be obeyed under: the registry is whole, the session has begun, the command is one of the layout
+-- a command may be obeyed: the registry is whole, the session has begun, the command is one of the layout
 pub record MayObey (buses : List Bus) (state : State) (session : ℕ) (command : Command) : Type 0 where
   pub whole : IsWhole buses state
   pub begun : IsTrue (is_there (session_device session) state)

@@ -26,7 +26,7 @@ use crate::sender::Sender;
 use srcp_grammar::{Command, Lockable, Named, PowerSwitch, Sensor, Switch, TimedLock};
 use srcp_info::{Code, Value};
 
-/// TERM of a session, which ends itself alone.
+/// Answers TERM of a session. A session ends itself alone.
 fn end_session(session: u32, named: Option<u32>, obeyed: &mut Obeyed)
     requires { IsTold (accepted []) obeyed.old }
     ensures { IsTold (term_session session named) obeyed.new }
@@ -37,7 +37,7 @@ fn end_session(session: u32, named: Option<u32>, obeyed: &mut Obeyed)
     }
 }
 
-/// SET of the power of a bus.
+/// Carries out SET of the power of a bus.
 fn set_power<R: Rows>(rows: &mut R, sender: Sender, power: &PowerSwitch, obeyed: &mut Obeyed)
     requires blank { IsTold (accepted []) obeyed.old }
     requires may { MayObey (R.buses rows.old) (R.state rows.old) sender.session (Command.SetPower power.now) }
@@ -59,7 +59,7 @@ fn set_power<R: Rows>(rows: &mut R, sender: Sender, power: &PowerSwitch, obeyed:
     );
 }
 
-/// SET of a feedback port.
+/// Carries out SET of a feedback port.
 fn set_fb<R: Rows>(rows: &mut R, sender: Sender, sensor: Sensor, obeyed: &mut Obeyed)
     requires blank { IsTold (accepted []) obeyed.old }
     requires may { MayObey (R.buses rows.old) (R.state rows.old) sender.session (Command.SetFb sensor) }
@@ -263,17 +263,16 @@ fn answer<R: Rows>(rows: &mut R, sender: Sender, command: &Command, obeyed: &mut
     }
 }
 
-/// Does what a command of a session does, and returns what came of it: the reply, the changes in
-/// order, and whether the session ends. A command that is refused changes nothing. Its reply is the
-/// first of these refusals:
-/// 1. 416 where what is named is not there: for GET and TERM of a lock the lock, for GET of a session
-///    its row, and else the device, also for SET and CHECK of a lock; INIT asks for none of them;
-/// 2. 418 where SET or CHECK of a locomotive has more functions than the locomotive;
-/// 3. 414 where another session has the device's lock: for SET, CHECK, INIT and TERM of a locomotive,
-///    an accessory or a lock;
-/// 4. 415 where TERM names another session;
-/// 5. 500 where the command adds rows (INIT of a device that is not there, SET of a lock where there
-///    is none) and memory was refused for them; nothing else takes memory.
+/// Executes a command of a session, and returns the reply, the changes in order, and whether the session ends. A
+/// command that is refused changes nothing. Its reply is the first of these refusals:
+/// 1. 416 if what is named is not there. GET and TERM of a lock ask for the lock, and GET of a session for its row.
+///    All others but INIT ask for the device, SET and CHECK of a lock too.
+/// 2. 418 if SET or CHECK of a locomotive has more functions than the locomotive.
+/// 3. 414 if another session has the device's lock: for SET, CHECK, INIT and TERM of a locomotive, an accessory or a
+///    lock.
+/// 4. 415 if TERM names another session.
+/// 5. 500 if the command adds rows and memory was refused for them. INIT of a device that is not there adds rows, and
+///    so does SET of a lock if there is none. Nothing else takes memory.
 pub fn obey<R: Rows>(rows: &mut R, session: u32, moment: u64, command: &Command) -> Obeyed
     requires whole { IsWhole (R.buses rows.old) (R.state rows.old) }
     requires begun { IsTrue (is_there (session_device session) (R.state rows.old)) }
@@ -290,7 +289,7 @@ pub fn obey<R: Rows>(rows: &mut R, session: u32, moment: u64, command: &Command)
     obeyed
 }
 
-/// Carries out a command as `obey` does, and writes what came of it over what `obeyed` holds. A caller that keeps one
+/// Executes a command as `obey` does, and writes the outcome over what `obeyed` holds. A caller that keeps one
 /// `Obeyed` does not clear the room for its changes at each command.
 pub fn obey_into<R: Rows>(
     rows: &mut R,

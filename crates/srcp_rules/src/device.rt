@@ -6,7 +6,7 @@ ghost use Rattle.srcp_grammar.specs.Devices.{device_in, fb_device, key_at, lock_
 use srcp_grammar::Lockable;
 use srcp_info::{Device, Group, Key};
 
-/// The device of a session's row.
+/// Returns the device of a session's row.
 pub(crate) fn session_device(session: u32) -> Device
     ensures { result ≡ session_device session }
 {
@@ -17,7 +17,7 @@ pub(crate) fn session_device(session: u32) -> Device
     }
 }
 
-/// The power of a bus.
+/// Returns the device of the power of a bus.
 pub(crate) fn power_device(bus: u8) -> Device
     ensures { result ≡ power_device bus }
 {
@@ -28,7 +28,7 @@ pub(crate) fn power_device(bus: u8) -> Device
     }
 }
 
-/// A feedback port.
+/// Returns the device of a feedback port.
 pub(crate) fn fb_device(bus: u8, port: u32) -> Device
     ensures { result ≡ fb_device bus port }
 {
@@ -39,14 +39,14 @@ pub(crate) fn fb_device(bus: u8, port: u32) -> Device
     }
 }
 
-/// An address on a bus, where a locomotive or an accessory is.
+/// Names a locomotive or an accessory, of a group that is known, by its bus and address.
 #[derive(Clone, Copy)]
 pub(crate) struct BusAddress {
     pub(crate) bus: u8,
     pub(crate) address: u32,
 }
 
-/// A locomotive or an accessory.
+/// Returns the device of a locomotive or an accessory.
 pub(crate) fn device_in(group: Lockable, place: BusAddress) -> Device
     ensures { result ≡ device_in group place.bus place.address }
 {
@@ -61,7 +61,7 @@ pub(crate) fn device_in(group: Lockable, place: BusAddress) -> Device
     }
 }
 
-/// The lock of a locomotive or an accessory, which is a device of its own.
+/// Returns the lock of a locomotive or an accessory. It is a device of its own.
 pub(crate) fn lock_on(group: Lockable, place: BusAddress) -> Device
     ensures { result ≡ lock_on group place.bus place.address }
 {
@@ -76,7 +76,7 @@ pub(crate) fn lock_on(group: Lockable, place: BusAddress) -> Device
     }
 }
 
-/// The key of a device's row.
+/// Returns the key of the device's row at a port.
 pub(crate) fn key_at(device: Device, port: u8) -> Key
     ensures { result ≡ key_at device port }
 {

@@ -19,7 +19,7 @@ use crate::sender::Sender;
 use srcp_grammar::{Command, Drive, Lockable, Switch};
 use srcp_info::{Bits, Code, DriveMode, Value};
 
-/// Returns the functions of a locomotive, or none where it is not there. Its state row answers both, since a device has
+/// Returns the functions of a locomotive, or `None` if it is not there. Its state row answers both, since a device has
 /// all its rows or none.
 #[tactic(auto, using(crate::proofs::ObeyLaws::gl_there))]
 fn functions_of<R: Rows>(rows: &R, place: BusAddress) -> Option<Bits>
@@ -36,7 +36,7 @@ fn functions_of<R: Rows>(rows: &R, place: BusAddress) -> Option<Bits>
     }
 }
 
-/// The functions given, and the others as they were before.
+/// Returns the functions given, followed by those of the locomotive that are not given.
 fn functions_after(given: &Bits, before: &Bits) -> Bits
     requires { length given.now ≤ length before.now }
     ensures { result ≡ functions_after given.now before.now }
@@ -48,8 +48,8 @@ fn functions_after(given: &Bits, before: &Bits) -> Bits
     after
 }
 
-/// Returns the functions that the locomotive has, or why the session may not drive it. It may not where the locomotive
-/// is not there, has fewer functions than are given, or another session has its lock.
+/// Returns the functions of the locomotive, or why the session may not drive it. It may not if the locomotive is not
+/// there, if it has fewer functions than are given, or if another session has its lock.
 fn drivable<R: Rows>(rows: &R, session: u32, drive: &Drive) -> Result<Bits, Code>
     requires whole { IsWhole (R.buses rows.now) (R.state rows.now) }
     ensures before { IfOk result
@@ -72,7 +72,7 @@ fn drivable<R: Rows>(rows: &R, session: u32, drive: &Drive) -> Result<Bits, Code
     Ok(before)
 }
 
-/// Returns why the session may not drive the locomotive, or none where it may.
+/// Returns why the session may not drive the locomotive, or `None` if it may.
 pub(crate) fn gl_refusal<R: Rows>(rows: &R, session: u32, drive: &Drive) -> Option<Code>
     requires whole { IsWhole (R.buses rows.now) (R.state rows.now) }
     ensures { result ≡ first_refusal (gl_refusals (R.state rows.now) session drive.now) }
@@ -80,7 +80,7 @@ pub(crate) fn gl_refusal<R: Rows>(rows: &R, session: u32, drive: &Drive) -> Opti
     drivable(rows, session, drive).err()
 }
 
-/// V as it is kept: in an emergency stop it is 0.
+/// Returns V as the registry keeps it: 0 in an emergency stop.
 fn kept_v(mode: u32, v: u32) -> u32
     ensures { result ≡ kept_v mode v }
 {
@@ -91,7 +91,7 @@ fn kept_v(mode: u32, v: u32) -> u32
     }
 }
 
-/// SET of a locomotive.
+/// Carries out SET of a locomotive.
 pub(crate) fn set_gl<R: Rows>(rows: &mut R, sender: Sender, drive: &Drive, obeyed: &mut Obeyed)
     requires blank { IsTold (accepted []) obeyed.old }
     requires may { MayObey (R.buses rows.old) (R.state rows.old) sender.session (Command.SetGl drive.now) }
@@ -117,7 +117,7 @@ pub(crate) fn set_gl<R: Rows>(rows: &mut R, sender: Sender, drive: &Drive, obeye
     set_one(rows, sender.moment, key, driven, None, obeyed);
 }
 
-/// When a port that is set for a time goes back: none where it is set to 0, for no time or for ever.
+/// Returns when a port that is set for a time goes back. That is `None` if it is set to 0, for no time or for ever.
 fn port_end(moment: u64, on: bool, time: Option<u32>) -> Option<u64>
     ensures { result ≡ port_end moment on time }
 {
@@ -129,7 +129,7 @@ fn port_end(moment: u64, on: bool, time: Option<u32>) -> Option<u64>
     }
 }
 
-/// SET of an accessory's port.
+/// Carries out SET of an accessory's port.
 pub(crate) fn set_ga<R: Rows>(rows: &mut R, sender: Sender, switch: &Switch, obeyed: &mut Obeyed)
     requires blank { IsTold (accepted []) obeyed.old }
     requires may { MayObey (R.buses rows.old) (R.state rows.old) sender.session (Command.SetGa switch.now) }

@@ -12,7 +12,7 @@ use crate::registry::row_put;
 use srcp_grammar::Bus;
 use srcp_info::{Device, Row, Text, Value};
 
-/// Appends the power row of a bus, if it has one, off.
+/// Appends the power row of a bus, off, if the bus has power.
 pub(crate) fn push_power(rows: &mut Vec<Row>, bus: &Bus) -> Result<(), Memory>
     ensures { OnOk result
         (rows.new.items
@@ -26,7 +26,7 @@ pub(crate) fn push_power(rows: &mut Vec<Row>, bus: &Bus) -> Result<(), Memory>
     Ok(())
 }
 
-/// The power row of a bus, if it has one, off.
+/// Makes the power row of a bus, off, if the bus has power.
 pub(crate) fn power_row(bus: &Bus) -> Option<Row>
     ensures { result
         ≡ (if bus.now.power then Some (first_row 0 (power_device bus.now.number) (value.Power false [])) else None) }
@@ -55,7 +55,7 @@ pub(crate) fn push_ports(rows: &mut Vec<Row>, bus: u8, ports: u32) -> Result<(),
     Ok(())
 }
 
-/// The row of a device that begins with the registry.
+/// Makes the row of a device that is there from the moment 0 on.
 fn first_row(device: Device, value: Value) -> Row
     ensures { result ≡ first_row 0 device value }
 {

@@ -13,7 +13,7 @@ use srcp_info::{Cursor, Device, Key, Row};
 use std::alloc::Global;
 use std::marker::Model;
 
-/// The rows of a registry in one vector, by rising key.
+/// Keeps the rows of a registry in one vector, by rising key.
 #[derive(Drop)]
 pub struct Flat {
     buses: Vec<Bus>,
@@ -72,7 +72,7 @@ impl Rows for Flat {
     }
 }
 
-/// The rows of the layout at the moment 0.
+/// Makes the rows of the layout at the moment 0.
 fn opening_rows(alloc: Global, layout: &Layout) -> Result<Vec<Row>, Memory>
     ensures rows { IfOk result (λ rows. rows.items ≡ opening layout.now 0) }
     ensures rising { IfOk result (λ rows. IsRising rows.items) }

@@ -17,7 +17,7 @@ use crate::sender::Sender;
 use srcp_grammar::{Command, Lockable};
 use srcp_info::{Bits, Device, DriveMode, Letter, MOST_FUNCTIONS, MOST_PORTS, Row, Value};
 
-/// The rows of a locomotive that is made: it goes forward at rest, with all functions off.
+/// Makes the rows of a new locomotive: it stands still, forward, with all functions off.
 fn resting_rows(moment: u64, device: Device, init: &Value, functions: u32) -> [Row; 2]
     requires { functions ≤ MOST_FUNCTIONS }
     ensures { result
@@ -36,7 +36,7 @@ fn resting_rows(moment: u64, device: Device, init: &Value, functions: u32) -> [R
     ]
 }
 
-/// The decoder of a locomotive, as INIT gives it: protocol, its version and its speed steps.
+/// Describes the decoder of a locomotive as INIT gives it: its protocol, the protocol's version, its speed steps.
 #[derive(Clone, Copy)]
 pub(crate) struct Decoder {
     pub(crate) letter: Letter,
@@ -44,7 +44,7 @@ pub(crate) struct Decoder {
     pub(crate) steps: u32,
 }
 
-/// INIT of a locomotive: it goes forward at rest, with all functions off.
+/// Carries out INIT of a locomotive: it stands still, forward, with all functions off.
 pub(crate) fn init_gl<R: Rows>(
     rows: &mut R,
     sender: Sender,
@@ -75,7 +75,7 @@ pub(crate) fn init_gl<R: Rows>(
     init_device(rows, sender, Lockable::Gl, place, &init, &fresh, obeyed);
 }
 
-/// The fresh row of an accessory's port.
+/// Makes the row of a new accessory's port, 0.
 fn clear_port(moment: u64, device: Device, port: u8) -> Row
     ensures { result ≡ row_put moment (key_at device port) (value.GaPort false) None }
 {
@@ -87,7 +87,7 @@ fn clear_port(moment: u64, device: Device, port: u8) -> Row
     )
 }
 
-/// The fresh rows of an accessory with the most ports that one has.
+/// Makes the rows of a new accessory with the most ports that one can have.
 fn ga_rows(moment: u64, device: Device, letter: Letter) -> [Row; MOST_ROWS]
     ensures { result
         ≡ row_put moment (key_at device 0) (value.GaInit letter) None
@@ -107,7 +107,7 @@ fn ga_rows(moment: u64, device: Device, letter: Letter) -> [Row; MOST_ROWS]
     ]
 }
 
-/// INIT of an accessory: all its ports are 0.
+/// Carries out INIT of an accessory: all its ports are 0.
 pub(crate) fn init_ga<R: Rows>(
     rows: &mut R,
     sender: Sender,

@@ -22,7 +22,7 @@ use arrayvec::ArrayVec;
 use srcp_grammar::Lockable;
 use srcp_info::{Change, Code, Device, Row, Value};
 
-/// Takes out the device, if it is there.
+/// Removes the device, if it is there.
 fn remove_there<R: Rows>(
     rows: &mut R,
     moment: u64,
@@ -40,7 +40,7 @@ fn remove_there<R: Rows>(
     }
 }
 
-/// Takes out the device's lock and then the device, as far as they are there.
+/// Removes the device's lock and then the device, each if it is there.
 fn remove_device<R: Rows>(
     rows: &mut R,
     moment: u64,
@@ -63,7 +63,7 @@ fn remove_device<R: Rows>(
     }
 }
 
-/// TERM of a locomotive or an accessory.
+/// Carries out TERM of a locomotive or an accessory.
 pub(crate) fn term_device<R: Rows>(
     rows: &mut R,
     sender: Sender,
@@ -83,7 +83,7 @@ pub(crate) fn term_device<R: Rows>(
     remove_device(rows, sender.moment, group, place, &mut obeyed.changes);
 }
 
-/// Whether two first rows have the same parameters.
+/// Returns whether two first rows have the same parameters.
 fn is_same_init(one: &Value, other: &Value) -> bool
     ensures { result ≡ is_same_init one.now other.now }
 {
@@ -117,7 +117,7 @@ fn is_same_init(one: &Value, other: &Value) -> bool
     }
 }
 
-/// Whether the device is there with these parameters.
+/// Returns whether the device is there with these parameters.
 fn has_init<R: Rows>(rows: &R, group: Lockable, place: BusAddress, init: &Value) -> bool
     ensures { result ≡ has_init (R.state rows.now) group place.bus place.address init.now }
 {
@@ -150,8 +150,8 @@ fn push_puts(changes: &mut ArrayVec<Change, CHANGES_CAPACITY>, fresh: &[Row])
     }
 }
 
-/// Makes a device that is there afresh: its lock is taken out, and its rows take their first values.
-/// This takes no memory, since each of the rows is there.
+/// Resets a device that is there: removes its lock, and sets its rows to their first values. It takes no memory, since
+/// each of the rows is there.
 fn remake<R: Rows>(
     rows: &mut R,
     moment: u64,
@@ -181,7 +181,7 @@ fn remake<R: Rows>(
     set_all(rows, fresh);
 }
 
-/// INIT of a locomotive or an accessory, which would have these rows.
+/// Carries out INIT of a locomotive or an accessory, whose rows are to be these.
 pub(crate) fn init_device<R: Rows>(
     rows: &mut R,
     sender: Sender,

@@ -1,5 +1,5 @@
-//! What holds of every command, every moment, and every session's beginning and end. Each function
-//! does nothing: what it ensures is a law.
+//! Laws of every command, every moment, and every session's beginning and end. Each function does nothing: what it
+//! ensures is a law.
 
 ghost use Rattle.srcp_rules.specs.Laws.{OpeningsAreWhole, UpdatesKeepRising, CommandsKeepWhole, MomentsKeepWhole};
 ghost use Rattle.srcp_rules.specs.Laws.{EndsKeepWhole, BeginningsKeepWhole};
@@ -27,17 +27,17 @@ pub fn commands_keep_whole()
     ensures { CommandsKeepWhole }
 {}
 
-/// So does each change that a moment brings, and it leaves the later ones to come.
+/// Each change of a moment leaves a whole registry whole, and the later changes still to come.
 pub fn moments_keep_whole()
     ensures { MomentsKeepWhole }
 {}
 
-/// So does each change that the end of a session brings.
+/// Each change of a session's end leaves a whole registry whole, and the later changes still to come.
 pub fn ends_keep_whole()
     ensures { EndsKeepWhole }
 {}
 
-/// So does the beginning of a session.
+/// The beginning of a session leaves a whole registry whole.
 pub fn beginnings_keep_whole()
     ensures { BeginningsKeepWhole }
 {}
@@ -47,17 +47,17 @@ pub fn commands_add_no_row()
     ensures { CommandsAddNoRow }
 {}
 
-/// Nor does one of a moment.
+/// No Put of a moment gives a row to a device that has rows.
 pub fn moments_add_no_row()
     ensures { MomentsAddNoRow }
 {}
 
-/// Nor does one of a session's end.
+/// No Put of a session's end gives a row to a device that has rows.
 pub fn ends_add_no_row()
     ensures { EndsAddNoRow }
 {}
 
-/// Nor does that of a session's beginning.
+/// The Put of a session's beginning gives no row to a device that has rows.
 pub fn beginnings_add_no_row()
     ensures { BeginningsAddNoRow }
 {}
@@ -79,17 +79,17 @@ pub fn commands_can_be_told()
     ensures { CommandsCanBeTold }
 {}
 
-/// So can the changes of a moment.
+/// The changes of a moment can be written as lines.
 pub fn moments_can_be_told()
     ensures { MomentsCanBeTold }
 {}
 
-/// So can those of a session's end.
+/// The changes of a session's end can be written as lines.
 pub fn ends_can_be_told()
     ensures { EndsCanBeTold }
 {}
 
-/// So can that of a session's beginning.
+/// The change of a session's beginning can be written as a line.
 pub fn beginnings_can_be_told()
     ensures { BeginningsCanBeTold }
 {}
@@ -114,18 +114,17 @@ pub fn commands_keep_sessions()
     ensures { CommandsKeepSessions }
 {}
 
-/// Nor does a moment.
+/// No moment touches the row of a session.
 pub fn moments_keep_sessions()
     ensures { MomentsKeepSessions }
 {}
 
-/// The end of a session takes out its locks and its row, and no other session's row.
+/// The end of a session removes its locks and its row, and no other session's row.
 pub fn ends_free_all()
     ensures { EndsFreeAll }
 {}
 
-/// Of the row at each key a moment makes what is due: a lock is gone, a port is 0, whoever holds
-/// what locked. All other rows stay.
+/// A moment changes each row that is due, whoever holds its lock: a lock is gone, and a port is 0. All other rows stay.
 pub fn moments_carry_out()
     ensures { MomentsCarryOut }
 {}
@@ -135,19 +134,17 @@ pub fn ports_are_set()
     ensures { PortsAreSet }
 {}
 
-/// So has a lock after its SET.
+/// After a SET of a lock that is accepted, the lock has its due moment or none, whatever it had.
 pub fn locks_are_set()
     ensures { LocksAreSet }
 {}
 
-/// A port that was set to 1 for a time is 1 at each moment before its end, and 0 at each from it
-/// on.
+/// A port that was set to 1 for a time is 1 at each moment before its end, and 0 at each from it on.
 pub fn ports_fall_back()
     ensures { PortsFallBack }
 {}
 
-/// A lock that was set for a time is there at each moment before its end, and gone at each from it
-/// on.
+/// A lock that was set for a time is there at each moment before its end, and gone at each from it on.
 pub fn locks_run_out()
     ensures { LocksRunOut }
 {}

@@ -13,7 +13,7 @@ use crate::sender::Sender;
 use srcp_grammar::{Command, Lockable, TimedLock};
 use srcp_info::{Code, Value};
 
-/// Whether the device has a lock, and another session has it.
+/// Returns whether another session has the device's lock.
 pub(crate) fn is_locked<R: Rows>(rows: &R, session: u32, group: Lockable, place: BusAddress) -> bool
     ensures { result ≡ is_locked (R.state rows.now) session group place.bus place.address }
 {
@@ -29,7 +29,8 @@ pub(crate) fn is_locked<R: Rows>(rows: &R, session: u32, group: Lockable, place:
     }
 }
 
-/// Why the session may not change the device: it is not there, or another session has its lock.
+/// Returns why the session may not change the device, if it may not: the device is not there, or another session has
+/// its lock.
 pub(crate) fn refusal<R: Rows>(
     rows: &R,
     session: u32,
@@ -47,7 +48,7 @@ pub(crate) fn refusal<R: Rows>(
     None
 }
 
-/// The refusal, or else the acceptance that CHECK gives.
+/// Answers CHECK: with the refusal, if there is one, and else that SET would be accepted.
 pub(crate) fn checked(refusal: Option<Code>, obeyed: &mut Obeyed)
     requires { IsTold (accepted []) obeyed.old }
     ensures { IsTold (refused_or_not refusal) obeyed.new }
@@ -57,14 +58,14 @@ pub(crate) fn checked(refusal: Option<Code>, obeyed: &mut Obeyed)
     }
 }
 
-/// Returns the moment that many milliseconds later, at most the greatest moment.
+/// Returns the moment some milliseconds later, at most the greatest moment.
 pub(crate) fn moment_after(moment: u64, milliseconds: u64) -> u64
     ensures { result ≡ moment_after moment milliseconds }
 {
     moment.saturating_add(milliseconds)
 }
 
-/// When a lock of that many seconds ends; one of 0 seconds does not end by itself (of SRCP 0.8, LOCK).
+/// Returns when a lock of some seconds ends. One of 0 seconds does not end by itself (SRCP 0.8, LOCK).
 fn lock_end(moment: u64, seconds: u32) -> Option<u64>
     ensures { result ≡ lock_end moment seconds }
 {
@@ -74,7 +75,7 @@ fn lock_end(moment: u64, seconds: u32) -> Option<u64>
     Some(moment_after(moment, 1000 * u64::from(seconds)))
 }
 
-/// SET of a lock. A device that has none takes memory for it.
+/// Carries out SET of a lock. It takes memory if the device has no lock.
 pub(crate) fn set_lock<R: Rows>(rows: &mut R, sender: Sender, lock: TimedLock, obeyed: &mut Obeyed)
     requires blank { IsTold (accepted []) obeyed.old }
     requires may { MayObey (R.buses rows.old) (R.state rows.old) sender.session
@@ -109,7 +110,7 @@ pub(crate) fn set_lock<R: Rows>(rows: &mut R, sender: Sender, lock: TimedLock, o
     obeyed.changes.push(put_of(&row));
 }
 
-/// TERM of a lock.
+/// Carries out TERM of a lock.
 pub(crate) fn term_lock<R: Rows>(
     rows: &mut R,
     sender: Sender,

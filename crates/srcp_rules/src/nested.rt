@@ -24,7 +24,7 @@ use std::alloc::Global;
 use std::collections::BTreeMap;
 use std::marker::Model;
 
-/// The rows of a registry: a record of rows for each bus. The first is that of the server's own bus.
+/// Keeps the rows of a registry in a record for each bus. The first is that of the server's own bus.
 #[derive(Drop)]
 pub struct Nested {
     buses: Vec<Bus>,
@@ -105,8 +105,8 @@ impl Rows for Nested {
 }
 
 impl Nested {
-    /// Finds the row with the least key beyond the cursor, if it is of the cursor's
-    /// own group. Nearly each row of a listing is.
+    /// Finds the row with the least key beyond the cursor, if it is of the cursor's own group. Nearly each row of a
+    /// listing is.
     fn row_after_in_own_group(&self, cursor: Cursor) -> Option<&Row>
         ensures { IfSome result (λ row. Some row.now ≡ row_after cursor self.now.state) }
     {
@@ -117,7 +117,7 @@ impl Nested {
         rows.row_after_in_group(last.bus, last.group, cursor)
     }
 
-    /// Finds the first row beyond the cursor that is sought.
+    /// Finds the first row beyond the cursor that the filter passes.
     fn first_after(&self, cursor: Cursor, sought: Sought) -> Option<Row>
         ensures { result ≡ sought_after sought cursor self.now.state }
     {
@@ -151,7 +151,7 @@ fn opening_buses(alloc: Global, layout: &Layout) -> Result<BTreeMap<u8, BusRows>
     Ok(buses)
 }
 
-/// Adds the rows of a bus after those of all others.
+/// Adds the rows of a bus behind those of all others.
 fn add_bus(buses: &mut BTreeMap<u8, BusRows>, number: u8, rows: BusRows) -> Result<(), Memory>
     requires { AllByRecursion (λ n. n < number) (keys_of buses.old.entries) }
     ensures entries { OnOk result (buses.new.entries ≡ buses.old.entries ++ (number, rows) ∷ []) }
@@ -163,7 +163,7 @@ fn add_bus(buses: &mut BTreeMap<u8, BusRows>, number: u8, rows: BusRows) -> Resu
     }
 }
 
-/// A bus below which the cursor has reached all keys.
+/// Returns a bus below which the cursor has reached all keys.
 fn first_bus(cursor: Cursor) -> u8
     ensures { (key : Key) → key.bus < result → has_reached cursor key ≡ true }
 {

@@ -1,4 +1,4 @@
-//! The next change that a moment or the end of a session brings.
+//! The next change of a moment or of the end of a session.
 
 ghost use Rattle.std.specs.Prelude.{◌≡◌, IfSome, option_map, slice_get};
 ghost use Rattle.srcp_info.specs.WellFormed.{IsWellFormed};
@@ -10,11 +10,9 @@ use crate::registry::{is_there, put, remove};
 use crate::rows::Rows;
 use srcp_info::{Change, Cursor, Row, Value};
 
-/// Carries out the first of the changes that the moment brings beyond the cursor, in key order: a
-/// lock that has run out ends, and a port that has been on for its time becomes 0. None where the
-/// moment brings no further change, and the rows are as before. That a port falls back after its
-/// time, and a lock ends after its seconds, is of SRCP 0.8 (GA, LOCK). It happens at the first moment
-/// handed in that is not before the end.
+/// Carries out the first of the moment's changes beyond the cursor, in key order. It returns `None`, and changes
+/// nothing, if there is none. A lock that is due ends, and a port that is due becomes 0. So SRCP 0.8 has it (GA, LOCK).
+/// A row is due from the first moment on that is at or after its due moment.
 pub fn due_next<R: Rows>(rows: &mut R, moment: u64, cursor: Cursor) -> Option<Change>
     requires whole { IsWhole (R.buses rows.old) (R.state rows.old) }
     ensures change { result ≡ option_map (λ update. update.change) (due_after (R.state rows.old) moment cursor) }
@@ -28,7 +26,7 @@ pub fn due_next<R: Rows>(rows: &mut R, moment: u64, cursor: Cursor) -> Option<Ch
     Some(carry_out(rows, moment, &row))
 }
 
-/// Carries out what a row brings once its due moment has come.
+/// Carries out the change of a row that is due.
 fn carry_out<R: Rows>(rows: &mut R, moment: u64, row: &Row) -> Change
     requires whole { IsWhole (R.buses rows.old) (R.state rows.old) }
     requires there { row_at row.now.shown.key (R.state rows.old) ≡ Some row.now }
@@ -45,9 +43,8 @@ fn carry_out<R: Rows>(rows: &mut R, moment: u64, row: &Row) -> Change
     }
 }
 
-/// Carries out the first of the changes that the end of a session brings: its locks are taken out
-/// in key order, and its own row last. None where it has neither locks nor a row, and the rows are
-/// as before. That its locks go with a session is of SRCP 0.8 (LOCK).
+/// Carries out the first of the changes of a session's end: its locks are removed in key order, and its own row last.
+/// It returns `None`, and changes nothing, if the session has neither. Its locks go with a session by SRCP 0.8 (LOCK).
 pub fn free_next<R: Rows>(rows: &mut R, session: u32, moment: u64) -> Option<Change>
     requires whole { IsWhole (R.buses rows.old) (R.state rows.old) }
     ensures change { result

@@ -1,4 +1,4 @@
-//! Sets, shows and takes out rows of a registry, each with its change.
+//! Sets, shows and removes rows of a registry, each with its change.
 
 ghost use Rattle.std.specs.Prelude.{◌≡◌, [], ◌∷◌, IsTrue};
 ghost use Rattle.srcp_info.specs.WellFormed.{can_go};
@@ -10,14 +10,14 @@ use crate::obeyed::Obeyed;
 use crate::rows::Rows;
 use srcp_info::{Change, Code, Device, Key, Reply, Row, Shown, Value};
 
-/// Whether the device is there.
+/// Returns whether the device is there.
 pub(crate) fn is_there<R: Rows>(rows: &R, device: Device) -> bool
     ensures { result ≡ is_there device (R.state rows.now) }
 {
     rows.row(&device.first_key()).is_some()
 }
 
-/// Sets a row that is there, with its due moment or none, and gives the change.
+/// Sets a row that is there, with its due moment or none, and returns the change.
 pub(crate) fn put<R: Rows>(
     rows: &mut R,
     moment: u64,
@@ -37,7 +37,7 @@ pub(crate) fn put<R: Rows>(
     change
 }
 
-/// The row with the value, as a Put at the moment makes it.
+/// Makes the row that a Put at the moment makes.
 pub(crate) fn row_put(moment: u64, key: Key, value: Value, due: Option<u64>) -> Row
     ensures { result ≡ row_put moment key value due }
 {
@@ -49,14 +49,14 @@ pub(crate) fn row_put(moment: u64, key: Key, value: Value, due: Option<u64>) -> 
     Row { shown, due }
 }
 
-/// The change that tells a client of a row that is set.
+/// Returns the change that tells a client of a row that is set.
 pub(crate) fn put_of(row: &Row) -> Change
     ensures { result ≡ (put_of row.now).change }
 {
     Change::Put(row.shown)
 }
 
-/// Sets a row that is there, as a command that is accepted.
+/// Sets a row that is there, as all that a command does.
 pub(crate) fn set_one<R: Rows>(
     rows: &mut R,
     moment: u64,
@@ -76,7 +76,7 @@ pub(crate) fn set_one<R: Rows>(
     rows.set(row);
 }
 
-/// Answers the row at the key as it is, or 416 where there is none.
+/// Answers with the row at the key, or with 416 if there is none.
 pub(crate) fn show<R: Rows>(rows: &R, key: &Key, obeyed: &mut Obeyed)
     requires { IsTold (accepted []) obeyed.old }
     ensures { Took (shown_at key.now (R.state rows.now)) (R.state rows.now) (R.state rows.now) obeyed.new }
@@ -87,7 +87,7 @@ pub(crate) fn show<R: Rows>(rows: &R, key: &Key, obeyed: &mut Obeyed)
     }
 }
 
-/// Takes out the rows of a device, and gives the change.
+/// Removes the rows of a device, and returns the change.
 pub(crate) fn remove<R: Rows>(rows: &mut R, moment: u64, device: Device) -> Change
     requires { IsTrue (can_go device.group) }
     ensures change { result ≡ (gone_at moment device).change }

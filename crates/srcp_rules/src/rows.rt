@@ -1,4 +1,4 @@
-//! What a keeper of rows is asked.
+//! The interface of a keeper of rows.
 
 ghost use Rattle.std.specs.Prelude.{◌≡◌, List, IsTrue, IfOk, OnOk, OnErr, option_copied};
 ghost use Rattle.srcp_info.specs.declared.key.Device.{Device};
@@ -13,7 +13,7 @@ use srcp_grammar::Layout;
 use srcp_info::{Cursor, Device, Group, Key, MOST_PORTS, Row};
 use std::alloc::Global;
 
-/// How many rows a device has at most: those of an accessory with the most ports.
+/// Limits the rows of a device: an accessory with the most ports has them.
 pub(crate) const MOST_ROWS: usize = 1 + MOST_PORTS as usize;
 
 /// Returns how many rows a device of the group has at most. Their ports are those below it.
@@ -27,8 +27,8 @@ pub fn most_rows(group: Group) -> u8
     }
 }
 
-/// What keeps the rows of a registry, and the layout that they are of. The rows are in order of bus,
-/// group, address and port.
+/// Keeps the rows of a registry, and the layout that they are of. The rows are in order of bus, group, address and
+/// port.
 pub trait Rows: Drop {
     /// The buses of the layout.
     ghost buses: { Self → List Bus };
@@ -36,32 +36,32 @@ pub trait Rows: Drop {
     /// The rows in key order.
     ghost state: { Self → State };
 
-    /// The registry of the layout as it begins, at the moment 0: the power of each bus is off and
-    /// its feedback ports are 0. Fails if memory is refused.
+    /// Makes the registry of the layout at the moment 0: the power of each bus is off and its feedback ports are 0.
+    /// Fails if memory is refused.
     fn empty(alloc: Global, layout: &Layout) -> Result<Self, Memory>
         ensures layout { IfOk result (λ kept. buses kept ≡ layout.now) }
         ensures rows { IfOk result (λ kept. state kept ≡ opening layout.now 0) };
 
-    /// The row at the key; none where no row has it.
+    /// Returns the row at the key, or `None` if no row has it.
     fn row(&self, key: &Key) -> Option<&Row>
         ensures { option_copied result ≡ row_at key.now (state self.now) };
 
-    /// The row with the least key beyond the cursor; none where it is past the last row, or `Done`.
+    /// Returns the row with the least key beyond the cursor, or `None` if the cursor is past the last row or `Done`.
     fn row_after(&self, cursor: Cursor) -> Option<&Row>
         ensures { option_copied result ≡ row_after cursor (state self.now) };
 
-    /// Finds the first row beyond the cursor, in key order, whose due moment has come; none if there is none.
+    /// Finds the first row beyond the cursor, in key order, whose due moment has come, if there is one.
     fn next_due(&mut self, moment: u64, cursor: Cursor) -> Option<Row>
         ensures row { result ≡ first_due moment cursor (state self.old) }
         ensures layout { buses self.new ≡ buses self.old }
         ensures rows { state self.new ≡ state self.old };
 
-    /// Finds the first of the locks that the session holds, in key order; none if it holds none.
+    /// Finds the first of the locks that the session holds, in key order, if it holds one.
     fn first_held(&self, session: u32) -> Option<Row>
         ensures { result ≡ first_held session (state self.now) };
 
-    /// Adds all the rows of one device that is not there, in key order. Fails if memory is refused,
-    /// and then the rows are as before.
+    /// Adds all the rows of one device that is not there, in key order. Fails, and changes nothing, if memory is
+    /// refused.
     fn add(&mut self, added: &[Row]) -> Result<(), Memory>
         requires { (device : Device) × AreNewRowsOf (buses self.old) (state self.old) device added.now }
         ensures layout { buses self.new ≡ buses self.old }
@@ -75,7 +75,7 @@ pub trait Rows: Drop {
         ensures layout { buses self.new ≡ buses self.old }
         ensures rows { state self.new ≡ put_row row (state self.old) };
 
-    /// Takes out the rows of a device of a group that comes and goes, if it has any.
+    /// Removes the rows of a device of a group that comes and goes, if it has any.
     fn drop_device(&mut self, device: Device)
         requires { IsTrue (can_go device.group) }
         ensures layout { buses self.new ≡ buses self.old }

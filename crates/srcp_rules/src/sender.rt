@@ -1,8 +1,8 @@
-//! Who sends a command, and when.
+//! The sender of a command.
 
 ghost use Rattle.srcp_info.specs.WellFormed.{IsMoment};
 
-/// The session that sends a command, and the moment at which it does.
+/// Names the session that sends a command, and the moment at which it does.
 #[derive(Clone, Copy)]
 pub(crate) struct Sender {
     /// The id of the session.

@@ -13,10 +13,10 @@ use crate::rows::Rows;
 use srcp_info::{Change, Mode, Value};
 
 /// Adds the row of a session that begins, and returns its Put. Its id is at least 1 and not there. The registry is
-/// whole: only then has an id that is not there no row at all, which is what `Rows::add` asks for.
+/// whole. So an id that is not there has no row at all, as `Rows::add` requires.
 ///
 /// # Errors
-/// `Memory` if memory is refused; the rows are as before.
+/// Returns `Memory`, and changes nothing, if memory is refused.
 pub fn begin_session<R: Rows>(
     rows: &mut R,
     session: u32,

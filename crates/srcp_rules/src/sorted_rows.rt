@@ -11,7 +11,8 @@ use crate::obeyed::Memory;
 use crate::sought::Sought;
 use srcp_info::{Cursor, Device, Key, Row, compare};
 
-/// Where the key is among rows by rising key, or else where it would go.
+/// Searches rows by rising key. Returns `Ok` with the index of the row at the key, or `Err` with the index at which to
+/// insert it.
 pub(crate) fn place_of(rows: &[Row], key: &Key) -> Result<usize, usize>
     requires { IsRising rows.now }
     ensures at { IfOk result (IsAt rows.now key.now) }
@@ -20,7 +21,7 @@ pub(crate) fn place_of(rows: &[Row], key: &Key) -> Result<usize, usize>
     rows.binary_search_by(|row| compare(&row.shown.key, key))
 }
 
-/// The row at the key.
+/// Returns the row at the key.
 pub(crate) fn row_in<'a>(rows: &'a [Row], key: &Key) -> Option<&'a Row>
     requires { IsRising rows.now }
     ensures { option_copied result ≡ row_at key.now rows.now }
@@ -31,7 +32,7 @@ pub(crate) fn row_in<'a>(rows: &'a [Row], key: &Key) -> Option<&'a Row>
     }
 }
 
-/// The row with the least key beyond the cursor.
+/// Returns the row with the least key beyond the cursor.
 #[inline(always)]
 pub(crate) fn row_after_in(rows: &[Row], cursor: Cursor) -> Option<&Row>
     requires { IsRising rows.now }
@@ -41,14 +42,14 @@ pub(crate) fn row_after_in(rows: &[Row], cursor: Cursor) -> Option<&Row>
     rows.get(place)
 }
 
-/// Finds the first row beyond the cursor that is sought.
+/// Finds the first row beyond the cursor that the filter passes.
 pub(crate) fn first_in(rows: &[Row], cursor: Cursor, sought: Sought) -> Option<&Row>
     ensures { option_copied result ≡ sought_after sought cursor rows.now }
 {
     rows.iter().find(|row| !cursor.has_reached(&row.shown.key) && sought.is_met_by(row))
 }
 
-/// Sets the row at its key, where there is room for one more row.
+/// Sets the row at its key. There has to be room for one more row.
 fn put(rows: &mut Vec<Row>, row: Row)
     requires rising { IsRising rows.old.items }
     requires room { vec_len rows.old < vec_capacity rows.old }
@@ -88,7 +89,7 @@ pub(crate) fn set_in(rows: &mut Vec<Row>, row: Row)
     }
 }
 
-/// Takes out the rows of a device.
+/// Removes the rows of a device.
 pub(crate) fn drop_in(rows: &mut Vec<Row>, device: Device)
     ensures { rows.new.items ≡ without device rows.old.items }
 {

@@ -1,11 +1,11 @@
-//! Which rows a search seeks.
+//! A filter of rows.
 
 ghost use Rattle.std.specs.Prelude.{◌≡◌, ◌≤◌};
 ghost use Rattle.srcp_rules.specs.Sought.{is_sought};
 
 use srcp_info::{Row, Value};
 
-/// Which rows are sought.
+/// Says which rows a search looks for.
 #[derive(Clone, Copy)]
 pub(crate) enum Sought {
     /// Those whose due moment is not after this one.
@@ -15,7 +15,7 @@ pub(crate) enum Sought {
 }
 
 impl Sought {
-    /// Returns whether the row is one of those that are sought.
+    /// Returns whether the filter passes the row.
     pub(crate) fn is_met_by(&self, row: &Row) -> bool
         ensures { result ≡ is_sought self.now row.now }
     {

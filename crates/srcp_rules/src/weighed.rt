@@ -1,4 +1,4 @@
-//! How many changes a line can bring.
+//! The weight of a line: how many changes it can bring.
 
 ghost use Rattle.std.specs.Prelude.{◌≡◌};
 ghost use Rattle.srcp_rules.specs.Weight.{names_session, weight};
@@ -6,13 +6,13 @@ ghost use Rattle.srcp_rules.specs.Weight.{names_session, weight};
 use crate::obeyed::MOST_CHANGES;
 use srcp_text::{Words, is_keyword, words};
 
-/// Returns how many changes a line of a command session can bring at most, by its words alone. Keywords
-/// are read in capital or small letters:
-/// - GET and CHECK bring none, nor does a line without words;
-/// - SET brings one;
-/// - GO, a line of the handshake, brings one: the row of its session;
-/// - TERM 0 SESSION brings none, since what the end of a session changes is no change of the line;
-/// - any other line brings at most `MOST_CHANGES`.
+/// Returns how many changes a line of a command session can bring at most, by its words alone. Keywords are read in
+/// capital or small letters.
+/// - GET and CHECK bring none, nor does a line without words.
+/// - SET brings one.
+/// - GO, a line of the handshake, brings one: the row of its session.
+/// - TERM 0 SESSION brings none, since what the end of a session changes is no change of the line.
+/// - Any other line brings at most `MOST_CHANGES`.
 pub fn weight(line: &[u8]) -> usize
     ensures { result ≡ weight line.now }
 {
@@ -32,7 +32,7 @@ pub fn weight(line: &[u8]) -> usize
     MOST_CHANGES
 }
 
-/// Whether the words begin with 0 SESSION.
+/// Returns whether the words begin with 0 SESSION.
 fn names_session(mut words: Words<'_>) -> bool
     ensures { result ≡ names_session words.entry }
 {

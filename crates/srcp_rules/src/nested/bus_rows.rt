@@ -19,7 +19,7 @@ use srcp_grammar::Bus;
 use srcp_info::{Cursor, Device, Group, Key, Row};
 use std::alloc::Global;
 
-/// The groups of a bus in the order of a listing.
+/// Lists the groups of a bus in the order of a listing.
 const GROUPS: [Group; 7] = [
     Group::Session,
     Group::Power,
@@ -30,7 +30,7 @@ const GROUPS: [Group; 7] = [
     Group::LockGa,
 ];
 
-/// The rows of one bus.
+/// Keeps the rows of one bus.
 #[derive(Drop)]
 pub(crate) struct BusRows {
     /// The rows of the sessions, by rising number; the server's own bus alone has some.
@@ -46,7 +46,7 @@ pub(crate) struct BusRows {
 }
 
 impl BusRows {
-    /// The rows of the bus at the moment 0.
+    /// Makes the rows of the bus at the moment 0.
     pub(crate) fn opening(alloc: Global, bus: &Bus) -> Result<BusRows, Memory>
         ensures bus { IfOk result (AreRowsOfBus bus.now.number) }
         ensures rows { IfOk result (λ rows. bus_rows rows ≡ opening_on 0 bus.now) }
@@ -63,7 +63,7 @@ impl BusRows {
         })
     }
 
-    /// The row at the key.
+    /// Returns the row at the key.
     pub(crate) fn row(&self, key: &Key) -> Option<&Row>
         requires { AreRowsOfBus key.now.bus self.now }
         ensures { option_copied result ≡ row_at key.now (bus_rows self.now) }
@@ -79,7 +79,7 @@ impl BusRows {
         }
     }
 
-    /// The row with the least key beyond the cursor, where these are rows of this bus.
+    /// Returns the row with the least key beyond the cursor. `bus` is the number of the bus.
     #[cold]
     #[inline(never)]
     pub(crate) fn row_after(&self, bus: u8, cursor: Cursor) -> Option<&Row>
@@ -151,7 +151,7 @@ impl BusRows {
         }
     }
 
-    /// Takes out the rows of a device of a group that comes and goes.
+    /// Removes the rows of a device of a group that comes and goes.
     pub(crate) fn drop_device(&mut self, device: Device)
         requires bus { AreRowsOfBus device.bus self.old }
         requires goes { IsTrue (can_go device.group) }
@@ -169,7 +169,7 @@ impl BusRows {
     }
 }
 
-/// The rows of a bus's feedback ports, each 0.
+/// Makes the rows of a bus's feedback ports, each 0.
 fn feedback_rows(alloc: Global, bus: &Bus) -> Result<Vec<Row>, Memory>
     ensures { IfOk result
         (λ rows. rows.items

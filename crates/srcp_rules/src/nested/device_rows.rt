@@ -9,8 +9,7 @@ use crate::sorted_rows::place_of;
 use srcp_info::{Key, Row};
 use std::marker::Model;
 
-/// The rows of one device by rising port: at most N, which stand in the value itself. Contracts see
-/// it as the list of them.
+/// Keeps the rows of one device by rising port: at most N, in the value itself. Contracts see the list of them.
 #[derive(Drop)]
 pub(crate) struct DeviceRows<const N: usize> {
     rows: [Row; N],
@@ -29,7 +28,7 @@ impl<const N: usize> Model for DeviceRows<N> {
 }
 
 impl<const N: usize> DeviceRows<N> {
-    /// These rows, of which the first is one.
+    /// Keeps these rows, of which the first is one.
     pub(crate) fn of(first: &Row, rows: &[Row]) -> DeviceRows<N>
         requires { length rows.now ≤ N }
         ensures { result ≡ rows.now }
@@ -42,7 +41,7 @@ impl<const N: usize> DeviceRows<N> {
         }
     }
 
-    /// The rows.
+    /// Returns the rows.
     pub(crate) fn as_slice(&self) -> &[Row]
         ensures { result.now ≡ self.now }
     {

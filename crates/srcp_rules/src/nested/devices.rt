@@ -20,8 +20,8 @@ use srcp_info::{Cursor, Device, Group, Key, Row};
 use std::alloc::Global;
 use std::marker::Model;
 
-/// The rows of devices of one group of one bus: at most N of each. There is a place for each address up to the greatest
-/// that was added, so a look-up needs no search. Contracts see the devices that are there, by address.
+/// Keeps the rows of devices of one group of one bus: at most N of each. There is a slot for each address up to the
+/// greatest that was added, so a look-up needs no search. Contracts see the devices that are there, by address.
 #[derive(Drop)]
 pub(crate) struct Devices<const N: usize> {
     places: Vec<Option<Box<DeviceRows<N>>>>,
@@ -165,7 +165,7 @@ impl<const N: usize> Devices<N> {
         device.set(row);
     }
 
-    /// Takes out the rows of a device.
+    /// Removes the rows of a device.
     pub(crate) fn drop_device(&mut self, device: Device)
         requires { AreDevices device.bus device.group self.old }
         ensures rows { device_rows self.new ≡ without device (device_rows self.old) }
@@ -178,7 +178,7 @@ impl<const N: usize> Devices<N> {
     }
 }
 
-/// Returns the first device at a place from this one on.
+/// Returns the device in the first slot, from this one on, that has one.
 #[inline(always)]
 fn first_device<const N: usize>(
     places: &[Option<Box<DeviceRows<N>>>],
@@ -195,7 +195,7 @@ fn first_device<const N: usize>(
     None
 }
 
-/// Makes places up to this one. Fails if memory is refused.
+/// Makes slots up to this one. Fails if memory is refused.
 fn reach<const N: usize>(
     places: &mut Vec<Option<Box<DeviceRows<N>>>>,
     place: usize,

@@ -28,7 +28,7 @@ module _ (key : Key) (added : State) {rows : BusRows} (are : AreRowsOfBus key.bu
     ),
   )
 
-  -- where they have it, so has the bus
+  -- if they have it, so has the bus
   has : {T E : Type 0} (after : BusRows) → AreOfDevice key.bus key.group key.address added → WithGroup are g after
       → (r : Result T E) → OnOk r (group_rows after g ≡ put_rows added (group_rows rows g))
       → OnOk r (bus_rows after ≡ put_rows added (bus_rows rows))
