@@ -231,8 +231,8 @@ module _ (bus : ℕ) (g : Group) where
 
 module _ {B : Type 0} (value : B → State) (last : Key) where
   abbrev AreDevicesAt : ℕ → List (Option B) → Type 0
-  AreDevicesAt first places =
-      AllByRecursion (λ e. AreOfDevice last.bus last.group e.0 e.1) (numbered value first places)
+  AreDevicesAt first slots =
+      AllByRecursion (λ e. AreOfDevice last.bus last.group e.0 e.1) (numbered value first slots)
 
   -- a device before the key's has no row beyond the key
   earlier : (address : ℕ) (rows : State) → address < last.address → AreOfDevice last.bus last.group address rows
@@ -243,58 +243,58 @@ module _ {B : Type 0} (value : B → State) (last : Key) where
       (address_order row.shown.key last t.0.0 t.0.1 (omega (arith, h, t.1)))) rows device.each
 
   -- and all rows of the devices behind it are
-  later : (first : ℕ) → last.address < first → (places : List (Option B)) → AreDevicesAt first places
-      → AllByRecursion (λ row. has_reached (at.After last) row.shown.key ≡ false) (device_rows (numbered value first places))
+  later : (first : ℕ) → last.address < first → (slots : List (Option B)) → AreDevicesAt first slots
+      → AllByRecursion (λ row. has_reached (at.After last) row.shown.key ≡ false) (device_rows (numbered value first slots))
   later first h [] each = tt
-  later first h (None ∷ places) each = later (first + 1) (omega (arith, h)) places each
-  later first h (Some x ∷ places) each =
+  later first h (None ∷ slots) each = later (first + 1) (omega (arith, h)) slots each
+  later first h (Some x ∷ slots) each =
       all_append (λ row. has_reached (at.After last) row.shown.key ≡ false) (value x)
-      (device_rows (numbered value (first + 1) places))
+      (device_rows (numbered value (first + 1) slots))
       (each-weaken {P = λ row. IsIn last.bus last.group row.shown.key × (row.shown.key.address ≡ first)}
       (λ row t. ap not
       (after_from_less row.shown.key last (address_order last row.shown.key (sym t.0.0) (sym t.0.1) (omega (arith, h, t.1)))))
       (value x) each.0.each)
-      (later (first + 1) (omega (arith, h)) places each.1)
+      (later (first + 1) (omega (arith, h)) slots each.1)
 
   -- the next row is of the key's own device, or else the first behind it
   pub row_after-numbered : (from first k : ℕ) → last.address ≡ first + k → from ≡ last.address + 1
-      → (places : List (Option B)) → AreDevicesAt first places
-      → row_after (at.After last) (device_rows (numbered value first places))
+      → (slots : List (Option B)) → AreDevicesAt first slots
+      → row_after (at.After last) (device_rows (numbered value first slots))
       ≡ option_or
-      (option_map_or (λ rows. row_after (at.After last) rows) (option_map value (slice_index_or places k None)) None)
-      (slice_get (device_rows (numbered value from (drop (suc k) places))) 0)
+      (option_map_or (λ rows. row_after (at.After last) rows) (option_map value (slice_index_or slots k None)) None)
+      (slice_get (device_rows (numbered value from (drop (suc k) slots))) 0)
   row_after-numbered from first k e f [] each = refl
-  row_after-numbered from first zero e f (None ∷ places) each =
-      first_beyond (at.After last) (device_rows (numbered value (first + 1) places))
-      (later (first + 1) (omega (arith, e)) places each)
-      ∙ ap (λ n. slice_get (device_rows (numbered value n places)) 0) (omega (arith, e, f))
-  row_after-numbered from first zero e f (Some x ∷ places) each =
+  row_after-numbered from first zero e f (None ∷ slots) each =
+      first_beyond (at.After last) (device_rows (numbered value (first + 1) slots))
+      (later (first + 1) (omega (arith, e)) slots each)
+      ∙ ap (λ n. slice_get (device_rows (numbered value n slots)) 0) (omega (arith, e, f))
+  row_after-numbered from first zero e f (Some x ∷ slots) each =
       find-append (λ row. not (has_reached (at.After last) row.shown.key)) (value x)
-      (device_rows (numbered value (first + 1) places))
+      (device_rows (numbered value (first + 1) slots))
       ∙ ap (option_or (row_after (at.After last) (value x)))
-      (first_beyond (at.After last) (device_rows (numbered value (first + 1) places))
-      (later (first + 1) (omega (arith, e)) places each.1)
-      ∙ ap (λ n. slice_get (device_rows (numbered value n places)) 0) (omega (arith, e, f)))
-  row_after-numbered from first (suc k) e f (None ∷ places) each =
-      row_after-numbered from (first + 1) k (omega (arith, e)) f places each
-  row_after-numbered from first (suc k) e f (Some x ∷ places) each =
+      (first_beyond (at.After last) (device_rows (numbered value (first + 1) slots))
+      (later (first + 1) (omega (arith, e)) slots each.1)
+      ∙ ap (λ n. slice_get (device_rows (numbered value n slots)) 0) (omega (arith, e, f)))
+  row_after-numbered from first (suc k) e f (None ∷ slots) each =
+      row_after-numbered from (first + 1) k (omega (arith, e)) f slots each
+  row_after-numbered from first (suc k) e f (Some x ∷ slots) each =
       find_past (λ row. not (has_reached (at.After last) row.shown.key)) (value x)
-      (device_rows (numbered value (first + 1) places)) (earlier first (value x) (omega (arith, e)) each.0)
-      ∙ row_after-numbered from (first + 1) k (omega (arith, e)) f places each.1
+      (device_rows (numbered value (first + 1) slots)) (earlier first (value x) (omega (arith, e)) each.0)
+      ∙ row_after-numbered from (first + 1) k (omega (arith, e)) f slots each.1
 
-  pub row_after-places : (places : List (Option B)) → AreDevices last.bus last.group (numbered value 0 places)
-      → row_after (at.After last) (device_rows (numbered value 0 places))
+  pub row_after-slots : (slots : List (Option B)) → AreDevices last.bus last.group (numbered value 0 slots)
+      → row_after (at.After last) (device_rows (numbered value 0 slots))
       ≡ option_or
-      (option_map_or (λ rows. row_after (at.After last) rows) (entry_at last.address (numbered value 0 places)) None)
-      (slice_get (device_rows (numbered value (last.address + 1) (drop (last.address + 1) places))) 0)
-  row_after-places places devices =
+      (option_map_or (λ rows. row_after (at.After last) rows) (entry_at last.address (numbered value 0 slots)) None)
+      (slice_get (device_rows (numbered value (last.address + 1) (drop (last.address + 1) slots))) 0)
+  row_after-slots slots devices =
       let own = λ (o : Option State). option_map_or (λ rows. row_after (at.After last) rows) o None in
-      let rest = λ (n : ℕ). slice_get (device_rows (numbered value (last.address + 1) (drop n places))) 0 in
-      row_after-numbered (last.address + 1) 0 last.address (omega arith) refl places devices.each
-      ∙ ap (λ n. option_or (own (option_map value (slice_index_or places last.address None))) (rest n))
+      let rest = λ (n : ℕ). slice_get (device_rows (numbered value (last.address + 1) (drop n slots))) 0 in
+      row_after-numbered (last.address + 1) 0 last.address (omega arith) refl slots devices.each
+      ∙ ap (λ n. option_or (own (option_map value (slice_index_or slots last.address None))) (rest n))
       {x = suc last.address} {y = last.address + 1} (omega arith)
       ∙ ap (λ o. option_or (own o) (rest (last.address + 1)))
-      (sym (entry_at-numbered value last.address 0 last.address (omega arith) places))
+      (sym (entry_at-numbered value last.address 0 last.address (omega arith) slots))
 
 -- no devices are devices of any group
 pub no_devices : (bus : ℕ) (g : Group) (es : List (ℕ × State)) → es ≡ [] → AreDevices bus g es

@@ -8,8 +8,8 @@ use Rattle.srcp_info.specs.declared.change.Cursor.{Cursor}
 use Rattle.srcp_info.specs.declared.change.Cursor.TheVariants as cursor
 use Rattle.srcp_info.specs.Key.{key_cmp, has_reached}
 use Rattle.srcp_info.proofs.ClientLaws.{filter_every, reached_below, after_from_less, after_not_itself}
-use Rattle.srcp_rules.specs.declared.sought.Sought.{Sought}
-use Rattle.srcp_rules.specs.Sought.{is_sought, sought_after}
+use Rattle.srcp_rules.specs.declared.filter.RowFilter.{RowFilter}
+use Rattle.srcp_rules.specs.Filter.{passes, first_passed}
 use Rattle.srcp_rules.specs.State.{State, IsRising, row_after}
 use Rattle.srcp_rules.proofs.KeyLaws.{not_after}
 use Rattle.srcp_grammar.proofs.FindLaws.{each-weaken, found_holds}
@@ -100,22 +100,22 @@ fewer_beyond at state rising row next = let e = ap length (beyond-next at row st
 
 -- ---- seeking from row to row
 
-module _ (kind : Sought) (at : Cursor) (state : State) where
-  seek : sought_after kind at state ≡ find (is_sought kind) (beyond at state)
-  seek = find-both (λ row. not (has_reached at row.shown.key)) (is_sought kind) state
+module _ (row_filter : RowFilter) (at : Cursor) (state : State) where
+  seek : first_passed row_filter at state ≡ find (passes row_filter) (beyond at state)
+  seek = find-both (λ row. not (has_reached at row.shown.key)) (passes row_filter) state
 
-  pub sought_none : row_after at state ≡ None → sought_after kind at state ≡ None
-  sought_none e = seek ∙ ap (find (is_sought kind)) (beyond-none at state e)
+  pub passed_none : row_after at state ≡ None → first_passed row_filter at state ≡ None
+  passed_none e = seek ∙ ap (find (passes row_filter)) (beyond-none at state e)
 
   module _ (rising : IsRising state) (row : Row) (next : row_after at state ≡ Some row) where
-    first : sought_after kind at state
-        ≡ cond (is_sought kind row) (Some row) (find (is_sought kind) (beyond (cursor.After row.shown.key) state))
-    first = seek ∙ ap (find (is_sought kind)) (beyond-next at row state rising next)
+    first : first_passed row_filter at state
+        ≡ cond (passes row_filter row) (Some row) (find (passes row_filter) (beyond (cursor.After row.shown.key) state))
+    first = seek ∙ ap (find (passes row_filter)) (beyond-next at row state rising next)
 
-    pub sought_here : is_sought kind row ≡ true → sought_after kind at state ≡ Some row
-    sought_here e = first ∙ ap (λ b. cond b (Some row) (find (is_sought kind) (beyond (cursor.After row.shown.key) state))) e
+    pub passed_here : passes row_filter row ≡ true → first_passed row_filter at state ≡ Some row
+    passed_here e = first ∙ ap (λ b. cond b (Some row) (find (passes row_filter) (beyond (cursor.After row.shown.key) state))) e
 
-    pub sought_later : is_sought kind row ≡ false → sought_after kind (cursor.After row.shown.key) state ≡ sought_after kind at state
-    sought_later e =
-        find-both (λ other. not (has_reached (cursor.After row.shown.key) other.shown.key)) (is_sought kind) state
-        ∙ sym (first ∙ ap (λ b. cond b (Some row) (find (is_sought kind) (beyond (cursor.After row.shown.key) state))) e)
+    pub passed_later : passes row_filter row ≡ false → first_passed row_filter (cursor.After row.shown.key) state ≡ first_passed row_filter at state
+    passed_later e =
+        find-both (λ other. not (has_reached (cursor.After row.shown.key) other.shown.key)) (passes row_filter) state
+        ∙ sym (first ∙ ap (λ b. cond b (Some row) (find (passes row_filter) (beyond (cursor.After row.shown.key) state))) e)

@@ -42,15 +42,15 @@ fn functions_after(given: &Bits, before: &Bits) -> Bits
     ensures { result ≡ functions_after given.now before.now }
 {
     let mut after = *given;
-    for place in given.len()..before.len() {
-        after.push(before.as_slice()[place]);
+    for index in given.len()..before.len() {
+        after.push(before.as_slice()[index]);
     }
     after
 }
 
 /// Returns the functions of the locomotive, or why the session may not drive it. It may not if the locomotive is not
 /// there, if it has fewer functions than are given, or if another session has its lock.
-fn drivable<R: Rows>(rows: &R, session: u32, drive: &Drive) -> Result<Bits, Code>
+fn functions_to_drive<R: Rows>(rows: &R, session: u32, drive: &Drive) -> Result<Bits, Code>
     requires whole { IsWhole (R.buses rows.now) (R.state rows.now) }
     ensures before { IfOk result
         (λ before. before ≡ functions_of drive.now.bus drive.now.address (R.state rows.now)) }
@@ -77,7 +77,7 @@ pub(crate) fn gl_refusal<R: Rows>(rows: &R, session: u32, drive: &Drive) -> Opti
     requires whole { IsWhole (R.buses rows.now) (R.state rows.now) }
     ensures { result ≡ first_refusal (gl_refusals (R.state rows.now) session drive.now) }
 {
-    drivable(rows, session, drive).err()
+    functions_to_drive(rows, session, drive).err()
 }
 
 /// Returns V as the registry keeps it: 0 in an emergency stop.
@@ -99,7 +99,7 @@ pub(crate) fn set_gl<R: Rows>(rows: &mut R, sender: Sender, drive: &Drive, obeye
         (R.state rows.old) (R.state rows.new) obeyed.new }
     ensures layout { R.buses rows.new ≡ R.buses rows.old }
 {
-    let before = match drivable(rows, sender.session, drive) {
+    let before = match functions_to_drive(rows, sender.session, drive) {
         Ok(before) => before,
         Err(code) => return obeyed.refuse(code),
     };

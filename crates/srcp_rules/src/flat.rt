@@ -7,7 +7,7 @@ use crate::first_rows::{push_ports, push_power};
 use crate::obeyed::Memory;
 use crate::rows::Rows;
 use crate::sorted_rows::{add_all, drop_in, first_in, row_after_in, row_in, set_in};
-use crate::sought::Sought;
+use crate::filter::RowFilter;
 use srcp_grammar::{Bus, Layout};
 use srcp_info::{Cursor, Device, Key, Row};
 use std::alloc::Global;
@@ -52,11 +52,11 @@ impl Rows for Flat {
     }
 
     fn next_due(&mut self, moment: u64, cursor: Cursor) -> Option<Row> {
-        first_in(&self.rows, cursor, Sought::Due(moment)).copied()
+        first_in(&self.rows, cursor, RowFilter::Due(moment)).copied()
     }
 
     fn first_held(&self, session: u32) -> Option<Row> {
-        first_in(&self.rows, Cursor::Start, Sought::HeldBy(session)).copied()
+        first_in(&self.rows, Cursor::Start, RowFilter::HeldBy(session)).copied()
     }
 
     fn add(&mut self, added: &[Row]) -> Result<(), Memory> {

@@ -23,7 +23,7 @@ use srcp_grammar::Lockable;
 use srcp_info::{Change, Code, Device, Row, Value};
 
 /// Removes the device, if it is there.
-fn remove_there<R: Rows>(
+fn remove_if_there<R: Rows>(
     rows: &mut R,
     moment: u64,
     device: Device,
@@ -57,7 +57,7 @@ fn remove_device<R: Rows>(
 {
     let device = device_in(group, place);
     let has_device = is_there(rows, device);
-    remove_there(rows, moment, lock_on(group, place), changes);
+    remove_if_there(rows, moment, lock_on(group, place), changes);
     if has_device {
         changes.push(remove(rows, moment, device));
     }
@@ -172,7 +172,7 @@ fn remake<R: Rows>(
         (R.state rows.old) }
     ensures layout { R.buses rows.new ≡ R.buses rows.old }
 {
-    remove_there(rows, moment, lock_on(group, place), changes);
+    remove_if_there(rows, moment, lock_on(group, place), changes);
     changes.push(Change::Gone {
         stamp: moment,
         device: device_in(group, place),

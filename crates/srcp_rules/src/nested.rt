@@ -6,7 +6,7 @@ ghost use Rattle.std.specs.Map.{keys_of};
 ghost use Rattle.srcp_info.specs.declared.key.Key.{Key};
 ghost use Rattle.srcp_info.specs.Key.{has_reached};
 ghost use Rattle.srcp_grammar.specs.Layout.{server};
-ghost use Rattle.srcp_rules.specs.Sought.{sought_after};
+ghost use Rattle.srcp_rules.specs.Filter.{first_passed};
 ghost use Rattle.srcp_rules.specs.State.{opening, row_after};
 ghost use Rattle.srcp_rules.specs.Nested.{AreRowsOfBus, AreSorted, bus_rows, listed};
 
@@ -17,7 +17,7 @@ mod devices;
 use crate::nested::bus_rows::BusRows;
 use crate::obeyed::Memory;
 use crate::rows::Rows;
-use crate::sought::Sought;
+use crate::filter::RowFilter;
 use srcp_grammar::{Bus, Layout, SERVER};
 use srcp_info::{Cursor, Device, Key, Row};
 use std::alloc::Global;
@@ -71,11 +71,11 @@ impl Rows for Nested {
     }
 
     fn next_due(&mut self, moment: u64, cursor: Cursor) -> Option<Row> {
-        self.first_after(cursor, Sought::Due(moment))
+        self.first_after(cursor, RowFilter::Due(moment))
     }
 
     fn first_held(&self, session: u32) -> Option<Row> {
-        self.first_after(Cursor::Start, Sought::HeldBy(session))
+        self.first_after(Cursor::Start, RowFilter::HeldBy(session))
     }
 
     fn add(&mut self, added: &[Row]) -> Result<(), Memory> {
@@ -118,14 +118,14 @@ impl Nested {
     }
 
     /// Finds the first row beyond the cursor that the filter passes.
-    fn first_after(&self, cursor: Cursor, sought: Sought) -> Option<Row>
-        ensures { result ≡ sought_after sought cursor self.now.state }
+    fn first_after(&self, cursor: Cursor, filter: RowFilter) -> Option<Row>
+        ensures { result ≡ first_passed filter cursor self.now.state }
     {
         // The proof learns here that the rows are in key order.
         let _rows = &self.by_number;
         let mut at = cursor;
         while let Some(row) = self.row_after(at) {
-            if sought.is_met_by(row) {
+            if filter.passes(row) {
                 return Some(*row);
             }
             at = Cursor::After(row.shown.key);

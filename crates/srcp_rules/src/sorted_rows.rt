@@ -3,20 +3,20 @@
 ghost use Rattle.std.specs.Prelude.{◌≡◌, ◌+◌, ◌<◌, ◌≤◌, IsTrue, IfOk, IfErr, OnOk, OnErr, option_copied, vec_len};
 ghost use Rattle.std.specs.Prelude.{vec_capacity};
 ghost use Rattle.srcp_rules.specs.Rows.{put_rows};
-ghost use Rattle.srcp_rules.specs.Place.{IsAt, IsGap};
-ghost use Rattle.srcp_rules.specs.Sought.{sought_after};
+ghost use Rattle.srcp_rules.specs.KeyIndex.{HasKeyAt, IsGapAt};
+ghost use Rattle.srcp_rules.specs.Filter.{first_passed};
 ghost use Rattle.srcp_rules.specs.State.{IsRising, has_row, put_row, row_after, row_at, without};
 
 use crate::obeyed::Memory;
-use crate::sought::Sought;
+use crate::filter::RowFilter;
 use srcp_info::{Cursor, Device, Key, Row, compare};
 
 /// Searches rows by rising key. Returns `Ok` with the index of the row at the key, or `Err` with the index at which to
 /// insert it.
-pub(crate) fn place_of(rows: &[Row], key: &Key) -> Result<usize, usize>
+pub(crate) fn index_of(rows: &[Row], key: &Key) -> Result<usize, usize>
     requires { IsRising rows.now }
-    ensures at { IfOk result (IsAt rows.now key.now) }
-    ensures gap { IfErr result (IsGap rows.now key.now) }
+    ensures at { IfOk result (HasKeyAt rows.now key.now) }
+    ensures gap { IfErr result (IsGapAt rows.now key.now) }
 {
     rows.binary_search_by(|row| compare(&row.shown.key, key))
 }
@@ -26,8 +26,8 @@ pub(crate) fn row_in<'a>(rows: &'a [Row], key: &Key) -> Option<&'a Row>
     requires { IsRising rows.now }
     ensures { option_copied result ≡ row_at key.now rows.now }
 {
-    match place_of(rows, key) {
-        Ok(place) => Some(&rows[place]),
+    match index_of(rows, key) {
+        Ok(index) => Some(&rows[index]),
         Err(_) => None,
     }
 }
@@ -38,15 +38,15 @@ pub(crate) fn row_after_in(rows: &[Row], cursor: Cursor) -> Option<&Row>
     requires { IsRising rows.now }
     ensures { option_copied result ≡ row_after cursor rows.now }
 {
-    let place = rows.partition_point(|row| cursor.has_reached(&row.shown.key));
-    rows.get(place)
+    let index = rows.partition_point(|row| cursor.has_reached(&row.shown.key));
+    rows.get(index)
 }
 
 /// Finds the first row beyond the cursor that the filter passes.
-pub(crate) fn first_in(rows: &[Row], cursor: Cursor, sought: Sought) -> Option<&Row>
-    ensures { option_copied result ≡ sought_after sought cursor rows.now }
+pub(crate) fn first_in(rows: &[Row], cursor: Cursor, filter: RowFilter) -> Option<&Row>
+    ensures { option_copied result ≡ first_passed filter cursor rows.now }
 {
-    rows.iter().find(|row| !cursor.has_reached(&row.shown.key) && sought.is_met_by(row))
+    rows.iter().find(|row| !cursor.has_reached(&row.shown.key) && filter.passes(row))
 }
 
 /// Sets the row at its key. There has to be room for one more row.
@@ -57,10 +57,10 @@ fn put(rows: &mut Vec<Row>, row: Row)
     ensures len { vec_len rows.new ≤ vec_len rows.old + 1 }
     ensures capacity { vec_capacity rows.old ≤ vec_capacity rows.new }
 {
-    match place_of(rows, &row.shown.key) {
-        Ok(place) => rows[place] = row,
-        Err(place) => {
-            let _ = rows.insert(place, row);
+    match index_of(rows, &row.shown.key) {
+        Ok(index) => rows[index] = row,
+        Err(index) => {
+            let _ = rows.insert(index, row);
         }
     }
 }
@@ -84,8 +84,8 @@ pub(crate) fn set_in(rows: &mut Vec<Row>, row: Row)
     requires there { IsTrue (has_row row.shown.key rows.old.items) }
     ensures { rows.new.items ≡ put_row row rows.old.items }
 {
-    if let Ok(place) = place_of(rows, &row.shown.key) {
-        rows[place] = row;
+    if let Ok(index) = index_of(rows, &row.shown.key) {
+        rows[index] = row;
     }
 }
 

@@ -5,7 +5,7 @@ ghost use Rattle.srcp_info.specs.declared.change.Cursor.TheVariants.{After};
 ghost use Rattle.srcp_rules.specs.Nested.{AreOfDevice};
 ghost use Rattle.srcp_rules.specs.State.{IsRising, has_row, put_row, row_after, row_at};
 
-use crate::sorted_rows::place_of;
+use crate::sorted_rows::index_of;
 use srcp_info::{Key, Row};
 use std::marker::Model;
 
@@ -33,10 +33,10 @@ impl<const N: usize> DeviceRows<N> {
         requires { length rows.now ≤ N }
         ensures { result ≡ rows.now }
     {
-        let mut places = [*first; N];
-        places[..rows.len()].copy_from_slice(rows);
+        let mut stored = [*first; N];
+        stored[..rows.len()].copy_from_slice(rows);
         DeviceRows {
-            rows: places,
+            rows: stored,
             count: rows.len(),
         }
     }
@@ -75,8 +75,8 @@ impl<const N: usize> DeviceRows<N> {
         requires there { IsTrue (has_row row.now.shown.key self.old) }
         ensures { self.new ≡ put_row row.now self.old }
     {
-        if let Ok(place) = place_of(self.as_slice(), &row.shown.key) {
-            self.rows[place] = *row;
+        if let Ok(index) = index_of(self.as_slice(), &row.shown.key) {
+            self.rows[index] = *row;
         }
     }
 }

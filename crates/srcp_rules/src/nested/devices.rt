@@ -1,4 +1,4 @@
-//! The devices of one group of one bus, each at the place of its address.
+//! The devices of one group of one bus, each at the slot of its address.
 ghost use Rattle.std.specs.Prelude.{◌≡◌, ◌+◌, ◌<◌, ◌≤◌, ℕ, [], None, drop, false, IsTrue, IfSome, OnOk, OnErr, length};
 ghost use Rattle.std.specs.Prelude.{option_copied, slice_get};
 ghost use Rattle.std.specs.Box.{box_value};
@@ -24,7 +24,7 @@ use std::marker::Model;
 /// greatest that was added, so a look-up needs no search. Contracts see the devices that are there, by address.
 #[derive(Drop)]
 pub(crate) struct Devices<const N: usize> {
-    places: Vec<Option<Box<DeviceRows<N>>>>,
+    slots: Vec<Option<Box<DeviceRows<N>>>>,
     alloc: Global,
 }
 
@@ -36,7 +36,7 @@ impl<const N: usize> Model for Devices<N> {
 
     ghost Value = { List (ℕ × State) };
 
-    ghost view = { λ d. numbered box_value 0 d.places.items };
+    ghost view = { λ d. numbered box_value 0 d.slots.items };
 }
 
 impl<const N: usize> Devices<N> {
@@ -45,7 +45,7 @@ impl<const N: usize> Devices<N> {
         ensures { result ≡ [] }
     {
         Devices {
-            places: Vec::new(alloc),
+            slots: Vec::new(alloc),
             alloc,
         }
     }
@@ -55,7 +55,7 @@ impl<const N: usize> Devices<N> {
     fn device(&self, address: u32) -> Option<&DeviceRows<N>>
         ensures { option_copied result ≡ entry_at address self.now }
     {
-        match self.places.get(address as usize)? {
+        match self.slots.get(address as usize)? {
             Some(device) => Some(device),
             None => None,
         }
@@ -76,7 +76,7 @@ impl<const N: usize> Devices<N> {
         requires fits { FitsInMemory (device_row N.row) }
         ensures { option_copied result ≡ slice_get (device_rows self.now) 0 }
     {
-        first_device(&self.places, 0)?.as_slice().first()
+        first_device(&self.slots, 0)?.as_slice().first()
     }
 
     /// Returns the row with the least key beyond the cursor, if these are devices of this group of this bus.
@@ -106,11 +106,11 @@ impl<const N: usize> Devices<N> {
         requires fits { FitsInMemory (device_row N.row) }
         ensures { option_copied result ≡ row_after (After last.now) (device_rows self.now) }
     {
-        let places = &self.places;
+        let slots = &self.slots;
         if let Some(row) = self.row_beyond_in_device(last) {
             return Some(row);
         }
-        first_device(places, last.address as usize + 1)?
+        first_device(slots, last.address as usize + 1)?
             .as_slice()
             .first()
     }
@@ -139,12 +139,12 @@ impl<const N: usize> Devices<N> {
         ensures err { OnErr result (device_rows self.new ≡ device_rows self.old) }
         ensures devices { AreDevices first.now.shown.key.bus first.now.shown.key.group self.new }
     {
-        let place = first.shown.key.address as usize;
-        reach(&mut self.places, place)?;
+        let slot = first.shown.key.address as usize;
+        grow(&mut self.slots, slot)?;
         let Ok(device) = Box::new(self.alloc, DeviceRows::of(first, added)) else {
             return Err(Memory);
         };
-        self.places[place] = Some(device);
+        self.slots[slot] = Some(device);
         Ok(())
     }
 
@@ -156,10 +156,10 @@ impl<const N: usize> Devices<N> {
         ensures rows { device_rows self.new ≡ put_row row.now (device_rows self.old) }
         ensures devices { AreDevices row.now.shown.key.bus row.now.shown.key.group self.new }
     {
-        let Some(place) = self.places.get_mut(row.shown.key.address as usize) else {
+        let Some(slot) = self.slots.get_mut(row.shown.key.address as usize) else {
             return;
         };
-        let Some(device) = place else {
+        let Some(device) = slot else {
             return;
         };
         device.set(row);
@@ -171,24 +171,24 @@ impl<const N: usize> Devices<N> {
         ensures rows { device_rows self.new ≡ without device (device_rows self.old) }
         ensures devices { AreDevices device.bus device.group self.new }
     {
-        let Some(place) = self.places.get_mut(device.address as usize) else {
+        let Some(slot) = self.slots.get_mut(device.address as usize) else {
             return;
         };
-        *place = None;
+        *slot = None;
     }
 }
 
 /// Returns the device in the first slot, from this one on, that has one.
 #[inline(always)]
 fn first_device<const N: usize>(
-    places: &[Option<Box<DeviceRows<N>>>],
+    slots: &[Option<Box<DeviceRows<N>>>],
     from: usize,
 ) -> Option<&DeviceRows<N>>
     ensures { option_copied result
-        ≡ option_map (λ e. e.1) (slice_get (numbered box_value from (drop from places.now)) 0) }
+        ≡ option_map (λ e. e.1) (slice_get (numbered box_value from (drop from slots.now)) 0) }
 {
-    for place in from..places.len() {
-        if let Some(device) = &places[place] {
+    for slot in from..slots.len() {
+        if let Some(device) = &slots[slot] {
             return Some(device);
         }
     }
@@ -196,16 +196,16 @@ fn first_device<const N: usize>(
 }
 
 /// Makes slots up to this one. Fails if memory is refused.
-fn reach<const N: usize>(
-    places: &mut Vec<Option<Box<DeviceRows<N>>>>,
-    place: usize,
+fn grow<const N: usize>(
+    slots: &mut Vec<Option<Box<DeviceRows<N>>>>,
+    slot: usize,
 ) -> Result<(), Memory>
-    ensures same { numbered box_value 0 places.new.items
-        ≡ numbered box_value 0 places.old.items }
-    ensures there { OnOk result (place < length places.new.items) }
+    ensures same { numbered box_value 0 slots.new.items
+        ≡ numbered box_value 0 slots.old.items }
+    ensures there { OnOk result (slot < length slots.new.items) }
 {
-    while places.len() <= place {
-        if places.push(None).is_err() {
+    while slots.len() <= slot {
+        if slots.push(None).is_err() {
             return Err(Memory);
         }
     }

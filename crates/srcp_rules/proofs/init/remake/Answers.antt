@@ -9,21 +9,21 @@ set_all-requires g c =
     let state = g.R.Rows.state c.args.rows.now in
     let there =
     unlocked_there buses state c.requires.whole c.args.moment c.args.group c.args.place.bus c.args.place.address c.requires.there in
-    rw (c.remove_there.ensures.layout, c.remove_there.ensures.rows, c.lock_on.ensures)
+    rw (c.remove_if_there.ensures.layout, c.remove_if_there.ensures.rows, c.lock_on.ensures)
     (each_there buses (device_in c.args.group c.args.place.bus c.args.place.address) c.args.fresh.now c.requires.fresh
     (unlocked buses state c.requires.whole c.args.moment c.args.group c.args.place.bus c.args.place.address)
     (unlocked_whole buses state c.requires.whole c.args.moment c.args.group c.args.place.bus c.args.place.address) there)
 
 pub returns-clause-changes : goal.returns-clause-changes
 returns-clause-changes g c =
-    rw (c.push_puts.ensures, c.push.ensures.items, c.remove_there.ensures.changes, c.lock_on.ensures, c.device_in.ensures)
+    rw (c.push_puts.ensures, c.push.ensures.items, c.remove_if_there.ensures.changes, c.lock_on.ensures, c.device_in.ensures)
     (changes_remade (g.R.Rows.buses c.args.rows.now)
     (g.R.Rows.state
     c.args.rows.now) c.requires.whole c.args.moment c.args.group c.args.place.bus c.args.place.address c.args.fresh.now c.requires.there)
 
 pub returns-clause-rows : goal.returns-clause-rows
 returns-clause-rows g c =
-    rw (c.set_all.ensures.rows, c.remove_there.ensures.rows, c.lock_on.ensures)
+    rw (c.set_all.ensures.rows, c.remove_if_there.ensures.rows, c.lock_on.ensures)
     (rows_remade (g.R.Rows.buses c.args.rows.now)
     (g.R.Rows.state
     c.args.rows.now) c.requires.whole c.args.moment c.args.group c.args.place.bus c.args.place.address c.args.fresh.now c.requires.there

@@ -6,7 +6,7 @@ use Rattle.std.specs.List.{HoldsAt}
 use denote.Ref.{Bor}
 use Rattle.srcp_info.specs.declared.change.Row.{Row}
 use Rattle.srcp_grammar.proofs.PlaceLaws.{front_each, back_each, find-parted}
-use Rattle.srcp_rules.proofs.RowPlaceLaws.{passed, passed_partitioned}
+use Rattle.srcp_rules.proofs.RowIndexLaws.{passed, passed_partitioned}
 use Rattle.srcp_rules.proofs.sorted_rows.row_after_in.Goals as goal
 
 copied : (o : Option (Bor Row)) (rows : List Row) (i : ℕ)
@@ -17,12 +17,12 @@ copied (Some x) rows i h = sym (slice_get_read rows (length rows) i x.now refl h
 pub returns : goal.returns
 returns c =
     let rows = c.args.rows.now in
-    let place = c.partition_point-place.result in
+    let index = c.partition_point-index.result in
     let cursor = c.args.cursor in
     let parted =
-    IsPartitionPoint-from_clause (passed cursor) rows place c.partition_point-place.ensures.partitioned
+    IsPartitionPoint-from_clause (passed cursor) rows index c.partition_point-index.ensures.partitioned
     (passed_partitioned cursor rows c.requires) (λ a r f' called. search rules) in
-    copied c.get.result rows place c.get.ensures.lookup.3
-    ∙ sym (find-parted (passed cursor) rows place
-    (front_each (λ row. passed cursor row ≡ true) rows place c.partition_point-place.ensures.bound parted.0)
-    (back_each (λ row. passed cursor row ≡ false) rows place parted.1))
+    copied c.get.result rows index c.get.ensures.lookup.3
+    ∙ sym (find-parted (passed cursor) rows index
+    (front_each (λ row. passed cursor row ≡ true) rows index c.partition_point-index.ensures.bound parted.0)
+    (back_each (λ row. passed cursor row ≡ false) rows index parted.1))

@@ -1,16 +1,16 @@
 use Rattle.std.proofs.Common.{is_some, sym, ap, subst, ◌∙◌, true≢false}
 use Rattle.srcp_rules.specs.State.{row_at}
-use Rattle.srcp_rules.specs.Place.{IsAt}
-use Rattle.srcp_rules.proofs.RowPlaceLaws.{set-put_row, row_at-gap}
+use Rattle.srcp_rules.specs.KeyIndex.{HasKeyAt}
+use Rattle.srcp_rules.proofs.RowIndexLaws.{set-put_row, row_at-gap}
 use Rattle.srcp_rules.proofs.sorted_rows.set_in.Goals as goal
 
 pub returns-in-Ok : goal.returns-in-Ok
 returns-in-Ok c =
     let items = c.args.rows.now.items in
-    set-put_row items c.requires.rising c.args.row c.in-Ok.place
-    (subst (λ state. IsAt state c.args.row.shown.key c.in-Ok.place) c.deref.ensures.value c.in-Ok.ensures.at)
+    set-put_row items c.requires.rising c.args.row c.in-Ok.index
+    (subst (λ state. HasKeyAt state c.args.row.shown.key c.in-Ok.index) c.deref.ensures.value c.in-Ok.ensures.at)
 
--- the key is there, so it has a place
+-- the key is there, so it has a index
 pub returns-in_default : goal.returns-in_default
 returns-in_default c =
     let key = c.args.row.shown.key in

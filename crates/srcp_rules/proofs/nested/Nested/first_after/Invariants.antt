@@ -1,10 +1,10 @@
 use Rattle.std.proofs.Common.{◌≡◌, not, filter, length}
 use Rattle.srcp_info.specs.Key.{has_reached}
-use Rattle.srcp_rules.specs.Sought.{sought_after}
+use Rattle.srcp_rules.specs.Filter.{first_passed}
 use Rattle.srcp_rules.proofs.nested.Nested.first_after.Given as goal
 
 abbrev pub invariant-loop-row : goal.invariant-loop-row
-invariant-loop-row l = sought_after l.sought l.at l.self.state ≡ sought_after l.sought l.initial.at l.self.state
+invariant-loop-row l = first_passed l.filter l.at l.self.state ≡ first_passed l.filter l.initial.at l.self.state
 
 abbrev pub decreases-loop-row : goal.decreases-loop-row
 decreases-loop-row l = length (filter (λ row. not (has_reached l.at row.shown.key)) l.self.state)

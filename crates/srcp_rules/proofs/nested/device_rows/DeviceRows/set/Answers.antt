@@ -1,24 +1,24 @@
 use Rattle.std.proofs.Common.{◌<◌, length, take, slice_set, is_some, sym, ap, subst, ◌∙◌, true≢false}
 use Rattle.srcp_rules.specs.State.{State, row_at}
-use Rattle.srcp_rules.specs.Place.{IsAt}
-use Rattle.srcp_rules.proofs.RowPlaceLaws.{set-put_row, row_at-gap}
+use Rattle.srcp_rules.specs.KeyIndex.{HasKeyAt}
+use Rattle.srcp_rules.proofs.RowIndexLaws.{set-put_row, row_at-gap}
 use Rattle.srcp_rules.proofs.PutLaws.{take-set}
 use Rattle.srcp_rules.proofs.nested.device_rows.DeviceRows.set.Goals as goal
 
 pub returns-in-Ok : goal.returns-in-Ok
 returns-in-Ok g c =
-    let place = c.in-Ok.place in
+    let index = c.in-Ok.index in
     let row = c.args.row.now in
     let inside = c.self.inside in
     let kept = c.args.self.now in
-    let at : IsAt kept row.shown.key place = subst (λ state. IsAt state row.shown.key place) c.as_slice.ensures c.in-Ok.ensures.at in
-    let within : place < length (take inside.count inside.rows) =
-    subst (λ (state : State). place < length state) (sym c.self.view_is) at.within in
-    take-set inside.count inside.rows place row within
-    ∙ ap (λ (state : State). slice_set state place row) c.self.view_is
-    ∙ set-put_row kept c.requires.rising row place at
+    let at : HasKeyAt kept row.shown.key index = subst (λ state. HasKeyAt state row.shown.key index) c.as_slice.ensures c.in-Ok.ensures.at in
+    let within : index < length (take inside.count inside.rows) =
+    subst (λ (state : State). index < length state) (sym c.self.view_is) at.within in
+    take-set inside.count inside.rows index row within
+    ∙ ap (λ (state : State). slice_set state index row) c.self.view_is
+    ∙ set-put_row kept c.requires.rising row index at
 
--- the key is there, so it has a place
+-- the key is there, so it has a index
 pub returns-in_default : goal.returns-in_default
 returns-in_default g c =
     let key = c.args.row.now.shown.key in

@@ -17,7 +17,7 @@ use Rattle.srcp_info.specs.Key.{key_cmp, has_reached}
 use Rattle.srcp_info.proofs.KeyLaws.{key_tie, key_cmp_total}
 use Rattle.srcp_info.proofs.ClientLaws.{put_between, put_over, reached_below}
 use Rattle.srcp_rules.specs.State.{State, IsRising, row_at, put_row}
-use Rattle.srcp_rules.specs.Place.{IsAt, IsGap}
+use Rattle.srcp_rules.specs.KeyIndex.{HasKeyAt, IsGapAt}
 use Rattle.srcp_rules.proofs.KeyLaws.{same_key, not_after}
 use Rattle.srcp_grammar.proofs.FindLaws.{each-weaken}
 use Rattle.srcp_rules.proofs.StateLaws.{row_key, row_at-first, row_at-later}
@@ -55,52 +55,52 @@ module _ (state : State) (rising : IsRising state) (key : Key) where
 
   -- what a binary search by the key answers
   pub searched : (r : Result ℕ ℕ) → IsSearchInRange r (length state) → IsBinarySearchResult (λ row. key_cmp row.shown.key key) state r
-      → IfOk r (IsAt state key) × IfErr r (IsGap state key)
-  searched (Ok place) within equal =
-      (record { within = within; here = λ d. key_tie (slice_index_or state place d).shown.key key (equal d) }, tt)
-  searched (Err place) within parted = (
+      → IfOk r (HasKeyAt state key) × IfErr r (IsGapAt state key)
+  searched (Ok index) within equal =
+      (record { within = within; here = λ d. key_tie (slice_index_or state index d).shown.key key (equal d) }, tt)
+  searched (Err index) within parted = (
     tt,
     record {
       within = within;
-      below = front_each (λ row. key_cmp row.shown.key key ≡ Less) state place within (parted compared).0;
+      below = front_each (λ row. key_cmp row.shown.key key ≡ Less) state index within (parted compared).0;
       above =
-          back_each (λ row. key_cmp key row.shown.key ≡ Less) state place
+          back_each (λ row. key_cmp key row.shown.key ≡ Less) state index
           (λ k d low high. turned (slice_index_or state k d).shown.key key ((parted compared).1 k d low high));
     },
   )
 
 -- ---- looking up
 
--- the row at the place of a key is the key's
-pub row_at-here : (state : State) → IsRising state → (key : Key) (place : ℕ) → IsAt state key place → (d : Row)
-    → row_at key state ≡ Some (slice_index_or state place d)
-row_at-here [] rising key place at d = let h = at.within in absurd (omega (arith, h))
+-- the row at the index of a key is the key's
+pub row_at-here : (state : State) → IsRising state → (key : Key) (index : ℕ) → HasKeyAt state key index → (d : Row)
+    → row_at key state ≡ Some (slice_index_or state index d)
+row_at-here [] rising key index at d = let h = at.within in absurd (omega (arith, h))
 row_at-here (row ∷ state) rising key zero at d = subst (λ k. row_at k (row ∷ state) ≡ Some row) (at.here d) (row_at-first row state)
-row_at-here (row ∷ state) rising key (suc place) at d =
-    let within : suc place < length (row ∷ state) = at.within in
-    row_at-later row state rising key (slice_index_or state place d)
-    (row_at-here state rising.1 key place (record { within = omega (arith, within); here = at.here }) d)
+row_at-here (row ∷ state) rising key (suc index) at d =
+    let within : suc index < length (row ∷ state) = at.within in
+    row_at-later row state rising key (slice_index_or state index d)
+    (row_at-here state rising.1 key index (record { within = omega (arith, within); here = at.here }) d)
 
 none_tie : (t : Row → Bool) (rows : List Row) → AllByRecursion (λ row. t row ≡ false) rows → find t rows ≡ None
 none_tie t [] h = refl
 none_tie t (row ∷ rows) h = ap (λ b. cond b (Some row) (find t rows)) h.0 ∙ none_tie t rows h.1
 
 -- a key that belongs between two rows has none
-pub row_at-gap : (state : State) (key : Key) (place : ℕ) → IsGap state key place → row_at key state ≡ None
-row_at-gap state key place gap =
-    ap (row_at key) (sym (take-append-drop place state))
-    ∙ find-append (λ row. same_key row.shown.key key) (take place state) (drop place state)
+pub row_at-gap : (state : State) (key : Key) (index : ℕ) → IsGapAt state key index → row_at key state ≡ None
+row_at-gap state key index gap =
+    ap (row_at key) (sym (take-append-drop index state))
+    ∙ find-append (λ row. same_key row.shown.key key) (take index state) (drop index state)
     ∙ (λ i.
-    option_or (none_tie (λ row. same_key row.shown.key key) (take place state)
-    (each-weaken {P = λ row. key_cmp row.shown.key key ≡ Less} (λ row h. ap is_eq h) (take place state) gap.below) i)
-    (none_tie (λ row. same_key row.shown.key key) (drop place state)
+    option_or (none_tie (λ row. same_key row.shown.key key) (take index state)
+    (each-weaken {P = λ row. key_cmp row.shown.key key ≡ Less} (λ row h. ap is_eq h) (take index state) gap.below) i)
+    (none_tie (λ row. same_key row.shown.key key) (drop index state)
     (each-weaken {P = λ row. key_cmp key row.shown.key ≡ Less}
-    (λ row h. ap is_eq (key_cmp_total.antisymm row.shown.key key ∙ ap ordering_reverse h)) (drop place state) gap.above)
+    (λ row h. ap is_eq (key_cmp_total.antisymm row.shown.key key ∙ ap ordering_reverse h)) (drop index state) gap.above)
     i))
 
 -- ---- writing
 
--- the row at a place, the rows before it and those after it
+-- the row at a index, the rows before it and those after it
 around : (state : State) → Follows Below state → (i : ℕ) → i < length state → (d : Row)
     → AllByRecursion (λ row. Below row (slice_index_or state i d)) (take i state)
     × AllByRecursion (Below (slice_index_or state i d)) (drop (suc i) state)
@@ -111,24 +111,24 @@ around (row ∷ state) f (suc i) h d =
     let rest = around state f.1 i (omega (arith, h)) d in
     ((each_at (Below row) state f.0 i d (omega (arith, h)), rest.0), rest.1, ap (λ rows. row ∷ rows) rest.2)
 
--- a write at the place of a key
-pub set-put_row : (state : State) → IsRising state → (row : Row) (place : ℕ) → IsAt state row.shown.key place
-    → slice_set state place row ≡ put_row row state
-set-put_row state rising row place at =
-    let parts = around state (follows state rising) place at.within row in
-    let old = slice_index_or state place row in
+-- a write at the index of a key
+pub set-put_row : (state : State) → IsRising state → (row : Row) (index : ℕ) → HasKeyAt state row.shown.key index
+    → slice_set state index row ≡ put_row row state
+set-put_row state rising row index at =
+    let parts = around state (follows state rising) index at.within row in
+    let old = slice_index_or state index row in
     let same : old.shown.key ≡ row.shown.key = at.here row in
-    set_split state place row at.within
-    ∙ sym (put_over row_key row (take place state) old (drop (suc place) state) same
-    (each-weaken {P = λ other. Below other old} (λ other h. ap (key_cmp other.shown.key) (sym same) ∙ h) (take place state) parts.0)
-    (each-weaken {P = Below old} (λ other h. ap (λ k. key_cmp k other.shown.key) (sym same) ∙ h) (drop (suc place) state) parts.1))
+    set_split state index row at.within
+    ∙ sym (put_over row_key row (take index state) old (drop (suc index) state) same
+    (each-weaken {P = λ other. Below other old} (λ other h. ap (key_cmp other.shown.key) (sym same) ∙ h) (take index state) parts.0)
+    (each-weaken {P = Below old} (λ other h. ap (λ k. key_cmp k other.shown.key) (sym same) ∙ h) (drop (suc index) state) parts.1))
     ∙ ap (put_row row) (sym parts.2)
 
 -- an insert where a key belongs
-pub insert-put_row : (state : State) (row : Row) (place : ℕ) → IsGap state row.shown.key place → insert state place row ≡ put_row row state
-insert-put_row state row place gap =
-    sym (put_between row_key row (take place state) (drop place state) gap.below gap.above)
-    ∙ ap (put_row row) (take-append-drop place state)
+pub insert-put_row : (state : State) (row : Row) (index : ℕ) → IsGapAt state row.shown.key index → insert state index row ≡ put_row row state
+insert-put_row state row index gap =
+    sym (put_between row_key row (take index state) (drop index state) gap.below gap.above)
+    ∙ ap (put_row row) (take-append-drop index state)
 
 -- ---- the row after a cursor
 

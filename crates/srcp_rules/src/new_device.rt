@@ -18,7 +18,7 @@ use srcp_grammar::{Command, Lockable};
 use srcp_info::{Bits, Device, DriveMode, Letter, MOST_FUNCTIONS, MOST_PORTS, Row, Value};
 
 /// Makes the rows of a new locomotive: it stands still, forward, with all functions off.
-fn resting_rows(moment: u64, device: Device, init: &Value, functions: u32) -> [Row; 2]
+fn gl_rows(moment: u64, device: Device, init: &Value, functions: u32) -> [Row; 2]
     requires { functions ≤ MOST_FUNCTIONS }
     ensures { result
         ≡ row_put moment (key_at device 0) init.now None
@@ -66,7 +66,7 @@ pub(crate) fn init_gl<R: Rows>(
         steps: decoder.steps,
         functions,
     };
-    let fresh = resting_rows(
+    let fresh = gl_rows(
         sender.moment,
         device_in(Lockable::Gl, place),
         &init,
@@ -76,7 +76,7 @@ pub(crate) fn init_gl<R: Rows>(
 }
 
 /// Makes the row of a new accessory's port, 0.
-fn clear_port(moment: u64, device: Device, port: u8) -> Row
+fn port_row(moment: u64, device: Device, port: u8) -> Row
     ensures { result ≡ row_put moment (key_at device port) (value.GaPort false) None }
 {
     row_put(
@@ -96,14 +96,14 @@ fn ga_rows(moment: u64, device: Device, letter: Letter) -> [Row; MOST_ROWS]
 {
     [
         row_put(moment, key_at(device, 0), Value::GaInit { letter }, None),
-        clear_port(moment, device, 1),
-        clear_port(moment, device, 2),
-        clear_port(moment, device, 3),
-        clear_port(moment, device, 4),
-        clear_port(moment, device, 5),
-        clear_port(moment, device, 6),
-        clear_port(moment, device, 7),
-        clear_port(moment, device, 8),
+        port_row(moment, device, 1),
+        port_row(moment, device, 2),
+        port_row(moment, device, 3),
+        port_row(moment, device, 4),
+        port_row(moment, device, 5),
+        port_row(moment, device, 6),
+        port_row(moment, device, 7),
+        port_row(moment, device, 8),
     ]
 }
 

@@ -4,7 +4,7 @@ use Rattle.srcp_info.specs.declared.change.Row.{Row}
 use Rattle.srcp_rules.specs.State.{Update, row_at, updated, updated_if}
 use Rattle.srcp_rules.specs.Due.{due_change}
 use Rattle.srcp_rules.proofs.NextLaws.{due_after-first, row_known, row_may, due_whole, due_well_formed, due_adds_no_row}
-use Rattle.srcp_rules.proofs.next.due_next.Goals as goal
+use Rattle.srcp_rules.proofs.next_change.due_next.Goals as goal
 
 abbrev changed : Option Update → Option Change
 changed update = option_map (λ (u : Update). u.change) update

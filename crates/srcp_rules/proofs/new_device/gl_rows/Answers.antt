@@ -1,5 +1,5 @@
 use Rattle.std.proofs.Common.{rules}
-use Rattle.srcp_rules.proofs.fresh.resting_rows.Goals as goal
+use Rattle.srcp_rules.proofs.new_device.gl_rows.Goals as goal
 
 pub returns : goal.returns
 returns c = search rules

@@ -1,5 +1,5 @@
 use Rattle.std.proofs.Common.{rules}
-use Rattle.srcp_rules.proofs.sought.Sought.is_met_by.Goals as goal
+use Rattle.srcp_rules.proofs.filter.RowFilter.passes.Goals as goal
 
 pub returns-in-Some : goal.returns-in-Some
 returns-in-Some c = search rules

@@ -9,7 +9,7 @@ use Rattle.srcp_rules.specs.Due.{due_change}
 use Rattle.srcp_rules.proofs.StepLaws.{IsRowOf-put}
 use Rattle.srcp_rules.proofs.DueLaws.{lock_goes}
 use Rattle.srcp_rules.proofs.NextLaws.{port_value}
-use Rattle.srcp_rules.proofs.next.carry_out.Goals as goal
+use Rattle.srcp_rules.proofs.next_change.carry_out.Goals as goal
 
 pub remove-requires : goal.remove-requires
 remove-requires g c =

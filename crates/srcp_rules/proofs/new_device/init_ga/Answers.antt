@@ -12,7 +12,7 @@ use Rattle.srcp_rules.specs.Effect.{done, init_device}
 use Rattle.srcp_rules.specs.Obeyed.{TookUnless}
 use Rattle.srcp_rules.specs.Rows.{AreRowsOf}
 use Rattle.srcp_rules.proofs.FreshLaws.{ga_fresh, ga_taken, ga_rows, ga_puts}
-use Rattle.srcp_rules.proofs.fresh.init_ga.Goals as goal
+use Rattle.srcp_rules.proofs.new_device.init_ga.Goals as goal
 
 module _ (buses : List Bus) (state : State) (session moment : ℕ) (now : IsMoment moment) where
   -- the rows that are handed on are those of an accessory with that many ports

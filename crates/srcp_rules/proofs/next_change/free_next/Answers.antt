@@ -7,7 +7,7 @@ use Rattle.srcp_grammar.specs.Devices.{session_device}
 use Rattle.srcp_rules.specs.State.{Update, is_there, updated, updated_if}
 use Rattle.srcp_rules.specs.Effect.{gone_at}
 use Rattle.srcp_rules.proofs.NextLaws.{freed_held, freed_own, freed_step}
-use Rattle.srcp_rules.proofs.next.free_next.Goals as goal
+use Rattle.srcp_rules.proofs.next_change.free_next.Goals as goal
 
 abbrev changed : Option Update → Option Change
 changed update = option_map (λ (u : Update). u.change) update

@@ -1,8 +1,8 @@
 use Rattle.std.proofs.Common.{rules}
 use Rattle.std.proofs.lemmas.Fn.{always_returns_same}
 use Rattle.srcp_info.specs.Key.{key_cmp}
-use Rattle.srcp_rules.proofs.RowPlaceLaws.{searched}
-use Rattle.srcp_rules.proofs.sorted_rows.place_of.Goals as goal
+use Rattle.srcp_rules.proofs.RowIndexLaws.{searched}
+use Rattle.srcp_rules.proofs.sorted_rows.index_of.Goals as goal
 
 pub returns-clause-at : goal.returns-clause-at
 returns-clause-at c =

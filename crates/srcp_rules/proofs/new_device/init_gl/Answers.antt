@@ -1,5 +1,5 @@
 use Rattle.srcp_rules.proofs.FreshLaws.{gl_rows}
-use Rattle.srcp_rules.proofs.fresh.init_gl.Goals as goal
+use Rattle.srcp_rules.proofs.new_device.init_gl.Goals as goal
 
 pub init_device-requires-clause-fresh : goal.init_device-requires-clause-fresh
 init_device-requires-clause-fresh g c =
@@ -8,4 +8,4 @@ init_device-requires-clause-fresh g c =
     (g.R.Rows.state
     c.args.rows.now) c.args.sender.session c.args.sender.moment c.args.sender.fits c.args.place.bus c.args.place.address
     c.args.decoder.letter c.args.decoder.version c.args.decoder.steps c.args.functions c.requires.may in
-    rw (c.resting_rows-fresh.ensures, c.device_in.ensures) fresh
+    rw (c.gl_rows-fresh.ensures, c.device_in.ensures) fresh

@@ -1,0 +1,14 @@
+use Rattle.std.specs.Prelude.{List, [], ◌∷◌, ◌++◌, Option, None, if◌then◌else◌}
+use Rattle.std.proofs.Common.{Box, Global, ap, ◌∙◌}
+use Rattle.std.specs.Box.{box_value}
+use Rattle.srcp_rules.specs.State.{State}
+use Rattle.srcp_rules.specs.Numbered.{numbered}
+use Rattle.srcp_rules.proofs.NumberedLaws.{numbered-append_none}
+use Rattle.srcp_rules.proofs.nested.devices.grow.Goals as goal
+
+pub loop-slots-preserved : goal.loop-slots-preserved
+loop-slots-preserved g c =
+    let slots : List (Option (Box State Global)) = c.loop-slots.slots.items in
+    ap (numbered box_value 0)
+    (c.push.ensures.items ∙ ap (λ b. if b then slots ++ None ∷ [] else slots) c.if-is_err.ensures.negation)
+    ∙ numbered-append_none box_value 0 slots ∙ c.loop-slots.invariant
