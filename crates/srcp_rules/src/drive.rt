@@ -11,7 +11,7 @@ ghost use Rattle.srcp_grammar.specs.Devices.{device_in};
 ghost use Rattle.srcp_rules.specs.State.{IsWhole, functions_of, is_there};
 
 use crate::device::{BusAddress, device_in, key_at};
-use crate::lock::{is_locked, moment_after, refusal};
+use crate::lock::{is_locked, refusal};
 use crate::obeyed::Obeyed;
 use crate::registry::set_one;
 use crate::rows::Rows;
@@ -123,7 +123,7 @@ fn port_end(moment: u64, on: bool, time: Option<u32>) -> Option<u64>
 {
     match time {
         Some(milliseconds) if on && milliseconds > 0 => {
-            Some(moment_after(moment, u64::from(milliseconds)))
+            Some(moment.saturating_add(u64::from(milliseconds)))
         }
         _ => None,
     }

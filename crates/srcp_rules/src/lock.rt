@@ -1,7 +1,7 @@
 //! SET and TERM of a lock, and whether a lock keeps a session from a device.
 
 ghost use Rattle.std.specs.Prelude.{◌≡◌, []};
-ghost use Rattle.srcp_rules.specs.Effect.{accepted, first_refusal, is_locked, lock_end, lock_refusals, moment_after};
+ghost use Rattle.srcp_rules.specs.Effect.{accepted, first_refusal, is_locked, lock_end, lock_refusals};
 ghost use Rattle.srcp_rules.specs.Effect.{refusals, refused_or_not, term_lock, done};
 ghost use Rattle.srcp_rules.specs.Obeyed.{IsObeyed, IsTold, MayObey, Took};
 
@@ -58,13 +58,6 @@ pub(crate) fn answer_check(refusal: Option<Code>, obeyed: &mut Obeyed)
     }
 }
 
-/// Returns the moment some milliseconds later, at most the greatest moment.
-pub(crate) fn moment_after(moment: u64, milliseconds: u64) -> u64
-    ensures { result ≡ moment_after moment milliseconds }
-{
-    moment.saturating_add(milliseconds)
-}
-
 /// Returns when a lock of some seconds ends. One of 0 seconds does not end by itself (SRCP 0.8, LOCK).
 fn lock_end(moment: u64, seconds: u32) -> Option<u64>
     ensures { result ≡ lock_end moment seconds }
@@ -72,7 +65,7 @@ fn lock_end(moment: u64, seconds: u32) -> Option<u64>
     if seconds == 0 {
         return None;
     }
-    Some(moment_after(moment, 1000 * u64::from(seconds)))
+    Some(moment.saturating_add(1000 * u64::from(seconds)))
 }
 
 /// Carries out SET of a lock. It takes memory if the device has no lock.

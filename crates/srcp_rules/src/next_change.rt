@@ -6,7 +6,7 @@ ghost use Rattle.srcp_rules.specs.Due.{due_after, due_change, freed};
 ghost use Rattle.srcp_rules.specs.State.{AddsNoRow, IsWhole, MayFall, row_at, updated, updated_if};
 
 use crate::device::session_device;
-use crate::registry::{is_there, put, remove};
+use crate::registry::{is_there, put_of, remove, row_put};
 use crate::rows::Rows;
 use srcp_info::{Change, Cursor, Row, Value};
 
@@ -39,7 +39,11 @@ fn carry_out<R: Rows>(rows: &mut R, moment: u64, row: &Row) -> Change
     let key = row.shown.key;
     match row.shown.value {
         Value::Lock { .. } => remove(rows, moment, key.device()),
-        _ => put(rows, moment, key, Value::GaPort { on: false }, None),
+        _ => {
+            let clear = row_put(moment, key, Value::GaPort { on: false }, None);
+            rows.set(clear);
+            put_of(&clear)
+        }
     }
 }
 

@@ -17,26 +17,6 @@ pub(crate) fn is_there<R: Rows>(rows: &R, device: Device) -> bool
     rows.row(&device.first_key()).is_some()
 }
 
-/// Sets a row that is there, with its due moment or none, and returns the change.
-pub(crate) fn put<R: Rows>(
-    rows: &mut R,
-    moment: u64,
-    key: Key,
-    value: Value,
-    due: Option<u64>,
-) -> Change
-    requires there { IsTrue (has_row key (R.state rows.old)) }
-    requires fits { IsRowOf (R.buses rows.old) (row_put moment key value due) }
-    ensures change { result ≡ (put_at moment key value due).change }
-    ensures layout { R.buses rows.new ≡ R.buses rows.old }
-    ensures rows { R.state rows.new ≡ updated (put_at moment key value due) (R.state rows.old) }
-{
-    let row = row_put(moment, key, value, due);
-    let change = put_of(&row);
-    rows.set(row);
-    change
-}
-
 /// Makes the row that a Put at the moment makes.
 pub(crate) fn row_put(moment: u64, key: Key, value: Value, due: Option<u64>) -> Row
     ensures { result ≡ row_put moment key value due }

@@ -3,7 +3,7 @@ use Rattle.srcp_info.specs.declared.key.Device.{Device}
 use Rattle.srcp_info.specs.declared.value.Value.{Value}
 use Rattle.srcp_info.specs.declared.value.Value.TheVariants as value
 use Rattle.srcp_info.specs.WellFormed.{IsValueAt, can_go}
-use Rattle.srcp_rules.specs.State.{updated}
+use Rattle.srcp_rules.specs.State.{put_of, put_row, updated}
 use Rattle.srcp_rules.specs.Effect.{gone_at}
 use Rattle.srcp_rules.specs.Due.{due_change}
 use Rattle.srcp_rules.proofs.StepLaws.{IsRowOf-put}
@@ -19,19 +19,19 @@ remove-requires g c =
     (c.requires.whole.rows key c.args.row.now c.requires.there).shown.value in
     ap (λ (device : Device). can_go device.group) c.device.ensures ∙ (lock_goes key.group fits.0).0
 
-pub put-requires : goal.put-requires
-put-requires g c =
+pub set-requires-clause-there : goal.set-requires-clause-there
+set-requires-clause-there g c = rw c.row_put-clear.ensures (ap is_some c.requires.there)
+
+pub set-requires-clause-fits : goal.set-requires-clause-fits
+set-requires-clause-fits g c =
     let key = c.args.row.now.shown.key in
     let port = port_value c.args.row.now.shown.value c.requires.may c.in_default.not-Lock in
     let fits =
     subst (λ (shows : Value). IsValueAt key.group key.port shows) port.1
     (c.requires.whole.rows key c.args.row.now c.requires.there).shown.value in
-    record {
-      there = ap is_some c.requires.there;
-      fits =
-          IsRowOf-put (g.R.Rows.buses c.args.rows.now) c.requires.whole.laid_out key c.args.moment (value.GaPort false) None
-          (c.requires.whole.rows key c.args.row.now c.requires.there).place c.ranges.moment.fits fits tt;
-    }
+    rw c.row_put-clear.ensures
+    (IsRowOf-put (g.R.Rows.buses c.args.rows.now) c.requires.whole.laid_out key c.args.moment (value.GaPort false) None
+    (c.requires.whole.rows key c.args.row.now c.requires.there).place c.ranges.moment.fits fits tt)
 
 pub returns-in-Lock-clause-change : goal.returns-in-Lock-clause-change
 returns-in-Lock-clause-change g c =
@@ -48,11 +48,12 @@ returns-in-Lock-clause-rows g c =
 pub returns-in_default-clause-change : goal.returns-in_default-clause-change
 returns-in_default-clause-change g c =
     let port = port_value c.args.row.now.shown.value c.requires.may c.in_default.not-Lock in
-    c.put.ensures.change ∙ ap (λ (shows : Value). (due_change c.args.moment c.args.row.now.shown.key shows).change) (sym port.1)
+    c.put_of.ensures ∙ ap (λ row. (put_of row).change) c.row_put-clear.ensures
+    ∙ ap (λ (shows : Value). (due_change c.args.moment c.args.row.now.shown.key shows).change) (sym port.1)
 
 pub returns-in_default-clause-rows : goal.returns-in_default-clause-rows
 returns-in_default-clause-rows g c =
     let port = port_value c.args.row.now.shown.value c.requires.may c.in_default.not-Lock in
-    c.put.ensures.rows
+    c.set.ensures.rows ∙ ap (λ row. put_row row (g.R.Rows.state c.args.rows.now)) c.row_put-clear.ensures
     ∙ ap (λ (shows : Value). updated (due_change c.args.moment c.args.row.now.shown.key shows) (g.R.Rows.state c.args.rows.now))
     (sym port.1)
